@@ -1,0 +1,10 @@
+// Block numbers, byte counts and generation numbers: three separate quantities (01, The block list), each with an element of its own in 002.
+
+// The number of an element on a partition: blocks and file marks count from 0.
+pub struct BlockNumber(pub u64);
+
+// A number of bytes.
+pub struct ByteCount(pub u64);
+
+// The generation of an index.
+pub struct Generation(pub u64);

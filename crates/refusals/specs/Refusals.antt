@@ -1,0 +1,40 @@
+-- Refusals and answers (01, Refusal numbers): the number of each refusal, what a function answers, and the order of checks.
+use Prim.Native.Nat.{ℕ}
+use mathlib.Core.Bool.{Bool, true, false}
+use Rattle.refusals.specs.declared.Refusal.{Refusal}
+use Rattle.refusals.specs.declared.Refusal.the-variants as is
+
+-- the number in document 01's table
+abbrev pub numberOf : Refusal → ℕ
+numberOf is.List = 1
+numberOf is.Missing = 2
+numberOf is.Vol1 = 3
+numberOf is.Form = 4
+numberOf is.Structure = 5
+numberOf is.Value = 6
+numberOf is.Version = 7
+numberOf is.Foreign = 8
+numberOf is.Layout = 9
+numberOf is.Short = 10
+numberOf is.Extents = 11
+numberOf is.Location = 12
+numberOf is.NoCut = 13
+numberOf is.Caller = 14
+numberOf is.TooMany = 15
+
+-- a refusal, or what was asked for
+pub data Answer (A : Type 0) : Type 0 where
+  refused : Refusal → Answer A
+  answer : A → Answer A
+
+module _ {A : Type 0} where
+  -- refused with r unless the test passes; else what follows
+  abbrev pub require : Bool → Refusal → Answer A → Answer A
+  require true r next = next
+  require false r next = refused r
+
+module _ {A B : Type 0} where
+  -- the refusal of the first, or what follows from its value
+  abbrev pub andThen : Answer A → (A → Answer B) → Answer B
+  andThen (refused r) next = refused r
+  andThen (answer a) next = next a

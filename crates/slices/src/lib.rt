@@ -1,0 +1,1 @@
+// Slices of bytes: compared, and written into.
