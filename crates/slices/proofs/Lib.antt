@@ -1,1 +1,4 @@
 pub mod Tables
+pub mod Equal
+pub mod Writing
+pub mod Writers
