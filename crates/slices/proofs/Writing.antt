@@ -1,12 +1,12 @@
 -- What a buffer holds once a run is written into it: the run at its place, whatever the buffer held, and all else as before.
 use mathlib.Core.Path.{_≡_, refl, ap, sym, _∙_}
 use mathlib.Core.List.{List, [], _∷_, _++_, append-assoc, append-nil}
-use Prim.Native.Nat.{ℕ, _+_, _<_, _≤_}
+use Prim.Native.Nat.{ℕ, suc, _+_, _<_, _≤_}
 use native.Mathlib.Nat.{add-zero, zero-add}
 use native.Mathlib.Omega.{arith}
 use native.Mathlib.Numerals.{add-one}
 use lib.ListN.{length, take, drop, getD, set, length-append, length-drop, take-append-drop, List·getD-append}
-use lib.Seq.{length-take-le, take-append-seam, take-at, drop-at, drop-drop, getD-drop, getD-take, set-split, append-snoc, paste, take-length}
+use lib.Seq.{length-take-le, take-append-seam, take-at, drop-at, drop-drop, getD-drop, getD-take, set-split, append-snoc, take-take, paste, take-length}
 use Rattle.slices.specs.Slices.{written}
 
 module _ (at : ℕ) (w b : List ℕ) where
@@ -107,3 +107,20 @@ written-part at w b =
 pub written-paste : (at : ℕ) (w b : List ℕ) → paste b at w (length w) ≡ written at w b
 unfolding written
 written-paste at w b = ap (λ (l : List ℕ). take at b ++ l ++ drop (at + length w) b) (take-length w)
+
+-- a byte stored in front of a run is the longer run
+in-front : (at x : ℕ) (w b : List ℕ) → take at b ++ x ∷ (w ++ drop (at + 1 + length w) b) ≡ written at (x ∷ w) b
+unfolding written
+in-front at x w b =
+    let e : at + 1 + length w ≡ at + suc (length w) = omega arith in
+    rw e (sym (append-assoc (take at b) (x ∷ w) (drop (at + suc (length w)) b)))
+
+pub written-cons : (at x : ℕ) (w b : List ℕ) → at + 1 + length w ≤ length b → set (written (at + 1) w b) at x ≡ written at (x ∷ w) b
+written-cons at x w b h =
+    let o : List ℕ = written (at + 1) w b in
+    let n : length o ≡ length b = length-written (at + 1) w b h in
+    set-split o at x (omega arith)
+    ∙ ap (λ (l : List ℕ). l ++ x ∷ drop (suc at) o)
+    (sym (take-take at (at + 1) o (omega arith)) ∙ ap (take at) (take-written (at + 1) w b (omega arith)) ∙ take-take at (at + 1) b (omega arith))
+    ∙ ap (λ (l : List ℕ). take at b ++ x ∷ l) (ap (λ (k : ℕ). drop k o) (sym (add-one at)) ∙ from-written (at + 1) w b (omega arith))
+    ∙ in-front at x w b
