@@ -1,6 +1,6 @@
 -- What a writer owes: it writes whole or not at all (01, Refusal numbers: 10, lent output too short, buffers unchanged).
 use mathlib.Core.Path.{_≡_}
-use mathlib.Core.Bool.{Bool, true, false, cond}
+use mathlib.Core.Bool.{Bool, cond}
 use mathlib.Core.List.{List}
 use Prim.Native.Nat.{ℕ, _+_}
 use lib.Dec.{leb}
