@@ -1,0 +1,71 @@
+-- A partition's tape, and the list and the store that encode it (01, The block list and Bounds).
+use mathlib.Core.Path.{_≡_}
+use mathlib.Core.Bool.{Bool, true, false, _&&_}
+use mathlib.Core.List.{List, [], _∷_, _++_}
+use Prim.Native.Nat.{ℕ, _/_, _%_, _≤_}
+use lib.ListN.{length}
+use Rattle.slices.specs.Slices.{within}
+
+-- an element: a file mark, or a block with its bytes
+pub data Element : Type 0 where
+  mark : Element
+  block : List ℕ → Element
+
+-- the elements of a partition, numbered from 0
+abbrev pub Tape : Type 0
+Tape = List Element
+
+-- the kind bytes
+abbrev pub markKind : ℕ
+markKind = 1
+
+abbrev pub blockKind : ℕ
+blockKind = 2
+
+-- a number in four bytes, high byte first
+abbrev pub fourBytes : ℕ → List ℕ
+fourBytes n = (n / 16777216) ∷ (n / 65536 % 256) ∷ (n / 256 % 256) ∷ (n % 256) ∷ []
+
+-- an element in the list: its kind byte and its body, none or a block's length
+unfoldable pub entry : Element → List ℕ
+entry mark = markKind ∷ []
+entry (block x) = blockKind ∷ fourBytes (length x)
+
+-- an element's bytes in the store
+unfoldable pub content : Element → List ℕ
+content mark = []
+content (block x) = x
+
+unfoldable pub list : Tape → List ℕ
+list [] = []
+list (e ∷ t) = entry e ++ list t
+
+unfoldable pub store : Tape → List ℕ
+store [] = []
+store (e ∷ t) = content e ++ store t
+
+-- the bounds
+abbrev pub maxElements : ℕ
+maxElements = 65536
+
+abbrev pub maxBlock : ℕ
+maxBlock = 1048576
+
+abbrev pub maxStore : ℕ
+maxStore = 16777216
+
+abbrev pub isBlockLength : ℕ → Bool
+isBlockLength n = within 1 maxBlock n
+
+unfoldable pub lawfulBlocks : Tape → Bool
+lawfulBlocks [] = true
+lawfulBlocks (mark ∷ t) = lawfulBlocks t
+lawfulBlocks (block x ∷ t) = isBlockLength (length x) && lawfulBlocks t
+
+-- l and s are the list and the store of the tape t, within the bounds
+pub record Encodes (l s : List ℕ) (t : Tape) : Type 0 where
+  pub lists : l ≡ list t
+  pub stores : s ≡ store t
+  pub blocks : lawfulBlocks t ≡ true
+  pub elements : length t ≤ maxElements
+  pub bytes : length s ≤ maxStore
