@@ -14,8 +14,8 @@ use borrow.Author.Tests.{ltb-true, ltb-false, leb-true, leb-false, eqb-true, eqb
 use Rattle.slices.proofs.Booleans.{split, and-left, and-right}
 use Rattle.tape.specs.declared.Entry.{Entry}
 use Rattle.tape.specs.declared.Entry.the-variants.{Mark, Block, End, Bad}
-use Rattle.tape.specs.Tape.{markKind, blockKind, isBlockLength, maxBlock}
-use Rattle.tape.specs.Reading.{Cell, markCell, blockCell, Awaited, kind, length-byte, cells, added, entryAt, numberAt}
+use Rattle.tape.specs.Tape.{Cell, markCell, blockCell, markKind, blockKind, isBlockLength, maxBlock}
+use Rattle.tape.specs.Reading.{Awaited, kind, length-byte, cells, added, entryAt, numberAt}
 
 -- the reading goes on behind the entry
 abbrev pub goesOn : List ℕ → Entry → Option (List Cell)

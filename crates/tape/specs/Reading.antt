@@ -8,7 +8,7 @@ use lib.ListN.{length, getD, take, drop}
 use lib.Dec.{leb, ltb, eqb}
 use Rattle.tape.specs.declared.Entry.{Entry}
 use Rattle.tape.specs.declared.Entry.the-variants.{Mark, Block, End, Bad}
-use Rattle.tape.specs.Tape.{Tape, mark, block, markKind, blockKind, isBlockLength, maxElements, maxStore}
+use Rattle.tape.specs.Tape.{Tape, Cell, markCell, blockCell, mark, block, markKind, blockKind, isBlockLength, maxElements, maxStore}
 
 -- the number in the four bytes at a place, high byte first
 abbrev pub numberAt : List ℕ → ℕ → ℕ
@@ -23,11 +23,6 @@ entryAt l at =
     (Block (numberAt l (at + 1)) (at + 5))
     Bad))
     End
-
--- what the list says of an element: a mark, or a block and its length
-pub data Cell : Type 0 where
-  markCell : Cell
-  blockCell : ℕ → Cell
 
 unfoldable pub added : Cell → Option (List Cell) → Option (List Cell)
 added c none = none

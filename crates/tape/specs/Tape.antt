@@ -15,6 +15,15 @@ pub data Element : Type 0 where
 abbrev pub Tape : Type 0
 Tape = List Element
 
+-- what the list says of an element: that it is a mark, or a block of so many bytes
+pub data Cell : Type 0 where
+  markCell : Cell
+  blockCell : ℕ → Cell
+
+abbrev pub cellOf : Element → Cell
+cellOf mark = markCell
+cellOf (block x) = blockCell (length x)
+
 -- the kind bytes
 abbrev pub markKind : ℕ
 markKind = 1
@@ -27,9 +36,9 @@ abbrev pub fourBytes : ℕ → List ℕ
 fourBytes n = (n / 16777216) ∷ (n / 65536 % 256) ∷ (n / 256 % 256) ∷ (n % 256) ∷ []
 
 -- an element in the list: its kind byte and its body, none or a block's length
-unfoldable pub entry : Element → List ℕ
-entry mark = markKind ∷ []
-entry (block x) = blockKind ∷ fourBytes (length x)
+unfoldable pub entry : Cell → List ℕ
+entry markCell = markKind ∷ []
+entry (blockCell n) = blockKind ∷ fourBytes n
 
 -- an element's bytes in the store
 unfoldable pub content : Element → List ℕ
@@ -38,7 +47,7 @@ content (block x) = x
 
 unfoldable pub list : Tape → List ℕ
 list [] = []
-list (e ∷ t) = entry e ++ list t
+list (e ∷ t) = entry (cellOf e) ++ list t
 
 unfoldable pub store : Tape → List ℕ
 store [] = []
@@ -57,15 +66,18 @@ maxStore = 16777216
 abbrev pub isBlockLength : ℕ → Bool
 isBlockLength n = within 1 maxBlock n
 
-unfoldable pub lawfulBlocks : Tape → Bool
-lawfulBlocks [] = true
-lawfulBlocks (mark ∷ t) = lawfulBlocks t
-lawfulBlocks (block x ∷ t) = isBlockLength (length x) && lawfulBlocks t
+abbrev pub isLawful : Cell → Bool
+isLawful markCell = true
+isLawful (blockCell n) = isBlockLength n
+
+unfoldable pub lawful : Tape → Bool
+lawful [] = true
+lawful (e ∷ t) = isLawful (cellOf e) && lawful t
 
 -- l and s are the list and the store of the tape t, within the bounds
 pub record Encodes (l s : List ℕ) (t : Tape) : Type 0 where
   pub lists : l ≡ list t
   pub stores : s ≡ store t
-  pub blocks : lawfulBlocks t ≡ true
+  pub blocks : lawful t ≡ true
   pub elements : length t ≤ maxElements
   pub bytes : length s ≤ maxStore

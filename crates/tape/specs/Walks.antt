@@ -7,8 +7,8 @@ use lib.ListN.{length}
 use lib.Dec.{leb}
 use Rattle.tape.specs.declared.Totals.{Totals}
 use Rattle.tape.specs.declared.Totals.the-variants.{Of, Bad}
-use Rattle.tape.specs.Tape.{maxElements}
-use Rattle.tape.specs.Reading.{Cell, total}
+use Rattle.tape.specs.Tape.{Cell, maxElements}
+use Rattle.tape.specs.Reading.{total}
 
 -- the number of elements and the bytes of their blocks, with n elements and v bytes already counted; none past the bound
 unfoldable pub totalsFrom : ℕ → ℕ → Option (List Cell) → Totals

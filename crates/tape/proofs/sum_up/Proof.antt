@@ -7,7 +7,7 @@ use native.Mathlib.Omega.{arith}
 use borrow.Author.Needs.{needs}
 use lib.ListN.{length, drop, drop-of-length-le}
 use Rattle.tape.specs.declared.Entry.{Entry}
-use Rattle.tape.specs.Reading.{cells, kind, markCell, blockCell}
+use Rattle.tape.specs.Reading.{cells, kind}
 use Rattle.tape.specs.Walks.{totalsFrom}
 use Rattle.tape.proofs.Entries.{cells-as, lies-as}
 use Rattle.tape.proofs.Counting.{totals-more, totals-end, totals-full}
