@@ -66,7 +66,7 @@ read-encoded {l} {s} {t} e =
     )
 
 -- numbers that are bytes
-pub Bytes : List ℕ → Type 0
+abbrev pub Bytes : List ℕ → Type 0
 Bytes l = (i : ℕ) → getD l i 0 < 256
 
 -- what of `Encodes` goes element by element
@@ -115,7 +115,7 @@ more-back c l back h s cs e k =
 -- the length bytes, none of them missing, and what follows
 block-back : (l : List ℕ) → Bytes l → ((r : List ℕ) → length r ≤ length l → Bytes r → Back r)
     → (s : List ℕ) (cs : List Cell) → cells (length-byte 3 0) l ≡ some cs → total cs ≡ length s → Spelt (blockKind ∷ l) s (filled cs s)
-unfolding cells Bytes entry
+unfolding cells entry
 block-back [] h ih s cs e k = let z : _≡_ {A = ℕ} 0 1 = cc in absurd (omega arith)
 block-back (a ∷ []) h ih s cs e k = let z : _≡_ {A = ℕ} 0 1 = cc in absurd (omega arith)
 block-back (a ∷ b ∷ []) h ih s cs e k = let z : _≡_ {A = ℕ} 0 1 = cc in absurd (omega arith)
@@ -135,7 +135,7 @@ nothing-back [] k = record { lists = refl; stores = refl; blocks = refl }
 nothing-back (b ∷ s) k = absurd (omega arith)
 
 back-step : (l : List ℕ) → Bytes l → ((r : List ℕ) → length r < length l → Bytes r → Back r) → Back l
-unfolding Back Bytes cells total entry
+unfolding Back cells total entry
 back-step [] w ih s cs e k =
     let q : [] ≡ cs = cc in
     subst (λ (ds : List Cell). total ds ≡ length s → Spelt [] s (filled ds s)) q (nothing-back s) k

@@ -1,11 +1,12 @@
 // A partition's block list and store (01, The block list): checked, walked, cut after n elements, and asked for a block.
 use refusals::Refusal;
 ghost use mathlib.Core.Path.{_≡_};
-ghost use Prim.Native.Nat.{_+_, _≤_, _<_};
+ghost use Prim.Native.Nat.{_+_, _≤_, _<_, min};
 ghost use lib.ListN.{length};
+ghost use Rattle.refusals.specs.Refusals.{answer, andThen};
 ghost use Rattle.tape.specs.Reading.{numberAt, entryAt, cells, kind};
-ghost use Rattle.tape.specs.Walks.{totalsFrom};
-ghost use Rattle.tape.specs.Answers.{elementCount, counted};
+ghost use Rattle.tape.specs.Walks.{totalsFrom, reach};
+ghost use Rattle.tape.specs.Answers.{elementCount, counted, keeping, keptLengths, lengths, listPart, storePart};
 
 // What stands at a place of a list, with the place of the next entry: a file mark, a block with its length, nothing since the list
 // ends, or no entry of a list.
@@ -118,5 +119,94 @@ pub fn check(list: &[u8], store: &[u8]) -> Checked
             Checked::Elements(elements)
         }
         Totals::Bad => Checked::Refused(Refusal::List),
+    }
+}
+
+// How far the first entries of a list reach, in the list and in the store.
+struct Front {
+    list: usize,
+    store: usize,
+}
+
+fn walk(list: &[u8], n: usize) -> Front
+    requires { ⌜ n ≤ 65536 ⌝ }
+    ensures { λ r. ⌜ r ≡ reach n (now (list .entry)) 0 0 ⌝ }
+{
+    let mut at: usize = 0;
+    let mut store: usize = 0;
+    let mut left = n;
+    while 0 < left {
+        match entry_at(list, at) {
+            Entry::Mark(next) => {
+                at = next;
+                left -= 1;
+            }
+            Entry::Block(n, next) => {
+                at = next;
+                store += n;
+                left -= 1;
+            }
+            Entry::End => {
+                return Front {
+                    list: at,
+                    store: store,
+                };
+            }
+            Entry::Bad => {
+                return Front {
+                    list: at,
+                    store: store,
+                };
+            }
+        }
+    }
+    Front {
+        list: at,
+        store: store,
+    }
+}
+
+// What keeping some elements answers: the lengths of the two fronts.
+pub enum Kept {
+    Lengths(usize, usize),
+    Refused(Refusal),
+}
+
+fn least(a: usize, b: usize) -> usize
+    ensures { λ r. ⌜ r ≡ min a b ⌝ }
+{
+    if a < b { a } else { b }
+}
+
+// Keeps n elements; n above the count keeps all.
+pub fn keep(list: &[u8], store: &[u8], n: usize) -> Kept
+    ensures { λ r. ⌜ keptLengths r ≡ andThen (keeping n (now (list .entry)) (now (store .entry))) (λ f. answer (lengths f)) ⌝ }
+{
+    match check(list, store) {
+        Checked::Elements(count) => {
+            let f = walk(list, least(n, count));
+            Kept::Lengths(f.list, f.store)
+        }
+        Checked::Refused(r) => Kept::Refused(r),
+    }
+}
+
+// The front of the list that keeping n elements keeps; empty where the list or its store is refused.
+pub fn kept_list<'a>(list: &'a [u8], store: &[u8], n: usize) -> &'a [u8]
+    ensures { λ r. ⌜ now r ≡ listPart (keeping n (now (list .entry)) (now (store .entry))) ⌝ }
+{
+    match keep(list, store, n) {
+        Kept::Lengths(l, _) => &list[..l],
+        Kept::Refused(_) => &list[..0],
+    }
+}
+
+// The front of the store, likewise.
+pub fn kept_store<'a>(list: &[u8], store: &'a [u8], n: usize) -> &'a [u8]
+    ensures { λ r. ⌜ now r ≡ storePart (keeping n (now (list .entry)) (now (store .entry))) ⌝ }
+{
+    match keep(list, store, n) {
+        Kept::Lengths(_, s) => &store[..s],
+        Kept::Refused(_) => &store[..0],
     }
 }
