@@ -1,12 +1,13 @@
 // A partition's block list and store (01, The block list): checked, walked, cut after n elements, and asked for a block.
+use quantities::BlockNumber;
 use refusals::Refusal;
 ghost use mathlib.Core.Path.{_≡_};
 ghost use Prim.Native.Nat.{_+_, _≤_, _<_, min};
 ghost use lib.ListN.{length};
 ghost use Rattle.refusals.specs.Refusals.{answer, andThen};
 ghost use Rattle.tape.specs.Reading.{numberAt, entryAt, cells, kind};
-ghost use Rattle.tape.specs.Walks.{totalsFrom, reach};
-ghost use Rattle.tape.specs.Answers.{elementCount, counted, keeping, keptLengths, lengths, listPart, storePart};
+ghost use Rattle.tape.specs.Walks.{totalsFrom, reach, spotAt};
+ghost use Rattle.tape.specs.Answers.{elementCount, counted, keeping, keptLengths, lengths, listPart, storePart, areLetters};
 
 // What stands at a place of a list, with the place of the next entry: a file mark, a block with its length, nothing since the list
 // ends, or no entry of a list.
@@ -209,4 +210,50 @@ pub fn kept_store<'a>(list: &[u8], store: &'a [u8], n: usize) -> &'a [u8]
         Kept::Lengths(_, s) => &store[..s],
         Kept::Refused(_) => &store[..0],
     }
+}
+
+// A block of a list: where its bytes begin in the store, and their number.
+enum Spot {
+    Block(usize, usize),
+    Nothing,
+}
+
+// The block behind the first n entries of a list.
+fn find(list: &[u8], n: usize) -> Spot
+    requires { ⌜ n ≤ 65536 ⌝ }
+    ensures { λ r. ⌜ r ≡ spotAt (now (list .entry)) n ⌝ }
+{
+    let f = walk(list, n);
+    match entry_at(list, f.list) {
+        Entry::Mark(_) => Spot::Nothing,
+        Entry::Block(k, _) => Spot::Block(f.store, k),
+        Entry::End => Spot::Nothing,
+        Entry::Bad => Spot::Nothing,
+    }
+}
+
+// Two different partition letters, and a letter that is one of them.
+pub fn are_letters(index: u8, data: u8, letter: u8) -> bool
+    ensures { λ r. ⌜ r ≡ areLetters index «data» letter ⌝ }
+{
+    if !quantities::is_letter(index as u64) {
+        return false;
+    }
+    if !quantities::is_letter(data as u64) {
+        return false;
+    }
+    if index == data {
+        return false;
+    }
+    if letter == index {
+        return true;
+    }
+    letter == data
+}
+
+// Where a block lies: in the store of the index or of the data partition, from a byte on, so many bytes.
+pub enum Located {
+    Index(usize, usize),
+    Data(usize, usize),
+    Refused(Refusal),
 }
