@@ -41,3 +41,7 @@ spotOf from Broken = Spot·is.Nothing
 -- the block behind the first n entries: where its bytes begin, and their number
 unfoldable pub spotAt : List ℕ → ℕ → Spot
 spotAt l n = spotOf (reach n l 0 0 .store) (entryAt l (reach n l 0 0 .list))
+
+-- the block with a number, of a list with so many elements
+abbrev pub spotBelow : ℕ → List ℕ → ℕ → Spot
+spotBelow count l n = cond (leb count n) Spot·is.Nothing (spotAt l n)

@@ -4,10 +4,10 @@ use refusals::Refusal;
 ghost use mathlib.Core.Path.{_≡_};
 ghost use Prim.Native.Nat.{_+_, _≤_, _<_, min};
 ghost use lib.ListN.{length};
-ghost use Rattle.refusals.specs.Refusals.{answer, andThen};
+ghost use Rattle.refusals.specs.Refusals.{answer, andThen, Shows};
 ghost use Rattle.tape.specs.Reading.{numberAt, entryAt, cells, kind};
-ghost use Rattle.tape.specs.Walks.{totalsFrom, reach, spotAt};
-ghost use Rattle.tape.specs.Answers.{elementCount, counted, keeping, keptLengths, lengths, listPart, storePart, areLetters};
+ghost use Rattle.tape.specs.Walks.{totalsFrom, reach, spotAt, spotBelow};
+ghost use Rattle.tape.specs.Answers.{elementCount, counted, keeping, keptLengths, lengths, listPart, storePart, areLetters, tapeIn, blockOf, placeOf, located};
 
 // What stands at a place of a list, with the place of the next entry: a file mark, a block with its length, nothing since the list
 // ends, or no entry of a list.
@@ -256,4 +256,93 @@ pub enum Located {
     Index(usize, usize),
     Data(usize, usize),
     Refused(Refusal),
+}
+
+// The block with a number, of a list with so many elements.
+fn numbered(list: &[u8], count: usize, number: BlockNumber) -> Spot
+    requires { ⌜ count ≤ 65536 ⌝ }
+    ensures { λ r. ⌜ r ≡ spotBelow count (now (list .entry)) (number .0) ⌝ }
+{
+    let n = number.0 as usize;
+    if count <= n {
+        return Spot::Nothing;
+    }
+    find(list, n)
+}
+
+// Where the block with a letter and a number lies.
+pub fn find_block(
+    index_list: &[u8],
+    index_store: &[u8],
+    data_list: &[u8],
+    data_store: &[u8],
+    index_letter: u8,
+    data_letter: u8,
+    letter: u8,
+    number: BlockNumber,
+) -> Located
+    ensures { λ r. ⌜ located r ≡ placeOf «index_letter» «data_letter» letter (number .0) (tapeIn (now («index_list» .entry)) (now («index_store» .entry))) (tapeIn (now («data_list» .entry)) (now («data_store» .entry))) ⌝ }
+{
+    if !are_letters(index_letter, data_letter, letter) {
+        return Located::Refused(Refusal::Caller);
+    }
+    let Checked::Elements(index_count) = check(index_list, index_store) else {
+        return Located::Refused(Refusal::List);
+    };
+    let Checked::Elements(data_count) = check(data_list, data_store) else {
+        return Located::Refused(Refusal::List);
+    };
+    if letter == index_letter {
+        match numbered(index_list, index_count, number) {
+            Spot::Block(from, n) => Located::Index(from, n),
+            Spot::Nothing => Located::Refused(Refusal::Missing),
+        }
+    } else {
+        match numbered(data_list, data_count, number) {
+            Spot::Block(from, n) => Located::Data(from, n),
+            Spot::Nothing => Located::Refused(Refusal::Missing),
+        }
+    }
+}
+
+// The bytes of the block with a letter and a number, a part of whichever store holds it, empty where refused; the refusal's number,
+// or 0, beside it.
+pub fn block<'a>(
+    index_list: &[u8],
+    index_store: &'a [u8],
+    data_list: &[u8],
+    data_store: &'a [u8],
+    index_letter: u8,
+    data_letter: u8,
+    letter: u8,
+    number: BlockNumber,
+    refusal: &mut u64,
+) -> &'a [u8]
+    ensures { λ r. ⌜ Shows (blockOf «index_letter» «data_letter» letter (number .0) (tapeIn (now («index_list» .entry)) (now («index_store» .entry))) (tapeIn (now («data_list» .entry)) (now («data_store» .entry)))) (now r) (now (refusal .exit)) ⌝ }
+{
+    match find_block(
+        index_list,
+        index_store,
+        data_list,
+        data_store,
+        index_letter,
+        data_letter,
+        letter,
+        number,
+    ) {
+        Located::Index(from, n) => {
+            *refusal = 0;
+            let end = from + n;
+            &index_store[from..end]
+        }
+        Located::Data(from, n) => {
+            *refusal = 0;
+            let end = from + n;
+            &data_store[from..end]
+        }
+        Located::Refused(r) => {
+            *refusal = refusals::number(r);
+            &index_store[..0]
+        }
+    }
 }
