@@ -81,7 +81,7 @@ fn sum_up(list: &[u8]) -> Totals
         match entry_at(list, at) {
             Entry::Mark(next) => {
                 at = next;
-                elements += 1;
+                elements += 1; // marks count too
             }
             Entry::Block(n, next) => {
                 at = next;
