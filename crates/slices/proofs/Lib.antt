@@ -1,2 +1,6 @@
 pub mod Booleans
 pub mod Tables
+pub mod Every
+pub mod Equal
+pub mod Writing
+pub mod Writers
