@@ -8,7 +8,7 @@ use native.Mathlib.Numerals.{add-one}
 use lib.ListN.{length, drop, getD, drop-of-length-le}
 use lib.Seq.{drop-cons}
 use Rattle.slices.specs.Slices.{every}
-use Rattle.slices.proofs.Booleans.{and-left, and-right}
+use Rattle.slices.proofs.Booleans.{and-left, and-right, and-both}
 
 module _ {A : Type 0} (test : A → Bool) where
   pub every-append : (s t : List A) → every test (s ++ t) ≡ (every test s && every test t)
@@ -36,3 +36,12 @@ module _ {A : Type 0} (test : A → Bool) where
       pub every-end : length s ≤ i → every test (drop i s) ≡ true
       unfolding every
       every-end h = ap (every test) (drop-of-length-le s h)
+
+-- what passes a test passes a weaker one
+pub every-weaker : {A : Type 0} (strong weak : A → Bool) → ((x : A) → strong x ≡ true → weak x ≡ true) → (s : List A) → every strong s ≡ true → every weak s ≡ true
+unfolding every
+every-weaker strong weak f [] e = refl
+every-weaker strong weak f (x ∷ s) e =
+    and-both (weak x) (every weak s)
+    (f x (and-left (strong x) (every strong s) e))
+    (every-weaker strong weak f s (and-right (strong x) (every strong s) e))
