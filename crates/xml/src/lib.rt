@@ -1,0 +1,1 @@
+// The XML form (01, The XML form).
