@@ -1,0 +1,5 @@
+pub mod Fronts
+pub mod Names
+pub mod Left
+pub mod Rows
+pub mod Parts
