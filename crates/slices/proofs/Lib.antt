@@ -1,1 +1,5 @@
 pub mod Tables
+pub mod Every
+pub mod Equal
+pub mod Writing
+pub mod Writers

@@ -1,4 +1,4 @@
--- Bytes in a row: a range of byte values, equal runs, and what a buffer holds once a run is written into it.
+-- Bytes in a row: a range of byte values, a test of each, equal runs, and what a buffer holds once a run is written into it.
 use mathlib.Core.Bool.{Bool, true, false, _&&_}
 use mathlib.Core.List.{List, [], _∷_, _++_}
 use Prim.Native.Nat.{ℕ, _+_}
@@ -8,6 +8,11 @@ use lib.ListN.{length, take, drop}
 -- from lo to hi
 abbrev pub within : ℕ → ℕ → ℕ → Bool
 within lo hi b = leb lo b && leb b hi
+
+-- each passes the test
+unfoldable pub every : (ℕ → Bool) → List ℕ → Bool
+every test [] = true
+every test (x ∷ xs) = test x && every test xs
 
 -- the same numbers in the same order
 unfoldable pub same : List ℕ → List ℕ → Bool

@@ -1,1 +1,48 @@
 // Slices of bytes: compared, and written into.
+use refusals::Refusal;
+ghost use mathlib.Core.Path.{_≡_};
+ghost use Rattle.slices.specs.Slices as slices;
+ghost use Rattle.slices.specs.Writers.{Puts};
+
+// Whether a and b hold the same bytes.
+pub fn same(a: &[u8], b: &[u8]) -> bool
+    ensures { λ r. ⌜ r ≡ slices.same (now (a .entry)) (now (b .entry)) ⌝ }
+{
+    if a.len() != b.len() {
+        return false;
+    }
+    let mut i: usize = 0;
+    while i < a.len() {
+        if a[i] != b[i] {
+            return false;
+        }
+        i += 1;
+    }
+    true
+}
+
+// What a writer answers.
+pub enum Written {
+    // The place after what was written.
+    To(usize),
+    // Nothing was written.
+    Refused(Refusal),
+}
+
+// Writes src into out from its place at, if there is room for all of it.
+pub fn put(out: &mut [u8], at: usize, src: &[u8]) -> Written
+    ensures { λ r. ⌜ Puts at (now (src .entry)) (now (out .entry)) (now (out .exit)) r ⌝ }
+{
+    if out.len() < at {
+        return Written::Refused(Refusal::Short);
+    }
+    if out.len() - at < src.len() {
+        return Written::Refused(Refusal::Short);
+    }
+    let mut i: usize = 0;
+    while i < src.len() {
+        out[at + i] = src[i];
+        i += 1;
+    }
+    Written::To(at + i)
+}

@@ -1,0 +1,5 @@
+pub mod Values
+pub mod Short
+pub mod Numbers
+pub mod Left
+pub mod Entries

@@ -1,0 +1,126 @@
+-- `digits::read` meets its contract. Invariant: the digits passed say v, and what is left says the number after it.
+use mathlib.Core.Path.{_≡_, refl, ap, sym, _∙_}
+use mathlib.Core.Bool.{true, false, and-false}
+use mathlib.Core.Option.{some}
+use Prim.Native.Nat.{ℕ, _+_, _*_, _-_, _≤_}
+use native.Mathlib.Omega.{arith}
+use borrow.Author.Tests.{lt-leb, not-true, not-false}
+use lib.Dec.{leb}
+use lib.ListN.{length, drop, getD}
+use Rattle.slices.specs.Slices.{every}
+use Rattle.slices.proofs.Every.{every-on, every-off, every-end}
+use Rattle.digits.specs.Decimal.{isDigit, digitOf, decimal, largest}
+use Rattle.digits.proofs.Values.{value-on, value-end, value-grows}
+use Rattle.digits.proofs.Short.{digit-between}
+use Rattle.digits.proofs.Numbers.{not-plain, not-digits, too-large, a-number}
+use borrow.Author.Needs.{needs}
+use Rattle.digits.proofs.read.Statement.{statement}
+use Rattle.digits.proofs.read.Tie as tie
+
+abbrev Inv-loop : tie.InvT-loop
+Inv-loop s v₀ i₀ v i = (i ≤ length s) × (every isDigit s ≡ every isDigit (drop i s)) × (decimal 0 s ≡ decimal v (drop i s)) × (v ≤ largest)
+
+abbrev μ-loop : tie.MeasureT-loop
+μ-loop s v₀ i₀ v i = length s - i
+
+is-plain-requires : tie.Need-is-plain-requires Inv-loop μ-loop
+is-plain-requires c κs = search needs
+
+returns : tie.Need-returns Inv-loop μ-loop
+returns c = sym (not-plain _ (sym (c .before .is-plain .ensures) ∙ not-true _ (c .if1 .taken)))
+
+loop-holds : tie.Need-loop-holds Inv-loop μ-loop
+loop-holds c = (search needs, refl, refl, search needs)
+
+shared-slice-read-b : tie.Need-shared-slice-read-b Inv-loop μ-loop
+shared-slice-read-b c = search needs
+
+returns-2 : tie.Need-returns-2 Inv-loop μ-loop
+returns-2 c =
+    let s = c .before .before .before .before .before .before .before .args .s .now in
+    let l = c .before .before .before .loop in
+    let f : isDigit (getD s (l .i) 0) ≡ false = rw (lt-leb _ _ (c .if2 .taken)) in
+    sym (not-digits s (l .inv .1 ∙ every-off isDigit s (l .i) (search needs) f))
+
+returns-3 : tie.Need-returns-3 Inv-loop μ-loop
+returns-3 c =
+    let s = c .before .before .before .before .before .before .before .before .args .s .now in
+    let l = c .before .before .before .before .loop in
+    let f : isDigit (getD s (l .i) 0) ≡ false = rw (lt-leb _ _ (c .if3 .taken)) (and-false (leb 48 (getD s (l .i) 0))) in
+    sym (not-digits s (l .inv .1 ∙ every-off isDigit s (l .i) (search needs) f))
+
+wide-requires : tie.Need-wide-requires Inv-loop μ-loop
+wide-requires c κs = search needs
+
+returns-4 : tie.Need-returns-4 Inv-loop μ-loop
+returns-4 c =
+    let s = c .before .before .before .before .before .before .before .before .before .before .args .s .now in
+    let l = c .before .before .before .before .before .before .loop in
+    let z = l .inv .2 ∙ value-on 10 digitOf s (l .i) (l .v) (search needs) in
+    let g = value-grows 10 digitOf (omega arith) (drop (l .i + 1) s) (l .v * 10 + (getD s (l .i) 0 - 48)) in
+    sym (too-large s (omega arith))
+
+mul-t : tie.Need-mul-t Inv-loop μ-loop
+mul-t c = search needs
+
+sub-if5 : tie.Need-sub-if5 Inv-loop μ-loop
+sub-if5 c = search needs
+
+returns-5 : tie.Need-returns-5 Inv-loop μ-loop
+returns-5 c =
+    let s = c .before .before .before .before .before .before .before .before .before .before .before .args .s .now in
+    let l = c .before .before .before .before .before .before .before .loop in
+    let z = l .inv .2 ∙ value-on 10 digitOf s (l .i) (l .v) (search needs) in
+    let g = value-grows 10 digitOf (omega arith) (drop (l .i + 1) s) (l .v * 10 + (getD s (l .i) 0 - 48)) in
+    sym (too-large s (omega arith))
+
+add-v : tie.Need-add-v Inv-loop μ-loop
+add-v c = search needs
+
+add-i : tie.Need-add-i Inv-loop μ-loop
+add-i c = search needs
+
+loop-less : tie.Need-loop-less Inv-loop μ-loop
+loop-less c = search needs
+
+loop-again : tie.Need-loop-again Inv-loop μ-loop
+loop-again c =
+    let s = c .before .before .before .before .before .before .before .before .before .before .before .args .s .now in
+    let l = c .before .before .before .before .before .before .before .loop in
+    let w : c .before .before .wide .result ≡ getD s (l .i) 0 - 48 = c .before .before .wide .ensures in
+    let f : isDigit (getD s (l .i) 0) ≡ true = digit-between (getD s (l .i) 0) (search needs) (search needs) in (
+      search needs,
+      l .inv .1 ∙ every-on isDigit s (l .i) (search needs) f,
+      l .inv .2 ∙ value-on 10 digitOf s (l .i) (l .v) (search needs) ∙ ap (λ (d : ℕ). decimal (l .v * 10 + d) (drop (l .i + 1) s)) (sym w),
+      omega arith,
+    )
+
+returns-6 : tie.Need-returns-6 Inv-loop μ-loop
+returns-6 c =
+    let s = c .before .before .before .before .before .args .s .now in
+    let l = c .before .loop in
+    let z : decimal 0 s ≡ l .v = l .inv .2 ∙ value-end 10 digitOf s (l .i) (l .v) (search needs) in
+    sym (a-number s (l .inv .1 ∙ every-end isDigit s (l .i) (search needs)) (sym (c .before .before .before .is-plain .ensures) ∙ not-false _ (c .before .before .if1 .left)) (omega arith) ∙ ap some z)
+
+pub read-spec : {M : Type 1} → statement M
+read-spec =
+    tie.close
+    (tie.spec
+    Inv-loop
+    μ-loop
+    is-plain-requires
+    returns
+    loop-holds
+    shared-slice-read-b
+    returns-2
+    returns-3
+    wide-requires
+    returns-4
+    mul-t
+    sub-if5
+    returns-5
+    add-v
+    add-i
+    loop-less
+    loop-again
+    returns-6)

@@ -1,0 +1,58 @@
+-- Numbers as texts (01, Values): the short form of a number, and the number that a text says.
+use mathlib.Core.Bool.{Bool, true, false, not, cond, _&&_}
+use mathlib.Core.List.{List, [], _∷_, _++_}
+use mathlib.Core.Option.{Option, some, none}
+use Prim.Native.Nat.{ℕ, zero, suc, _+_, _-_, _/_, _%_}
+use lib.Dec.{leb, ltb, eqb}
+use Rattle.slices.specs.Slices.{within, every}
+use Rattle.digits.specs.Runs.{value}
+use Rattle.digits.specs.declared.Number.{Number}
+use Rattle.digits.specs.declared.Number.the-variants.{Value, Nothing}
+
+-- the ASCII digits, and what each counts
+abbrev pub isDigit : ℕ → Bool
+isDigit b = within 48 57 b
+
+abbrev pub digitOf : ℕ → ℕ
+digitOf b = b - 48
+
+-- the ASCII digit of a number below ten
+abbrev pub byteOf : ℕ → ℕ
+byteOf d = 48 + d
+
+-- the number that decimal digits say after the number v
+abbrev pub decimal : ℕ → List ℕ → ℕ
+decimal v s = value 10 digitOf v s
+
+-- at least one digit, and no leading zero except `0` itself
+unfoldable pub plain : List ℕ → Bool
+plain [] = false
+plain (b ∷ []) = true
+plain (b ∷ c ∷ s) = not (eqb b 48)
+
+abbrev pub largest : ℕ
+largest = 18446744073709551615
+
+-- decimal digits, no sign, no leading zero except `0` itself, at most the largest
+unfoldable pub isNumber : List ℕ → Bool
+isNumber s = every isDigit s && plain s && leb (decimal 0 s) largest
+
+-- the number that a text says
+unfoldable pub number : List ℕ → Option ℕ
+number s = cond (isNumber s) (some (decimal 0 s)) none
+
+-- what an answer says
+abbrev pub valueOf : Number → Option ℕ
+valueOf (Value n) = some n
+valueOf Nothing = none
+
+-- the digits of n: below ten one digit, else those of its tenth and then its last; tenths bounds how often a tenth is taken
+unfoldable pub shortIn : ℕ → ℕ → List ℕ
+shortIn zero n = byteOf n ∷ []
+shortIn (suc tenths) n =
+    let longer = shortIn tenths (n / 10) ++ (byteOf (n % 10) ∷ []) in
+    cond (ltb n 10) (byteOf n ∷ []) longer
+
+-- the short form: n has less than n tenths
+unfoldable pub short : ℕ → List ℕ
+short n = shortIn n n
