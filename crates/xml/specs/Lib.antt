@@ -1,4 +1,5 @@
 pub mod Bytes
 pub mod Tree
 pub mod Grammar
+pub mod Form
 pub mod Machine

@@ -155,6 +155,10 @@ unfoldable pub run : State → List ℕ → Outcome
 run σ [] = elim σ [ stop ↦ broken 1 | at p ns ↦ ended p ]
 run σ (b ∷ s) = elim σ [ stop ↦ broken (suc (suc (length s))) | at p ns ↦ run (step p ns b) s ]
 
+-- before a text
+abbrev pub start : State
+start = at (word before declaration) []
+
 -- what becomes of a whole text
 unfoldable pub form : List ℕ → Outcome
-form s = run (at (word before declaration) []) s
+form s = run start s

@@ -1,6 +1,6 @@
 -- The elements of a text as a forest, and how they are read off any bytes. In the XML form (01) a `<` stands only where a tag begins, so
 -- the tags are found by it.
-use mathlib.Core.Bool.{Bool, true, false, cond, not, _||_}
+use mathlib.Core.Bool.{Bool, false, cond, not, _||_}
 use mathlib.Core.List.{List, [], _∷_}
 use Prim.Native.Nat.{ℕ, suc}
 use lib.ListN.{take, drop, getD}

@@ -1,0 +1,12 @@
+pub mod Logic
+pub mod Bytes
+pub mod Runs
+pub mod Live
+pub mod Fronts
+pub mod Characters
+pub mod Derived
+pub mod Accepted
+pub mod Trees
+pub mod Lawful
+pub mod Form
+pub mod Written
