@@ -3,3 +3,4 @@ pub mod Names
 pub mod Left
 pub mod Rows
 pub mod Parts
+pub mod Meanings

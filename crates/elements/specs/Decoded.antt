@@ -1,10 +1,13 @@
 -- A text as it is meant (01, The XML form: the five references; 01, Values: bytes and code points decoded).
+use mathlib.Core.Path.{_≡_}
 use mathlib.Core.Bool.{Bool, cond}
 use mathlib.Core.List.{List, [], _∷_}
-use Prim.Native.Nat.{ℕ, zero, suc, _+_}
+use Prim.Native.Nat.{ℕ, zero, suc, _+_, _<_, _≤_}
 use lib.Dec.{eqb}
-use lib.ListN.{length, take}
+use lib.ListN.{length, take, drop}
 use Rattle.slices.specs.Slices.{within, same}
+use Rattle.elements.specs.declared.texts.Spelled.{Spelled}
+use Rattle.elements.specs.declared.texts.Spelled.the-variants.{End, Byte}
 
 -- whether s begins with w
 abbrev pub begins : List ℕ → List ℕ → Bool
@@ -40,7 +43,21 @@ decodedBehind (suc n) (b ∷ s) = decodedBehind n s
 abbrev pub decoded : List ℕ → List ℕ
 decoded s = decodedBehind 0 s
 
--- how many code points UTF-8 bytes spell: those bytes that do not continue one
+-- a byte of UTF-8 that continues a code point
+abbrev pub continues : ℕ → Bool
+continues b = within 128 191 b
+
+-- how many code points UTF-8 bytes spell: as many as bytes that do not continue one
 unfoldable pub codePoints : List ℕ → ℕ
 codePoints [] = 0
-codePoints (b ∷ s) = cond (within 128 191 b) 0 1 + codePoints s
+codePoints (b ∷ s) = cond (continues b) 0 1 + codePoints s
+
+-- the byte b is meant at i, and what is meant goes on at j
+pub record Means (s : List ℕ) (i b j : ℕ) : Type 0 where
+  pub bytes : decoded (drop i s) ≡ b ∷ decoded (drop j s)
+  pub place : (i < j) × (j ≤ length s)
+
+-- the next byte that is meant from i on
+abbrev pub NextByte : List ℕ → ℕ → Spelled → Type 0
+NextByte s i End = decoded (drop i s) ≡ []
+NextByte s i (Byte b j) = Means s i b j

@@ -7,6 +7,7 @@ ghost use mathlib.Core.Path.{_≡_};
 ghost use Prim.Native.Nat.{_≤_};
 ghost use lib.Dec.{eqb};
 ghost use lib.ListN.{length, drop};
+ghost use Rattle.slices.specs.Slices as slices;
 ghost use Rattle.xml.specs.Tree.{quoted};
 ghost use Rattle.elements.specs.Reading.{headAt, rowAt, childrenAt, isRow};
 
@@ -17,6 +18,13 @@ pub fn name_of(text: &[u8], n: usize) -> &[u8]
     let a = scan::inside(text, n);
     let e = scan::name_end(text, a);
     &text[a..e]
+}
+
+// Whether that is its name.
+pub fn name_is(text: &[u8], n: usize, name: &[u8]) -> bool
+    ensures { λ r. ⌜ r ≡ slices.same (headAt (now (text .entry)) n .name) (now (name .entry)) ⌝ }
+{
+    slices::same(name_of(text, n), name)
 }
 
 // The name of its attribute, empty where it has none.

@@ -2,6 +2,7 @@
 mod heads;
 mod scan;
 mod tags;
+mod texts;
 
 pub use heads::first_child;
 pub use heads::has_children;
