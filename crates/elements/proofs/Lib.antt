@@ -4,3 +4,5 @@ pub mod Left
 pub mod Rows
 pub mod Parts
 pub mod Meanings
+pub mod Roots
+pub mod Entities

@@ -85,3 +85,8 @@ pub record FirstOf (s : List ℕ) (i n j : ℕ) : Type 0 where
 abbrev pub NextChild : List ℕ → ℕ → Child → Type 0
 NextChild s i Done = rowAt s i ≡ none
 NextChild s i (At n j) = FirstOf s i n j
+
+-- at j the row of the children of the element at n begins
+pub record ChildrenFrom (s : List ℕ) (n j : ℕ) : Type 0 where
+  pub row : rowAt s j ≡ childrenAt s n
+  pub inside : j ≤ length s

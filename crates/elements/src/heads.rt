@@ -8,8 +8,9 @@ ghost use Prim.Native.Nat.{_≤_};
 ghost use lib.Dec.{eqb};
 ghost use lib.ListN.{length, drop};
 ghost use Rattle.slices.specs.Slices as slices;
+ghost use Rattle.xml.specs.Bytes.{isSpace};
 ghost use Rattle.xml.specs.Tree.{quoted};
-ghost use Rattle.elements.specs.Reading.{headAt, rowAt, childrenAt, isRow};
+ghost use Rattle.elements.specs.Reading.{headAt, childrenAt, isRow, ChildrenFrom};
 
 // Its name.
 pub fn name_of(text: &[u8], n: usize) -> &[u8]
@@ -80,22 +81,36 @@ pub fn value_of(text: &[u8], n: usize) -> &[u8]
 pub fn text_of(text: &[u8], n: usize) -> &[u8]
     ensures { λ r. ⌜ now r ≡ headAt (now (text .entry)) n .text ⌝ }
 {
-    let t = scan::tag_end(text, scan::inside(text, n));
-    let a = t.at;
-    if t.empty {
+    let tag = scan::tag_end(text, scan::inside(text, n));
+    let a = tag.at;
+    let e = scan::find(text, a, 60);
+    if tag.empty {
         return &text[a..a];
     }
-    let e = scan::find(text, a, 60);
     &text[a..e]
+}
+
+// Whether a text is white space alone.
+pub fn is_blank(raw: &[u8]) -> bool
+    ensures { λ r. ⌜ r ≡ slices.every isSpace (now (raw .entry)) ⌝ }
+{
+    let mut i: usize = 0;
+    while i < raw.len() {
+        if !scan::is_space(raw[i]) {
+            return false;
+        }
+        i += 1;
+    }
+    true
 }
 
 // Where the row of its children begins.
 pub fn first_child(text: &[u8], n: usize) -> usize
-    ensures { λ r. ⌜ (rowAt (now (text .entry)) r ≡ childrenAt (now (text .entry)) n) × (r ≤ length (now (text .entry))) ⌝ }
+    ensures { λ r. ⌜ ChildrenFrom (now (text .entry)) n r ⌝ }
 {
     let a = scan::inside(text, n);
-    let t = scan::tag_end(text, a);
-    if t.empty {
+    let tag = scan::tag_end(text, a);
+    if tag.empty {
         return text.len();
     }
     a

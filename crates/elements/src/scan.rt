@@ -53,7 +53,7 @@ fn is_name_byte(b: u8) -> bool
 }
 
 // Space, tab, CR or LF.
-fn is_space(b: u8) -> bool
+pub fn is_space(b: u8) -> bool
     ensures { λ r. ⌜ r ≡ isSpace b ⌝ }
 {
     if b == 32 {

@@ -15,13 +15,19 @@ returns : tie.Need-returns
 returns c =
     let s = c .before .before .before .before .args .text .now in
     let t = c .before .tag-end in
-    (children-none s (c .before .before .before .before .args .n) (c .before .before .inside .result) (c .before .before .inside .ensures .1) (t .result .empty) (t .result .at) (t .ensures .0) (c .if1 .taken), search needs)
+    record {
+      row = children-none s (c .before .before .before .before .args .n) (c .before .before .inside .result) (c .before .before .inside .ensures .1) (t .result .empty) (t .result .at) (t .ensures .0) (c .if1 .taken);
+      inside = search needs;
+    }
 
 returns-2 : tie.Need-returns-2
 returns-2 c =
     let s = c .before .before .before .before .args .text .now in
     let t = c .before .tag-end in
-    (children-some s (c .before .before .before .before .args .n) (c .before .before .inside .result) (c .before .before .inside .ensures .1) (t .result .empty) (t .result .at) (t .ensures .0) (c .if1 .left), omega arith)
+    record {
+      row = children-some s (c .before .before .before .before .args .n) (c .before .before .inside .result) (c .before .before .inside .ensures .1) (t .result .empty) (t .result .at) (t .ensures .0) (c .if1 .left);
+      inside = omega arith;
+    }
 
 pub first-child-spec : {M : Type 1} → statement M
 first-child-spec = tie.close (tie.spec inside-requires tag-end-requires returns returns-2)

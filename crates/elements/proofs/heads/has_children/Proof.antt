@@ -31,7 +31,7 @@ unfolding isRow
 returns c =
     let s = c .before .before .before .before .before .args .text .now in
     let t : NextTag s (c .before .before .before .first-child .result) End = subst (NextTag s (c .before .before .before .first-child .result)) (c .enum-told .given .1) (c .before .before .next-tag .ensures) in
-    sym (ap isRow (sym (c .before .before .before .first-child .ensures .0) ∙ row-end t))
+    sym (ap isRow (sym (c .before .before .before .first-child .ensures .row) ∙ row-end t))
 
 returns-2 : tie.Need-returns-2
 unfolding isRow
@@ -39,7 +39,7 @@ returns-2 c =
     let s = c .before .before .before .before .before .args .text .now in
     let g = c .enum-told2 .given in
     let t : NextTag s (c .before .before .before .first-child .result) (Close (g .0 .0)) = subst (NextTag s (c .before .before .before .first-child .result)) (g .1) (c .before .before .next-tag .ensures) in
-    sym (ap isRow (sym (c .before .before .before .first-child .ensures .0) ∙ row-close t))
+    sym (ap isRow (sym (c .before .before .before .first-child .ensures .row) ∙ row-close t))
 
 returns-3 : tie.Need-returns-3
 unfolding isRow top opened
@@ -47,7 +47,7 @@ returns-3 c =
     let s = c .before .before .before .before .before .args .text .now in
     let g = c .enum-told3 .given in
     let t : NextTag s (c .before .before .before .first-child .result) (Open (g .0 .0)) = subst (NextTag s (c .before .before .before .first-child .result)) (g .1) (c .before .before .next-tag .ensures) in
-    sym (ap isRow (sym (c .before .before .before .first-child .ensures .0) ∙ ap top (t .left)))
+    sym (ap isRow (sym (c .before .before .before .first-child .ensures .row) ∙ ap top (t .left)))
 
 returns-4 : tie.Need-returns-4
 unfolding isRow top alone
@@ -55,7 +55,7 @@ returns-4 c =
     let s = c .before .before .before .before .before .args .text .now in
     let g = c .enum-told4 .given in
     let t : NextTag s (c .before .before .before .first-child .result) (Empty (g .0 .0)) = subst (NextTag s (c .before .before .before .first-child .result)) (g .1) (c .before .before .next-tag .ensures) in
-    sym (ap isRow (sym (c .before .before .before .first-child .ensures .0) ∙ ap top (t .left)))
+    sym (ap isRow (sym (c .before .before .before .first-child .ensures .row) ∙ ap top (t .left)))
 
 pub has-children-spec : {M : Type 1} → statement M
 has-children-spec =
