@@ -8,7 +8,7 @@ use borrow.Author.Tests.{lt-ltb, leb-true}
 use lib.Dec.{ltb, leb}
 use lib.ListN.{length, getD}
 use Rattle.slices.specs.Slices.{within}
-use Rattle.slices.proofs.Every.{both}
+use Rattle.slices.proofs.Booleans.{and-parts}
 use Rattle.digits.specs.Hex.{isHex, hexValue, hexEntry, entries, hexTable}
 
 module _ (entry : ℕ → ℕ) where
@@ -32,7 +32,7 @@ unfolding hexTable
 hex-entry b h = entry-at hexEntry 256 0 b h ∙ ap hexEntry (zero-add b)
 
 between : (lo hi b : ℕ) → within lo hi b ≡ true → (lo ≤ b) × (b ≤ hi)
-between lo hi b e = let (l, h) = both (leb lo b) (leb b hi) e in (leb-true lo b l, leb-true b hi h)
+between lo hi b e = let (l, h) = and-parts (leb lo b) (leb b hi) e in (leb-true lo b l, leb-true b hi h)
 
 -- a hex digit counts less than 16
 pub hex-below : (b : ℕ) → isHex b ≡ true → hexValue b < 16

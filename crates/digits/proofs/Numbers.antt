@@ -8,7 +8,7 @@ use native.Mathlib.Omega.{arith}
 use borrow.Author.Tests.{le-leb, lt-leb, leb-true}
 use lib.Dec.{leb}
 use Rattle.slices.specs.Slices.{every}
-use Rattle.slices.proofs.Every.{both}
+use Rattle.slices.proofs.Booleans.{and-parts}
 use Rattle.digits.specs.Decimal.{isDigit, decimal, plain, largest, isNumber, number, short}
 use Rattle.digits.proofs.Short.{decimal-short, digits-short, plain-short, short-decimal}
 
@@ -46,8 +46,8 @@ module _ (s : List ℕ) where
       go : (t : Bool) → isNumber s ≡ t → cond t (some (decimal 0 s)) none ≡ some n → (s ≡ short n) × (n ≤ largest)
       go true e z =
           let y : decimal 0 s ≡ n = cc in
-          let (f, h) = both (every isDigit s && plain s) (leb (decimal 0 s) largest) e in
-          let (d, p) = both (every isDigit s) (plain s) f in
+          let (f, h) = and-parts (every isDigit s && plain s) (leb (decimal 0 s) largest) e in
+          let (d, p) = and-parts (every isDigit s) (plain s) f in
           (sym (short-decimal s d p) ∙ ap short y, omega (arith, leb-true (decimal 0 s) largest h))
       go false e z = let y : _≡_ {A = ℕ} 0 1 = cc in absurd (omega arith)
 

@@ -9,7 +9,8 @@ use borrow.Author.Tests.{le-leb, lt-ltb, le-ltb, ltb-true, ltb-false, leb-true, 
 use lib.Dec.{leb, ltb, eqb}
 use lib.ListN.{length, getD, length-append, List·getD-append}
 use Rattle.slices.specs.Slices.{every}
-use Rattle.slices.proofs.Every.{both, every-append}
+use Rattle.slices.proofs.Booleans.{and-parts}
+use Rattle.slices.proofs.Every.{every-append}
 use Rattle.digits.specs.Runs.{value}
 use Rattle.digits.specs.Decimal.{isDigit, digitOf, byteOf, decimal, plain, shortIn, short}
 use Rattle.digits.proofs.Values.{value-append}
@@ -137,8 +138,8 @@ pub short-after : (s : List ℕ) (v : ℕ) → 0 < v → every isDigit s ≡ tru
 unfolding value every
 short-after [] v h e = rw append-nil
 short-after (b ∷ s) v h e =
-    let t = both (isDigit b) (every isDigit s) e in
-    let d = both (leb 48 b) (leb b 57) (t .0) in
+    let t = and-parts (isDigit b) (every isDigit s) e in
+    let d = and-parts (leb 48 b) (leb b 57) (t .0) in
     let lo : 48 ≤ b = leb-true 48 b (d .0) in
     let hi : b ≤ 57 = leb-true b 57 (d .1) in
     let q : (v * 10 + (b - 48)) / 10 ≡ v = omega arith in
@@ -151,16 +152,16 @@ pub short-decimal : (s : List ℕ) → every isDigit s ≡ true → plain s ≡ 
 unfolding value every plain
 short-decimal [] e p = absurd (false≢true p)
 short-decimal (b ∷ []) e p =
-    let t = both (isDigit b) true e in
-    let d = both (leb 48 b) (leb b 57) (t .0) in
+    let t = and-parts (isDigit b) true e in
+    let d = and-parts (leb 48 b) (leb b 57) (t .0) in
     let lo : 48 ≤ b = leb-true 48 b (d .0) in
     let hi : b ≤ 57 = leb-true b 57 (d .1) in
     let z : 0 * 10 + (b - 48) ≡ b - 48 = omega arith in
     let y : byteOf (b - 48) ≡ b = omega arith in
     ap short z ∙ short-one (b - 48) (omega arith) ∙ ap (λ (x : ℕ). x ∷ []) y
 short-decimal (b ∷ c ∷ s) e p =
-    let t = both (isDigit b) (every isDigit (c ∷ s)) e in
-    let d = both (leb 48 b) (leb b 57) (t .0) in
+    let t = and-parts (isDigit b) (every isDigit (c ∷ s)) e in
+    let d = and-parts (leb 48 b) (leb b 57) (t .0) in
     let lo : 48 ≤ b = leb-true 48 b (d .0) in
     let hi : b ≤ 57 = leb-true b 57 (d .1) in
     let n : b ≡ 48 → ⊥ = eqb-false b 48 (not-true (eqb b 48) p) in

@@ -10,7 +10,7 @@ use native.Mathlib.Numerals.{add-one}
 use lib.ListN.{length, drop, getD, drop-of-length-le}
 use lib.Seq.{drop-cons}
 use Rattle.slices.specs.Slices.{every}
-use Rattle.slices.proofs.Every.{both}
+use Rattle.slices.proofs.Booleans.{and-parts}
 use Rattle.digits.specs.Runs.{value, digits}
 
 module _ (base : ℕ) (digit : ℕ → ℕ) where
@@ -44,8 +44,8 @@ module _ (base : ℕ) (digit : ℕ → ℕ) where
     unfolding value every
     value-below [] v e = rw (pow-zero, mul-one) (omega arith)
     value-below (b ∷ s) v e =
-        let d : digit b < base = small b (both (test b) (every test s) e .0) in
-        let n = value-below s (v * base + digit b) (both (test b) (every test s) e .1) in
+        let d : digit b < base = small b (and-parts (test b) (every test s) e .0) in
+        let n = value-below s (v * base + digit b) (and-parts (test b) (every test s) e .1) in
         let k : suc (v * base + digit b) ≤ suc v * base = rw suc-mul (omega arith) in
         let m : suc (v * base + digit b) * base ^ length s ≤ suc v * base * base ^ length s = mul-le-mul-right (base ^ length s) k in
         le-trans n (rw (pow-succ', ← mul-assoc) m)
@@ -55,8 +55,8 @@ module _ (base : ℕ) (digit : ℕ → ℕ) where
     unfolding value digits every
     digits-value [] k v e = rw (add-zero, append-nil)
     digits-value (b ∷ s) k v e =
-        let d : digit b < base = small b (both (test b) (every test s) e .0) in
-        let n = digits-value s (suc k) (v * base + digit b) (both (test b) (every test s) e .1) in
+        let d : digit b < base = small b (and-parts (test b) (every test s) e .0) in
+        let n = digits-value s (suc k) (v * base + digit b) (and-parts (test b) (every test s) e .1) in
         ap (λ (w : ℕ). digits base w (value base digit (v * base + digit b) s)) (add-suc k (length s) ∙ sym (suc-add k (length s)))
         ∙ n
         ∙ ap₂ (λ (q r : ℕ). digits base k q ++ (r ∷ []) ++ map digit s) (digits-div v d) (digits-mod v d)

@@ -1,3 +1,4 @@
+pub mod Booleans
 pub mod Tables
 pub mod Every
 pub mod Equal

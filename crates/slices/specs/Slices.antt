@@ -9,10 +9,11 @@ use lib.ListN.{length, take, drop}
 abbrev pub within : ℕ → ℕ → ℕ → Bool
 within lo hi b = leb lo b && leb b hi
 
--- each passes the test
-unfoldable pub every : (ℕ → Bool) → List ℕ → Bool
-every test [] = true
-every test (x ∷ xs) = test x && every test xs
+module _ {A : Type 0} where
+  -- each passes the test
+  unfoldable pub every : (A → Bool) → List A → Bool
+  every test [] = true
+  every test (x ∷ xs) = test x && every test xs
 
 -- the same numbers in the same order
 unfoldable pub same : List ℕ → List ℕ → Bool

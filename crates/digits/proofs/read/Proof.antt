@@ -40,14 +40,14 @@ returns-2 c =
     let s = c .before .before .before .before .before .before .before .args .s .now in
     let l = c .before .before .before .loop in
     let f : isDigit (getD s (l .i) 0) ≡ false = rw (lt-leb _ _ (c .if2 .taken)) in
-    sym (not-digits s (l .inv .1 ∙ every-off isDigit s (l .i) (search needs) f))
+    sym (not-digits s (l .inv .1 ∙ every-off isDigit 0 s (l .i) (search needs) f))
 
 returns-3 : tie.Need-returns-3 Inv-loop μ-loop
 returns-3 c =
     let s = c .before .before .before .before .before .before .before .before .args .s .now in
     let l = c .before .before .before .before .loop in
     let f : isDigit (getD s (l .i) 0) ≡ false = rw (lt-leb _ _ (c .if3 .taken)) (and-false (leb 48 (getD s (l .i) 0))) in
-    sym (not-digits s (l .inv .1 ∙ every-off isDigit s (l .i) (search needs) f))
+    sym (not-digits s (l .inv .1 ∙ every-off isDigit 0 s (l .i) (search needs) f))
 
 wide-requires : tie.Need-wide-requires Inv-loop μ-loop
 wide-requires c κs = search needs
@@ -90,7 +90,7 @@ loop-again c =
     let w : c .before .before .wide .result ≡ getD s (l .i) 0 - 48 = c .before .before .wide .ensures in
     let f : isDigit (getD s (l .i) 0) ≡ true = digit-between (getD s (l .i) 0) (search needs) (search needs) in (
       search needs,
-      l .inv .1 ∙ every-on isDigit s (l .i) (search needs) f,
+      l .inv .1 ∙ every-on isDigit 0 s (l .i) (search needs) f,
       l .inv .2 ∙ value-on 10 digitOf s (l .i) (l .v) (search needs) ∙ ap (λ (d : ℕ). decimal (l .v * 10 + d) (drop (l .i + 1) s)) (sym w),
       omega arith,
     )
@@ -100,7 +100,7 @@ returns-6 c =
     let s = c .before .before .before .before .before .args .s .now in
     let l = c .before .loop in
     let z : decimal 0 s ≡ l .v = l .inv .2 ∙ value-end 10 digitOf s (l .i) (l .v) (search needs) in
-    sym (a-number s (l .inv .1 ∙ every-end isDigit s (l .i) (search needs)) (sym (c .before .before .before .is-plain .ensures) ∙ not-false _ (c .before .before .if1 .left)) (omega arith) ∙ ap some z)
+    sym (a-number s (l .inv .1 ∙ every-end isDigit 0 s (l .i) (search needs)) (sym (c .before .before .before .is-plain .ensures) ∙ not-false _ (c .before .before .if1 .left)) (omega arith) ∙ ap some z)
 
 pub read-spec : {M : Type 1} → statement M
 read-spec =

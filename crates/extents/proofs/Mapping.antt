@@ -1,0 +1,72 @@
+-- The byte map's answers: what each failed test gives, and the place along the rows.
+use mathlib.Core.Path.{_≡_, ap}
+use mathlib.Core.Bool.{true, false, _&&_, and-false}
+use mathlib.Core.List.{List}
+use Prim.Native.Nat.{ℕ, _+_, _-_, _*_, _/_, _%_, _<_, _≤_}
+use borrow.Author.Tests.{le-leb, lt-leb, eq-eqb, ne-eqb}
+use lib.Dec.{leb, ltb, eqb}
+use lib.ListN.{length, drop}
+use Rattle.refusals.specs.Refusals.{refused, answer, require}
+use Rattle.refusals.specs.declared.Refusal.the-variants.{Caller, TooMany, Extents, Missing}
+use Rattle.slices.specs.Slices.{within}
+use Rattle.extents.specs.Rows.{Row, rowsOf, rowAt}
+use Rattle.extents.specs.Lawful.{inRow, lawful}
+use Rattle.extents.specs.Map.{stored, unstored, placeIn, placeOf, lettered, byteMap}
+use Rattle.extents.proofs.Rows.{rows-on, rows-end, rows-count}
+
+module _ (s : List ℕ) (L B p : ℕ) where
+  caller-wrong : (within 4096 1048576 B && lettered (rowsOf s) && eqb (length s % 5) 0) ≡ false → byteMap s L B p ≡ refused Caller
+  unfolding byteMap
+  caller-wrong e = rw e
+
+  pub size-too-small : B < 4096 → byteMap s L B p ≡ refused Caller
+  size-too-small h = caller-wrong (rw (lt-leb 4096 B h))
+
+  pub size-too-large : 1048576 < B → byteMap s L B p ≡ refused Caller
+  size-too-large h = caller-wrong (rw (lt-leb B 1048576 h, and-false (leb 4096 B)))
+
+  pub unlettered : lettered (rowsOf s) ≡ false → byteMap s L B p ≡ refused Caller
+  unlettered e = caller-wrong (rw (e, and-false (within 4096 1048576 B)))
+
+  pub not-fives : (length s % 5 ≡ 0 → ⊥) → byteMap s L B p ≡ refused Caller
+  not-fives n = caller-wrong (rw (ne-eqb (length s % 5) 0 n, and-false (within 4096 1048576 B && lettered (rowsOf s))))
+
+  -- the caller's numbers pass
+  module _ (low : 4096 ≤ B) (high : B ≤ 1048576) (letters : lettered (rowsOf s) ≡ true) (fives : length s % 5 ≡ 0) where
+    caller-right : (within 4096 1048576 B && lettered (rowsOf s) && eqb (length s % 5) 0) ≡ true
+    caller-right = rw (le-leb 4096 B low, le-leb B 1048576 high, letters, eq-eqb (length s % 5) 0 fives)
+
+    pub too-many : 1024 < length s / 5 → byteMap s L B p ≡ refused TooMany
+    unfolding byteMap
+    too-many h = let n : 1024 < length (rowsOf s) = rw (rows-count s) h in rw (caller-right, lt-leb (length (rowsOf s)) 1024 n)
+
+    module _ (few : length s / 5 ≤ 1024) where
+      few-rows : leb (length (rowsOf s)) 1024 ≡ true
+      few-rows = let n : length (rowsOf s) ≤ 1024 = rw (rows-count s) few in le-leb (length (rowsOf s)) 1024 n
+
+      pub unlawful : lawful L B (rowsOf s) ≡ false → byteMap s L B p ≡ refused Extents
+      unfolding byteMap
+      unlawful e = rw (caller-right, few-rows, e)
+
+      pub mapped : lawful L B (rowsOf s) ≡ true → byteMap s L B p ≡ require (ltb p L) Missing (answer (placeOf B p (rowsOf s)))
+      unfolding byteMap
+      mapped e = rw (caller-right, few-rows, e)
+
+-- along the rows, of which i were passed
+module _ (s : List ℕ) (B p i : ℕ) where
+  pub place-here : i < length s / 5 → inRow p (rowAt s (i * 5)) ≡ true → placeOf B p (drop i (rowsOf s)) ≡ placeIn B p (rowAt s (i * 5))
+  unfolding placeOf
+  place-here h e = rw (rows-on s i h, e)
+
+  pub place-on : i < length s / 5 → inRow p (rowAt s (i * 5)) ≡ false → placeOf B p (drop i (rowsOf s)) ≡ placeOf B p (drop (i + 1) (rowsOf s))
+  unfolding placeOf
+  place-on h e = rw (rows-on s i h, e)
+
+  pub place-end : length s / 5 ≤ i → placeOf B p (drop i (rowsOf s)) ≡ unstored
+  unfolding placeOf
+  place-end h = ap (placeOf B p) (rows-end s i h)
+
+-- a place by its numbers
+pub placed : (B p : ℕ) (r : Row) (letter blocks byte : ℕ) → letter ≡ r .letter → blocks ≡ (r .byteoffset + (p - r .fileoffset)) / B → byte ≡ (r .byteoffset + (p - r .fileoffset)) % B
+    → stored letter (r .startblock + blocks) byte ≡ placeIn B p r
+placed B p r letter blocks byte e f g = cc

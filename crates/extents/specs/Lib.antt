@@ -1,0 +1,4 @@
+pub mod Rows
+pub mod Lawful
+pub mod Map
+pub mod Tape

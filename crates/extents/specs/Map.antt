@@ -1,0 +1,48 @@
+-- The byte map (01, Extents): where the byte at a file position is.
+use mathlib.Core.Bool.{Bool, cond, _&&_}
+use mathlib.Core.List.{List, [], _∷_}
+use Prim.Native.Nat.{ℕ, _+_, _-_, _/_, _%_}
+use lib.Dec.{leb, ltb, eqb}
+use lib.ListN.{length}
+use Rattle.refusals.specs.Refusals.{Answer, refused, answer, require}
+use Rattle.refusals.specs.declared.Refusal.the-variants.{Caller, TooMany, Extents, Missing}
+use Rattle.slices.specs.Slices.{within, every}
+use Rattle.quantities.specs.Letters.{isLetter}
+use Rattle.extents.specs.Rows.{Row, rowsOf}
+use Rattle.extents.specs.Lawful.{inRow, lawful}
+use Rattle.extents.specs.declared.ByteAt.{ByteAt}
+use Rattle.extents.specs.declared.ByteAt.the-variants.{Stored, Unstored, Refused}
+
+-- a byte of a block, or a zero byte that is not stored
+pub data Place : Type 0 where
+  stored : (letter block byte : ℕ) → Place
+  unstored : Place
+
+-- in a row: the block is startblock + (byteoffset + p - fileoffset) div B, at the remainder
+abbrev pub placeIn : ℕ → ℕ → Row → Place
+placeIn B p r =
+    stored (r .letter) (r .startblock + (r .byteoffset + (p - r .fileoffset)) / B) ((r .byteoffset + (p - r .fileoffset)) % B)
+
+-- in no row: unstored
+unfoldable pub placeOf : ℕ → ℕ → List Row → Place
+placeOf B p [] = unstored
+placeOf B p (r ∷ rows) = cond (inRow p r) (placeIn B p r) (placeOf B p rows)
+
+-- each row's letter is `a` to `z`
+abbrev pub lettered : List Row → Bool
+lettered rows = every (λ (r : Row). isLetter (r .letter)) rows
+
+-- 14 for block size, letters and numbers not in fives; 15; 11; 2 (01, Refusal numbers)
+unfoldable pub byteMap : List ℕ → ℕ → ℕ → ℕ → Answer Place
+byteMap numbers L B p =
+    require (within 4096 1048576 B && lettered (rowsOf numbers) && eqb (length numbers % 5) 0) Caller
+    (require (leb (length (rowsOf numbers)) 1024) TooMany
+    (require (lawful L B (rowsOf numbers)) Extents
+    (require (ltb p L) Missing
+    (answer (placeOf B p (rowsOf numbers))))))
+
+-- what an answer says
+abbrev pub saying : ByteAt → Answer Place
+saying (Stored letter block byte) = answer (stored letter (block .0) (byte .0))
+saying Unstored = answer unstored
+saying (Refused r) = refused r

@@ -1,0 +1,32 @@
+-- Rows of extents (01, Extents): five numbers each, in a list of numbers one after the other.
+use mathlib.Core.List.{List, [], _∷_}
+use Prim.Native.Nat.{ℕ, _+_}
+use lib.ListN.{getD}
+
+-- a row: which bytes of a file stand where on a partition
+pub record Row : Type 0 where
+  pub letter : ℕ
+  pub startblock : ℕ
+  pub byteoffset : ℕ
+  pub bytecount : ℕ
+  pub fileoffset : ℕ
+
+-- the rows of numbers in fives; fewer than five are no row
+unfoldable pub rowsOf : List ℕ → List Row
+rowsOf [] = []
+rowsOf (a ∷ []) = []
+rowsOf (a ∷ b ∷ []) = []
+rowsOf (a ∷ b ∷ c ∷ []) = []
+rowsOf (a ∷ b ∷ c ∷ d ∷ []) = []
+rowsOf (a ∷ b ∷ c ∷ d ∷ e ∷ rest) = record { letter = a; startblock = b; byteoffset = c; bytecount = d; fileoffset = e } ∷ rowsOf rest
+
+-- the row whose numbers begin at a place
+abbrev pub rowAt : List ℕ → ℕ → Row
+rowAt numbers at =
+    record {
+      letter = getD numbers at 0;
+      startblock = getD numbers (at + 1) 0;
+      byteoffset = getD numbers (at + 2) 0;
+      bytecount = getD numbers (at + 3) 0;
+      fileoffset = getD numbers (at + 4) 0;
+    }

@@ -1,0 +1,5 @@
+pub mod Entries
+pub mod Counting
+pub mod Encoding
+pub mod Walking
+pub mod Keeping

@@ -1,0 +1,52 @@
+-- `tape::keep` meets its contract: the walk over the smaller of n and the count reaches behind what n elements keep.
+use mathlib.Core.Path.{_≡_, sym, _∙_, ap}
+use Prim.Native.Nat.{ℕ, _≤_, min}
+use native.Mathlib.Omega.{arith}
+use borrow.Author.Needs.{needs}
+use lib.ListN.{length}
+use Rattle.refusals.specs.Refusals.{Answer, answer, andThen}
+use Rattle.tape.specs.declared.Front.{Front}
+use Rattle.tape.specs.Answers.{counted, Lengths, lengths, Fronts}
+use Rattle.tape.proofs.Keeping.{present, reach-kept, keeping-present, keeping-absent}
+use Rattle.tape.proofs.keep.Statement.{statement}
+use Rattle.tape.proofs.keep.Tie as tie
+
+check-requires : tie.Need-check-requires
+check-requires c κs = search needs
+
+enum-known-count : tie.Need-enum-known-count
+enum-known-count c = search needs
+
+least-requires : tie.Need-least-requires
+least-requires c κs = search needs
+
+walk-requires : tie.Need-walk-requires
+walk-requires c κs =
+    let p = present (c .before .before .before .before .before .before .before .args .list .now) (c .before .before .before .before .before .before .before .args .store .now) (c .before .before .count .given .0 .0) (λ i. c .before .before .before .before .before .before .shared-slice-known .given i .fits)
+    (ap counted (sym (c .before .before .count .given .1)) ∙ c .before .before .before .before .check .ensures) in
+    let few = p .encodes .elements in
+    let count = p .count in
+    let least = c .least .ensures in
+    search needs
+
+enum-known-r : tie.Need-enum-known-r
+enum-known-r c = search needs
+
+returns : tie.Need-returns
+returns c =
+    let n = c .before .before .before .before .before .before .before .before .args .n in
+    let count = c .before .before .before .count .given .0 .0 in
+    let p = present (c .before .before .before .before .before .before .before .before .args .list .now) (c .before .before .before .before .before .before .before .before .args .store .now) count (λ i. c .before .before .before .before .before .before .before .shared-slice-known .given i .fits)
+    (ap counted (sym (c .before .before .before .count .given .1)) ∙ c .before .before .before .before .before .check .ensures) in
+    let f = c .walk .result in
+    ap (λ (g : Front). answer (record { list = g .list; store = g .store }))
+    (c .walk .ensures ∙ rw (c .before .least .ensures) (reach-kept n count (c .before .before .before .before .before .before .before .before .args .list .now) (c .before .before .before .before .before .before .before .before .args .store .now) p))
+    ∙ sym (ap (λ (a : Answer Fronts). andThen a (λ f. answer (lengths f))) (keeping-present n count (c .before .before .before .before .before .before .before .before .args .list .now) (c .before .before .before .before .before .before .before .before .args .store .now) p))
+
+returns-2 : tie.Need-returns-2
+returns-2 c =
+    sym (ap (λ (a : Answer Fronts). andThen a (λ f. answer (lengths f)))
+    (keeping-absent (c .before .before .before .before .before .before .args .n) (c .before .before .before .before .before .before .args .list .now) (c .before .before .before .before .before .before .args .store .now) (c .before .r .given .0 .0) (ap counted (sym (c .before .r .given .1)) ∙ c .before .before .before .check .ensures)))
+
+pub keep-spec : {M : Type 1} → statement M
+keep-spec = tie.close (tie.spec check-requires enum-known-count least-requires walk-requires enum-known-r returns returns-2)

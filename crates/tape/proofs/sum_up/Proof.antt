@@ -1,0 +1,138 @@
+-- `tape::sum_up` meets its contract. Invariant: the totals so far and those of the rest are the whole list's.
+use mathlib.Core.List.{List}
+use Prim.Native.Nat.{ℕ, _≤_, _*_, _-_, _+_, _<_}
+use mathlib.Core.Path.{_≡_, refl, sym, _∙_, ap, subst}
+use native.Mathlib.Nat.{add-zero}
+use native.Mathlib.Omega.{arith}
+use borrow.Author.Needs.{needs}
+use lib.ListN.{length, drop, drop-of-length-le}
+use Rattle.tape.specs.declared.Entry.{Entry}
+use Rattle.tape.specs.Reading.{cells, kind}
+use Rattle.tape.specs.Walks.{totalsFrom}
+use Rattle.tape.proofs.Entries.{cells-as, lies-as}
+use Rattle.tape.proofs.Counting.{totals-more, totals-end, totals-full}
+use Rattle.tape.proofs.sum_up.Statement.{statement}
+use Rattle.tape.proofs.sum_up.Tie as tie
+
+abbrev Inv-loop : tie.InvT-loop
+Inv-loop list at₀ elements₀ bytes₀ at elements bytes =
+    (at ≤ length list) × (elements ≤ 65536) × (bytes ≤ elements * 1048576)
+    × (totalsFrom 0 0 (cells kind list) ≡ totalsFrom elements bytes (cells kind (drop at list)))
+
+abbrev μ-loop : tie.MeasureT-loop
+μ-loop list at₀ elements₀ bytes₀ at elements bytes = length list - at
+
+loop-holds : tie.Need-loop-holds Inv-loop μ-loop
+loop-holds c = (search needs, search needs, search needs, refl)
+
+returns : tie.Need-returns Inv-loop μ-loop
+returns c =
+    let l = c .before .before .loop in
+    let e : l .elements ≡ 65536 = c .if1 .taken in
+    sym (l .inv .3 ∙ ap (λ (n : ℕ). totalsFrom n (l .bytes) (cells kind (drop (l .at) (c .before .before .before .before .args .list .now)))) e ∙ totals-full (c .before .before .before .before .args .list .now) (l .at) (l .bytes) (search needs))
+
+entry-at-requires : tie.Need-entry-at-requires Inv-loop μ-loop
+entry-at-requires c κs = search needs
+
+enum-known-next : tie.Need-enum-known-next Inv-loop μ-loop
+enum-known-next c = search needs
+
+add-elements : tie.Need-add-elements Inv-loop μ-loop
+add-elements c = search needs
+
+loop-less : tie.Need-loop-less Inv-loop μ-loop
+loop-less c =
+    let l = c .before .before .before .before .before .before .loop in
+    let q = sym (c .before .before .before .entry-at .ensures) ∙ c .before .next .given .1 in
+    let b = lies-as (c .before .before .before .before .before .before .before .before .args .list .now) (l .at) q in
+    search needs
+
+loop-again : tie.Need-loop-again Inv-loop μ-loop
+loop-again c =
+    let l = c .before .before .before .before .before .before .loop in
+    let q = sym (c .before .before .before .entry-at .ensures) ∙ c .before .next .given .1 in
+    let b = lies-as (c .before .before .before .before .before .before .before .before .args .list .now) (l .at) q in (
+      search needs,
+      search needs,
+      search needs,
+      l .inv .3 ∙ ap (totalsFrom (l .elements) (l .bytes)) (cells-as (c .before .before .before .before .before .before .before .before .args .list .now) (l .at) q) ∙ totals-more (l .elements) (l .bytes) _ _ ∙ rw add-zero,
+    )
+
+enum-known-n : tie.Need-enum-known-n Inv-loop μ-loop
+enum-known-n c = search needs
+
+add-elements-2 : tie.Need-add-elements-2 Inv-loop μ-loop
+add-elements-2 c = search needs
+
+add-bytes : tie.Need-add-bytes Inv-loop μ-loop
+add-bytes c =
+    let l = c .before .before .before .before .before .before .loop in
+    let q = sym (c .before .before .before .entry-at .ensures) ∙ c .before .n .given .1 in
+    let b = lies-as (c .before .before .before .before .before .before .before .before .args .list .now) (l .at) q in
+    search needs
+
+loop-less-2 : tie.Need-loop-less-2 Inv-loop μ-loop
+loop-less-2 c =
+    let l = c .before .before .before .before .before .before .loop in
+    let q = sym (c .before .before .before .entry-at .ensures) ∙ c .before .n .given .1 in
+    let b = lies-as (c .before .before .before .before .before .before .before .before .args .list .now) (l .at) q in
+    search needs
+
+loop-again-2 : tie.Need-loop-again-2 Inv-loop μ-loop
+loop-again-2 c =
+    let l = c .before .before .before .before .before .before .loop in
+    let q = sym (c .before .before .before .entry-at .ensures) ∙ c .before .n .given .1 in
+    let b = lies-as (c .before .before .before .before .before .before .before .before .args .list .now) (l .at) q in (
+      search needs,
+      search needs,
+      search needs,
+      l .inv .3 ∙ ap (totalsFrom (l .elements) (l .bytes)) (cells-as (c .before .before .before .before .before .before .before .before .args .list .now) (l .at) q) ∙ totals-more (l .elements) (l .bytes) _ _,
+    )
+
+enum-told : tie.Need-enum-told Inv-loop μ-loop
+enum-told c = search needs
+
+returns-2 : tie.Need-returns-2 Inv-loop μ-loop
+returns-2 c =
+    let l = c .before .before .before .before .before .loop in
+    let b = lies-as (c .before .before .before .before .before .before .before .args .list .now) (l .at) (sym (c .before .before .entry-at .ensures) ∙ c .enum-told .given .1) in
+    absurd (omega arith)
+
+enum-told-2 : tie.Need-enum-told-2 Inv-loop μ-loop
+enum-told-2 c = search needs
+
+returns-3 : tie.Need-returns-3 Inv-loop μ-loop
+unfolding totalsFrom
+returns-3 c =
+    let l = c .before .before .before .before .before .loop in
+    sym (l .inv .3 ∙ ap (totalsFrom (l .elements) (l .bytes)) (cells-as (c .before .before .before .before .before .before .before .args .list .now) (l .at) (sym (c .before .before .entry-at .ensures) ∙ c .enum-told2 .given .1)))
+
+returns-4 : tie.Need-returns-4 Inv-loop μ-loop
+unfolding cells
+returns-4 c =
+    let l = c .before .loop in
+    sym (l .inv .3 ∙ ap (λ (s : List ℕ). totalsFrom (l .elements) (l .bytes) (cells kind s)) (drop-of-length-le (c .before .before .before .args .list .now) {i = l .at} (search needs)) ∙ totals-end (l .elements) (l .bytes) (search needs))
+
+pub sum-up-spec : {M : Type 1} → statement M
+sum-up-spec =
+    tie.close
+    (tie.spec
+    Inv-loop
+    μ-loop
+    loop-holds
+    returns
+    entry-at-requires
+    enum-known-next
+    add-elements
+    loop-less
+    loop-again
+    enum-known-n
+    add-elements-2
+    add-bytes
+    loop-less-2
+    loop-again-2
+    enum-told
+    returns-2
+    enum-told-2
+    returns-3
+    returns-4)

@@ -1,0 +1,85 @@
+-- What this crate's functions answer: the check, keeping n elements, a block by letter and number (01, The block list).
+use mathlib.Core.Bool.{Bool, true, false, cond, not, _&&_, _||_}
+use mathlib.Core.Option.{Option, none, some}
+use mathlib.Core.List.{List, []}
+use Prim.Native.Nat.{ℕ}
+use lib.ListN.{length, take, getElem?}
+use lib.Dec.{eqb}
+use Rattle.refusals.specs.declared.Refusal.{Refusal}
+use Rattle.refusals.specs.declared.Refusal.the-variants as is
+use Rattle.refusals.specs.Refusals.{Answer, refused, answer, require, andThen}
+use Rattle.quantities.specs.Letters.{isLetter}
+use Rattle.tape.specs.declared.Checked.{Checked}
+use Rattle.tape.specs.declared.Checked.the-variants as checked
+use Rattle.tape.specs.declared.Kept.{Kept}
+use Rattle.tape.specs.declared.Kept.the-variants as keptIs
+use Rattle.tape.specs.Tape.{Tape, Element, mark, block, list, store}
+use Rattle.tape.specs.Reading.{tapeOf}
+
+abbrev pub orRefused : Option Tape → Answer Tape
+orRefused none = refused is.List
+orRefused (some t) = answer t
+
+-- the tape of a list and a store, or refusal 1
+abbrev pub tapeIn : List ℕ → List ℕ → Answer Tape
+tapeIn l s = orRefused (tapeOf l s)
+
+-- the number of elements
+abbrev pub elementCount : List ℕ → List ℕ → Answer ℕ
+elementCount l s = andThen (tapeIn l s) (λ t. answer (length t))
+
+abbrev pub counted : Checked → Answer ℕ
+counted (checked.Elements n) = answer n
+counted (checked.Refused r) = refused r
+
+-- what is kept of a list and of a store
+pub record Fronts : Type 0 where
+  pub list : List ℕ
+  pub store : List ℕ
+
+-- keeping n elements; n above the count keeps all
+abbrev pub kept : ℕ → Tape → Fronts
+kept n t = record { list = list (take n t); store = store (take n t) }
+
+unfoldable pub keeping : ℕ → List ℕ → List ℕ → Answer Fronts
+keeping n l s = andThen (tapeIn l s) (λ t. answer (kept n t))
+
+-- the lengths of what is kept
+pub record Lengths : Type 0 where
+  pub list : ℕ
+  pub store : ℕ
+
+abbrev pub lengths : Fronts → Lengths
+lengths f = record { list = length (f .list); store = length (f .store) }
+
+abbrev pub keptLengths : Kept → Answer Lengths
+keptLengths (keptIs.Lengths l s) = answer (record { list = l; store = s })
+keptLengths (keptIs.Refused r) = refused r
+
+-- the parts themselves, empty where refused
+abbrev pub listPart : Answer Fronts → List ℕ
+listPart (refused r) = []
+listPart (answer f) = f .list
+
+abbrev pub storePart : Answer Fronts → List ℕ
+storePart (refused r) = []
+storePart (answer f) = f .store
+
+-- two different partition letters, and a letter that is one of them
+abbrev pub areLetters : ℕ → ℕ → ℕ → Bool
+areLetters i d letter = isLetter i && isLetter d && not (eqb i d) && (eqb letter i || eqb letter d)
+
+abbrev pub asBlock : Option Element → Answer (List ℕ)
+asBlock none = refused is.Missing
+asBlock (some mark) = refused is.Missing
+asBlock (some (block x)) = answer x
+
+-- the bytes of block n
+abbrev pub blockOn : Tape → ℕ → Answer (List ℕ)
+blockOn t n = asBlock (getElem? t n)
+
+-- block n of the partition with that letter, i and d being the letters of the index and the data partition: 14; 1, index side first; 2
+unfoldable pub blockOf : ℕ → ℕ → ℕ → ℕ → Answer Tape → Answer Tape → Answer (List ℕ)
+blockOf i d letter n indexTape dataTape =
+    require (areLetters i d letter) is.Caller
+    (andThen indexTape (λ ti. andThen dataTape (λ td. blockOn (cond (eqb letter i) ti td) n)))

@@ -1,0 +1,4 @@
+pub mod Tape
+pub mod Reading
+pub mod Walks
+pub mod Answers

@@ -1,0 +1,68 @@
+-- A list and a store read from left to right: what stands at a place of the list, and the tape that they encode, if there is one.
+-- `proofs/Encoding.antt` shows that this is the tape of `Encodes`.
+use mathlib.Core.Bool.{Bool, true, false, cond, _&&_}
+use mathlib.Core.Option.{Option, none, some}
+use mathlib.Core.List.{List, [], _∷_}
+use Prim.Native.Nat.{ℕ, zero, suc, _+_, _*_}
+use lib.ListN.{length, getD, take, drop}
+use lib.Dec.{leb, ltb, eqb}
+use Rattle.tape.specs.declared.Entry.{Entry}
+use Rattle.tape.specs.declared.Entry.the-variants.{Mark, Block, End, Bad}
+use Rattle.tape.specs.Tape.{Tape, Cell, markCell, blockCell, mark, block, markKind, blockKind, isBlockLength, maxElements, maxStore}
+
+-- the number in the four bytes at a place, high byte first
+abbrev pub numberAt : List ℕ → ℕ → ℕ
+numberAt l at = getD l at 0 * 16777216 + getD l (at + 1) 0 * 65536 + getD l (at + 2) 0 * 256 + getD l (at + 3) 0
+
+-- what stands at a place of a list, and where the next entry begins; nothing where the list ends
+unfoldable pub entryAt : List ℕ → ℕ → Entry
+entryAt l at =
+    cond (ltb at (length l))
+    (cond (eqb (getD l at 0) markKind) (Mark (at + 1))
+    (cond (eqb (getD l at 0) blockKind && leb (at + 5) (length l) && isBlockLength (numberAt l (at + 1)))
+    (Block (numberAt l (at + 1)) (at + 5))
+    Bad))
+    End
+
+unfoldable pub added : Cell → Option (List Cell) → Option (List Cell)
+added c none = none
+added c (some cs) = some (c ∷ cs)
+
+-- what is awaited: a kind byte, or so many length bytes before the last one, after those that make a number
+pub data Awaited : Type 0 where
+  kind : Awaited
+  length-byte : ℕ → ℕ → Awaited
+
+-- what a list says of its elements; none for an unknown kind, a cut body or a bad length
+unfoldable pub cells : Awaited → List ℕ → Option (List Cell)
+cells kind [] = some []
+cells kind (b ∷ l) = cond (eqb b markKind) (added markCell (cells kind l)) (cond (eqb b blockKind) (cells (length-byte 3 0) l) none)
+cells (length-byte n v) [] = none
+cells (length-byte zero v) (b ∷ l) = cond (isBlockLength (v * 256 + b)) (added (blockCell (v * 256 + b)) (cells kind l)) none
+cells (length-byte (suc n) v) (b ∷ l) = cells (length-byte n (v * 256 + b)) l
+
+-- the bytes that an element has in the store
+abbrev pub size : Cell → ℕ
+size markCell = 0
+size (blockCell n) = n
+
+unfoldable pub total : List Cell → ℕ
+total [] = 0
+total (c ∷ cs) = size c + total cs
+
+-- the blocks' bytes from the store
+unfoldable pub filled : List Cell → List ℕ → Tape
+filled [] s = []
+filled (markCell ∷ cs) s = mark ∷ filled cs s
+filled (blockCell n ∷ cs) s = block (take n s) ∷ filled cs (drop n s)
+
+abbrev pub fits : List Cell → List ℕ → Bool
+fits cs s = leb (length cs) maxElements && eqb (total cs) (length s) && leb (length s) maxStore
+
+unfoldable pub filledWith : List ℕ → Option (List Cell) → Option Tape
+filledWith s none = none
+filledWith s (some cs) = cond (fits cs s) (some (filled cs s)) none
+
+-- the tape that a list and a store encode
+unfoldable pub tapeOf : List ℕ → List ℕ → Option Tape
+tapeOf l s = filledWith s (cells kind l)

@@ -1,0 +1,83 @@
+-- A partition's tape, and the list and the store that encode it (01, The block list and Bounds).
+use mathlib.Core.Path.{_≡_}
+use mathlib.Core.Bool.{Bool, true, false, _&&_}
+use mathlib.Core.List.{List, [], _∷_, _++_}
+use Prim.Native.Nat.{ℕ, _/_, _%_, _≤_}
+use lib.ListN.{length}
+use Rattle.slices.specs.Slices.{within}
+
+-- an element: a file mark, or a block with its bytes
+pub data Element : Type 0 where
+  mark : Element
+  block : List ℕ → Element
+
+-- the elements of a partition, numbered from 0
+abbrev pub Tape : Type 0
+Tape = List Element
+
+-- what the list says of an element: that it is a mark, or a block of so many bytes
+pub data Cell : Type 0 where
+  markCell : Cell
+  blockCell : ℕ → Cell
+
+abbrev pub cellOf : Element → Cell
+cellOf mark = markCell
+cellOf (block x) = blockCell (length x)
+
+-- the kind bytes
+abbrev pub markKind : ℕ
+markKind = 1
+
+abbrev pub blockKind : ℕ
+blockKind = 2
+
+-- a number in four bytes, high byte first
+abbrev pub fourBytes : ℕ → List ℕ
+fourBytes n = (n / 16777216) ∷ (n / 65536 % 256) ∷ (n / 256 % 256) ∷ (n % 256) ∷ []
+
+-- an element in the list: its kind byte and its body, none or a block's length
+unfoldable pub entry : Cell → List ℕ
+entry markCell = markKind ∷ []
+entry (blockCell n) = blockKind ∷ fourBytes n
+
+-- an element's bytes in the store
+unfoldable pub content : Element → List ℕ
+content mark = []
+content (block x) = x
+
+unfoldable pub list : Tape → List ℕ
+list [] = []
+list (e ∷ t) = entry (cellOf e) ++ list t
+
+unfoldable pub store : Tape → List ℕ
+store [] = []
+store (e ∷ t) = content e ++ store t
+
+-- the bounds
+abbrev pub maxElements : ℕ
+maxElements = 65536
+
+abbrev pub maxBlock : ℕ
+maxBlock = 1048576
+
+abbrev pub maxStore : ℕ
+maxStore = 16777216
+
+abbrev pub isBlockLength : ℕ → Bool
+isBlockLength n = within 1 maxBlock n
+
+abbrev pub isLawful : Cell → Bool
+isLawful markCell = true
+isLawful (blockCell n) = isBlockLength n
+
+unfoldable pub lawful : Tape → Bool
+lawful [] = true
+lawful (e ∷ t) = isLawful (cellOf e) && lawful t
+
+-- l and s are the list and the store of the tape t, within the bounds
+pub record Encodes (l s : List ℕ) (t : Tape) : Type 0 where
+  pub lists : l ≡ list t
+  pub stores : s ≡ store t
+  pub blocks : lawful t ≡ true
+  pub elements : length t ≤ maxElements
+  pub bytes : length s ≤ maxStore

@@ -1,0 +1,31 @@
+-- What the walks over a list answer: its totals, and how far its first n entries reach.
+use mathlib.Core.Bool.{Bool, true, false, cond}
+use mathlib.Core.Option.{Option, none, some}
+use mathlib.Core.List.{List, [], _∷_}
+use Prim.Native.Nat.{ℕ, zero, suc, _+_}
+use lib.ListN.{length}
+use lib.Dec.{leb}
+use Rattle.tape.specs.declared.Entry.{Entry}
+use Rattle.tape.specs.declared.Entry.the-variants.{Mark, Block, End, Bad as Broken}
+use Rattle.tape.specs.declared.Front.{Front}
+use Rattle.tape.specs.declared.Totals.{Totals}
+use Rattle.tape.specs.declared.Totals.the-variants.{Of, Bad}
+use Rattle.tape.specs.Tape.{Cell, maxElements}
+use Rattle.tape.specs.Reading.{total, entryAt}
+
+-- the number of elements and the bytes of their blocks, with n elements and v bytes already counted; none past the bound
+unfoldable pub totalsFrom : ℕ → ℕ → Option (List Cell) → Totals
+totalsFrom n v none = Bad
+totalsFrom n v (some cs) = cond (leb (n + length cs) maxElements) (Of (n + length cs) (v + total cs)) Bad
+
+-- what follows an entry: the walk from the next place with the entry's bytes, or where it stops
+abbrev pub pastEntry : (ℕ → ℕ → Front) → Front → Entry → Front
+pastEntry walk here (Mark next) = walk next (here .store)
+pastEntry walk here (Block n next) = walk next (here .store + n)
+pastEntry walk here End = here
+pastEntry walk here Broken = here
+
+-- how far the next n entries reach from a place, and the bytes of their blocks on top of v; where the list ends or breaks off, it stops
+unfoldable pub reach : ℕ → List ℕ → ℕ → ℕ → Front
+reach zero l at v = record { list = at; store = v }
+reach (suc n) l at v = pastEntry (reach n l) (record { list = at; store = v }) (entryAt l at)

@@ -1,0 +1,212 @@
+// A partition's block list and store (01, The block list): checked, walked, cut after n elements, and asked for a block.
+use refusals::Refusal;
+ghost use mathlib.Core.Path.{_≡_};
+ghost use Prim.Native.Nat.{_+_, _≤_, _<_, min};
+ghost use lib.ListN.{length};
+ghost use Rattle.refusals.specs.Refusals.{answer, andThen};
+ghost use Rattle.tape.specs.Reading.{numberAt, entryAt, cells, kind};
+ghost use Rattle.tape.specs.Walks.{totalsFrom, reach};
+ghost use Rattle.tape.specs.Answers.{elementCount, counted, keeping, keptLengths, lengths, listPart, storePart};
+
+// What stands at a place of a list, with the place of the next entry: a file mark, a block with its length, nothing since the list
+// ends, or no entry of a list.
+pub enum Entry {
+    Mark(usize),
+    Block(usize, usize),
+    End,
+    Bad,
+}
+
+fn wide(x: u8) -> usize
+    ensures { λ r. ⌜ (r ≡ x) × (r < 256) ⌝ }
+{
+    x as usize
+}
+
+// The number in four bytes, high byte first.
+fn number_at(list: &[u8], at: usize) -> usize
+    requires { ⌜ at + 4 ≤ length (now list) ⌝ }
+    ensures { λ r. ⌜ r ≡ numberAt (now (list .entry)) at ⌝ }
+{
+    wide(list[at]) * 16777216
+        + wide(list[at + 1]) * 65536
+        + wide(list[at + 2]) * 256
+        + wide(list[at + 3])
+}
+
+// The entry at a place of a list.
+pub fn entry_at(list: &[u8], at: usize) -> Entry
+    ensures { λ r. ⌜ r ≡ entryAt (now (list .entry)) at ⌝ }
+{
+    if list.len() <= at {
+        return Entry::End;
+    }
+    let k = list[at];
+    if k == 1 {
+        return Entry::Mark(at + 1);
+    }
+    if k != 2 {
+        return Entry::Bad;
+    }
+    if list.len() - at < 5 {
+        return Entry::Bad;
+    }
+    let n = number_at(list, at + 1);
+    if n < 1 {
+        return Entry::Bad;
+    }
+    if 1048576 < n {
+        return Entry::Bad;
+    }
+    Entry::Block(n, at + 5)
+}
+
+enum Totals {
+    Of(usize, usize),
+    Bad,
+}
+
+// The number of elements of a list, and the bytes of its blocks.
+fn sum_up(list: &[u8]) -> Totals
+    ensures { λ r. ⌜ r ≡ totalsFrom 0 0 (cells kind (now (list .entry))) ⌝ }
+{
+    let mut at: usize = 0;
+    let mut elements: usize = 0;
+    let mut bytes: usize = 0;
+    while at < list.len() {
+        if elements == 65536 {
+            return Totals::Bad;
+        }
+        match entry_at(list, at) {
+            Entry::Mark(next) => {
+                at = next;
+                elements += 1;
+            }
+            Entry::Block(n, next) => {
+                at = next;
+                elements += 1;
+                bytes += n;
+            }
+            Entry::End => {
+                return Totals::Bad;
+            }
+            Entry::Bad => {
+                return Totals::Bad;
+            }
+        }
+    }
+    Totals::Of(elements, bytes)
+}
+
+// What the check of a list and its store answers.
+pub enum Checked {
+    Elements(usize),
+    Refused(Refusal),
+}
+
+// Whether a list and a store are well formed, and how many elements they have.
+pub fn check(list: &[u8], store: &[u8]) -> Checked
+    ensures { λ r. ⌜ counted r ≡ elementCount (now (list .entry)) (now (store .entry)) ⌝ }
+{
+    match sum_up(list) {
+        Totals::Of(elements, bytes) => {
+            if bytes != store.len() {
+                return Checked::Refused(Refusal::List);
+            }
+            if 16777216 < bytes {
+                return Checked::Refused(Refusal::List);
+            }
+            Checked::Elements(elements)
+        }
+        Totals::Bad => Checked::Refused(Refusal::List),
+    }
+}
+
+// How far the first entries of a list reach, in the list and in the store.
+struct Front {
+    list: usize,
+    store: usize,
+}
+
+fn walk(list: &[u8], n: usize) -> Front
+    requires { ⌜ n ≤ 65536 ⌝ }
+    ensures { λ r. ⌜ r ≡ reach n (now (list .entry)) 0 0 ⌝ }
+{
+    let mut at: usize = 0;
+    let mut store: usize = 0;
+    let mut left = n;
+    while 0 < left {
+        match entry_at(list, at) {
+            Entry::Mark(next) => {
+                at = next;
+                left -= 1;
+            }
+            Entry::Block(n, next) => {
+                at = next;
+                store += n;
+                left -= 1;
+            }
+            Entry::End => {
+                return Front {
+                    list: at,
+                    store: store,
+                };
+            }
+            Entry::Bad => {
+                return Front {
+                    list: at,
+                    store: store,
+                };
+            }
+        }
+    }
+    Front {
+        list: at,
+        store: store,
+    }
+}
+
+// What keeping some elements answers: the lengths of the two fronts.
+pub enum Kept {
+    Lengths(usize, usize),
+    Refused(Refusal),
+}
+
+fn least(a: usize, b: usize) -> usize
+    ensures { λ r. ⌜ r ≡ min a b ⌝ }
+{
+    if a < b { a } else { b }
+}
+
+// Keeps n elements; n above the count keeps all.
+pub fn keep(list: &[u8], store: &[u8], n: usize) -> Kept
+    ensures { λ r. ⌜ keptLengths r ≡ andThen (keeping n (now (list .entry)) (now (store .entry))) (λ f. answer (lengths f)) ⌝ }
+{
+    match check(list, store) {
+        Checked::Elements(count) => {
+            let f = walk(list, least(n, count));
+            Kept::Lengths(f.list, f.store)
+        }
+        Checked::Refused(r) => Kept::Refused(r),
+    }
+}
+
+// The front of the list that keeping n elements keeps; empty where the list or its store is refused.
+pub fn kept_list<'a>(list: &'a [u8], store: &[u8], n: usize) -> &'a [u8]
+    ensures { λ r. ⌜ now r ≡ listPart (keeping n (now (list .entry)) (now (store .entry))) ⌝ }
+{
+    match keep(list, store, n) {
+        Kept::Lengths(l, _) => &list[..l],
+        Kept::Refused(_) => &list[..0],
+    }
+}
+
+// The front of the store, likewise.
+pub fn kept_store<'a>(list: &[u8], store: &'a [u8], n: usize) -> &'a [u8]
+    ensures { λ r. ⌜ now r ≡ storePart (keeping n (now (list .entry)) (now (store .entry))) ⌝ }
+{
+    match keep(list, store, n) {
+        Kept::Lengths(_, s) => &store[..s],
+        Kept::Refused(_) => &store[..0],
+    }
+}
