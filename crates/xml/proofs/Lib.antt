@@ -1,9 +1,14 @@
 pub mod Logic
-pub mod Bytes
+pub mod Classes
+pub mod KindTable
+pub mod Past
+pub mod Stays
 pub mod Runs
+pub mod Scanning
+pub mod Scanned
 pub mod Live
 pub mod Fronts
-pub mod Characters
+pub mod Utf8
 pub mod Derived
 pub mod Accepted
 pub mod Trees

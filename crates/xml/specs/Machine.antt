@@ -75,11 +75,15 @@ inside children ns b = cond (isSpace b) (at (content children) ns) stop
 unfoldable pub tagEnd : List (List ℕ) → ℕ → State
 tagEnd ns b = cond (eqb b 62) (at (content blank) ns) (cond (eqb b 47) (at slash ns) stop)
 
+-- after an element inside the elements ns
+unfoldable pub outside : List (List ℕ) → State
+outside [] = at after []
+outside (n ∷ ns) = at (content children) (n ∷ ns)
+
 -- the innermost element ends
 unfoldable pub leave : List (List ℕ) → State
 leave [] = stop
-leave (n ∷ []) = at after []
-leave (n ∷ m ∷ ns) = at (content children) (m ∷ ns)
+leave (n ∷ ns) = outside ns
 
 unfoldable pub innermost : List (List ℕ) → List ℕ
 innermost [] = []

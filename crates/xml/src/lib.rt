@@ -1,1 +1,3 @@
 // The XML form (01, The XML form).
+mod bytes;
+mod characters;
