@@ -71,3 +71,6 @@ name-text b e =
 pub space-text : (b : ℕ) → isSpace b ≡ true → isText b ≡ true
 unfolding isText
 space-text b e = simp e
+
+pub letter-high : (b : ℕ) → isLetter b ≡ true → 32 < b
+letter-high b e = above b (leb b 32) refl (letter-name b e)

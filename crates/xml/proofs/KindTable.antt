@@ -80,3 +80,11 @@ kind-text b = texts (isLetter b) (isNameByte b) (isSpace b) (isText b) (letter-n
 pub kind-letter : (b : ℕ) → eqb (kindOf b) 0 ≡ isLetter b
 unfolding kindOf
 kind-letter b = letters (isLetter b) (isNameByte b) (isSpace b) (isText b)
+
+-- what the kind k of the byte b says
+module _ (k b : ℕ) (e : k ≡ kindOf b) where
+  pub no-letter : (k ≡ 0 → ⊥) → isLetter b ≡ false
+  no-letter h = sym (kind-letter b) ∙ ne-eqb (kindOf b) 0 (λ z. h (e ∙ z))
+
+  pub a-letter : k ≡ 0 → isLetter b ≡ true
+  a-letter h = sym (kind-letter b) ∙ eq-eqb (kindOf b) 0 (sym e ∙ h)

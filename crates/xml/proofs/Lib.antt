@@ -6,6 +6,7 @@ pub mod Stays
 pub mod Runs
 pub mod Scanning
 pub mod Scanned
+pub mod Tagged
 pub mod Live
 pub mod Fronts
 pub mod Utf8

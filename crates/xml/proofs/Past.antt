@@ -2,14 +2,22 @@
 use mathlib.Core.Path.{_≡_, refl, ap, _∙_, sym}
 use mathlib.Core.Bool.{Bool, true, false}
 use mathlib.Core.List.{List, [], _∷_}
-use Prim.Native.Nat.{ℕ, _+_, _<_, _≤_}
+use Prim.Native.Nat.{ℕ, zero, suc, _+_, _<_, _≤_}
 use native.Mathlib.Nat.{add-zero, add-suc, suc-add, not-suc-le-zero, le-of-suc-le-suc}
 use native.Mathlib.Numerals.{add-one}
+use borrow.Author.Tests.{ltb-true, ltb-false}
+use lib.Dec.{ltb}
 use native.Mathlib.Omega.{arith}
 use lib.ListN.{length, drop, getD, drop-of-length-le, length-drop}
 use lib.Seq.{drop-cons, getD-drop}
 use Rattle.xml.specs.Tree.{front}
 use Rattle.xml.specs.Scans.{Past}
+
+-- past the end there is 0
+pub beyond : (t : List ℕ) (i : ℕ) → length t ≤ i → getD t i 0 ≡ 0
+beyond [] i h = refl
+beyond (b ∷ t) zero h = absurd (not-suc-le-zero h)
+beyond (b ∷ t) (suc i) h = beyond t i (le-of-suc-le-suc h)
 
 module _ (f : ℕ → Bool) (t : List ℕ) (i : ℕ) where
   -- the byte at i passes
@@ -51,3 +59,11 @@ past-stop {f} {t} {i} p h =
 
 pub past-ahead : {f : ℕ → Bool} {t : List ℕ} {i j : ℕ} → Past f t i j → i ≤ j
 past-ahead p = omega (arith, p .found)
+
+-- the same where 0, which stands for what is past the end, does not pass either
+pub past-not : {f : ℕ → Bool} {t : List ℕ} {i j : ℕ} → Past f t i j → f 0 ≡ false → f (getD t j 0) ≡ false
+past-not {f} {t} {j = j} p e = go (ltb j (length t)) refl
+  where
+    go : (v : Bool) → ltb j (length t) ≡ v → f (getD t j 0) ≡ false
+    go true g = past-stop p (ltb-true j (length t) g)
+    go false g = ap f (beyond t j (ltb-false j (length t) g)) ∙ e

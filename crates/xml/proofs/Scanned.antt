@@ -5,16 +5,21 @@ use mathlib.Core.List.{List}
 use Prim.Native.Nat.{ℕ, _+_, _-_, _<_, _≤_}
 use native.Mathlib.Omega.{arith}
 use lib.ListN.{length, drop, getD}
+use Rattle.xml.specs.Bytes.{isLetter}
 use Rattle.xml.specs.Machine.{Place, State, stop, at, step, Outcome, broken, ended, run}
 use Rattle.xml.specs.Scans.{Past, Scans, Between, goesOn}
 use Rattle.xml.specs.declared.bytes.Scan.{Scan}
 use Rattle.xml.specs.declared.bytes.Scan.the-variants.{At, Broken}
+use Rattle.xml.proofs.Classes.{letter-high}
 use Rattle.xml.proofs.Past.{past-ahead}
 use Rattle.xml.proofs.Scanning.{inside, run-on, run-out, run-refused, run-stopped, run-as, run-past}
 
 -- the byte b, which is not 0, stands inside
 pub stands : (t : List ℕ) (i b : ℕ) → b ≡ getD t i 0 → 0 < b → i < length t
 stands t i b e h = inside t i (λ z. omega (arith, e, z))
+
+pub inside-letter : (t : List ℕ) (i : ℕ) → isLetter (getD t i 0) ≡ true → i < length t
+inside-letter t i e = inside t i (λ z. omega (arith, letter-high (getD t i 0) e, z))
 
 later : (i j n : ℕ) → i ≤ j → (r : Scan) → Between j n r → Between i n r
 later i j n h (At k) b = (omega arith, b .1)

@@ -13,12 +13,8 @@ use borrow.Author.Tests.{eq-eqb, ne-eqb, ltb-true, ltb-false}
 use Rattle.xml.specs.Tree.{front}
 use Rattle.xml.specs.Machine.{Place, word, State, stop, at, reads, step, Outcome, broken, ended, run}
 use Rattle.xml.specs.Scans.{Past}
+use Rattle.xml.proofs.Past.{beyond}
 use Rattle.xml.proofs.Runs.{run-stop}
-
-pub beyond : (t : List ℕ) (i : ℕ) → length t ≤ i → getD t i 0 ≡ 0
-beyond [] i h = refl
-beyond (b ∷ t) zero h = absurd (not-suc-le-zero h)
-beyond (b ∷ t) (suc i) h = beyond t i (le-of-suc-le-suc h)
 
 -- a byte that is not 0 stands inside
 pub inside : (t : List ℕ) (i : ℕ) → (getD t i 0 ≡ 0 → ⊥) → i < length t

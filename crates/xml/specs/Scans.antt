@@ -8,9 +8,11 @@ use lib.Dec.{eqb}
 use Rattle.slices.specs.Slices.{within}
 use Rattle.xml.specs.Bytes.{isSpace, isLetter, isNameByte}
 use Rattle.xml.specs.Tree.{front}
-use Rattle.xml.specs.Machine.{Place, State, Outcome, char, broken, run}
+use Rattle.xml.specs.Machine.{Place, name, content, blank, State, stop, at, char, outside, leave, step, Outcome, broken, ended, run}
 use Rattle.xml.specs.declared.bytes.Scan.{Scan}
 use Rattle.xml.specs.declared.bytes.Scan.the-variants.{At, Broken}
+use Rattle.xml.specs.declared.tags.Tag.{Tag}
+use Rattle.xml.specs.declared.tags.Start.{Start}
 
 -- bytes that text has under no further rule: white space, and ASCII characters other than `<`, `&`, `>` and `]`
 unfoldable pub isText : ℕ → Bool
@@ -50,3 +52,40 @@ Between i n (Broken u) = Unit {0}
 pub record Scans (t : List ℕ) (i : ℕ) (from to : List (List ℕ) → State) (r : Scan) : Type 0 where
   pub runs : (ns : List (List ℕ)) → run (from ns) (drop i t) ≡ goesOn t (to ns) r
   pub ends : Between i (length t) r
+
+-- the bytes of t from i to j
+abbrev pub part : List ℕ → ℕ → ℕ → List ℕ
+part t i j = take (j - i) (drop i t)
+
+-- the outcome where the rest of a start tag in the elements ns, its own first, ended so
+abbrev pub tagged : List ℕ → List (List ℕ) → Tag → Outcome
+tagged t ns (Tag.Open i) = run (at (content blank) ns) (drop i t)
+tagged t ns (Tag.Empty i) = run (leave ns) (drop i t)
+tagged t ns (Tag.Broken u) = broken u
+
+abbrev pub TagBetween : ℕ → ℕ → Tag → Type 0
+TagBetween i n (Tag.Open j) = (i ≤ j) × (j ≤ n)
+TagBetween i n (Tag.Empty j) = (i ≤ j) × (j ≤ n)
+TagBetween i n (Tag.Broken u) = Unit {0}
+
+-- the rest of a start tag, from i on, where the machine is at `from`
+pub record Tags (t : List ℕ) (i : ℕ) (from : List (List ℕ) → State) (r : Tag) : Type 0 where
+  pub runs : (ns : List (List ℕ)) → run (from ns) (drop i t) ≡ tagged t ns r
+  pub ends : TagBetween i (length t) r
+
+-- the outcome where a start tag from i on, inside the elements ns, ended so
+abbrev pub started : List ℕ → ℕ → List (List ℕ) → Start → Outcome
+started t i ns (Start.Open e j) = run (at (content blank) (part t i e ∷ ns)) (drop j t)
+started t i ns (Start.Empty j) = run (outside ns) (drop j t)
+started t i ns (Start.Broken u) = broken u
+
+abbrev pub StartBetween : ℕ → ℕ → Start → Type 0
+StartBetween i n (Start.Open e j) = (i ≤ e) × (e ≤ n) × (i < j) × (j ≤ n)
+StartBetween i n (Start.Empty j) = (i < j) × (j ≤ n)
+StartBetween i n (Start.Broken u) = Unit {0}
+
+-- a start tag from i on, at a place where only one may be
+pub record Starts (t : List ℕ) (i : ℕ) (r : Start) : Type 0 where
+  pub runs : (p : Place) (ns : List (List ℕ)) → ended p ≡ broken 0
+      → step p ns (getD t i 0) ≡ cond (isLetter (getD t i 0)) (at (name (getD t i 0 ∷ [])) ns) stop → run (at p ns) (drop i t) ≡ started t i ns r
+  pub ends : StartBetween i (length t) r

@@ -1,3 +1,4 @@
 // The XML form (01, The XML form).
 mod bytes;
 mod characters;
+mod tags;

@@ -1,4 +1,4 @@
-use Rattle.xml.proofs.Scanning.{beyond}
+use Rattle.xml.proofs.Past.{beyond}
 -- `byte` meets its contract: past the end it answers as `getD` does.
 use mathlib.Core.Path.{sym}
 use borrow.Author.Needs.{needs}
