@@ -7,6 +7,8 @@ pub mod Runs
 pub mod Scanning
 pub mod Scanned
 pub mod Tagged
+pub mod Turned
+pub mod OpenElements
 pub mod Live
 pub mod Fronts
 pub mod Utf8

@@ -68,6 +68,9 @@ module _ {t : List ℕ} {i : ℕ} where
       → ((ns : List (List ℕ)) → i < length t → step p ns (getD t i 0) ≡ step q ns (getD t i 0)) → Scans t i (at q) to r → Scans t i (at p) to r
   scan-as {p} q e f s = record { runs = λ ns. run-as t i p ns q ns e (f ns) ∙ s .runs ns; ends = s .ends }
 
+  pub scan-is : {a b : List (List ℕ) → State} {r s : Scan} → Scans t i a b r → r ≡ s → Scans t i a b s
+  scan-is {a} {b} x e = subst (Scans t i a b) e x
+
   -- one scan and the next
   pub scan-then : {a b c : List (List ℕ) → State} {r s : Scan} (j : ℕ) → Scans t i a b r → r ≡ At j → Scans t j b c s → Scans t i a c s
   scan-then {b = b} {s = s} j x e y =

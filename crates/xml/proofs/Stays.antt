@@ -7,8 +7,8 @@ use native.Mathlib.Omega.{arith}
 use borrow.Author.Tests.{lt-ltb, ne-eqb, eqb-false, leb-true}
 use lib.Dec.{eqb, ltb, leb}
 use Rattle.xml.specs.Bytes.{isSpace, isNameByte}
-use Rattle.xml.specs.Machine.{before, tag, key, keyed, equals, valued, content, blank, words, children, closed, after, at, char, inText, inside, step}
-use Rattle.xml.specs.Scans.{isText}
+use Rattle.xml.specs.Machine.{before, tag, key, keyed, equals, valued, content, blank, words, children, closed, after, opens, stop, at, char, inText, inside, noText, step}
+use Rattle.xml.specs.Scans.{isText, held}
 use Rattle.xml.proofs.Classes.{space-low, space-not}
 use Rattle.xml.proofs.Logic.{or-cases, and-both}
 
@@ -95,3 +95,26 @@ unfolding step inside inText char
 text-stay ns b e =
     let p = plain b e in
     simp (p .not60, p .not93, p .not62, lt-ltb b 128 (p .ascii), p .not38, p .printed)
+
+-- in an element with children so far, or with white space alone
+pub held-stay : (c : Bool) (ns : List (List ℕ)) (b : ℕ) → isSpace b ≡ true → step (content (held c)) ns b ≡ at (content (held c)) ns
+held-stay true ns b e = children-stay ns b e
+held-stay false ns b e = blank-stay ns b e
+
+pub held-opens : (c : Bool) (ns : List (List ℕ)) → step (content (held c)) ns 60 ≡ at (opens true) ns
+unfolding step noText
+held-opens true ns = refl
+held-opens false ns = refl
+
+-- text beside children
+pub held-mixed : (c : Bool) (ns : List (List ℕ)) (b : ℕ) → c ≡ true → isSpace b ≡ false → eqb b 60 ≡ false → step (content (held c)) ns b ≡ stop
+unfolding step inside
+held-mixed true ns b h e f = simp (f, e)
+held-mixed false ns b h e f = absurd (false≢true h)
+
+-- text after white space
+pub held-text : (c : Bool) (ns : List (List ℕ)) (b : ℕ) → c ≡ false → isSpace b ≡ false → eqb b 60 ≡ false
+    → step (content (held c)) ns b ≡ step (content (words 0)) ns b
+unfolding step inside
+held-text true ns b h e f = absurd (false≢true (sym h))
+held-text false ns b h e f = simp (f, e)

@@ -6,6 +6,8 @@ use Prim.Native.Nat.{ℕ, suc, _+_, _-_, min}
 use lib.ListN.{length}
 use lib.Dec.{leb, ltb, eqb}
 use Rattle.xml.specs.Bytes.{isSpace, isLetter, isNameByte, declaration}
+use Rattle.xml.specs.declared.Checked.{Checked}
+use Rattle.xml.specs.declared.Checked.the-variants.{Good, Broken}
 
 -- what an element holds so far: white space alone; text that ends in 0, 1, or 2 or more `]`; elements
 pub data Held : Type 0 where
@@ -166,3 +168,8 @@ start = at (word before declaration) []
 -- what becomes of a whole text
 unfoldable pub form : List ℕ → Outcome
 form s = run start s
+
+-- the outcome that `check` answers
+abbrev pub outcomeOf : Checked → Outcome
+outcomeOf Good = good
+outcomeOf (Broken u) = broken u

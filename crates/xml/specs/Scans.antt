@@ -8,11 +8,12 @@ use lib.Dec.{eqb}
 use Rattle.slices.specs.Slices.{within}
 use Rattle.xml.specs.Bytes.{isSpace, isLetter, isNameByte}
 use Rattle.xml.specs.Tree.{front}
-use Rattle.xml.specs.Machine.{Place, name, content, blank, State, stop, at, char, outside, leave, step, Outcome, broken, ended, run}
+use Rattle.xml.specs.Machine.{Held, blank, children, Place, name, content, State, stop, at, char, outside, leave, step, Outcome, broken, ended, run}
 use Rattle.xml.specs.declared.bytes.Scan.{Scan}
 use Rattle.xml.specs.declared.bytes.Scan.the-variants.{At, Broken}
 use Rattle.xml.specs.declared.tags.Tag.{Tag}
 use Rattle.xml.specs.declared.tags.Start.{Start}
+use Rattle.xml.specs.declared.Turn.{Turn}
 
 -- bytes that text has under no further rule: white space, and ASCII characters other than `<`, `&`, `>` and `]`
 unfoldable pub isText : ℕ → Bool
@@ -89,3 +90,27 @@ pub record Starts (t : List ℕ) (i : ℕ) (r : Start) : Type 0 where
   pub runs : (p : Place) (ns : List (List ℕ)) → ended p ≡ broken 0
       → step p ns (getD t i 0) ≡ cond (isLetter (getD t i 0)) (at (name (getD t i 0 ∷ [])) ns) stop → run (at p ns) (drop i t) ≡ started t i ns r
   pub ends : StartBetween i (length t) r
+
+-- the outcome where the next tag of the element n, inside the elements ns, ended so
+abbrev pub turned : List ℕ → List ℕ → List (List ℕ) → Turn → Outcome
+turned t n ns (Turn.Opened s e j) = run (at (content blank) (part t s e ∷ n ∷ ns)) (drop j t)
+turned t n ns (Turn.Inside j) = run (at (content children) (n ∷ ns)) (drop j t)
+turned t n ns (Turn.Outside j) = run (outside ns) (drop j t)
+turned t n ns (Turn.Broken u) = broken u
+
+-- ahead of i, and not past n; an element opens only where one may
+abbrev pub TurnBetween : ℕ → ℕ → Bool → Turn → Type 0
+TurnBetween i n begins (Turn.Opened s e j) = (begins ≡ true) × (s ≤ e) × (e ≤ n) × (i < j) × (j ≤ n)
+TurnBetween i n begins (Turn.Inside j) = (i < j) × (j ≤ n)
+TurnBetween i n begins (Turn.Outside j) = (i < j) × (j ≤ n)
+TurnBetween i n begins (Turn.Broken u) = Unit {0}
+
+-- the next tag of the element n, from i on, where the machine is at `from`, in all elements around n that are as `around` says
+pub record Turns (t : List ℕ) (i : ℕ) (n : List ℕ) (begins : Bool) (from : List (List ℕ) → State) (around : List (List ℕ) → Type 0) (r : Turn) : Type 0 where
+  pub runs : (ns : List (List ℕ)) → around ns → run (from (n ∷ ns)) (drop i t) ≡ turned t n ns r
+  pub ends : TurnBetween i (length t) begins r
+
+-- an element with children so far, or with white space alone
+abbrev pub held : Bool → Held
+held true = children
+held false = blank
