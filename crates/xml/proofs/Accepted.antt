@@ -15,7 +15,7 @@ use Rattle.xml.specs.Grammar.{Spaces, NameBytes, Name, Char, Entity, Val
 use Rattle.xml.proofs.Runs.{run-to, run-word}
 use Rattle.xml.proofs.Stays.{before-stay, tag-stay, keyed-stay, equals-stay, valued-stay, closed-stay, blank-stay, children-stay, after-stay}
 use Rattle.xml.proofs.Utf8.{Tail}
-use Rattle.xml.proofs.Classes.{space-low, space-no-name, letter-no-space, letter-not, space-not}
+use Rattle.xml.proofs.Classes.{space-low, space-no-name, letter-no-space, letter-not}
 use Rattle.xml.proofs.Logic.{cons-head, cons-tail}
 
 stays : (p : Place) (ns : List (List ℕ)) → ((b : ℕ) → isSpace b ≡ true → step p ns b ≡ at p ns) → {s t : List ℕ} → Spaces s t → run (at p ns) s ≡ run (at p ns) t

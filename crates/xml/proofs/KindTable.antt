@@ -1,18 +1,16 @@
 -- The kinds of bytes: the table has them, by one computed test, and a range of kinds is a class of bytes.
 use mathlib.Core.Path.{_≡_, refl, sym, _∙_}
-use mathlib.Core.Bool.{Bool, true, false, cond, _||_, _&&_, false≢true, or-true}
+use mathlib.Core.Bool.{Bool, true, false, cond}
 use mathlib.Core.List.{List, [], _∷_}
-use Prim.Native.Nat.{ℕ, _<_, _≤_}
-use native.Mathlib.Omega.{arith}
-use borrow.Author.Tests.{le-leb, lt-leb, ne-eqb, eq-eqb, eqb-true}
-use lib.Dec.{eqb, leb, eqb→eq}
-use lib.ListN.{length, getD}
+use Prim.Native.Nat.{ℕ}
+use borrow.Author.Tests.{ne-eqb, eq-eqb}
+use lib.Dec.{eqb, eqb→eq}
+use lib.ListN.{getD}
 use Rattle.slices.specs.Slices.{within}
 use Rattle.slices.proofs.Tables.{at}
 use Rattle.xml.specs.Bytes.{isSpace, isLetter, isNameByte}
 use Rattle.xml.specs.Scans.{isText, kindOf, ofKind, Kinds}
 use Rattle.xml.proofs.Classes.{space-no-name, letter-no-space, letter-name, name-text, space-text}
-use Rattle.xml.proofs.Logic.{not-so}
 
 unfoldable pub table : List ℕ
 table =

@@ -6,7 +6,7 @@ use Prim.Native.Nat.{ℕ, _+_, _-_, _<_, _≤_}
 use native.Mathlib.Omega.{arith}
 use lib.ListN.{length, drop, getD}
 use Rattle.xml.specs.Bytes.{isLetter}
-use Rattle.xml.specs.Machine.{Place, State, stop, at, step, Outcome, broken, ended, run}
+use Rattle.xml.specs.Machine.{Place, State, stop, at, step, broken, ended, run}
 use Rattle.xml.specs.Scans.{Past, Scans, Between, goesOn}
 use Rattle.xml.specs.declared.bytes.Scan.{Scan}
 use Rattle.xml.specs.declared.bytes.Scan.the-variants.{At, Broken}

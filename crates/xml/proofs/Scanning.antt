@@ -1,17 +1,16 @@
 -- Runs of the machine along a slice: a byte that fits, one that does not, the end, a run of bytes of one class, a word.
-use mathlib.Core.Path.{_≡_, refl, ap, _∙_, sym, subst}
+use mathlib.Core.Path.{_≡_, refl, ap, _∙_, sym}
 use mathlib.Core.Bool.{Bool, true, false}
 use mathlib.Core.List.{List, [], _∷_}
-use Prim.Native.Nat.{ℕ, zero, suc, _+_, _-_, _<_, _≤_}
+use Prim.Native.Nat.{ℕ, suc, _+_, _-_, _<_, _≤_}
 use native.Mathlib.Omega.{arith}
-use native.Mathlib.Nat.{not-suc-le-zero, le-of-suc-le-suc}
 use native.Mathlib.Numerals.{add-one}
 use lib.Dec.{ltb}
 use lib.ListN.{length, drop, getD, drop-of-length-le, length-drop}
 use lib.Seq.{drop-cons, drop-drop}
 use borrow.Author.Tests.{eq-eqb, ne-eqb, ltb-true, ltb-false}
 use Rattle.xml.specs.Tree.{front}
-use Rattle.xml.specs.Machine.{Place, word, State, stop, at, reads, step, Outcome, broken, ended, run}
+use Rattle.xml.specs.Machine.{Place, word, State, stop, at, reads, step, broken, ended, run}
 use Rattle.xml.specs.Scans.{Past}
 use Rattle.xml.proofs.Past.{beyond}
 use Rattle.xml.proofs.Runs.{run-stop}

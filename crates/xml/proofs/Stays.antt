@@ -1,16 +1,16 @@
 -- Bytes at which the machine stays where it is: white space between tags and inside them, and text.
-use mathlib.Core.Path.{_≡_, refl, ap, _∙_, sym}
+use mathlib.Core.Path.{_≡_, refl, _∙_, sym}
 use mathlib.Core.Bool.{Bool, true, false, not, _||_, _&&_, false≢true, or-true}
 use mathlib.Core.List.{List}
 use Prim.Native.Nat.{ℕ, _≤_, _<_}
 use native.Mathlib.Omega.{arith}
-use borrow.Author.Tests.{lt-ltb, ne-eqb, eqb-false, leb-true}
-use lib.Dec.{eqb, ltb, leb}
+use borrow.Author.Tests.{lt-ltb, ne-eqb, leb-true}
+use lib.Dec.{eqb, leb}
 use Rattle.xml.specs.Bytes.{isSpace, isNameByte}
 use Rattle.xml.specs.Machine.{before, tag, key, keyed, equals, valued, content, blank, words, children, closed, after, opens, stop, at, char, inText, inside, noText, step}
 use Rattle.xml.specs.Scans.{isText, held}
 use Rattle.xml.proofs.Classes.{space-low, space-not}
-use Rattle.xml.proofs.Logic.{or-cases, and-both}
+use Rattle.xml.proofs.Logic.{and-both}
 
 module _ (ns : List (List ℕ)) (b : ℕ) (e : isSpace b ≡ true) where
   pub before-stay : step before ns b ≡ at before ns

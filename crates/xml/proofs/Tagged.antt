@@ -7,15 +7,15 @@ use native.Mathlib.Omega.{arith}
 use native.Mathlib.Numerals.{add-one}
 use lib.ListN.{length, take, drop, getD}
 use lib.Seq.{drop-cons, drop-drop}
-use Rattle.xml.specs.Bytes.{isSpace, isLetter, isNameByte}
+use Rattle.xml.specs.Bytes.{isLetter, isNameByte}
 use Rattle.xml.specs.Tree.{front}
-use Rattle.xml.specs.Machine.{Place, name, tag, content, blank, State, stop, at, tagEnd, leave, outside, step, ended, run}
-use Rattle.xml.specs.Scans.{Past, Scans, Tags, TagBetween, Starts, StartBetween, part, goesOn, tagged, started}
+use Rattle.xml.specs.Machine.{Place, name, tag, content, blank, State, stop, at, leave, step, ended, run}
+use Rattle.xml.specs.Scans.{Past, Scans, Tags, TagBetween, Starts, part, tagged}
 use Rattle.xml.specs.declared.bytes.Scan.the-variants.{At, Broken}
 use Rattle.xml.specs.declared.tags.Tag.{Tag}
 use Rattle.xml.specs.declared.tags.Start.{Start}
 use Rattle.xml.proofs.Classes.{letter-name}
-use Rattle.xml.proofs.Past.{front-more, past-stop, past-ahead}
+use Rattle.xml.proofs.Past.{front-more, past-stop}
 use Rattle.xml.proofs.Scanning.{run-on, run-as}
 use Rattle.xml.proofs.Runs.{run-to}
 

@@ -1,14 +1,13 @@
 -- The next tag of an element, put together: what leads to the tag, and then the tag.
-use mathlib.Core.Path.{_≡_, refl, ap, _∙_, subst}
-use mathlib.Core.Bool.{Bool, true, false, cond, _&&_}
+use mathlib.Core.Path.{_≡_, ap, _∙_, subst}
+use mathlib.Core.Bool.{Bool, true, cond}
 use mathlib.Core.List.{List, [], _∷_}
-use Prim.Native.Nat.{ℕ, suc, _<_, _≤_}
+use Prim.Native.Nat.{ℕ, _<_, _≤_}
 use native.Mathlib.Omega.{arith}
-use lib.Dec.{eqb, ltb}
 use lib.ListN.{length, drop, getD}
 use Rattle.xml.specs.Bytes.{isLetter}
-use Rattle.xml.specs.Machine.{Place, name, opens, State, stop, at, leave, outside, innermost, step, broken, ended, run}
-use Rattle.xml.specs.Scans.{Scans, Between, Starts, StartBetween, Turns, TurnBetween, goesOn, started, part}
+use Rattle.xml.specs.Machine.{Place, name, State, stop, at, leave, outside, step, broken, ended, run}
+use Rattle.xml.specs.Scans.{Scans, Between, Starts, StartBetween, Turns, TurnBetween, goesOn, started}
 use Rattle.xml.specs.declared.bytes.Scan.{Scan}
 use Rattle.xml.specs.declared.bytes.Scan.the-variants.{At, Broken}
 use Rattle.xml.specs.declared.tags.Start.{Start}

@@ -1,18 +1,14 @@
 -- `check` meets its contract: the declaration, and then the root.
 use mathlib.Core.Path.{ap, _∙_, sym}
 use mathlib.Core.List.{[]}
+use borrow.Author.Needs.{needs}
 use Rattle.xml.specs.Bytes.{declaration}
 use Rattle.xml.specs.Machine.{before, at, reads, form}
 use Rattle.xml.specs.Scans.{goesOn}
 use Rattle.xml.proofs.KindTable.{table, table-kinds}
 use Rattle.xml.proofs.Scanned.{scan-bounds}
-use borrow.Author.Needs.{needs}
 use Rattle.xml.proofs.check.Statement.{statement}
 use Rattle.xml.proofs.check.Tie as tie
-use Rattle.xml.proofs.check.Reads as reads
-use Rattle.xml.proofs.check.Lts as lts
-use Rattle.xml.proofs.bytes.word_end.Reads as word-end-reads
-use Rattle.xml.proofs.root.Reads as root-reads
 
 slice-aggregate-word-end : tie.Need-slice-aggregate-word-end
 slice-aggregate-word-end c = search needs

@@ -4,17 +4,13 @@ use mathlib.Core.List.{[], _∷_}
 use Prim.Native.Nat.{_-_}
 use native.Mathlib.Omega.{arith}
 use lib.ListN.{length, drop, replicate}
+use borrow.Author.Needs.{needs}
 use Rattle.xml.specs.Machine.{at, content, blank, broken, ended, run}
 use Rattle.xml.specs.Scans.{part}
 use Rattle.xml.proofs.Scanning.{run-out}
 use Rattle.xml.proofs.OpenElements.{Stands, first, opened-below, opened, inside-ahead, inside, outside-ahead, left, root-ended, stopped}
-use borrow.Author.Needs.{needs}
 use Rattle.xml.proofs.elements.Statement.{statement}
 use Rattle.xml.proofs.elements.Tie as tie
-use Rattle.xml.proofs.elements.Reads as reads
-use Rattle.xml.proofs.elements.Lts as lts
-use Rattle.xml.proofs.finish.Reads as finish-reads
-use Rattle.xml.proofs.next_tag.Reads as next-tag-reads
 
 abbrev Inv-loop : tie.InvT-loop
 Inv-loop text from start end kinds starts₀ ends₀ d₀ i₀ children₀ starts ends d i children = Stands text (run (at (content blank) (part text start end ∷ [])) (drop from text)) starts ends d i children

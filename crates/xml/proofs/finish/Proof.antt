@@ -4,17 +4,14 @@ use mathlib.Core.List.{[]}
 use Prim.Native.Nat.{_<_}
 use native.Mathlib.Omega.{arith}
 use lib.ListN.{length}
+use borrow.Author.Needs.{needs}
 use Rattle.xml.specs.Bytes.{isSpace}
 use Rattle.xml.specs.Machine.{after, step, ended}
 use Rattle.xml.proofs.Past.{past-stop}
 use Rattle.xml.proofs.Stays.{after-stay}
 use Rattle.xml.proofs.Scanning.{run-past, run-out, run-on, run-stopped}
-use borrow.Author.Needs.{needs}
 use Rattle.xml.proofs.finish.Statement.{statement}
 use Rattle.xml.proofs.finish.Tie as tie
-use Rattle.xml.proofs.finish.Reads as reads
-use Rattle.xml.proofs.finish.Lts as lts
-use Rattle.xml.proofs.bytes.past_spaces.Reads as past-spaces-reads
 
 past-spaces-requires : tie.Need-past-spaces-requires
 past-spaces-requires c κs = search needs

@@ -5,6 +5,7 @@ use Prim.Native.Nat.{ℕ, _+_}
 use lib.Dec.{eqb, ltb}
 use lib.ListN.{getD}
 use borrow.Author.Tests.{ne-eqb}
+use borrow.Author.Needs.{needs}
 use Rattle.xml.specs.Bytes.{isSpace}
 use Rattle.xml.specs.Machine.{at, content, words, opens, step, ended}
 use Rattle.xml.specs.Scans.{held}
@@ -12,15 +13,8 @@ use Rattle.xml.proofs.Past.{past-not}
 use Rattle.xml.proofs.Stays.{held-stay, held-opens, held-mixed, held-text}
 use Rattle.xml.proofs.Scanned.{stands, scan-past, scan-on, scan-as, scan-is, scan-done, scan-refused, scan-bounds}
 use Rattle.xml.proofs.Turned.{turns-after, turns-broken}
-use borrow.Author.Needs.{needs}
 use Rattle.xml.proofs.next_tag.Statement.{statement}
 use Rattle.xml.proofs.next_tag.Tie as tie
-use Rattle.xml.proofs.next_tag.Reads as reads
-use Rattle.xml.proofs.next_tag.Lts as lts
-use Rattle.xml.proofs.bytes.byte.Reads as byte-reads
-use Rattle.xml.proofs.bytes.past_spaces.Reads as past-spaces-reads
-use Rattle.xml.proofs.characters.text_end.Reads as text-end-reads
-use Rattle.xml.proofs.read_tag.Reads as read-tag-reads
 
 past-spaces-requires : tie.Need-past-spaces-requires
 past-spaces-requires c κs = search needs

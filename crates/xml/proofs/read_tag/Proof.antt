@@ -4,19 +4,14 @@ use mathlib.Core.Bool.{true, false, and-false, and-true}
 use mathlib.Core.List.{_∷_}
 use Prim.Native.Nat.{_+_}
 use borrow.Author.Tests.{ne-eqb, not-true, not-false}
+use borrow.Author.Needs.{needs}
 use Rattle.xml.specs.Machine.{at, opens, closed, reads, innermost, step, ended}
 use Rattle.xml.specs.Scans.{part}
 use Rattle.xml.proofs.Scanning.{run-on, run-refused}
 use Rattle.xml.proofs.Scanned.{stands}
 use Rattle.xml.proofs.Turned.{turns-outside, turns-unread, turns-opened, turns-inside, turns-cut}
-use borrow.Author.Needs.{needs}
 use Rattle.xml.proofs.read_tag.Statement.{statement}
 use Rattle.xml.proofs.read_tag.Tie as tie
-use Rattle.xml.proofs.read_tag.Reads as reads
-use Rattle.xml.proofs.read_tag.Lts as lts
-use Rattle.xml.proofs.bytes.byte.Reads as byte-reads
-use Rattle.xml.proofs.tags.end_tag.Reads as end-tag-reads
-use Rattle.xml.proofs.tags.start_tag.Reads as start-tag-reads
 
 byte-requires : tie.Need-byte-requires
 byte-requires c κs = search needs

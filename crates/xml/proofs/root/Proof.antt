@@ -6,6 +6,7 @@ use Prim.Native.Nat.{_+_}
 use lib.Dec.{eqb}
 use lib.ListN.{length, getD}
 use borrow.Author.Tests.{ne-eqb}
+use borrow.Author.Needs.{needs}
 use Rattle.xml.specs.Bytes.{isSpace}
 use Rattle.xml.specs.Machine.{before, root, outside, step, ended}
 use Rattle.xml.specs.Scans.{StartBetween, started}
@@ -14,16 +15,8 @@ use Rattle.xml.proofs.Past.{past-not}
 use Rattle.xml.proofs.Stays.{before-stay}
 use Rattle.xml.proofs.Scanning.{run-past, run-on, run-refused}
 use Rattle.xml.proofs.Scanned.{stands}
-use borrow.Author.Needs.{needs}
 use Rattle.xml.proofs.root.Statement.{statement}
 use Rattle.xml.proofs.root.Tie as tie
-use Rattle.xml.proofs.root.Reads as reads
-use Rattle.xml.proofs.root.Lts as lts
-use Rattle.xml.proofs.bytes.byte.Reads as byte-reads
-use Rattle.xml.proofs.bytes.past_spaces.Reads as past-spaces-reads
-use Rattle.xml.proofs.elements.Reads as elements-reads
-use Rattle.xml.proofs.finish.Reads as finish-reads
-use Rattle.xml.proofs.tags.start_tag.Reads as start-tag-reads
 
 past-spaces-requires : tie.Need-past-spaces-requires
 past-spaces-requires c κs = search needs

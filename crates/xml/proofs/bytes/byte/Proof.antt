@@ -1,11 +1,9 @@
-use Rattle.xml.proofs.Past.{beyond}
 -- `byte` meets its contract: past the end it answers as `getD` does.
 use mathlib.Core.Path.{sym}
 use borrow.Author.Needs.{needs}
+use Rattle.xml.proofs.Past.{beyond}
 use Rattle.xml.proofs.bytes.byte.Statement.{statement}
 use Rattle.xml.proofs.bytes.byte.Tie as tie
-use Rattle.xml.proofs.bytes.byte.Reads as reads
-use Rattle.xml.proofs.bytes.byte.Lts as lts
 
 shared-slice-read-result : tie.Need-shared-slice-read-result
 shared-slice-read-result c = search needs

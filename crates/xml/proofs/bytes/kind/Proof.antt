@@ -2,8 +2,6 @@
 use borrow.Author.Needs.{needs}
 use Rattle.xml.proofs.bytes.kind.Statement.{statement}
 use Rattle.xml.proofs.bytes.kind.Tie as tie
-use Rattle.xml.proofs.bytes.kind.Reads as reads
-use Rattle.xml.proofs.bytes.kind.Lts as lts
 
 element-copy-out-result : tie.Need-element-copy-out-result
 element-copy-out-result c = search needs

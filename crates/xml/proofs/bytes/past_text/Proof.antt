@@ -1,12 +1,9 @@
 -- `past_text` meets its contract: the kinds that it skips are one class of bytes.
+use borrow.Author.Needs.{needs}
 use Rattle.xml.proofs.KindTable.{kind-text}
 use Rattle.xml.proofs.Past.{past-same}
-use borrow.Author.Needs.{needs}
 use Rattle.xml.proofs.bytes.past_text.Statement.{statement}
 use Rattle.xml.proofs.bytes.past_text.Tie as tie
-use Rattle.xml.proofs.bytes.past_text.Reads as reads
-use Rattle.xml.proofs.bytes.past_text.Lts as lts
-use Rattle.xml.proofs.bytes.skip.Reads as skip-reads
 
 skip-requires : tie.Need-skip-requires
 skip-requires c κs = search needs

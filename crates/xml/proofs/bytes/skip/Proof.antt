@@ -1,18 +1,15 @@
-use mathlib.Core.Bool.{and-false}
 -- `skip` meets its contract. Invariant: the end found from i on is the end found from `from` on.
+use mathlib.Core.Bool.{and-false}
 use mathlib.Core.Path.{_≡_, refl, sym, _∙_}
 use Prim.Native.Nat.{_+_, _-_, _≤_}
 use lib.ListN.{length, drop}
 use borrow.Author.Tests.{lt-leb, le-leb}
+use borrow.Author.Needs.{needs}
 use Rattle.xml.specs.Tree.{front}
 use Rattle.xml.specs.Scans.{ofKind}
 use Rattle.xml.proofs.Past.{front-more, front-none, front-end}
-use borrow.Author.Needs.{needs}
 use Rattle.xml.proofs.bytes.skip.Statement.{statement}
 use Rattle.xml.proofs.bytes.skip.Tie as tie
-use Rattle.xml.proofs.bytes.skip.Reads as reads
-use Rattle.xml.proofs.bytes.skip.Lts as lts
-use Rattle.xml.proofs.bytes.kind.Reads as kind-reads
 
 abbrev Inv-loop : tie.InvT-loop
 Inv-loop text from lo hi kinds i₀ i = (i ≤ length text) × (from + front (ofKind lo hi) (drop from text) ≡ i + front (ofKind lo hi) (drop i text))

@@ -3,13 +3,11 @@ use mathlib.Core.Path.{_≡_, refl, _∙_}
 use mathlib.Core.List.{List}
 use Prim.Native.Nat.{ℕ, _-_, _≤_}
 use lib.ListN.{length, drop}
+use borrow.Author.Needs.{needs}
 use Rattle.xml.specs.Machine.{Place, at, reads, run}
 use Rattle.xml.proofs.Scanning.{word-out, word-refused, word-on, word-done}
-use borrow.Author.Needs.{needs}
 use Rattle.xml.proofs.bytes.word_end.Statement.{statement}
 use Rattle.xml.proofs.bytes.word_end.Tie as tie
-use Rattle.xml.proofs.bytes.word_end.Reads as reads
-use Rattle.xml.proofs.bytes.word_end.Lts as lts
 
 abbrev Inv-loop : tie.InvT-loop
 Inv-loop text from word i₀ k₀ i k =

@@ -3,16 +3,12 @@ use mathlib.Core.Path.{_≡_, ap}
 use mathlib.Core.Bool.{true, or-true}
 use native.Mathlib.Omega.{arith}
 use borrow.Author.Tests.{eq-eqb, ne-eqb, lt-ltb, le-leb, lt-leb}
+use borrow.Author.Needs.{needs}
 use Rattle.xml.specs.Bytes.{isSpace}
 use Rattle.xml.specs.Machine.{char}
 use Rattle.xml.proofs.Scanned.{scan-stopped, scan-from, scan-done}
-use borrow.Author.Needs.{needs}
 use Rattle.xml.proofs.characters.char_end.Statement.{statement}
 use Rattle.xml.proofs.characters.char_end.Tie as tie
-use Rattle.xml.proofs.characters.char_end.Reads as reads
-use Rattle.xml.proofs.characters.char_end.Lts as lts
-use Rattle.xml.proofs.characters.reference_end.Reads as reference-end-reads
-use Rattle.xml.proofs.characters.wide_end.Reads as wide-end-reads
 
 wide-end-requires : tie.Need-wide-end-requires
 wide-end-requires c κs = search needs

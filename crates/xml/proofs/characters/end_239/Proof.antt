@@ -1,15 +1,11 @@
 -- `end_239` meets its contract: behind 239 and 191 the last byte is at most 189.
 use mathlib.Core.Path.{refl}
 use borrow.Author.Tests.{lt-ltb, le-ltb}
+use borrow.Author.Needs.{needs}
 use Rattle.xml.specs.Machine.{step, ended}
 use Rattle.xml.proofs.Scanned.{stands, scan-refused, scan-on}
-use borrow.Author.Needs.{needs}
 use Rattle.xml.proofs.characters.end_239.Statement.{statement}
 use Rattle.xml.proofs.characters.end_239.Tie as tie
-use Rattle.xml.proofs.characters.end_239.Reads as reads
-use Rattle.xml.proofs.characters.end_239.Lts as lts
-use Rattle.xml.proofs.bytes.byte.Reads as byte-reads
-use Rattle.xml.proofs.characters.tail_end.Reads as tail-end-reads
 
 byte-requires : tie.Need-byte-requires
 byte-requires c κs = search needs

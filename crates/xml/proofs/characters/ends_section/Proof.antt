@@ -1,11 +1,8 @@
 -- `ends_section` meets its contract.
 use mathlib.Core.Path.{sym}
 use borrow.Author.Tests.{eq-eqb, ne-eqb}
-use borrow.Author.Needs.{needs}
 use Rattle.xml.proofs.characters.ends_section.Statement.{statement}
 use Rattle.xml.proofs.characters.ends_section.Tie as tie
-use Rattle.xml.proofs.characters.ends_section.Reads as reads
-use Rattle.xml.proofs.characters.ends_section.Lts as lts
 
 returns : tie.Need-returns
 returns c = simp (eq-eqb _ _ (c .if1 .taken))

@@ -1,16 +1,11 @@
 -- `reference_end` meets its contract: `a`, `l`, `g` and `q` begin the five references.
 use mathlib.Core.Path.{refl}
 use borrow.Author.Tests.{eq-eqb, ne-eqb}
-use Rattle.xml.specs.Machine.{amp, ampA, step, ended, reads}
-use Rattle.xml.proofs.Scanned.{stands, scan-refused, scan-on}
 use borrow.Author.Needs.{needs}
+use Rattle.xml.specs.Machine.{step, ended, reads}
+use Rattle.xml.proofs.Scanned.{stands, scan-refused, scan-on}
 use Rattle.xml.proofs.characters.reference_end.Statement.{statement}
 use Rattle.xml.proofs.characters.reference_end.Tie as tie
-use Rattle.xml.proofs.characters.reference_end.Reads as reads
-use Rattle.xml.proofs.characters.reference_end.Lts as lts
-use Rattle.xml.proofs.bytes.byte.Reads as byte-reads
-use Rattle.xml.proofs.bytes.word_end.Reads as word-end-reads
-use Rattle.xml.proofs.characters.reference_a_end.Reads as reference-a-end-reads
 
 byte-requires : tie.Need-byte-requires
 byte-requires c κs = search needs

@@ -1,17 +1,15 @@
 -- `tail_end` meets its contract. Invariant: a scan from i on, where `left` more bytes are to follow, is a scan from `from` on.
-use mathlib.Core.Path.{_≡_, refl, _∙_}
-use Prim.Native.Nat.{ℕ, _-_, _+_, _≤_, _<_}
+use mathlib.Core.Path.{refl}
+use Prim.Native.Nat.{_-_, _≤_}
 use lib.ListN.{length, getD}
 use borrow.Author.Tests.{eq-eqb, ne-eqb, lt-ltb, le-ltb}
+use borrow.Author.Needs.{needs}
 use Rattle.xml.specs.Machine.{Place, at, more, step, ended}
 use Rattle.xml.specs.Scans.{Scans}
 use Rattle.xml.specs.declared.bytes.Scan.{Scan}
 use Rattle.xml.proofs.Scanned.{scan-refused, scan-step, scan-done, scan-out}
-use borrow.Author.Needs.{needs}
 use Rattle.xml.proofs.characters.tail_end.Statement.{statement}
 use Rattle.xml.proofs.characters.tail_end.Tie as tie
-use Rattle.xml.proofs.characters.tail_end.Reads as reads
-use Rattle.xml.proofs.characters.tail_end.Lts as lts
 
 abbrev Inv-loop : tie.InvT-loop
 Inv-loop text from lo hi n i₀ low₀ high₀ left₀ i low high left =

@@ -4,21 +4,15 @@ use mathlib.Core.Bool.{false}
 use Prim.Native.Nat.{_-_, _≤_}
 use lib.ListN.{length, getD}
 use borrow.Author.Tests.{eq-eqb, ne-eqb}
+use borrow.Author.Needs.{needs}
 use Rattle.xml.specs.Machine.{at, content, words, opens, noText, step, inside, inText, ended}
 use Rattle.xml.specs.Scans.{Scans}
 use Rattle.xml.specs.declared.bytes.Scan.{Scan}
 use Rattle.xml.proofs.Past.{past-ahead}
 use Rattle.xml.proofs.Stays.{text-stay}
 use Rattle.xml.proofs.Scanned.{scan-refused, scan-step, scan-done, scan-out, scan-past, scan-then, scan-broken, scan-bounds}
-use borrow.Author.Needs.{needs}
 use Rattle.xml.proofs.characters.text_end.Statement.{statement}
 use Rattle.xml.proofs.characters.text_end.Tie as tie
-use Rattle.xml.proofs.characters.text_end.Reads as reads
-use Rattle.xml.proofs.characters.text_end.Lts as lts
-use Rattle.xml.proofs.bytes.past_text.Reads as past-text-reads
-use Rattle.xml.proofs.characters.char_end.Reads as char-end-reads
-use Rattle.xml.proofs.characters.ends_section.Reads as ends-section-reads
-use Rattle.xml.proofs.characters.one_more.Reads as one-more-reads
 
 abbrev Inv-loop : tie.InvT-loop
 Inv-loop text from kinds i₀ n₀ i n =

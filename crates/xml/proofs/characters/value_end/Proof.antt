@@ -3,16 +3,13 @@ use mathlib.Core.Path.{refl}
 use Prim.Native.Nat.{_-_, _≤_}
 use lib.ListN.{length, getD}
 use borrow.Author.Tests.{eq-eqb, ne-eqb}
+use borrow.Author.Needs.{needs}
 use Rattle.xml.specs.Machine.{at, value, valued, step, ended}
 use Rattle.xml.specs.Scans.{Scans}
 use Rattle.xml.specs.declared.bytes.Scan.{Scan}
 use Rattle.xml.proofs.Scanned.{scan-refused, scan-step, scan-done, scan-out, scan-then, scan-broken, scan-bounds}
-use borrow.Author.Needs.{needs}
 use Rattle.xml.proofs.characters.value_end.Statement.{statement}
 use Rattle.xml.proofs.characters.value_end.Tie as tie
-use Rattle.xml.proofs.characters.value_end.Reads as reads
-use Rattle.xml.proofs.characters.value_end.Lts as lts
-use Rattle.xml.proofs.characters.char_end.Reads as char-end-reads
 
 abbrev Inv-loop : tie.InvT-loop
 Inv-loop text from q i₀ i = (from ≤ i) × (i ≤ length text) × ((r : Scan) → Scans text i (at (value q)) (at valued) r → Scans text from (at (value q)) (at valued) r)

@@ -1,14 +1,10 @@
 -- `wide_end` meets its contract: its tests are those of `char`.
 use borrow.Author.Tests.{lt-ltb, le-ltb}
+use borrow.Author.Needs.{needs}
 use Rattle.xml.specs.Machine.{char}
 use Rattle.xml.proofs.Scanned.{scan-stopped, scan-from}
-use borrow.Author.Needs.{needs}
 use Rattle.xml.proofs.characters.wide_end.Statement.{statement}
 use Rattle.xml.proofs.characters.wide_end.Tie as tie
-use Rattle.xml.proofs.characters.wide_end.Reads as reads
-use Rattle.xml.proofs.characters.wide_end.Lts as lts
-use Rattle.xml.proofs.characters.end_239.Reads as end-239-reads
-use Rattle.xml.proofs.characters.tail_end.Reads as tail-end-reads
 
 add-from : tie.Need-add-from
 add-from c = search needs

@@ -1,17 +1,12 @@
 -- `attribute_end` meets its contract: behind the name `key` takes each byte as `keyed` does.
 use mathlib.Core.Path.{refl}
+use borrow.Author.Needs.{needs}
 use Rattle.xml.specs.Machine.{keyed, step, ended}
 use Rattle.xml.proofs.Past.{past-stop}
 use Rattle.xml.proofs.Stays.{key-stay}
 use Rattle.xml.proofs.Scanned.{scan-past, scan-as, scan-then, scan-broken, scan-bounds}
-use borrow.Author.Needs.{needs}
 use Rattle.xml.proofs.tags.attribute_end.Statement.{statement}
 use Rattle.xml.proofs.tags.attribute_end.Tie as tie
-use Rattle.xml.proofs.tags.attribute_end.Reads as reads
-use Rattle.xml.proofs.tags.attribute_end.Lts as lts
-use Rattle.xml.proofs.bytes.past_name.Reads as past-name-reads
-use Rattle.xml.proofs.tags.equals_end.Reads as equals-end-reads
-use Rattle.xml.proofs.tags.quoted_end.Reads as quoted-end-reads
 
 past-name-requires : tie.Need-past-name-requires
 past-name-requires c κs = search needs

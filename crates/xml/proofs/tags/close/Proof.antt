@@ -2,15 +2,12 @@
 use mathlib.Core.Path.{refl, ap, _∙_, sym}
 use Prim.Native.Nat.{_+_}
 use borrow.Author.Tests.{ne-eqb}
+use borrow.Author.Needs.{needs}
 use Rattle.xml.specs.Machine.{at, slash, tagEnd, step, ended}
 use Rattle.xml.proofs.Scanned.{stands, scan-step, scan-on, scan-done, scan-refused}
 use Rattle.xml.proofs.Tagged.{tags-open, tags-empty, tags-broken}
-use borrow.Author.Needs.{needs}
 use Rattle.xml.proofs.tags.close.Statement.{statement}
 use Rattle.xml.proofs.tags.close.Tie as tie
-use Rattle.xml.proofs.tags.close.Reads as reads
-use Rattle.xml.proofs.tags.close.Lts as lts
-use Rattle.xml.proofs.bytes.byte.Reads as byte-reads
 
 byte-requires : tie.Need-byte-requires
 byte-requires c κs = search needs

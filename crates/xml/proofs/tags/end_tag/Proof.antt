@@ -1,13 +1,9 @@
 -- `end_tag` meets its contract: the name, and then the rest of the tag.
+use borrow.Author.Needs.{needs}
 use Rattle.xml.specs.Machine.{closed}
 use Rattle.xml.proofs.Scanned.{scan-then, scan-broken, scan-bounds}
-use borrow.Author.Needs.{needs}
 use Rattle.xml.proofs.tags.end_tag.Statement.{statement}
 use Rattle.xml.proofs.tags.end_tag.Tie as tie
-use Rattle.xml.proofs.tags.end_tag.Reads as reads
-use Rattle.xml.proofs.tags.end_tag.Lts as lts
-use Rattle.xml.proofs.bytes.word_end.Reads as word-end-reads
-use Rattle.xml.proofs.tags.shut.Reads as shut-reads
 
 word-end-requires : tie.Need-word-end-requires
 word-end-requires c κs = search needs

@@ -2,19 +2,14 @@
 use mathlib.Core.Path.{_≡_, refl, ap, _∙_}
 use mathlib.Core.Bool.{false}
 use borrow.Author.Tests.{eq-eqb, ne-eqb}
+use borrow.Author.Needs.{needs}
 use Rattle.xml.specs.Bytes.{isSpace}
-use Rattle.xml.proofs.Past.{past-not}
 use Rattle.xml.specs.Machine.{step, ended}
+use Rattle.xml.proofs.Past.{past-not}
 use Rattle.xml.proofs.Stays.{equals-stay}
 use Rattle.xml.proofs.Scanned.{stands, scan-past, scan-on, scan-refused}
-use borrow.Author.Needs.{needs}
 use Rattle.xml.proofs.tags.quoted_end.Statement.{statement}
 use Rattle.xml.proofs.tags.quoted_end.Tie as tie
-use Rattle.xml.proofs.tags.quoted_end.Reads as reads
-use Rattle.xml.proofs.tags.quoted_end.Lts as lts
-use Rattle.xml.proofs.bytes.byte.Reads as byte-reads
-use Rattle.xml.proofs.bytes.past_spaces.Reads as past-spaces-reads
-use Rattle.xml.proofs.characters.value_end.Reads as value-end-reads
 
 past-spaces-requires : tie.Need-past-spaces-requires
 past-spaces-requires c κs = search needs

@@ -1,19 +1,15 @@
 -- `shut` meets its contract: white space, and then `>`.
 use mathlib.Core.Path.{_≡_, refl, ap, _∙_}
 use mathlib.Core.Bool.{false}
-use borrow.Author.Tests.{eq-eqb, ne-eqb}
+use borrow.Author.Tests.{ne-eqb}
+use borrow.Author.Needs.{needs}
 use Rattle.xml.specs.Bytes.{isSpace}
-use Rattle.xml.proofs.Past.{past-not}
 use Rattle.xml.specs.Machine.{closed, step, ended}
+use Rattle.xml.proofs.Past.{past-not}
 use Rattle.xml.proofs.Stays.{closed-stay}
 use Rattle.xml.proofs.Scanned.{stands, scan-past, scan-on, scan-done, scan-refused}
-use borrow.Author.Needs.{needs}
 use Rattle.xml.proofs.tags.shut.Statement.{statement}
 use Rattle.xml.proofs.tags.shut.Tie as tie
-use Rattle.xml.proofs.tags.shut.Reads as reads
-use Rattle.xml.proofs.tags.shut.Lts as lts
-use Rattle.xml.proofs.bytes.byte.Reads as byte-reads
-use Rattle.xml.proofs.bytes.past_spaces.Reads as past-spaces-reads
 
 past-spaces-requires : tie.Need-past-spaces-requires
 past-spaces-requires c κs = search needs

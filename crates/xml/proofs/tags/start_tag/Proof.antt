@@ -2,21 +2,15 @@
 use mathlib.Core.Path.{_≡_, ap, _∙_}
 use mathlib.Core.Bool.{true, false}
 use lib.ListN.{getD}
+use borrow.Author.Needs.{needs}
 use Rattle.xml.specs.Bytes.{isLetter}
 use Rattle.xml.specs.Scans.{kindOf}
 use Rattle.xml.proofs.KindTable.{no-letter, a-letter}
 use Rattle.xml.proofs.Scanning.{run-refused}
 use Rattle.xml.proofs.Scanned.{inside-letter}
 use Rattle.xml.proofs.Tagged.{starts-open, starts-empty, starts-broken}
-use borrow.Author.Needs.{needs}
 use Rattle.xml.proofs.tags.start_tag.Statement.{statement}
 use Rattle.xml.proofs.tags.start_tag.Tie as tie
-use Rattle.xml.proofs.tags.start_tag.Reads as reads
-use Rattle.xml.proofs.tags.start_tag.Lts as lts
-use Rattle.xml.proofs.bytes.byte.Reads as byte-reads
-use Rattle.xml.proofs.bytes.kind.Reads as kind-reads
-use Rattle.xml.proofs.bytes.past_name.Reads as past-name-reads
-use Rattle.xml.proofs.tags.tag_end.Reads as tag-end-reads
 
 byte-requires : tie.Need-byte-requires
 byte-requires c κs = search needs

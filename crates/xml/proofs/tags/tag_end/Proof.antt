@@ -2,6 +2,7 @@
 use mathlib.Core.Path.{_≡_, refl, ap, _∙_}
 use mathlib.Core.Bool.{true, false}
 use lib.ListN.{getD}
+use borrow.Author.Needs.{needs}
 use Rattle.xml.specs.Bytes.{isSpace, isLetter}
 use Rattle.xml.specs.Machine.{at, tag, valued, step, ended}
 use Rattle.xml.specs.Scans.{kindOf}
@@ -10,16 +11,8 @@ use Rattle.xml.proofs.Past.{past-not}
 use Rattle.xml.proofs.Stays.{tag-stay, valued-stay}
 use Rattle.xml.proofs.Scanned.{inside-letter, scan-past, scan-step, scan-done, scan-then, scan-broken, scan-bounds}
 use Rattle.xml.proofs.Tagged.{tags-after, tags-broken}
-use borrow.Author.Needs.{needs}
 use Rattle.xml.proofs.tags.tag_end.Statement.{statement}
 use Rattle.xml.proofs.tags.tag_end.Tie as tie
-use Rattle.xml.proofs.tags.tag_end.Reads as reads
-use Rattle.xml.proofs.tags.tag_end.Lts as lts
-use Rattle.xml.proofs.bytes.byte.Reads as byte-reads
-use Rattle.xml.proofs.bytes.kind.Reads as kind-reads
-use Rattle.xml.proofs.bytes.past_spaces.Reads as past-spaces-reads
-use Rattle.xml.proofs.tags.attribute_end.Reads as attribute-end-reads
-use Rattle.xml.proofs.tags.close.Reads as close-reads
 
 past-spaces-requires : tie.Need-past-spaces-requires
 past-spaces-requires c κs = search needs
