@@ -9,12 +9,13 @@ use borrow.Author.Tests.{eq-eqb, ne-eqb, lt-ltb, le-ltb, lt-leb, eqb-true, ltb-t
 use lib.Dec.{eqb, ltb, leb, eqb·suc-zero}
 use lib.ListN.{length}
 use Rattle.xml.specs.Bytes.{isSpace, isLetter, isNameByte, declaration}
-use Rattle.xml.specs.Machine.{Place, before, root, name, tag, key, keyed, equals, value, valued, content, opens, closed, after, amp, more, lead239, Held, blank, words, children, State, at, reads, char, inText, inside, tagEnd, leave, innermost, noText, step, good, ended, run, form}
+use Rattle.xml.specs.Machine.{Place, before, root, name, tag, key, keyed, equals, value, valued, content, opens, closed, after, amp, more, lead239, Held, blank, words, children, State, at, reads, char, inText, inside, tagEnd, outside, leave, innermost, noText, step, good, ended, run, form}
 use Rattle.xml.specs.Tree.{Head, Forest, none, node}
 use Rattle.xml.specs.Grammar.{Spaces, NameBytes, Name, Char, Entity, Value, Quoted, Equals, Attribute, Start, End, Text, Elements, Document, utf8, isChar}
 use Rattle.xml.proofs.Runs.{run-to, run-word}
-use Rattle.xml.proofs.Characters.{Tail}
-use Rattle.xml.proofs.Bytes.{space-low, space-no-name, letter-no-space, letter-not, space-not}
+use Rattle.xml.proofs.Stays.{before-stay, tag-stay, keyed-stay, equals-stay, valued-stay, closed-stay, blank-stay, children-stay, after-stay}
+use Rattle.xml.proofs.Utf8.{Tail}
+use Rattle.xml.proofs.Classes.{space-low, space-no-name, letter-no-space, letter-not}
 use Rattle.xml.proofs.Logic.{cons-head, cons-tail}
 
 stays : (p : Place) (ns : List (List ℕ)) → ((b : ℕ) → isSpace b ≡ true → step p ns b ≡ at p ns) → {s t : List ℕ} → Spaces s t → run (at p ns) s ≡ run (at p ns) t
@@ -234,46 +235,30 @@ module _ (ns : List (List ℕ)) where
   quoted-run (Quoted.double v _) = value-run 34 v
   quoted-run (Quoted.single v _) = value-run 39 v
 
-  equals-stay : (b : ℕ) → isSpace b ≡ true → step equals ns b ≡ at equals ns
-  unfolding step
-  equals-stay b e = simp e
-
-  keyed-stay : (b : ℕ) → isSpace b ≡ true → step keyed ns b ≡ at keyed ns
-  unfolding step
-  keyed-stay b e = simp e
-
   key-equals : {u v : List ℕ} → Spaces u v → run (at key ns) (61 ∷ u) ≡ run (at equals ns) v
   unfolding run step isNameByte isLetter isSpace
-  key-equals y = stays equals ns equals-stay y
+  key-equals y = stays equals ns (equals-stay ns) y
 
   keyed-equals : {u v : List ℕ} → Spaces u v → run (at keyed ns) (61 ∷ u) ≡ run (at equals ns) v
   unfolding run step isSpace
-  keyed-equals y = stays equals ns equals-stay y
+  keyed-equals y = stays equals ns (equals-stay ns) y
 
   key-run : {s t : List ℕ} → Equals s t → run (at key ns) s ≡ run (at equals ns) t
   unfolding step
   key-run (Equals.equals Spaces.end y) = key-equals y
   key-run (Equals.equals (Spaces.more {b} {s} e x) y) =
-      run-to key ns b s (at keyed ns) (simp (space-no-name b e, e)) ∙ stays keyed ns keyed-stay x ∙ keyed-equals y
+      run-to key ns b s (at keyed ns) (simp (space-no-name b e, e)) ∙ stays keyed ns (keyed-stay ns) x ∙ keyed-equals y
 
   key-bytes : {v : List ℕ} (s : List ℕ) → NameBytes v → run (at key ns) (v ++ s) ≡ run (at key ns) s
   unfolding step
   key-bytes s NameBytes.end = refl
   key-bytes s (NameBytes.more {b} {w} e x) = run-to key ns b (w ++ s) (at key ns) (simp e) ∙ key-bytes s x
 
-  tag-stay : (b : ℕ) → isSpace b ≡ true → step tag ns b ≡ at tag ns
-  unfolding step
-  tag-stay b e = simp e
-
-  valued-stay : (b : ℕ) → isSpace b ≡ true → step valued ns b ≡ at valued ns
-  unfolding step
-  valued-stay b e = simp e
-
   -- an attribute
   pair-run : {k v s s₁ s₂ t : List ℕ} → Spaces s (k ++ s₁) → Name k → Equals s₁ s₂ → Quoted v s₂ t → run (at tag ns) s ≡ run (at valued ns) t
   unfolding step
   pair-run {s₁ = s₁} x (Name.name {b} {w} e y) z v =
-      stays tag ns tag-stay x ∙ run-to tag ns b (w ++ s₁) (at key ns) (simp (letter-no-space b e, e))
+      stays tag ns (tag-stay ns) x ∙ run-to tag ns b (w ++ s₁) (at key ns) (simp (letter-no-space b e, e))
       ∙ key-bytes s₁ y ∙ key-run z ∙ quoted-run v
 
 -- the end of a start tag
@@ -397,10 +382,6 @@ module _ (ns : List (List ℕ)) where
               ap (λ (σ : State). run σ (r .others)) (simp e)
               ∙ char-step 0 u (omega arith) (λ q h. absurd (omega arith), λ q h. absurd (omega arith)) not r (λ j i g. words-run j i g x)
 
-closed-stay : (ns : List (List ℕ)) (b : ℕ) → isSpace b ≡ true → step closed ns b ≡ at closed ns
-unfolding step
-closed-stay ns b e = simp e
-
 closed-62 : (ns : List (List ℕ)) (t : List ℕ) → run (at closed ns) (62 ∷ t) ≡ run (leave ns) t
 unfolding run step isSpace
 closed-62 ns t = refl
@@ -408,22 +389,6 @@ closed-62 ns t = refl
 -- an end tag, behind its `</`
 end-run : (n : List ℕ) (ns : List (List ℕ)) {s t : List ℕ} → Spaces s (62 ∷ t) → run (at (reads closed n) (n ∷ ns)) (n ++ s) ≡ run (leave (n ∷ ns)) t
 end-run n ns {s} {t} x = run-word closed (n ∷ ns) n s ∙ stays closed (n ∷ ns) (closed-stay (n ∷ ns)) x ∙ closed-62 (n ∷ ns) t
-
-blank-stay : (ns : List (List ℕ)) (b : ℕ) → isSpace b ≡ true → step (content blank) ns b ≡ at (content blank) ns
-unfolding step inside
-blank-stay ns b e = simp (space-not b 60 e (omega arith), e)
-
-children-stay : (ns : List (List ℕ)) (b : ℕ) → isSpace b ≡ true → step (content children) ns b ≡ at (content children) ns
-unfolding step inside
-children-stay ns b e = simp (space-not b 60 e (omega arith), e)
-
-before-stay : (ns : List (List ℕ)) (b : ℕ) → isSpace b ≡ true → step before ns b ≡ at before ns
-unfolding step
-before-stay ns b e = simp e
-
-after-stay : (ns : List (List ℕ)) (b : ℕ) → isSpace b ≡ true → step after ns b ≡ at after ns
-unfolding step
-after-stay ns b e = simp e
 
 -- a start tag up to its `>`, and an empty-element tag
 open-run : (ns : List (List ℕ)) {n k v s t : List ℕ} → Start n k v s (62 ∷ t) → run (at before ns) s ≡ run (at (content blank) (n ∷ ns)) t
@@ -443,7 +408,7 @@ nest-run : (ns : List (List ℕ)) {n k v s s₁ s₂ s₃ t : List ℕ} → Star
 nest-run ns {n} x y r z = open-run ns x ∙ stays (content blank) (n ∷ ns) (blank-stay (n ∷ ns)) y ∙ r ∙ end-run n ns z
 
 left-run : (n m : List ℕ) (ns : List (List ℕ)) {s t : List ℕ} → Spaces s t → run (leave (n ∷ m ∷ ns)) s ≡ run (at (content children) (m ∷ ns)) t
-unfolding leave
+unfolding leave outside
 left-run n m ns x = stays (content children) (m ∷ ns) (children-stay (m ∷ ns)) x
 
 elements-run : (m : List ℕ) (ns : List (List ℕ)) (h : Held) {d : ℕ} {f : Forest} {s u : List ℕ} → d + suc (length ns) ≡ 64 → noText h ≡ true → Elements d f s (60 ∷ 47 ∷ u)
@@ -459,7 +424,7 @@ elements-run m ns h l q (Elements.nest {n = n} x _ y k (End.end w) v z) =
     ∙ left-run n m ns v ∙ elements-run m ns children l refl z
 
 after-run : (n : List ℕ) {s : List ℕ} → Spaces s [] → run (leave (n ∷ [])) s ≡ good
-unfolding leave run ended
+unfolding leave outside run ended
 after-run n x = stays after [] (after-stay []) x
 
 root-run : {h : Head} {k : Forest} {s : List ℕ} → Elements 64 (node h k none) s [] → run (at before []) s ≡ good

@@ -9,13 +9,13 @@ use borrow.Author.Tests.{eq-eqb, eqb-true, eqb-false, ltb-true, ltb-false}
 use lib.Dec.{eqb, ltb, leb}
 use lib.ListN.{length}
 use Rattle.xml.specs.Bytes.{isSpace, isLetter, isNameByte, declaration}
-use Rattle.xml.specs.Machine.{Place, word, before, root, name, tag, key, keyed, equals, value, valued, slash, content, opens, closed, after, amp, ampA, more, lead239, Held, blank, words, children, State, stop, at, reads, char, inText, inside, tagEnd, leave, innermost, noText, step, good, broken, ended, run, form}
+use Rattle.xml.specs.Machine.{Place, word, before, root, name, tag, key, keyed, equals, value, valued, slash, content, opens, closed, after, amp, ampA, more, lead239, Held, blank, words, children, State, stop, at, reads, char, inText, inside, tagEnd, outside, leave, innermost, noText, step, good, broken, ended, run, form}
 use Rattle.xml.specs.Tree.{Head, Forest, none, node}
 use Rattle.xml.specs.Grammar.{Spaces, NameBytes, Name, Char, Entity, Value, Quoted, Equals, Attribute, Start, End, Text, Elements, Document, head, utf8}
-use Rattle.xml.proofs.Bytes.{space-low}
+use Rattle.xml.proofs.Classes.{space-low}
 use Rattle.xml.proofs.Runs.{run-stop, run-to}
 use Rattle.xml.proofs.Live.{Live, LiveAt, live, step-live}
-use Rattle.xml.proofs.Characters.{Tail, ascii, wide2, wide3-low, wide3-238, wide3-239, wide4}
+use Rattle.xml.proofs.Utf8.{Tail, ascii, wide2, wide3-low, wide3-238, wide3-239, wide4}
 use Rattle.xml.proofs.Logic.{cons-head, cons-tail, or-cases, and-both}
 
 -- the elements of the innermost open element, from here on, with its end tag
@@ -126,7 +126,7 @@ reads-back p ns [] {s} o = (s, refl, un o)
 reads-back p ns (c ∷ w) o = un o
 
 leave-back : (n : List ℕ) (ns : List (List ℕ)) {s : List ℕ} → RemainsAt (leave (n ∷ ns)) s → Outer ns s
-unfolding leave
+unfolding leave outside
 leave-back n [] o = un o
 leave-back n (m ∷ ns) o = un o
 

@@ -10,7 +10,7 @@ use lib.Dec.{eqb, ltb, leb, eqb·suc-zero}
 use lib.ListN.{length}
 use Rattle.xml.specs.Bytes.{isSpace, isLetter, isNameByte}
 use Rattle.xml.proofs.Runs.{run-to, run-word}
-use Rattle.xml.specs.Machine.{Place, word, before, root, name, tag, key, keyed, equals, value, valued, slash, content, opens, closed, after, amp, ampA, more, lead239, Held, blank, words, children, State, stop, at, reads, char, inText, inside, tagEnd, leave, innermost, noText, step, good, ended, run}
+use Rattle.xml.specs.Machine.{Place, word, before, root, name, tag, key, keyed, equals, value, valued, slash, content, opens, closed, after, amp, ampA, more, lead239, Held, blank, words, children, State, stop, at, reads, char, inText, inside, tagEnd, outside, leave, innermost, noText, step, good, ended, run}
 
 abbrev pub Some : List (List ℕ) → Type 0
 Some [] = ⊥
@@ -91,7 +91,7 @@ unfolding tagEnd
 end-live ns b l = both (eqb b 62) (clive l tt) (both (eqb b 47) (live l) halt)
 
 leave-live : (ns : List (List ℕ)) → LiveAt (leave ns)
-unfolding leave
+unfolding leave outside
 leave-live [] = halt
 leave-live (n ∷ []) = live tt
 leave-live (n ∷ m ∷ ns) = clive tt tt
@@ -125,7 +125,7 @@ closing [] = []
 closing (n ∷ ns) = 60 ∷ 47 ∷ n ++ 62 ∷ closing ns
 
 shut-good : (n : List ℕ) (ns : List (List ℕ)) → run (at closed (n ∷ ns)) (62 ∷ closing ns) ≡ good
-unfolding closing run step leave ended isSpace innermost noText
+unfolding closing run step leave outside ended isSpace innermost noText
 shut-good n [] = refl
 shut-good n (m ∷ ns) = run-word closed (m ∷ ns) m (62 ∷ closing ns) ∙ shut-good m ns
 
@@ -165,7 +165,7 @@ more-ends (suc n) p ns lo hi h e =
     (lo ∷ r .0, run-to (more p lo hi (suc n)) ns lo (r .0) (at (more p 128 191 n) ns) (simp (le-ltb lo lo (omega arith), le-ltb hi lo h, eqb·suc-zero n, y)) ∙ r .1)
 
 pub ends : (p : Place) (ns : List (List ℕ)) → Live p ns → Ends p ns
-unfolding run step reads tagEnd isSpace isLetter isNameByte leave ended IsLe
+unfolding run step reads tagEnd isSpace isLetter isNameByte leave outside ended IsLe
 ends (word p []) ns l = absurd (l .0)
 ends (word p (c ∷ w)) ns l = let e : Ends p ns = ends p ns (l .1) in (c ∷ w ++ e .0, run-to (word p (c ∷ w)) ns c (w ++ e .0) (at (reads p w) ns) (simp (eq-eqb c c refl)) ∙ run-word p ns w (e .0) ∙ e .1)
 ends before ns l = let e : Ends (content blank) ((97 ∷ []) ∷ ns) = content-ends blank ((97 ∷ []) ∷ ns) tt in (60 ∷ 97 ∷ 62 ∷ e .0, e .1)

@@ -10,7 +10,7 @@ use lib.ListN.{length, take, drop, getD, length-append}
 use Rattle.xml.specs.Bytes.{isSpace, isLetter, isNameByte, declaration}
 use Rattle.xml.specs.Tree.{Head, Forest, none, node, past, quoteAfter, front, isNot, notOpen, behind, quoted, headOf, top, pop, closed, opened, alone, put, forests}
 use Rattle.xml.specs.Grammar.{Spaces, NameBytes, Name, Char, Entity, Value, Quoted, Equals, Attribute, Start, End, Text, Elements, Document, head, utf8}
-use Rattle.xml.proofs.Bytes.{space-low, space-no-name, letter-no-space, letter-not, space-not, name-not, letter-name}
+use Rattle.xml.proofs.Classes.{space-low, space-no-name, letter-no-space, letter-not, space-not, name-not, letter-name}
 
 -- from s to t there is no byte x
 data Free (x : ℕ) : List ℕ → List ℕ → Type 0 where

@@ -3,3 +3,4 @@ pub mod Tree
 pub mod Grammar
 pub mod Form
 pub mod Machine
+pub mod Scans

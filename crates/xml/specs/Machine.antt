@@ -6,6 +6,8 @@ use Prim.Native.Nat.{ℕ, suc, _+_, _-_, min}
 use lib.ListN.{length}
 use lib.Dec.{leb, ltb, eqb}
 use Rattle.xml.specs.Bytes.{isSpace, isLetter, isNameByte, declaration}
+use Rattle.xml.specs.declared.Checked.{Checked}
+use Rattle.xml.specs.declared.Checked.the-variants.{Good, Broken}
 
 -- what an element holds so far: white space alone; text that ends in 0, 1, or 2 or more `]`; elements
 pub data Held : Type 0 where
@@ -75,11 +77,15 @@ inside children ns b = cond (isSpace b) (at (content children) ns) stop
 unfoldable pub tagEnd : List (List ℕ) → ℕ → State
 tagEnd ns b = cond (eqb b 62) (at (content blank) ns) (cond (eqb b 47) (at slash ns) stop)
 
+-- after an element inside the elements ns
+unfoldable pub outside : List (List ℕ) → State
+outside [] = at after []
+outside (n ∷ ns) = at (content children) (n ∷ ns)
+
 -- the innermost element ends
 unfoldable pub leave : List (List ℕ) → State
 leave [] = stop
-leave (n ∷ []) = at after []
-leave (n ∷ m ∷ ns) = at (content children) (m ∷ ns)
+leave (n ∷ ns) = outside ns
 
 unfoldable pub innermost : List (List ℕ) → List ℕ
 innermost [] = []
@@ -162,3 +168,8 @@ start = at (word before declaration) []
 -- what becomes of a whole text
 unfoldable pub form : List ℕ → Outcome
 form s = run start s
+
+-- the outcome that `check` answers
+abbrev pub outcomeOf : Checked → Outcome
+outcomeOf Good = good
+outcomeOf (Broken u) = broken u

@@ -1,11 +1,12 @@
 -- The classes of bytes: which of them a byte cannot be in at once.
 use mathlib.Core.Path.{_≡_, refl, ap, _∙_, sym}
-use mathlib.Core.Bool.{Bool, true, false, _||_, false≢true}
+use mathlib.Core.Bool.{Bool, true, false, _||_, false≢true, or-true, and-false}
 use Prim.Native.Nat.{ℕ, _<_, _≤_}
 use native.Mathlib.Omega.{arith}
-use borrow.Author.Tests.{ne-eqb, lt-leb, eqb-true}
-use lib.Dec.{eqb}
+use borrow.Author.Tests.{le-leb, leb-true, leb-false, ne-eqb, lt-leb, eqb-true}
+use lib.Dec.{eqb, leb}
 use Rattle.xml.specs.Bytes.{isSpace, isLetter, isNameByte}
+use Rattle.xml.specs.Scans.{isText}
 use Rattle.xml.proofs.Logic.{not-so}
 
 pub space-low : (b : ℕ) → isSpace b ≡ true → b ≤ 32
@@ -46,3 +47,30 @@ name-not b k e f = ne-eqb b k (λ z. false≢true (sym f ∙ sym (ap isNameByte 
 pub letter-name : (b : ℕ) → isLetter b ≡ true → isNameByte b ≡ true
 unfolding isNameByte
 letter-name b e = simp e
+
+high-no-name : (b : ℕ) → 122 < b → isNameByte b ≡ false
+unfolding isNameByte isLetter
+high-no-name b h =
+    simp (lt-leb b 122 h, lt-leb b 90 (omega arith), lt-leb b 57 (omega arith), and-false, ne-eqb b 95 (omega arith), ne-eqb b 45 (omega arith), ne-eqb b 46 (omega arith))
+
+above : (b : ℕ) (t : Bool) → leb b 32 ≡ t → isNameByte b ≡ true → 32 < b
+above b true e n = absurd (false≢true (sym (low-no-name b (leb-true b 32 e)) ∙ n))
+above b false e n = leb-false b 32 e
+
+below : (b : ℕ) (t : Bool) → leb b 122 ≡ t → isNameByte b ≡ true → b ≤ 122
+below b true e n = leb-true b 122 e
+below b false e n = absurd (false≢true (sym (high-no-name b (leb-false b 122 e)) ∙ n))
+
+pub name-text : (b : ℕ) → isNameByte b ≡ true → isText b ≡ true
+unfolding isText isNameByte isLetter
+name-text b e =
+    let h : 32 < b = above b (leb b 32) refl e in
+    let g : b ≤ 122 = below b (leb b 122) refl e in
+    simp (le-leb 32 b (omega arith), le-leb b 127 (omega arith), name-not b 60 e refl, name-not b 38 e refl, name-not b 62 e refl, name-not b 93 e refl, or-true)
+
+pub space-text : (b : ℕ) → isSpace b ≡ true → isText b ≡ true
+unfolding isText
+space-text b e = simp e
+
+pub letter-high : (b : ℕ) → isLetter b ≡ true → 32 < b
+letter-high b e = above b (leb b 32) refl (letter-name b e)
