@@ -29,7 +29,7 @@ returns : tie.Need-returns Inv-loop μ-loop
 returns c =
     let s = c .before .before .before .before .before .before .args .raw .now in
     let l = c .before .before .before .before .loop in
-    sym (l .inv .1 ∙ every-off isSpace s (l .i) (search needs) (sym (c .before .is-space .ensures) ∙ not-true _ (c .if1 .taken)))
+    sym (l .inv .1 ∙ every-off isSpace 0 s (l .i) (search needs) (sym (c .before .is-space .ensures) ∙ not-true _ (c .if1 .taken)))
 
 add-i : tie.Need-add-i Inv-loop μ-loop
 add-i c = search needs
@@ -41,13 +41,13 @@ loop-again : tie.Need-loop-again Inv-loop μ-loop
 loop-again c =
     let s = c .before .before .before .before .before .before .args .raw .now in
     let l = c .before .before .before .before .loop in
-    (search needs, l .inv .1 ∙ every-on isSpace s (l .i) (search needs) (sym (c .before .is-space .ensures) ∙ not-false _ (c .if1 .left)))
+    (search needs, l .inv .1 ∙ every-on isSpace 0 s (l .i) (search needs) (sym (c .before .is-space .ensures) ∙ not-false _ (c .if1 .left)))
 
 returns-2 : tie.Need-returns-2 Inv-loop μ-loop
 returns-2 c =
     let s = c .before .before .before .args .raw .now in
     let l = c .before .loop in
-    sym (l .inv .1 ∙ every-end isSpace s (l .i) (search needs))
+    sym (l .inv .1 ∙ every-end isSpace 0 s (l .i) (search needs))
 
 pub is-blank-spec : {M : Type 1} → statement M
 is-blank-spec =
