@@ -12,7 +12,8 @@ use lib.ListN.{length, drop, getD, drop-of-length-le, List·getD-eq-default}
 use lib.Seq.{drop-cons, drop-drop, getD-drop}
 use Rattle.xml.specs.Tree.{front, past, quoteAfter, Forest, forests, put, notOpen, closed, alone, opened, pop}
 use Rattle.elements.specs.Reading.{leftAt, headAt, emptyAt, behindTag}
-use Rattle.elements.proofs.Fronts.{front-stopped}
+use Rattle.xml.specs.Scans.{Past}
+use Rattle.xml.proofs.Past.{past-stop}
 
 -- a tag, from its byte at i on
 module _ (s : List ℕ) (i q l : ℕ) where
@@ -47,16 +48,16 @@ unfolding forests
 left-end s i h = ap forests (drop-of-length-le s h)
 
 -- the next `<` is at j
-module _ (s : List ℕ) (i j : ℕ) (found : j ≡ i + front notOpen (drop i s)) where
+module _ (s : List ℕ) (i j : ℕ) (found : Past notOpen s i j) where
   left-found : leftAt s i ≡ leftAt s j
-  left-found = forests-front (drop i s) ∙ ap forests (drop-drop (front notOpen (drop i s)) i s) ∙ ap (leftAt s) (sym found)
+  left-found = forests-front (drop i s) ∙ ap forests (drop-drop (front notOpen (drop i s)) i s) ∙ ap (leftAt s) (sym (found .found))
 
   pub left-none : length s ≤ j → leftAt s i ≡ []
   left-none h = left-found ∙ left-end s j h
 
   pub left-put : j < length s → leftAt s i ≡ put (drop (j + 1) s) (leftAt s (j + 1))
   unfolding forests
-  left-put h = left-found ∙ rw (drop-cons s j 0, add-one) (simp (front-stopped notOpen s i j found h))
+  left-put h = left-found ∙ rw (drop-cons s j 0, add-one) (simp (past-stop found h))
 
 -- a tag at n, before fs
 module _ (s : List ℕ) (n : ℕ) (fs : List Forest) where

@@ -1,4 +1,3 @@
-pub mod Fronts
 pub mod Names
 pub mod Left
 pub mod Rows

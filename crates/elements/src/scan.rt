@@ -1,9 +1,10 @@
 // Where runs of bytes and tags end.
 ghost use mathlib.Core.Path.{_≡_};
-ghost use Prim.Native.Nat.{_+_, _≤_, min};
+ghost use Prim.Native.Nat.{_≤_, min};
 ghost use lib.ListN.{length, drop};
 ghost use Rattle.xml.specs.Bytes.{isNameByte, isSpace};
-ghost use Rattle.xml.specs.Tree.{front, isNot, past, quoteAfter};
+ghost use Rattle.xml.specs.Scans.{Past};
+ghost use Rattle.xml.specs.Tree.{isNot, past, quoteAfter};
 
 // The place at, or the text's end where that comes first.
 pub fn inside(text: &[u8], at: usize) -> usize
@@ -18,7 +19,7 @@ pub fn inside(text: &[u8], at: usize) -> usize
 // The first b from at on, or the end.
 pub fn find(text: &[u8], at: usize, b: u8) -> usize
     requires { ⌜ at ≤ length (now text) ⌝ }
-    ensures { λ r. ⌜ (r ≡ at + front (isNot b) (drop at (now (text .entry)))) × (r ≤ length (now (text .entry))) ⌝ }
+    ensures { λ r. ⌜ Past (isNot b) (now (text .entry)) at r ⌝ }
 {
     let mut i = at;
     while i < text.len() {
@@ -71,7 +72,7 @@ pub fn is_space(b: u8) -> bool
 // The end of the name that begins at at.
 pub fn name_end(text: &[u8], at: usize) -> usize
     requires { ⌜ at ≤ length (now text) ⌝ }
-    ensures { λ r. ⌜ (r ≡ at + front isNameByte (drop at (now (text .entry)))) × (r ≤ length (now (text .entry))) ⌝ }
+    ensures { λ r. ⌜ Past isNameByte (now (text .entry)) at r ⌝ }
 {
     let mut i = at;
     while i < text.len() {
@@ -86,7 +87,7 @@ pub fn name_end(text: &[u8], at: usize) -> usize
 // The end of the white space that begins at at.
 pub fn space_end(text: &[u8], at: usize) -> usize
     requires { ⌜ at ≤ length (now text) ⌝ }
-    ensures { λ r. ⌜ (r ≡ at + front isSpace (drop at (now (text .entry)))) × (r ≤ length (now (text .entry))) ⌝ }
+    ensures { λ r. ⌜ Past isSpace (now (text .entry)) at r ⌝ }
 {
     let mut i = at;
     while i < text.len() {

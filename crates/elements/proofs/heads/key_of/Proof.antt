@@ -27,8 +27,8 @@ part-result-end c = search needs
 
 returns : tie.Need-returns
 returns c =
-    key-part (c .before .before .before .before .before .before .args .text .now) (c .before .before .before .before .before .before .args .n) (c .before .before .before .before .inside .result) (c .before .before .before .before .inside .ensures .1) (c .before .before .before .name-end .result) (c .before .before .before .name-end .ensures .0)
-    (c .before .before .space-end .result) (c .before .name-end2 .result) (c .before .before .space-end .ensures .0) (c .before .name-end2 .ensures .0)
+    key-part (c .before .before .before .before .before .before .args .text .now) (c .before .before .before .before .before .before .args .n) (c .before .before .before .before .inside .result) (c .before .before .before .before .inside .ensures .1) (c .before .before .before .name-end .result) (c .before .before .before .name-end .ensures)
+    (c .before .before .space-end .result) (c .before .name-end2 .result) (c .before .before .space-end .ensures) (c .before .name-end2 .ensures)
 
 pub key-of-spec : {M : Type 1} → statement M
 key-of-spec =

@@ -20,7 +20,7 @@ part-result-end : tie.Need-part-result-end
 part-result-end c = search needs
 
 returns : tie.Need-returns
-returns c = name-part (c .before .before .before .before .args .text .now) (c .before .before .before .before .args .n) (c .before .before .inside .result) (c .before .before .inside .ensures .1) (c .before .name-end .result) (c .before .name-end .ensures .0)
+returns c = name-part (c .before .before .before .before .args .text .now) (c .before .before .before .before .args .n) (c .before .before .inside .result) (c .before .before .inside .ensures .1) (c .before .name-end .result) (c .before .name-end .ensures)
 
 pub name-of-spec : {M : Type 1} → statement M
 name-of-spec =

@@ -57,7 +57,7 @@ returns-2 : tie.Need-returns-2 Inv-loop μ-loop
 returns-2 c =
     let s = c .before .before .before .before .before .before .before .before .before .args .text .now in
     let l = c .before .before .before .before .before .before .before .loop in
-    quoted-some s (l .i) (c .before .find .result) (search needs) (c .before .before .before .before .if1 .left) (sym (c .before .before .before .is-quote .ensures) ∙ c .before .before .if2 .taken) (c .before .find .ensures .0) ∙ sym (l .inv .1)
+    quoted-some s (l .i) (c .before .find .result) (search needs) (c .before .before .before .before .if1 .left) (sym (c .before .before .before .is-quote .ensures) ∙ c .before .before .if2 .taken) (c .before .find .ensures) ∙ sym (l .inv .1)
 
 add-i : tie.Need-add-i Inv-loop μ-loop
 add-i c = search needs

@@ -43,7 +43,7 @@ returns-2 : tie.Need-returns-2
 returns-2 c =
     let s = c .before .before .before .before .before .before .args .text .now in
     let t = c .before .before .before .tag-end in
-    text-part s (c .before .before .before .before .before .before .args .n) (c .before .before .before .before .inside .result) (c .before .before .before .before .inside .ensures .1) (t .result .empty) (t .result .at) (t .ensures .0) (c .before .before .find .result) (c .before .if1 .left) (c .before .before .find .ensures .0)
+    text-part s (c .before .before .before .before .before .before .args .n) (c .before .before .before .before .inside .result) (c .before .before .before .before .inside .ensures .1) (t .result .empty) (t .result .at) (t .ensures .0) (c .before .before .find .result) (c .before .if1 .left) (c .before .before .find .ensures)
 
 pub text-of-spec : {M : Type 1} → statement M
 text-of-spec =

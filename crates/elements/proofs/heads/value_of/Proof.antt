@@ -15,7 +15,7 @@ quoted-from-requires : tie.Need-quoted-from-requires
 quoted-from-requires c κs = search needs
 
 returns : tie.Need-returns
-returns c = c .quoted-from .ensures ∙ value-part (c .before .before .before .before .args .text .now) (c .before .before .before .before .args .n) (c .before .before .inside .result) (c .before .before .inside .ensures .1) (c .before .name-end .result) (c .before .name-end .ensures .0)
+returns c = c .quoted-from .ensures ∙ value-part (c .before .before .before .before .args .text .now) (c .before .before .before .before .args .n) (c .before .before .inside .result) (c .before .before .inside .ensures .1) (c .before .name-end .result) (c .before .name-end .ensures)
 
 pub value-of-spec : {M : Type 1} → statement M
 value-of-spec = tie.close (tie.spec inside-requires name-end-requires quoted-from-requires returns)

@@ -5,7 +5,7 @@ use mathlib.Core.Bool.{not}
 use lib.ListN.{length, drop}
 use borrow.Author.Tests.{eq-eqb, ne-eqb}
 use Rattle.xml.specs.Tree.{front, isNot}
-use Rattle.elements.proofs.Fronts.{front-more, front-none, front-end}
+use Rattle.xml.proofs.Past.{front-more, front-none, front-end}
 use borrow.Author.Needs.{needs}
 use Rattle.elements.proofs.scan.find.Statement.{statement}
 use Rattle.elements.proofs.scan.find.Tie as tie
@@ -26,7 +26,7 @@ returns : tie.Need-returns Inv-loop μ-loop
 unfolding isNot
 returns c =
     let l = c .before .before .before .loop in
-    (sym (l .inv .1 ∙ front-none (isNot _) _ _ (search needs) (ap not (eq-eqb _ _ (c .if1 .taken)))), search needs)
+    record { found = sym (l .inv .1 ∙ front-none (isNot _) _ _ (search needs) (ap not (eq-eqb _ _ (c .if1 .taken)))); inside = search needs }
 
 add-i : tie.Need-add-i Inv-loop μ-loop
 add-i c = search needs
@@ -43,7 +43,7 @@ loop-again c =
 returns-2 : tie.Need-returns-2 Inv-loop μ-loop
 returns-2 c =
     let l = c .before .loop in
-    (sym (l .inv .1 ∙ front-end (isNot _) _ _ (search needs)), search needs)
+    record { found = sym (l .inv .1 ∙ front-end (isNot _) _ _ (search needs)); inside = search needs }
 
 pub find-spec : {M : Type 1} → statement M
 find-spec =

@@ -5,7 +5,7 @@ use borrow.Author.Tests.{not-true, not-false}
 use lib.ListN.{length, drop}
 use Rattle.xml.specs.Bytes.{isNameByte}
 use Rattle.xml.specs.Tree.{front}
-use Rattle.elements.proofs.Fronts.{front-more, front-none, front-end}
+use Rattle.xml.proofs.Past.{front-more, front-none, front-end}
 use borrow.Author.Needs.{needs}
 use Rattle.elements.proofs.scan.name_end.Statement.{statement}
 use Rattle.elements.proofs.scan.name_end.Tie as tie
@@ -28,7 +28,7 @@ is-name-byte-requires c κs = search needs
 returns : tie.Need-returns Inv-loop μ-loop
 returns c =
     let l = c .before .before .before .before .loop in
-    (sym (l .inv .1 ∙ front-none isNameByte _ _ (search needs) (sym (c .before .is-name-byte .ensures) ∙ not-true _ (c .if1 .taken))), search needs)
+    record { found = sym (l .inv .1 ∙ front-none isNameByte _ _ (search needs) (sym (c .before .is-name-byte .ensures) ∙ not-true _ (c .if1 .taken))); inside = search needs }
 
 add-i : tie.Need-add-i Inv-loop μ-loop
 add-i c = search needs
@@ -44,7 +44,7 @@ loop-again c =
 returns-2 : tie.Need-returns-2 Inv-loop μ-loop
 returns-2 c =
     let l = c .before .loop in
-    (sym (l .inv .1 ∙ front-end isNameByte _ _ (search needs)), search needs)
+    record { found = sym (l .inv .1 ∙ front-end isNameByte _ _ (search needs)); inside = search needs }
 
 pub name-end-spec : {M : Type 1} → statement M
 name-end-spec =

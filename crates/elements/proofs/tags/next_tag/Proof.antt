@@ -18,7 +18,7 @@ returns-2 : tie.Need-returns-2
 returns-2 c =
     let a = c .before .before .before .before .args in
     let f = c .before .find in
-    record { left = left-none (a .text .now) (a .at) (f .result) (f .ensures .0) (search needs); kind = tt; place = tt }
+    record { left = left-none (a .text .now) (a .at) (f .result) (f .ensures) (search needs); kind = tt; place = tt }
 
 add-n : tie.Need-add-n
 add-n c = search needs
@@ -31,7 +31,7 @@ returns-3 c =
     let a = c .before .before .before .before .before .before .before .args in
     let f = c .before .before .before .before .find in
     record {
-      left = left-put (a .text .now) (a .at) (f .result) (f .ensures .0) (search needs) ∙ put-closed (a .text .now) (f .result + 1) _ (c .if4 .taken);
+      left = left-put (a .text .now) (a .at) (f .result) (f .ensures) (search needs) ∙ put-closed (a .text .now) (f .result + 1) _ (c .if4 .taken);
       kind = tt;
       place = search needs;
     }
@@ -46,7 +46,7 @@ returns-4 c =
     let e = ap (λ (r : Rest). r .empty) (c .before .tag-end .ensures .0) ∙ c .if5 .taken in
     let k = ⊎-elim (λ w. w .2 .left) (λ w. no-slash (a .text .now) (f .result + 1) (w .left)) (c .before .before .if3 .came) in
     record {
-      left = left-put (a .text .now) (a .at) (f .result) (f .ensures .0) (search needs) ∙ put-alone (a .text .now) (f .result + 1) _ k e;
+      left = left-put (a .text .now) (a .at) (f .result) (f .ensures) (search needs) ∙ put-alone (a .text .now) (f .result + 1) _ k e;
       kind = e;
       place = search needs;
     }
@@ -58,7 +58,7 @@ returns-5 c =
     let e = ap (λ (r : Rest). r .empty) (c .before .tag-end .ensures .0) ∙ c .if5 .left in
     let k = ⊎-elim (λ w. w .2 .left) (λ w. no-slash (a .text .now) (f .result + 1) (w .left)) (c .before .before .if3 .came) in
     record {
-      left = left-put (a .text .now) (a .at) (f .result) (f .ensures .0) (search needs) ∙ put-opened (a .text .now) (f .result + 1) _ k e;
+      left = left-put (a .text .now) (a .at) (f .result) (f .ensures) (search needs) ∙ put-opened (a .text .now) (f .result + 1) _ k e;
       kind = e;
       place = search needs;
     }
