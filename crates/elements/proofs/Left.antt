@@ -1,0 +1,90 @@
+-- Tags along a slice: where a tag ends from a byte of it on, and what is left to read before the next `<`, at it, and at a tag.
+use mathlib.Core.Path.{_≡_, refl, ap, _∙_, sym}
+use mathlib.Core.Bool.{Bool, true, false}
+use mathlib.Core.List.{List, [], _∷_}
+use Prim.Native.Nat.{ℕ, zero, suc, _+_, _<_, _≤_}
+use native.Mathlib.Omega.{arith}
+use native.Mathlib.Numerals.{add-one}
+use native.Mathlib.Nat.{add-zero}
+use borrow.Author.Tests.{eq-eqb, ne-eqb}
+use lib.Dec.{eqb}
+use lib.ListN.{length, drop, getD, drop-of-length-le, List·getD-eq-default}
+use lib.Seq.{drop-cons, drop-drop, getD-drop}
+use Rattle.xml.specs.Tree.{front, past, quoteAfter, Forest, forests, put, notOpen, closed, alone, opened, pop}
+use Rattle.elements.specs.Reading.{leftAt, headAt, emptyAt, behindTag}
+use Rattle.xml.specs.Scans.{Past}
+use Rattle.xml.proofs.Past.{past-stop}
+
+-- a tag, from its byte at i on
+module _ (s : List ℕ) (i q l : ℕ) where
+  pub past-shut : i < length s → q ≡ 0 → getD s i 0 ≡ 62 → past q l (drop i s) ≡ record { empty = eqb l 47; rest = drop (i + 1) s }
+  unfolding past
+  past-shut h e g = rw (drop-cons s i 0, add-one) (simp (eq-eqb _ _ e, eq-eqb _ _ g))
+
+  pub past-on : i < length s → q ≡ 0 → (getD s i 0 ≡ 62 → ⊥) → past q l (drop i s) ≡ past (quoteAfter q (getD s i 0)) (getD s i 0) (drop (i + 1) s)
+  unfolding past
+  past-on h e g = rw (drop-cons s i 0, add-one) (simp (eq-eqb _ _ e, ne-eqb _ _ g))
+
+  pub past-quoted : i < length s → (q ≡ 0 → ⊥) → past q l (drop i s) ≡ past (quoteAfter q (getD s i 0)) (getD s i 0) (drop (i + 1) s)
+  unfolding past
+  past-quoted h e = rw (drop-cons s i 0, add-one) (simp (ne-eqb _ _ e))
+
+  pub past-end : length s ≤ i → past q l (drop i s) ≡ record { empty = false; rest = drop i s }
+  unfolding past
+  past-end h = rw (drop-of-length-le s h)
+
+-- what is left to read from here on is what is left at the next `<`
+forests-front : (s : List ℕ) → forests s ≡ forests (drop (front notOpen s) s)
+unfolding forests front
+forests-front [] = refl
+forests-front (b ∷ s) = go (notOpen b) refl (forests-front s)
+  where
+    go : (t : Bool) → notOpen b ≡ t → forests s ≡ forests (drop (front notOpen s) s) → forests (b ∷ s) ≡ forests (drop (front notOpen (b ∷ s)) (b ∷ s))
+    go true e h = simp e h
+    go false e h = simp e
+
+pub left-end : (s : List ℕ) (i : ℕ) → length s ≤ i → leftAt s i ≡ []
+unfolding forests
+left-end s i h = ap forests (drop-of-length-le s h)
+
+-- the next `<` is at j
+module _ (s : List ℕ) (i j : ℕ) (found : Past notOpen s i j) where
+  left-found : leftAt s i ≡ leftAt s j
+  left-found = forests-front (drop i s) ∙ ap forests (drop-drop (front notOpen (drop i s)) i s) ∙ ap (leftAt s) (sym (found .found))
+
+  pub left-none : length s ≤ j → leftAt s i ≡ []
+  left-none h = left-found ∙ left-end s j h
+
+  pub left-put : j < length s → leftAt s i ≡ put (drop (j + 1) s) (leftAt s (j + 1))
+  unfolding forests
+  left-put h = left-found ∙ rw (drop-cons s j 0, add-one) (simp (past-stop found h))
+
+-- a tag at n, before fs
+module _ (s : List ℕ) (n : ℕ) (fs : List Forest) where
+  first : getD (drop n s) 0 0 ≡ getD s n 0
+  first = getD-drop n s 0 0 ∙ ap (λ (k : ℕ). getD s k 0) (add-zero n)
+
+  pub put-closed : getD s n 0 ≡ 47 → put (drop n s) fs ≡ closed fs
+  unfolding put
+  put-closed e = simp (eq-eqb _ _ (first ∙ e))
+
+  pub put-alone : (getD s n 0 ≡ 47 → ⊥) → emptyAt s n ≡ true → put (drop n s) fs ≡ alone (headAt s n) fs
+  unfolding put behindTag
+  put-alone g e = simp (ne-eqb _ _ (λ z. g (sym first ∙ z)), e)
+
+  pub put-opened : (getD s n 0 ≡ 47 → ⊥) → emptyAt s n ≡ false → put (drop n s) fs ≡ opened (headAt s n) fs
+  unfolding put behindTag
+  put-opened g e = simp (ne-eqb _ _ (λ z. g (sym first ∙ z)), e)
+
+pub no-slash : (s : List ℕ) (n : ℕ) → length s ≤ n → getD s n 0 ≡ 47 → ⊥
+no-slash s n h e = omega (arith, List·getD-eq-default s 0 h)
+
+-- what is left around d elements
+unfoldable pub pops : ℕ → List Forest → List Forest
+pops zero fs = fs
+pops (suc d) fs = pops d (pop fs)
+
+pub pops-none : (d : ℕ) → pops d [] ≡ []
+unfolding pops pop
+pops-none zero = refl
+pops-none (suc d) = pops-none d

@@ -1,0 +1,7 @@
+pub mod Names
+pub mod Left
+pub mod Rows
+pub mod Parts
+pub mod Meanings
+pub mod Roots
+pub mod Entities

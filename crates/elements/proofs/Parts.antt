@@ -1,0 +1,92 @@
+-- What an element says, by the places in the text where its parts begin and end.
+use mathlib.Core.Path.{_≡_, ap, _∙_, sym}
+use mathlib.Core.Bool.{Bool, true, false, _||_}
+use mathlib.Core.List.{List, []}
+use Prim.Native.Nat.{ℕ, _+_, _-_, _<_, _≤_}
+use native.Mathlib.Omega.{arith}
+use native.Mathlib.Numerals.{add-one}
+use borrow.Author.Tests.{eq-eqb, ne-eqb}
+use lib.Dec.{eqb}
+use lib.ListN.{length, take, drop, getD, drop-of-length-le}
+use lib.Seq.{drop-cons, drop-drop}
+use Rattle.xml.specs.Bytes.{isNameByte, isSpace}
+use Rattle.xml.specs.Tree.{front, behind, isNot, notOpen, past, quoted, headOf, top, forests}
+use Rattle.elements.specs.Reading.{rowAt, emptyAt, behindTag, headAt, childrenAt}
+use Rattle.xml.specs.Scans.{Past}
+use Rattle.elements.proofs.Left.{left-end}
+
+-- a run of bytes that pass a test, from i to e
+module _ {f : ℕ → Bool} {s : List ℕ} {i e : ℕ} (run : Past f s i e) where
+  run-part : take (e - i) (drop i s) ≡ take (front f (drop i s)) (drop i s)
+  run-part = let z : e - i ≡ front f (drop i s) = omega (arith, run .found) in ap (λ (k : ℕ). take k (drop i s)) z
+
+  behind-run : behind f (drop i s) ≡ drop e s
+  unfolding behind
+  behind-run = drop-drop (front f (drop i s)) i s ∙ ap (λ (k : ℕ). drop k s) (sym (run .found))
+
+pub no-part : (s : List ℕ) (i : ℕ) → take (i - i) (drop i s) ≡ []
+no-part s i = let z : i - i ≡ 0 = omega arith in ap (λ (k : ℕ). take k (drop i s)) z
+
+-- quotes, from the byte at i on
+module _ (s : List ℕ) (i : ℕ) where
+  pub quoted-none : length s ≤ i → quoted (drop i s) ≡ []
+  unfolding quoted
+  quoted-none h = ap quoted (drop-of-length-le s h)
+
+  pub quoted-shut : i < length s → getD s i 0 ≡ 62 → quoted (drop i s) ≡ []
+  unfolding quoted
+  quoted-shut h e = rw (drop-cons s i 0) (simp (eq-eqb _ _ e))
+
+  pub quoted-on : i < length s → (getD s i 0 ≡ 62 → ⊥) → (eqb (getD s i 0) 34 || eqb (getD s i 0) 39) ≡ false → quoted (drop i s) ≡ quoted (drop (i + 1) s)
+  unfolding quoted
+  quoted-on h e g = rw (drop-cons s i 0, add-one) (simp (ne-eqb _ _ e, g))
+
+  pub quoted-some : (e : ℕ) → i < length s → (getD s i 0 ≡ 62 → ⊥) → (eqb (getD s i 0) 34 || eqb (getD s i 0) 39) ≡ true
+      → Past (isNot (getD s i 0)) s (i + 1) e → take (e - (i + 1)) (drop (i + 1) s) ≡ quoted (drop i s)
+  unfolding quoted
+  quoted-some e h z g found = run-part found ∙ rw (drop-cons s i 0, add-one) (simp (ne-eqb _ _ z, g))
+
+-- the element whose tag is at n, read from a, where the same bytes follow
+module _ (s : List ℕ) (n a : ℕ) (here : drop a s ≡ drop n s) where
+  -- its name ends at e
+  module _ (e : ℕ) (named : Past isNameByte s a e) where
+    pub name-part : take (e - a) (drop a s) ≡ headAt s n .name
+    unfolding headOf
+    name-part = run-part named ∙ ap (λ (r : List ℕ). take (front isNameByte r) r) here
+
+    behind-name : drop e s ≡ behind isNameByte (drop n s)
+    behind-name = sym (behind-run named) ∙ ap (behind isNameByte) here
+
+    pub value-part : quoted (drop e s) ≡ headAt s n .value
+    unfolding headOf
+    value-part = ap quoted behind-name
+
+    -- behind white space its attribute's name goes from k to z
+    pub key-part : (k z : ℕ) → Past isSpace s e k → Past isNameByte s k z → take (z - k) (drop k s) ≡ headAt s n .key
+    unfolding headOf
+    key-part k z spaced keyed =
+        run-part keyed
+        ∙ ap (λ (r : List ℕ). take (front isNameByte r) r) (sym (behind-run spaced) ∙ ap (behind isSpace) behind-name)
+
+  -- its tag ends before t
+  module _ (b : Bool) (t : ℕ) (ends : past 0 0 (drop a s) ≡ record { empty = b; rest = drop t s }) where
+    pub empty-told : emptyAt s n ≡ b
+    empty-told = ap (λ (r : List ℕ). past 0 0 r .empty) (sym here) ∙ rw ends
+
+    pub text-none : b ≡ true → [] ≡ headAt s n .text
+    unfolding headOf behindTag front
+    text-none e = rw (empty-told, e)
+
+    pub text-part : (e : ℕ) → b ≡ false → Past notOpen s t e → take (e - t) (drop t s) ≡ headAt s n .text
+    unfolding headOf behindTag
+    text-part e z found =
+        run-part found
+        ∙ ap (λ (r : List ℕ). take (front notOpen r) r) (sym (rw (empty-told, z) (ap (λ (r : List ℕ). past 0 0 r .rest) (sym here) ∙ rw ends)))
+
+    pub children-none : b ≡ true → rowAt s (length s) ≡ childrenAt s n
+    unfolding childrenAt top
+    children-none e = ap top (left-end s (length s) (omega arith)) ∙ rw (empty-told, e)
+
+    pub children-some : b ≡ false → rowAt s a ≡ childrenAt s n
+    unfolding childrenAt
+    children-some e = ap (λ (r : List ℕ). top (forests r)) here ∙ rw (empty-told, e)

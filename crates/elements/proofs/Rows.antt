@@ -1,0 +1,85 @@
+-- How the elements at a place unfold. A row is none, or its first element and the row behind that; what is left around a row does not change
+-- along it.
+use mathlib.Core.Path.{_≡_, ap, _∙_, sym}
+use mathlib.Core.List.{List, []}
+use Prim.Native.Nat.{ℕ, _≤_}
+use native.Mathlib.Omega.{arith}
+use lib.ListN.{length}
+use Rattle.xml.specs.Tree.{Forest, none, node, closed, opened, alone, top, pop}
+use Rattle.elements.specs.declared.tags.Tag.the-variants.{End, Close, Open, Empty}
+use Rattle.elements.specs.Reading.{leftAt, rowAt, aroundAt, headAt, childrenAt, NextTag, Behind, FirstOf}
+use Rattle.elements.proofs.Left.{left-end}
+
+-- past the end there is nothing
+pub row-past : (s : List ℕ) (i : ℕ) → length s ≤ i → rowAt s i ≡ none
+unfolding top
+row-past s i h = ap top (left-end s i h)
+
+pub around-past : (s : List ℕ) (i : ℕ) → length s ≤ i → aroundAt s i ≡ []
+unfolding pop
+around-past s i h = ap pop (left-end s i h)
+
+module _ {s : List ℕ} {i : ℕ} where
+  -- the text ends
+  pub row-end : NextTag s i End → rowAt s i ≡ none
+  unfolding top
+  row-end t = ap top (t .left)
+
+  pub around-end : NextTag s i End → aroundAt s i ≡ []
+  unfolding pop
+  around-end t = ap pop (t .left)
+
+  module _ {n : ℕ} where
+    -- an end tag comes next
+    pub row-close : NextTag s i (Close n) → rowAt s i ≡ none
+    unfolding top closed
+    row-close t = ap top (t .left)
+
+    pub around-close : NextTag s i (Close n) → aroundAt s i ≡ leftAt s n
+    unfolding pop closed
+    around-close t = ap pop (t .left)
+
+    -- an empty-element tag comes next
+    pub row-empty : NextTag s i (Empty n) → rowAt s i ≡ node (headAt s n) none (rowAt s n)
+    unfolding top alone
+    row-empty t = ap top (t .left)
+
+    pub around-empty : NextTag s i (Empty n) → aroundAt s i ≡ aroundAt s n
+    unfolding pop alone
+    around-empty t = ap pop (t .left)
+
+    -- a start tag comes next; its element is left at j
+    module _ {j : ℕ} where
+      pub row-open : NextTag s i (Open n) → Behind s n j → rowAt s i ≡ node (headAt s n) (rowAt s n) (rowAt s j)
+      unfolding top opened
+      row-open t l = ap top (t .left) ∙ rw (l .left)
+
+      pub around-open : NextTag s i (Open n) → Behind s n j → aroundAt s i ≡ aroundAt s j
+      unfolding pop opened
+      around-open t l = ap pop (t .left) ∙ sym (ap pop (l .left))
+
+    -- the children of the element at n
+    pub children-open : NextTag s i (Open n) → childrenAt s n ≡ rowAt s n
+    unfolding childrenAt
+    children-open t = rw (t .kind)
+
+    pub children-empty : NextTag s i (Empty n) → childrenAt s n ≡ none
+    unfolding childrenAt
+    children-empty t = rw (t .kind)
+
+    -- the element at n is the first of the row at i
+    pub first-open : {j : ℕ} → NextTag s i (Open n) → Behind s n j → FirstOf s i n j
+    first-open {j} t l =
+        record {
+          row = row-open t l ∙ ap (λ (k : Forest). node (headAt s n) k (rowAt s j)) (sym (children-open t));
+          around = around-open t l;
+          place = (t .place .0, omega (arith, t .place, l .ahead), l .inside);
+        }
+
+    pub first-empty : NextTag s i (Empty n) → FirstOf s i n n
+    first-empty t =
+        record {
+          row = row-empty t ∙ ap (λ (k : Forest). node (headAt s n) k (rowAt s n)) (sym (children-empty t));
+          around = around-empty t;
+          place = (t .place .0, omega arith, t .place .1);
+        }

@@ -1,0 +1,27 @@
+// The elements of a text (01, The XML form), read tag by tag, and texts decoded. Nothing here asks that a text is in the form: a place may
+// lie anywhere, and each answer is what the definitions read off the bytes there.
+mod heads;
+mod scan;
+mod tags;
+mod texts;
+
+pub use heads::first_child;
+pub use heads::has_children;
+pub use heads::is_blank;
+pub use heads::key_of;
+pub use heads::name_is;
+pub use heads::name_of;
+pub use heads::text_of;
+pub use heads::value_of;
+pub use tags::Child;
+pub use tags::Tag;
+pub use tags::leave;
+pub use tags::next_child;
+pub use tags::next_tag;
+pub use texts::Spelled;
+pub use texts::code_points;
+pub use texts::decode;
+pub use texts::decoded_byte;
+pub use texts::decoded_len;
+pub use texts::next_byte;
+pub use texts::same_decoded;

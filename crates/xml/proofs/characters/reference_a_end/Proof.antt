@@ -1,0 +1,68 @@
+-- `reference_a_end` meets its contract: `m` and `p` begin the rest of `amp;` and `apos;`.
+use mathlib.Core.Path.{refl}
+use borrow.Author.Tests.{eq-eqb, ne-eqb}
+use borrow.Author.Needs.{needs}
+use Rattle.xml.specs.Machine.{step, ended, reads}
+use Rattle.xml.proofs.Scanned.{stands, scan-refused, scan-on}
+use Rattle.xml.proofs.characters.reference_a_end.Statement.{statement}
+use Rattle.xml.proofs.characters.reference_a_end.Tie as tie
+
+byte-requires : tie.Need-byte-requires
+byte-requires c κs = search needs
+
+add-word-end : tie.Need-add-word-end
+add-word-end c =
+    let h = stands (c .before .before .before .args .text .now) (c .before .before .before .args .from) (c .before .byte .result) (c .before .byte .ensures) (search needs) in
+    search needs
+
+slice-aggregate-word-end : tie.Need-slice-aggregate-word-end
+slice-aggregate-word-end c = search needs
+
+word-end-requires : tie.Need-word-end-requires
+word-end-requires c κs =
+    let h = stands (c .before .before .before .before .args .text .now) (c .before .before .before .before .args .from) (c .before .before .byte .result) (c .before .before .byte .ensures) (search needs) in
+    search needs
+
+returns : tie.Need-returns
+unfolding step reads
+returns c = λ p. scan-on (c .before .before .before .byte .result) (c .before .before .before .byte .ensures) (search needs) (λ ns. simp (eq-eqb _ _ (c .before .before .if1 .taken))) (c .word-end .ensures p)
+
+add-word-end-2 : tie.Need-add-word-end-2
+add-word-end-2 c =
+    let h = stands (c .before .before .before .before .args .text .now) (c .before .before .before .before .args .from) (c .before .before .byte .result) (c .before .before .byte .ensures) (search needs) in
+    search needs
+
+slice-aggregate-word-end-2 : tie.Need-slice-aggregate-word-end-2
+slice-aggregate-word-end-2 c = search needs
+
+word-end-requires-2 : tie.Need-word-end-requires-2
+word-end-requires-2 c κs =
+    let h = stands (c .before .before .before .before .before .args .text .now) (c .before .before .before .before .before .args .from) (c .before .before .before .byte .result) (c .before .before .before .byte .ensures) (search needs) in
+    search needs
+
+returns-2 : tie.Need-returns-2
+unfolding step reads
+returns-2 c = λ p. scan-on (c .before .before .before .before .byte .result) (c .before .before .before .before .byte .ensures) (search needs) (λ ns. simp (ne-eqb _ _ (c .before .before .before .if1 .left), eq-eqb _ _ (c .before .before .if2 .taken))) (c .word-end2 .ensures p)
+
+sub-t14 : tie.Need-sub-t14
+sub-t14 c = search needs
+
+returns-3 : tie.Need-returns-3
+unfolding step ended
+returns-3 c = λ p. scan-refused (c .before .before .byte .result) (c .before .before .byte .ensures) (search needs) refl (λ ns. simp (ne-eqb _ _ (c .before .if1 .left), ne-eqb _ _ (c .if2 .left)))
+
+pub reference-a-end-spec : {M : Type 1} → statement M
+reference-a-end-spec =
+    tie.close
+    (tie.spec
+    byte-requires
+    add-word-end
+    slice-aggregate-word-end
+    word-end-requires
+    returns
+    add-word-end-2
+    slice-aggregate-word-end-2
+    word-end-requires-2
+    returns-2
+    sub-t14
+    returns-3)

@@ -1,0 +1,49 @@
+-- `check` meets its contract: the declaration, and then the root.
+use mathlib.Core.Path.{ap, _∙_, sym}
+use mathlib.Core.List.{[]}
+use borrow.Author.Needs.{needs}
+use Rattle.xml.specs.Bytes.{declaration}
+use Rattle.xml.specs.Machine.{before, at, reads, form}
+use Rattle.xml.specs.Scans.{goesOn}
+use Rattle.xml.proofs.KindTable.{table, table-kinds}
+use Rattle.xml.proofs.Scanned.{scan-bounds}
+use Rattle.xml.proofs.check.Statement.{statement}
+use Rattle.xml.proofs.check.Tie as tie
+
+slice-aggregate-word-end : tie.Need-slice-aggregate-word-end
+slice-aggregate-word-end c = search needs
+
+word-end-requires : tie.Need-word-end-requires
+word-end-requires c κs = search needs
+
+enum-known-j : tie.Need-enum-known-j
+enum-known-j c = search needs
+
+root-requires : tie.Need-root-requires
+unfolding table
+root-requires c κs =
+    let b = scan-bounds (c .before .before .j .given .0 .0) (c .before .before .before .before .word-end .ensures before) (c .before .before .j .given .1) in
+    (b .1, table-kinds)
+
+enum-known-u : tie.Need-enum-known-u
+enum-known-u c = search needs
+
+returns : tie.Need-returns
+unfolding form declaration reads
+returns c = c .root .ensures ∙ sym (c .before .before .before .before .before .word-end .ensures before .runs [] ∙ ap (goesOn (c .before .before .before .before .before .before .before .before .args .text .now) (at before [])) (c .before .before .before .j .given .1))
+
+returns-2 : tie.Need-returns-2
+unfolding form declaration reads
+returns-2 c = sym (c .before .before .before .word-end .ensures before .runs [] ∙ ap (goesOn (c .before .before .before .before .before .before .args .text .now) (at before [])) (c .before .u .given .1))
+
+pub check-spec : {M : Type 1} → statement M
+check-spec =
+    tie.close
+    (tie.spec
+    slice-aggregate-word-end
+    word-end-requires
+    enum-known-j
+    root-requires
+    enum-known-u
+    returns
+    returns-2)

@@ -1,0 +1,175 @@
+-- The XML form as a machine that reads a text from left to right, byte by byte. A text is in the form (specs/Grammar) where the machine,
+-- started before the declaration, reads all of it and ends after the root element. Where it stops, no text in the form begins so.
+use mathlib.Core.Bool.{Bool, true, false, cond, _&&_, _||_}
+use mathlib.Core.List.{List, [], _∷_, _++_}
+use Prim.Native.Nat.{ℕ, suc, _+_, _-_, min}
+use lib.ListN.{length}
+use lib.Dec.{leb, ltb, eqb}
+use Rattle.xml.specs.Bytes.{isSpace, isLetter, isNameByte, declaration}
+use Rattle.xml.specs.declared.Checked.{Checked}
+use Rattle.xml.specs.declared.Checked.the-variants.{Good, Broken}
+
+-- what an element holds so far: white space alone; text that ends in 0, 1, or 2 or more `]`; elements
+pub data Held : Type 0 where
+  blank : Held
+  words : ℕ → Held
+  children : Held
+
+pub data Place : Type 0 where
+  word : Place → List ℕ → Place  -- in a fixed word, of which the list, not empty, is left; the place to go on at
+  before : Place  -- between the declaration and the root
+  root : Place  -- after the root's `<`
+  name : List ℕ → Place  -- in the name of a start tag, of which the list is read
+  tag : Place  -- in a start tag, after the name and white space
+  key : Place  -- in an attribute's name
+  keyed : Place  -- after an attribute's name and white space
+  equals : Place  -- after `=`
+  value : ℕ → Place  -- in an attribute's value that ends with this quote
+  valued : Place  -- after an attribute's value
+  slash : Place  -- after the `/` of an empty-element tag
+  content : Held → Place  -- in an element
+  opens : Bool → Place  -- after a `<` in an element; an element may begin here, or not, beside text
+  closed : Place  -- after the name of an end tag
+  after : Place  -- after the root
+  amp : Place → Place  -- after `&`
+  ampA : Place → Place  -- after `&a`
+  more : Place → ℕ → ℕ → ℕ → Place  -- in a character: a byte from lo to hi, then n bytes from 128 to 191
+  lead239 : Place → Place  -- in a character, after the byte 239: U+FFFE and U+FFFF are no characters
+
+-- a place with the names of the open elements, the innermost first; or stopped
+pub data State : Type 0 where
+  stop : State
+  at : Place → List (List ℕ) → State
+
+-- at the word w, and then at p
+unfoldable pub reads : Place → List ℕ → Place
+reads p [] = p
+reads p (c ∷ w) = word p (c ∷ w)
+
+-- the first byte of a character, before which the machine was at p
+unfoldable pub char : Place → List (List ℕ) → ℕ → State
+char p ns b =
+    cond (ltb b 128) (cond (eqb b 38) (at (amp p) ns) (cond (leb 32 b || isSpace b) (at p ns) stop))
+    (cond (ltb b 194) stop
+    (cond (ltb b 224) (at (more p 128 191 0) ns)
+    (cond (ltb b 225) (at (more p 160 191 1) ns)
+    (cond (ltb b 237) (at (more p 128 191 1) ns)
+    (cond (ltb b 238) (at (more p 128 159 1) ns)
+    (cond (ltb b 239) (at (more p 128 191 1) ns)
+    (cond (ltb b 240) (at (lead239 p) ns)
+    (cond (ltb b 241) (at (more p 144 191 2) ns)
+    (cond (ltb b 244) (at (more p 128 191 2) ns)
+    (cond (ltb b 245) (at (more p 128 143 2) ns) stop))))))))))
+
+-- in text that ends with n `]`
+unfoldable pub inText : ℕ → List (List ℕ) → ℕ → State
+inText n ns b =
+    cond (eqb b 93) (at (content (words (min 2 (n + 1)))) ns)
+    (cond (eqb b 62 && eqb n 2) stop (char (content (words 0)) ns b))
+
+-- a byte of an element, other than `<`
+unfoldable pub inside : Held → List (List ℕ) → ℕ → State
+inside blank ns b = cond (isSpace b) (at (content blank) ns) (inText 0 ns b)
+inside (words n) ns b = inText n ns b
+inside children ns b = cond (isSpace b) (at (content children) ns) stop
+
+-- the `>` or `/` of a start tag
+unfoldable pub tagEnd : List (List ℕ) → ℕ → State
+tagEnd ns b = cond (eqb b 62) (at (content blank) ns) (cond (eqb b 47) (at slash ns) stop)
+
+-- after an element inside the elements ns
+unfoldable pub outside : List (List ℕ) → State
+outside [] = at after []
+outside (n ∷ ns) = at (content children) (n ∷ ns)
+
+-- the innermost element ends
+unfoldable pub leave : List (List ℕ) → State
+leave [] = stop
+leave (n ∷ ns) = outside ns
+
+unfoldable pub innermost : List (List ℕ) → List ℕ
+innermost [] = []
+innermost (n ∷ ns) = n
+
+unfoldable pub noText : Held → Bool
+noText blank = true
+noText (words n) = false
+noText children = true
+
+unfoldable pub step : Place → List (List ℕ) → ℕ → State
+step (word p []) ns b = stop
+step (word p (c ∷ w)) ns b = cond (eqb b c) (at (reads p w) ns) stop
+step before ns b = cond (isSpace b) (at before ns) (cond (eqb b 60) (at root ns) stop)
+step root ns b = cond (isLetter b) (at (name (b ∷ [])) ns) stop
+step (name w) ns b =
+    cond (isNameByte b) (at (name (w ++ b ∷ [])) ns) (cond (isSpace b) (at tag (w ∷ ns)) (tagEnd (w ∷ ns) b))
+step tag ns b = cond (isSpace b) (at tag ns) (cond (isLetter b) (at key ns) (tagEnd ns b))
+step key ns b = cond (isNameByte b) (at key ns) (cond (isSpace b) (at keyed ns) (cond (eqb b 61) (at equals ns) stop))
+step keyed ns b = cond (isSpace b) (at keyed ns) (cond (eqb b 61) (at equals ns) stop)
+step equals ns b = cond (isSpace b) (at equals ns) (cond (eqb b 34 || eqb b 39) (at (value b) ns) stop)
+step (value q) ns b = cond (eqb b q) (at valued ns) (cond (eqb b 60) stop (char (value q) ns b))
+step valued ns b = cond (isSpace b) (at valued ns) (tagEnd ns b)
+step slash ns b = cond (eqb b 62) (leave ns) stop
+step (content h) ns b = cond (eqb b 60) (at (opens (noText h)) ns) (inside h ns b)
+step (opens o) ns b =
+    cond (eqb b 47) (at (reads closed (innermost ns)) ns)
+    (cond (isLetter b && (o && ltb (length ns) 64)) (at (name (b ∷ [])) ns) stop)
+step closed ns b = cond (isSpace b) (at closed ns) (cond (eqb b 62) (leave ns) stop)
+step after ns b = cond (isSpace b) (at after ns) stop
+step (amp p) ns b =
+    cond (eqb b 97) (at (ampA p) ns)
+    (cond (eqb b 108 || eqb b 103) (at (word p (116 ∷ 59 ∷ [])) ns)
+    (cond (eqb b 113) (at (word p (117 ∷ 111 ∷ 116 ∷ 59 ∷ [])) ns) stop))
+step (ampA p) ns b =
+    cond (eqb b 109) (at (word p (112 ∷ 59 ∷ [])) ns)
+    (cond (eqb b 112) (at (word p (111 ∷ 115 ∷ 59 ∷ [])) ns) stop)
+step (more p lo hi n) ns b =
+    cond (ltb b lo) stop (cond (ltb hi b) stop (cond (eqb n 0) (at p ns) (at (more p 128 191 (n - 1)) ns)))
+step (lead239 p) ns b =
+    cond (ltb b 128) stop
+    (cond (ltb b 191) (at (more p 128 191 0) ns) (cond (ltb b 192) (at (more p 128 189 0) ns) stop))
+
+-- what becomes of a text: in the form, or refused with so many bytes unread
+pub data Outcome : Type 0 where
+  good : Outcome
+  broken : ℕ → Outcome
+
+-- the text ends at this place
+unfoldable pub ended : Place → Outcome
+ended (word p w) = broken 0
+ended before = broken 0
+ended root = broken 0
+ended (name w) = broken 0
+ended tag = broken 0
+ended key = broken 0
+ended keyed = broken 0
+ended equals = broken 0
+ended (value q) = broken 0
+ended valued = broken 0
+ended slash = broken 0
+ended (content h) = broken 0
+ended (opens o) = broken 0
+ended closed = broken 0
+ended after = good
+ended (amp p) = broken 0
+ended (ampA p) = broken 0
+ended (more p lo hi n) = broken 0
+ended (lead239 p) = broken 0
+
+-- from a state on: where the machine has stopped, the byte that stopped it and the rest are unread
+unfoldable pub run : State → List ℕ → Outcome
+run σ [] = elim σ [ stop ↦ broken 1 | at p ns ↦ ended p ]
+run σ (b ∷ s) = elim σ [ stop ↦ broken (suc (suc (length s))) | at p ns ↦ run (step p ns b) s ]
+
+-- before a text
+abbrev pub start : State
+start = at (word before declaration) []
+
+-- what becomes of a whole text
+unfoldable pub form : List ℕ → Outcome
+form s = run start s
+
+-- the outcome that `check` answers
+abbrev pub outcomeOf : Checked → Outcome
+outcomeOf Good = good
+outcomeOf (Broken u) = broken u

@@ -1,0 +1,116 @@
+-- What the scanners of the form check promise each other: the machine comes to the same from where a scanner began as from where it ended.
+use mathlib.Core.Path.{_≡_}
+use mathlib.Core.Bool.{Bool, true, false, cond, not, _&&_, _||_}
+use mathlib.Core.List.{List, [], _∷_}
+use Prim.Native.Nat.{ℕ, _+_, _-_, _≤_, _<_}
+use lib.ListN.{length, take, drop, getD}
+use lib.Dec.{eqb}
+use Rattle.slices.specs.Slices.{within}
+use Rattle.xml.specs.Bytes.{isSpace, isLetter, isNameByte}
+use Rattle.xml.specs.Tree.{front}
+use Rattle.xml.specs.Machine.{Held, blank, children, Place, name, content, State, stop, at, char, outside, leave, step, Outcome, broken, ended, run}
+use Rattle.xml.specs.declared.bytes.Scan.{Scan}
+use Rattle.xml.specs.declared.bytes.Scan.the-variants.{At, Broken}
+use Rattle.xml.specs.declared.tags.Tag.{Tag}
+use Rattle.xml.specs.declared.tags.Start.{Start}
+use Rattle.xml.specs.declared.Turn.{Turn}
+
+-- bytes that text has under no further rule: white space, and ASCII characters other than `<`, `&`, `>` and `]`
+unfoldable pub isText : ℕ → Bool
+isText b = isSpace b || (within 32 127 b && not (eqb b 60 || eqb b 38 || eqb b 62 || eqb b 93))
+
+-- 0 a letter, 1 another byte of a name, 3 white space, 2 another byte of text, 4 any other byte
+unfoldable pub kindOf : ℕ → ℕ
+kindOf b = cond (isLetter b) 0 (cond (isNameByte b) 1 (cond (isSpace b) 3 (cond (isText b) 2 4)))
+
+abbrev pub ofKind : ℕ → ℕ → ℕ → Bool
+ofKind lo hi b = within lo hi (kindOf b)
+
+-- a table of the kinds of bytes
+pub record Kinds (ks : List ℕ) : Type 0 where
+  pub each : (b : ℕ) → b < 256 → getD ks b 0 ≡ kindOf b
+
+-- j is the end of the bytes from i on that pass the test
+pub record Past (f : ℕ → Bool) (t : List ℕ) (i j : ℕ) : Type 0 where
+  pub found : j ≡ i + front f (drop i t)
+  pub inside : j ≤ length t
+
+-- after the first byte of a character, b, before which the machine was at p
+abbrev pub first : Place → ℕ → List (List ℕ) → State
+first p b ns = char p ns b
+
+-- the outcome where a scan that leads to the state σ ended so
+abbrev pub goesOn : List ℕ → State → Scan → Outcome
+goesOn t σ (At i) = run σ (drop i t)
+goesOn t σ (Broken u) = broken u
+
+-- from i on, and not past n
+abbrev pub Between : ℕ → ℕ → Scan → Type 0
+Between i n (At j) = (i ≤ j) × (j ≤ n)
+Between i n (Broken u) = Unit {0}
+
+-- a scan of t from i on, where the machine is at `from`, to where it is at `to`, whatever elements are open
+pub record Scans (t : List ℕ) (i : ℕ) (from to : List (List ℕ) → State) (r : Scan) : Type 0 where
+  pub runs : (ns : List (List ℕ)) → run (from ns) (drop i t) ≡ goesOn t (to ns) r
+  pub ends : Between i (length t) r
+
+-- the bytes of t from i to j
+abbrev pub part : List ℕ → ℕ → ℕ → List ℕ
+part t i j = take (j - i) (drop i t)
+
+-- the outcome where the rest of a start tag in the elements ns, its own first, ended so
+abbrev pub tagged : List ℕ → List (List ℕ) → Tag → Outcome
+tagged t ns (Tag.Open i) = run (at (content blank) ns) (drop i t)
+tagged t ns (Tag.Empty i) = run (leave ns) (drop i t)
+tagged t ns (Tag.Broken u) = broken u
+
+abbrev pub TagBetween : ℕ → ℕ → Tag → Type 0
+TagBetween i n (Tag.Open j) = (i ≤ j) × (j ≤ n)
+TagBetween i n (Tag.Empty j) = (i ≤ j) × (j ≤ n)
+TagBetween i n (Tag.Broken u) = Unit {0}
+
+-- the rest of a start tag, from i on, where the machine is at `from`
+pub record Tags (t : List ℕ) (i : ℕ) (from : List (List ℕ) → State) (r : Tag) : Type 0 where
+  pub runs : (ns : List (List ℕ)) → run (from ns) (drop i t) ≡ tagged t ns r
+  pub ends : TagBetween i (length t) r
+
+-- the outcome where a start tag from i on, inside the elements ns, ended so
+abbrev pub started : List ℕ → ℕ → List (List ℕ) → Start → Outcome
+started t i ns (Start.Open e j) = run (at (content blank) (part t i e ∷ ns)) (drop j t)
+started t i ns (Start.Empty j) = run (outside ns) (drop j t)
+started t i ns (Start.Broken u) = broken u
+
+abbrev pub StartBetween : ℕ → ℕ → Start → Type 0
+StartBetween i n (Start.Open e j) = (i ≤ e) × (e ≤ n) × (i < j) × (j ≤ n)
+StartBetween i n (Start.Empty j) = (i < j) × (j ≤ n)
+StartBetween i n (Start.Broken u) = Unit {0}
+
+-- a start tag from i on, at a place where only one may be
+pub record Starts (t : List ℕ) (i : ℕ) (r : Start) : Type 0 where
+  pub runs : (p : Place) (ns : List (List ℕ)) → ended p ≡ broken 0
+      → step p ns (getD t i 0) ≡ cond (isLetter (getD t i 0)) (at (name (getD t i 0 ∷ [])) ns) stop → run (at p ns) (drop i t) ≡ started t i ns r
+  pub ends : StartBetween i (length t) r
+
+-- the outcome where the next tag of the element n, inside the elements ns, ended so
+abbrev pub turned : List ℕ → List ℕ → List (List ℕ) → Turn → Outcome
+turned t n ns (Turn.Opened s e j) = run (at (content blank) (part t s e ∷ n ∷ ns)) (drop j t)
+turned t n ns (Turn.Inside j) = run (at (content children) (n ∷ ns)) (drop j t)
+turned t n ns (Turn.Outside j) = run (outside ns) (drop j t)
+turned t n ns (Turn.Broken u) = broken u
+
+-- ahead of i, and not past n; an element opens only where one may
+abbrev pub TurnBetween : ℕ → ℕ → Bool → Turn → Type 0
+TurnBetween i n begins (Turn.Opened s e j) = (begins ≡ true) × (s ≤ e) × (e ≤ n) × (i < j) × (j ≤ n)
+TurnBetween i n begins (Turn.Inside j) = (i < j) × (j ≤ n)
+TurnBetween i n begins (Turn.Outside j) = (i < j) × (j ≤ n)
+TurnBetween i n begins (Turn.Broken u) = Unit {0}
+
+-- the next tag of the element n, from i on, where the machine is at `from`, in all elements around n that are as `around` says
+pub record Turns (t : List ℕ) (i : ℕ) (n : List ℕ) (begins : Bool) (from : List (List ℕ) → State) (around : List (List ℕ) → Type 0) (r : Turn) : Type 0 where
+  pub runs : (ns : List (List ℕ)) → around ns → run (from (n ∷ ns)) (drop i t) ≡ turned t n ns r
+  pub ends : TurnBetween i (length t) begins r
+
+-- an element with children so far, or with white space alone
+abbrev pub held : Bool → Held
+held true = children
+held false = blank

@@ -1,0 +1,352 @@
+// Bytes by the kinds that the scanners tell apart, and runs of one kind.
+ghost use mathlib.Core.Path.{_≡_};
+ghost use Prim.Native.Nat.{_+_, _≤_};
+ghost use lib.ListN.{length, drop, getD};
+ghost use Rattle.xml.specs.Bytes.{isSpace, isNameByte};
+ghost use Rattle.xml.specs.Tree.{front};
+ghost use Rattle.xml.specs.Machine.{Place, at, reads};
+ghost use Rattle.xml.specs.Scans.{isText, kindOf, ofKind, Kinds, Past, Scans};
+
+// The kind of each byte: 0 a letter, 1 another byte of a name, 2 another byte of text under no further rule, 3 white space, 4 any other byte.
+pub(crate) const KINDS: [u8; 256] = [
+    4,
+    4,
+    4,
+    4,
+    4,
+    4,
+    4,
+    4,
+    4,
+    3,
+    3,
+    4,
+    4,
+    3,
+    4,
+    4,
+    4,
+    4,
+    4,
+    4,
+    4,
+    4,
+    4,
+    4,
+    4,
+    4,
+    4,
+    4,
+    4,
+    4,
+    4,
+    4,
+    3,
+    2,
+    2,
+    2,
+    2,
+    2,
+    4,
+    2,
+    2,
+    2,
+    2,
+    2,
+    2,
+    1,
+    1,
+    2,
+    1,
+    1,
+    1,
+    1,
+    1,
+    1,
+    1,
+    1,
+    1,
+    1,
+    2,
+    2,
+    4,
+    2,
+    4,
+    2,
+    2,
+    0,
+    0,
+    0,
+    0,
+    0,
+    0,
+    0,
+    0,
+    0,
+    0,
+    0,
+    0,
+    0,
+    0,
+    0,
+    0,
+    0,
+    0,
+    0,
+    0,
+    0,
+    0,
+    0,
+    0,
+    0,
+    0,
+    2,
+    2,
+    4,
+    2,
+    1,
+    2,
+    0,
+    0,
+    0,
+    0,
+    0,
+    0,
+    0,
+    0,
+    0,
+    0,
+    0,
+    0,
+    0,
+    0,
+    0,
+    0,
+    0,
+    0,
+    0,
+    0,
+    0,
+    0,
+    0,
+    0,
+    0,
+    0,
+    2,
+    2,
+    2,
+    2,
+    2,
+    4,
+    4,
+    4,
+    4,
+    4,
+    4,
+    4,
+    4,
+    4,
+    4,
+    4,
+    4,
+    4,
+    4,
+    4,
+    4,
+    4,
+    4,
+    4,
+    4,
+    4,
+    4,
+    4,
+    4,
+    4,
+    4,
+    4,
+    4,
+    4,
+    4,
+    4,
+    4,
+    4,
+    4,
+    4,
+    4,
+    4,
+    4,
+    4,
+    4,
+    4,
+    4,
+    4,
+    4,
+    4,
+    4,
+    4,
+    4,
+    4,
+    4,
+    4,
+    4,
+    4,
+    4,
+    4,
+    4,
+    4,
+    4,
+    4,
+    4,
+    4,
+    4,
+    4,
+    4,
+    4,
+    4,
+    4,
+    4,
+    4,
+    4,
+    4,
+    4,
+    4,
+    4,
+    4,
+    4,
+    4,
+    4,
+    4,
+    4,
+    4,
+    4,
+    4,
+    4,
+    4,
+    4,
+    4,
+    4,
+    4,
+    4,
+    4,
+    4,
+    4,
+    4,
+    4,
+    4,
+    4,
+    4,
+    4,
+    4,
+    4,
+    4,
+    4,
+    4,
+    4,
+    4,
+    4,
+    4,
+    4,
+    4,
+    4,
+    4,
+    4,
+    4,
+    4,
+    4,
+    4,
+    4,
+    4,
+    4,
+    4,
+    4,
+    4,
+    4,
+    4,
+    4,
+    4,
+    4,
+];
+
+// The kind of b.
+pub(crate) fn kind(b: u8, kinds: &[u8; 256]) -> u8
+    requires { ⌜ Kinds (now kinds) ⌝ }
+    ensures { λ r. ⌜ r ≡ kindOf b ⌝ }
+{
+    kinds[b as usize]
+}
+
+// The byte at i, and 0, which the form has nowhere, past the end.
+pub(crate) fn byte(text: &[u8], i: usize) -> u8
+    ensures { λ r. ⌜ r ≡ getD (now (text .entry)) i 0 ⌝ }
+{
+    if i < text.len() { text[i] } else { 0 }
+}
+
+// The end of the bytes from `from` on whose kinds are from lo to hi.
+fn skip(text: &[u8], from: usize, lo: u8, hi: u8, kinds: &[u8; 256]) -> usize
+    requires { ⌜ (from ≤ length (now text)) × Kinds (now kinds) ⌝ }
+    ensures { λ r. ⌜ Past (ofKind lo hi) (now (text .entry)) from r ⌝ }
+{
+    let mut i = from;
+    while i < text.len() {
+        let k = kind(text[i], kinds);
+        if k < lo {
+            return i;
+        }
+        if hi < k {
+            return i;
+        }
+        i += 1;
+    }
+    i
+}
+
+// The end of the name bytes from `from` on.
+pub(crate) fn past_name(text: &[u8], from: usize, kinds: &[u8; 256]) -> usize
+    requires { ⌜ (from ≤ length (now text)) × Kinds (now kinds) ⌝ }
+    ensures { λ r. ⌜ Past isNameByte (now (text .entry)) from r ⌝ }
+{
+    skip(text, from, 0, 1, kinds)
+}
+
+// The end of the white space from `from` on.
+pub(crate) fn past_spaces(text: &[u8], from: usize, kinds: &[u8; 256]) -> usize
+    requires { ⌜ (from ≤ length (now text)) × Kinds (now kinds) ⌝ }
+    ensures { λ r. ⌜ Past isSpace (now (text .entry)) from r ⌝ }
+{
+    skip(text, from, 3, 3, kinds)
+}
+
+// The end of the bytes of text from `from` on that are under no further rule.
+pub(crate) fn past_text(text: &[u8], from: usize, kinds: &[u8; 256]) -> usize
+    requires { ⌜ (from ≤ length (now text)) × Kinds (now kinds) ⌝ }
+    ensures { λ r. ⌜ Past isText (now (text .entry)) from r ⌝ }
+{
+    skip(text, from, 0, 3, kinds)
+}
+
+// Where a scan ended: at a position past what it read, or at a byte that does not fit, with so many bytes unread.
+pub(crate) enum Scan {
+    At(usize),
+    Broken(usize),
+}
+
+// The bytes of a word.
+pub(crate) fn word_end(text: &[u8], from: usize, word: &[u8]) -> Scan
+    requires { ⌜ from ≤ length (now text) ⌝ }
+    ensures { λ r. ⌜ ((p : Place) → Scans (now (text .entry)) from (at (reads p (now (word .entry)))) (at p) r) ⌝ }
+{
+    let mut i = from;
+    let mut k: usize = 0;
+    while k < word.len() {
+        if text.len() <= i {
+            return Scan::Broken(text.len() - i);
+        }
+        if text[i] != word[k] {
+            return Scan::Broken(text.len() - i);
+        }
+        i += 1;
+        k += 1;
+    }
+    Scan::At(i)
+}

@@ -1,0 +1,173 @@
+// The XML form (01, The XML form): whether a text is in it, and if not, how many of its bytes are unread where it leaves the form.
+ghost use mathlib.Core.Path.{_≡_};
+ghost use mathlib.Core.Bool.{Bool, _&&_};
+ghost use mathlib.Core.List.{List, [], _∷_};
+ghost use Prim.Native.Nat.{ℕ, suc, _≤_};
+ghost use lib.Dec.{ltb};
+ghost use lib.ListN.{length, drop};
+ghost use Rattle.xml.specs.Machine.{at, before, after, content, blank, opens, run, form, outcomeOf};
+ghost use Rattle.xml.specs.Scans.{Kinds, Turns, part, held};
+
+mod bytes;
+mod characters;
+mod tags;
+
+use bytes::KINDS;
+use bytes::Scan;
+use bytes::byte;
+use bytes::past_spaces;
+use bytes::word_end;
+use characters::text_end;
+use tags::Start;
+use tags::end_tag;
+use tags::start_tag;
+
+// A text in the form, or one with so many bytes left unread.
+pub enum Checked {
+    Good,
+    Broken(usize),
+}
+
+// The next tag of an element, with the position behind it: an element opens, whose name is at two positions; an empty element stands inside; the
+// element ends. Or so many bytes are unread.
+enum Turn {
+    Opened(usize, usize, usize),
+    Inside(usize),
+    Outside(usize),
+    Broken(usize),
+}
+
+// A tag from behind its `<` on, in the element whose name is from start to end; an element may begin here or not.
+fn read_tag(
+    text: &[u8],
+    from: usize,
+    begins: bool,
+    start: usize,
+    end: usize,
+    kinds: &[u8; 256],
+) -> Turn
+    requires { ⌜ (from ≤ length (now text)) × (start ≤ end) × (end ≤ length (now text)) × Kinds (now kinds) ⌝ }
+    ensures { λ r. ⌜ ((o : Bool) → Turns (now (text .entry)) from (part (now (text .entry)) start end) begins (at (opens o)) (λ ns. (o && ltb (suc (length ns)) 64) ≡ begins) r) ⌝ }
+{
+    if byte(text, from) == b'/' {
+        return match end_tag(text, from + 1, &text[start..end], kinds) {
+            Scan::At(j) => Turn::Outside(j),
+            Scan::Broken(u) => Turn::Broken(u),
+        };
+    }
+    if !begins {
+        return Turn::Broken(text.len() - from);
+    }
+    match start_tag(text, from, kinds) {
+        Start::Open(e, j) => Turn::Opened(from, e, j),
+        Start::Empty(j) => Turn::Inside(j),
+        Start::Broken(u) => Turn::Broken(u),
+    }
+}
+
+// The content of the element at depth d whose name is from start to end, up to the end of its next tag; it has children already or not.
+fn next_tag(
+    text: &[u8],
+    from: usize,
+    children: bool,
+    d: usize,
+    start: usize,
+    end: usize,
+    kinds: &[u8; 256],
+) -> Turn
+    requires { ⌜ (from ≤ length (now text)) × (start ≤ end) × (end ≤ length (now text)) × Kinds (now kinds) ⌝ }
+    ensures { λ r. ⌜ Turns (now (text .entry)) from (part (now (text .entry)) start end) (ltb d 64) (at (content (held children))) (λ ns. suc (length ns) ≡ d) r ⌝ }
+{
+    let i = past_spaces(text, from, kinds);
+    if byte(text, i) == b'<' {
+        return read_tag(text, i + 1, d < 64, start, end, kinds);
+    }
+    if children {
+        return Turn::Broken(text.len() - i);
+    }
+    match text_end(text, i, kinds) {
+        Scan::At(j) => read_tag(text, j, false, start, end, kinds),
+        Scan::Broken(u) => Turn::Broken(u),
+    }
+}
+
+// White space after the root element.
+fn finish(text: &[u8], from: usize, kinds: &[u8; 256]) -> Checked
+    requires { ⌜ (from ≤ length (now text)) × Kinds (now kinds) ⌝ }
+    ensures { λ r. ⌜ outcomeOf r ≡ run (at after []) (drop from (now (text .entry))) ⌝ }
+{
+    let i = past_spaces(text, from, kinds);
+    if i == text.len() {
+        return Checked::Good;
+    }
+    Checked::Broken(text.len() - i)
+}
+
+// The content of the root element, whose name is from start to end, and what follows it.
+fn elements(text: &[u8], from: usize, start: usize, end: usize, kinds: &[u8; 256]) -> Checked
+    requires { ⌜ (from ≤ length (now text)) × (start ≤ end) × (end ≤ length (now text)) × Kinds (now kinds) ⌝ }
+    ensures { λ r. ⌜ outcomeOf r ≡ run (at (content blank) (part (now (text .entry)) start end ∷ [])) (drop from (now (text .entry))) ⌝ }
+{
+    let mut starts = [0usize; 64];
+    let mut ends = [0usize; 64];
+    starts[0] = start;
+    ends[0] = end;
+    let mut d: usize = 1;
+    let mut i = from;
+    let mut children = false;
+    while i < text.len() {
+        match next_tag(text, i, children, d, starts[d - 1], ends[d - 1], kinds) {
+            Turn::Opened(s, e, j) => {
+                starts[d] = s;
+                ends[d] = e;
+                d += 1;
+                children = false;
+                i = j;
+            }
+            Turn::Inside(j) => {
+                children = true;
+                i = j;
+            }
+            Turn::Outside(j) => {
+                if d == 1 {
+                    return finish(text, j, kinds);
+                }
+                d -= 1;
+                children = true;
+                i = j;
+            }
+            Turn::Broken(u) => {
+                return Checked::Broken(u);
+            }
+        }
+    }
+    Checked::Broken(text.len() - i)
+}
+
+// What follows the declaration.
+fn root(text: &[u8], from: usize, kinds: &[u8; 256]) -> Checked
+    requires { ⌜ (from ≤ length (now text)) × Kinds (now kinds) ⌝ }
+    ensures { λ r. ⌜ outcomeOf r ≡ run (at before []) (drop from (now (text .entry))) ⌝ }
+{
+    let i = past_spaces(text, from, kinds);
+    if byte(text, i) != b'<' {
+        return Checked::Broken(text.len() - i);
+    }
+    let start = i + 1;
+    match start_tag(text, start, kinds) {
+        Start::Open(e, j) => elements(text, j, start, e, kinds),
+        Start::Empty(j) => finish(text, j, kinds),
+        Start::Broken(u) => Checked::Broken(u),
+    }
+}
+
+// Whether the text is in the form.
+pub fn check(text: &[u8]) -> Checked
+    ensures { λ r. ⌜ outcomeOf r ≡ form (now (text .entry)) ⌝ }
+{
+    let kinds = KINDS;
+    match word_end(text, 0, b"<?xml version=\"1.0\" encoding=\"UTF-8\"?>") {
+        Scan::At(j) => root(text, j, &kinds),
+        Scan::Broken(u) => Checked::Broken(u),
+    }
+}
