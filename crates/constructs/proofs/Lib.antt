@@ -1,2 +1,4 @@
 pub mod Suffixes
 pub mod Fronts
+pub mod Scanning
+pub mod Filling

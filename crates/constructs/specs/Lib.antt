@@ -1,2 +1,3 @@
 pub mod Constructs
 pub mod Phases
+pub mod Tables

@@ -4,6 +4,8 @@ ghost use mathlib.Core.Path.{_≡_};
 ghost use Prim.Native.Nat.{_+_, _*_, _<_, _≤_};
 ghost use lib.Seq.{sets};
 ghost use mathlib.Core.List.{[], _∷_};
+use tape::Entry;
+ghost use Rattle.constructs.specs.Tables.{Held, Finds};
 ghost use Rattle.constructs.specs.Phases.{pastLabels, afterMark, afterBlock, closedCount, closedTable, Roomy, Fitting};
 
 // Where the next element stands: among the four of the labels, so many after it there; in a data run; in an index run, with its first
@@ -112,4 +114,39 @@ fn close(table: &mut [u32; 87380], n: usize, phase: Phase, at: usize, off: usize
         }
         Phase::Defect => n,
     }
+}
+
+// Puts the standing constructs of a list of so many elements into the table; their number.
+fn fill(list: &[u8], store: &[u8], count: usize, size: usize, table: &mut [u32; 87380]) -> usize
+    requires { ⌜ Held (now list) (now store) count ⌝ }
+    ensures { λ r. ⌜ Finds size (now (list .entry)) (now (store .entry)) (now (table .entry)) (now (table .exit)) r ⌝ }
+{
+    let mut place: usize = 0;
+    let mut at: usize = 0;
+    let mut off: usize = 0;
+    let mut n: usize = 0;
+    let mut phase = Phase::Labels(3);
+    while at < count {
+        match tape::entry_at(list, place) {
+            Entry::Mark(next) => {
+                n = close(table, n, phase, at, off);
+                phase = after_mark(phase, at, off);
+                place = next;
+                at += 1;
+            }
+            Entry::Block(k, next) => {
+                phase = after_block(phase, size, k);
+                off += k;
+                place = next;
+                at += 1;
+            }
+            Entry::End => {
+                return n;
+            }
+            Entry::Bad => {
+                return n;
+            }
+        }
+    }
+    n
 }

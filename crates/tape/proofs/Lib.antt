@@ -2,5 +2,6 @@ pub mod Entries
 pub mod Counting
 pub mod Encoding
 pub mod Walking
+pub mod Elements
 pub mod Keeping
 pub mod Blocks

@@ -1,0 +1,119 @@
+-- The walk that fills the table: at each place it matches the scan of the elements passed.
+use mathlib.Core.Path.{_≡_, refl, sym, _∙_, ap, subst}
+use mathlib.Core.Bool.{true}
+use mathlib.Core.List.{List, [], _∷_, _++_}
+use Prim.Native.Nat.{ℕ, zero, suc, _+_, _-_, _≤_, _<_}
+use native.Mathlib.Nat.{add-zero}
+use native.Mathlib.Numerals.{add-one}
+use native.Mathlib.Omega.{arith}
+use lib.ListN.{length, take, drop}
+use lib.Seq.{sets, take-all}
+use Rattle.tape.specs.Tape.{Element, mark, block, Tape, list, store, content, Encodes}
+use Rattle.tape.proofs.Elements.{MarkAt, BlockAt}
+use Rattle.tape.proofs.Encoding.{one-tape}
+use Rattle.constructs.specs.declared.Phase.{Phase}
+use Rattle.constructs.specs.declared.Phase.the-variants.{Labels, Data, Index, Defect}
+use Rattle.constructs.specs.Constructs.{Construct, Run, runAfter, closedBy, Scan, step, scan, start, standing}
+use Rattle.constructs.specs.Phases.{afterMark, afterBlock, closedCount, closedTable, Roomy}
+use Rattle.constructs.specs.Tables.{bytesBefore, entries, Held, Found, Finds}
+use Rattle.constructs.proofs.Scanning.{bytes-within, scanned, scanned-next, scanned-at, bytes-next, drop-next, phaseOf, phase-mark, phase-block, count-mark, done-block, table-mark, room-here}
+
+-- the walk is at element at, which stands at a place of the list
+pub record Matched (B : ℕ) (l s : List ℕ) (count : ℕ) (T table : List ℕ) (place at off n : ℕ) (phase : Phase) : Type 0 where
+  pub tape : Tape
+  pub encodes : Encodes l s tape
+  pub counted : length tape ≡ count
+  pub inside : at ≤ count
+  pub left : drop place l ≡ list (drop at tape)
+  pub bytes : off ≡ bytesBefore tape at
+  pub phaseIs : phase ≡ phaseOf tape (scanned B tape at .run)
+  pub number : n ≡ length (scanned B tape at .done)
+  pub holds : table ≡ sets T 0 (entries tape (scanned B tape at .done))
+
+pub matched-start : (B : ℕ) (l s : List ℕ) (count : ℕ) (T : List ℕ) → Held l s count → Matched B l s count T T 0 0 0 0 (Labels 3)
+unfolding scan store entries
+matched-start B l s count T w =
+    record {
+      tape = w .tape;
+      encodes = w .encodes;
+      counted = w .counted;
+      inside = omega arith;
+      left = w .encodes .lists;
+      bytes = refl;
+      phaseIs = refl;
+      number = refl;
+      holds = refl;
+    }
+
+module _ {B : ℕ} {l s : List ℕ} {count : ℕ} {T table : List ℕ} {place at off n : ℕ} {phase : Phase}
+    (m : Matched B l s count T table place at off n phase) (more : at < count) where
+  pub roomy-mark : {next : ℕ} → MarkAt l next (m .tape) at → Roomy n phase at off
+  roomy-mark k =
+      rw (m .number, m .phaseIs)
+      (room-here B (m .tape) at mark (k .rest) (k .is) off (let few = m .encodes .elements in let all = m .counted in omega arith)
+      (let small = m .encodes .bytes in omega (arith, ap length (m .encodes .stores))) (m .bytes))
+
+  pub matched-mark : {next : ℕ} → MarkAt l next (m .tape) at
+      → Matched B l s count T (closedTable table n phase at off) next (at + 1) off (closedCount n phase at) (afterMark phase at off)
+  unfolding step content
+  matched-mark {next} k =
+      let t = m .tape in
+      let u = scanned B t at in
+      let a : u .at ≡ at = scanned-at B t at mark (k .rest) (k .is) in
+      let e : scanned B t (suc at) ≡ step B u mark = scanned-next B t at mark (k .rest) (k .is) in
+      let b : off ≡ bytesBefore t (suc at) = m .bytes ∙ sym (bytes-next B t at mark (k .rest) (k .is) ∙ add-zero (bytesBefore t at)) in
+      record {
+        tape = t;
+        encodes = m .encodes;
+        counted = m .counted;
+        inside = omega arith;
+        left = k .left ∙ ap list (sym (rw (add-one at) (drop-next t at mark (k .rest) (k .is))));
+        bytes = rw (add-one at) b;
+        phaseIs =
+            ap (λ (p : Phase). afterMark p at off) (m .phaseIs) ∙ phase-mark B t at off (u .run) b
+            ∙ rw (add-one at, e, a);
+        number = ap (λ (x : ℕ). closedCount x phase at) (m .number) ∙ ap (λ (p : Phase). closedCount (length (u .done)) p at) (m .phaseIs)
+            ∙ count-mark t at (u .run) (u .done) ∙ rw (add-one at, e, a);
+        holds = rw (m .holds, m .number, m .phaseIs, add-one at, e, a) (table-mark T t at off (u .run) (u .done) (m .bytes));
+      }
+
+  pub matched-block : {next k : ℕ} → BlockAt l next k (m .tape) at → Matched B l s count T table next (at + 1) (off + k) n (afterBlock phase B k)
+  unfolding step content
+  matched-block {next} {k} w =
+      let t = m .tape in
+      let x = w .bytes in
+      let u = scanned B t at in
+      let a : u .at ≡ at = scanned-at B t at (block x) (w .rest) (w .is) in
+      let e : scanned B t (suc at) ≡ step B u (block x) = scanned-next B t at (block x) (w .rest) (w .is) in
+      let c : scanned B t (suc at) .done ≡ u .done = ap (λ (y : Scan). y .done) e ∙ done-block (u .at) (u .run) (u .done) x in
+      record {
+        tape = t;
+        encodes = m .encodes;
+        counted = m .counted;
+        inside = omega arith;
+        left = w .left ∙ ap list (sym (rw (add-one at) (drop-next t at (block x) (w .rest) (w .is))));
+        bytes = rw (add-one at, m .bytes, w .size) (sym (bytes-next B t at (block x) (w .rest) (w .is)));
+        phaseIs = rw (m .phaseIs, w .size, add-one at, e, a) (phase-block B t at (u .run) x);
+        number = m .number ∙ ap length (sym c) ∙ rw (add-one at);
+        holds = m .holds ∙ ap (λ (d : List Construct). sets T 0 (entries t d)) (sym c) ∙ rw (add-one at);
+      }
+
+-- all elements passed: the constructs that stand
+pub matched-end : {B : ℕ} {l s : List ℕ} {count : ℕ} {T table : List ℕ} {place at off n : ℕ} {phase : Phase}
+    → Matched B l s count T table place at off n phase → count ≤ at → Finds B l s T table n
+unfolding standing
+matched-end {B} {l} {s} {count} {T} {table} {place} {at} {off} {n} m done t e =
+    let same : m .tape ≡ t = one-tape (m .encodes) e in
+    let whole : take at (m .tape) ≡ t = take-all at (m .tape) (let all = m .counted in omega arith) ∙ same in
+    record {
+      number = m .number ∙ ap (λ (u : Tape). length (scan B start u .done)) whole;
+      table = m .holds ∙ rw (whole, same);
+    }
+
+-- the bytes passed are within the store
+pub bytes-bound : {B : ℕ} {l s : List ℕ} {count : ℕ} {T table : List ℕ} {place at off n : ℕ} {phase : Phase}
+    → Matched B l s count T table place at off n phase → off ≤ 16777216
+bytes-bound {at} m =
+    let small = m .encodes .bytes in
+    let b = m .bytes in
+    omega (arith, ap length (m .encodes .stores), bytes-within (m .tape) at)

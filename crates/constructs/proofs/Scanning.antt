@@ -1,0 +1,205 @@
+-- The scan of a tape element by element, against the walk over its list: the phase is the model's run in numbers, and the table holds
+-- the constructs closed so far.
+use mathlib.Core.Path.{_≡_, refl, sym, _∙_, ap, subst}
+use mathlib.Core.Bool.{Bool, true, false, cond}
+use mathlib.Core.List.{List, [], _∷_, _++_, append-assoc, append-nil}
+use Prim.Native.Nat.{ℕ, zero, suc, _+_, _-_, _*_, _≤_, _<_, min}
+use native.Mathlib.Nat.{add-zero, zero-add}
+use native.Mathlib.Numerals.{add-one}
+use native.Mathlib.Omega.{arith}
+use lib.Dec.{ltb, eqb}
+use lib.ListN.{length, take, drop, set, length-append, length-take}
+use lib.Seq.{sets, take-suc, drop-cons}
+use borrow.Author.Tests.{eqb-true, eqb-false, ne-eqb}
+use Rattle.slices.proofs.Booleans.{split}
+use Rattle.tape.proofs.Keeping.{store-front}
+use Rattle.tape.specs.Tape.{Element, mark, block, Tape, store, content}
+use Rattle.constructs.specs.declared.Phase.{Phase}
+use Rattle.constructs.specs.declared.Phase.the-variants.{Labels, Data, Index, Defect}
+use Rattle.constructs.specs.Constructs.{Construct, Run, labels, dataRun, indexRun, defect, pastLabel, runAfter, closedBy, Scan, step, scan, start, standing}
+use Rattle.constructs.specs.Phases.{pastLabels, afterMark, afterBlock, closedCount, closedTable, Roomy, Fitting}
+use Rattle.constructs.specs.Tables.{bytesBefore, entry, entries}
+
+-- the scan of the first n elements
+abbrev pub scanned : ℕ → Tape → ℕ → Scan
+scanned B t n = scan B start (take n t)
+
+scan-snoc : (B : ℕ) (s : Scan) (t : Tape) (e : Element) → scan B s (t ++ e ∷ []) ≡ step B (scan B s t) e
+unfolding scan
+scan-snoc B s [] e = refl
+scan-snoc B s (f ∷ t) e = scan-snoc B (step B s f) t e
+
+scan-at : (B : ℕ) (s : Scan) (t : Tape) → scan B s t .at ≡ s .at + length t
+unfolding scan step
+scan-at B s [] = sym (add-zero (s .at))
+scan-at B s (e ∷ t) = scan-at B (step B s e) t ∙ omega arith
+
+-- one element more
+take-next : (t : Tape) (n : ℕ) (e : Element) (rest : Tape) → drop n t ≡ e ∷ rest → take (suc n) t ≡ take n t ++ e ∷ []
+take-next [] zero e rest d = let z : _≡_ {A = ℕ} 0 1 = cc in absurd (omega arith)
+take-next [] (suc n) e rest d = let z : _≡_ {A = ℕ} 0 1 = cc in absurd (omega arith)
+take-next (f ∷ t) zero e rest d = let z : f ≡ e = cc in rw z
+take-next (f ∷ t) (suc n) e rest d = ap (λ (u : Tape). f ∷ u) (take-next t n e rest d)
+
+pub drop-next : (t : Tape) (n : ℕ) (e : Element) (rest : Tape) → drop n t ≡ e ∷ rest → drop (suc n) t ≡ rest
+drop-next [] zero e rest d = let z : _≡_ {A = ℕ} 0 1 = cc in absurd (omega arith)
+drop-next [] (suc n) e rest d = let z : _≡_ {A = ℕ} 0 1 = cc in absurd (omega arith)
+drop-next (f ∷ t) zero e rest d = cc
+drop-next (f ∷ t) (suc n) e rest d = drop-next t n e rest d
+
+length-taken : (t : Tape) (n : ℕ) (e : Element) (rest : Tape) → drop n t ≡ e ∷ rest → length (take n t) ≡ n
+length-taken [] zero e rest d = refl
+length-taken [] (suc n) e rest d = let z : _≡_ {A = ℕ} 0 1 = cc in absurd (omega arith)
+length-taken (f ∷ t) zero e rest d = refl
+length-taken (f ∷ t) (suc n) e rest d = ap suc (length-taken t n e rest d)
+
+store-snoc : (t : Tape) (e : Element) → store (t ++ e ∷ []) ≡ store t ++ content e
+unfolding store
+store-snoc [] e = append-nil (content e)
+store-snoc (f ∷ t) e = rw (store-snoc t e, append-assoc (content f) (store t) (content e))
+
+module _ (B : ℕ) (t : Tape) (n : ℕ) (e : Element) (rest : Tape) (d : drop n t ≡ e ∷ rest) where
+  pub scanned-next : scanned B t (suc n) ≡ step B (scanned B t n) e
+  scanned-next = ap (scan B start) (take-next t n e rest d) ∙ scan-snoc B start (take n t) e
+
+  pub scanned-at : scanned B t n .at ≡ n
+  scanned-at = scan-at B start (take n t) ∙ omega (arith, length-taken t n e rest d)
+
+  pub bytes-next : bytesBefore t (suc n) ≡ bytesBefore t n + length (content e)
+  bytes-next = ap (λ (u : Tape). length (store u)) (take-next t n e rest d) ∙ ap length (store-snoc (take n t) e) ∙ length-append (store (take n t)) (content e)
+
+-- the run in numbers
+abbrev pub phaseOf : Tape → Run → Phase
+phaseOf t (labels k) = Labels k
+phaseOf t dataRun = Data
+phaseOf t (indexRun f x short) = Index f (bytesBefore t f) short
+phaseOf t defect = Defect
+
+past-phase : (t : Tape) (k : ℕ) → pastLabels k ≡ phaseOf t (pastLabel k)
+unfolding pastLabel
+past-phase t zero = refl
+past-phase t (suc k) = let e : suc k - 1 ≡ k = omega arith in simp (ne-eqb (suc k) 0 (λ q. omega arith), e)
+
+phase-if : (t : Tape) (b : Bool) (r q : Run) → cond b (phaseOf t r) (phaseOf t q) ≡ phaseOf t (cond b r q)
+phase-if t true r q = refl
+phase-if t false r q = refl
+
+pub phase-mark : (B : ℕ) (t : Tape) (n off : ℕ) (r : Run) → off ≡ bytesBefore t (suc n) → afterMark (phaseOf t r) n off ≡ phaseOf t (runAfter B n r mark)
+unfolding runAfter
+phase-mark B t n off (labels k) h = past-phase t k
+phase-mark B t n off dataRun h = rw (add-one n, h)
+phase-mark B t n off (indexRun f x short) h = phase-if t (eqb f n) defect dataRun
+phase-mark B t n off defect h = refl
+
+pub phase-block : (B : ℕ) (t : Tape) (n : ℕ) (r : Run) (x : List ℕ) → afterBlock (phaseOf t r) B (length x) ≡ phaseOf t (runAfter B n r (block x))
+unfolding runAfter
+phase-block B t n (labels k) x = past-phase t k
+phase-block B t n dataRun x = phase-if t (ltb B (length x)) defect dataRun
+phase-block B t n (indexRun f y short) x =
+    ap (cond short Defect) (phase-if t (ltb B (length x)) defect (indexRun f (y ++ x) (ltb (length x) B)))
+    ∙ phase-if t short defect (cond (ltb B (length x)) defect (indexRun f (y ++ x) (ltb (length x) B)))
+phase-block B t n defect x = refl
+
+pub count-mark : (t : Tape) (n : ℕ) (r : Run) (cs : List Construct) → closedCount (length cs) (phaseOf t r) n ≡ length (closedBy n r cs mark)
+unfolding closedBy
+count-mark t n (labels k) cs = refl
+count-mark t n dataRun cs = refl
+count-mark t n (indexRun f x short) cs =
+    split (λ b. cond b (length cs) (length cs + 1) ≡ length (cond b cs (record { first = f; upTo = suc n; text = x } ∷ cs))) (eqb f n)
+    (λ e. refl) (λ e. add-one (length cs))
+count-mark t n defect cs = refl
+
+pub done-block : (n : ℕ) (r : Run) (cs : List Construct) (x : List ℕ) → closedBy n r cs (block x) ≡ cs
+unfolding closedBy
+done-block n (labels k) cs x = refl
+done-block n dataRun cs x = refl
+done-block n (indexRun f y short) cs x = refl
+done-block n defect cs x = refl
+
+-- stores in a row, and then in a row behind them
+sets-append : (l : List ℕ) (i : ℕ) (xs ys : List ℕ) → sets (sets l i xs) (i + length xs) ys ≡ sets l i (xs ++ ys)
+sets-append l i [] ys = rw (add-zero i)
+sets-append l i (x ∷ xs) ys =
+    let e : i + suc (length xs) ≡ suc i + length xs = omega arith in
+    rw e (sets-append (set l i x) (suc i) xs ys)
+
+pub length-entries : (t : Tape) (cs : List Construct) → length (entries t cs) ≡ length cs * 4
+unfolding entries
+length-entries t [] = refl
+length-entries t (c ∷ cs) =
+    let h : length (entries t cs) ≡ length cs * 4 = length-entries t cs in
+    let k : length (entries t cs ++ entry t c) ≡ length (entries t cs) + 4 = length-append (entries t cs) (entry t c) in
+    omega arith
+
+entered : (T : List ℕ) (t : Tape) (cs : List Construct) (c : Construct) → sets (sets T 0 (entries t cs)) (length cs * 4) (entry t c) ≡ sets T 0 (entries t (c ∷ cs))
+unfolding entries
+entered T t cs c =
+    ap (λ (i : ℕ). sets (sets T 0 (entries t cs)) i (entry t c)) (sym (length-entries t cs) ∙ sym (zero-add (length (entries t cs))))
+    ∙ sets-append T 0 (entries t cs) (entry t c)
+
+pub table-mark : (T : List ℕ) (t : Tape) (n off : ℕ) (r : Run) (cs : List Construct) → off ≡ bytesBefore t n
+    → closedTable (sets T 0 (entries t cs)) (length cs) (phaseOf t r) n off ≡ sets T 0 (entries t (closedBy n r cs mark))
+unfolding closedBy
+table-mark T t n off (labels k) cs h = refl
+table-mark T t n off dataRun cs h = refl
+table-mark T t n off (indexRun f x short) cs h =
+    split
+    (λ b. cond b (sets T 0 (entries t cs)) (sets (sets T 0 (entries t cs)) (length cs * 4) (f ∷ (n + 1) ∷ bytesBefore t f ∷ off ∷ []))
+    ≡ sets T 0 (entries t (cond b cs (record { first = f; upTo = suc n; text = x } ∷ cs))))
+    (eqb f n) (λ e. refl)
+    (λ e. let w : suc n - 1 ≡ n = omega arith in
+    let q : off ≡ bytesBefore t (suc n - 1) = h ∙ ap (bytesBefore t) (sym w) in
+    rw (add-one n, q) (entered T t cs (record { first = f; upTo = suc n; text = x })))
+table-mark T t n off defect cs h = refl
+
+-- constructs take three elements each
+abbrev RoomIn : ℕ → Run → List Construct → Type 0
+RoomIn n (labels k) cs = (length cs ≡ 0) × (n + k ≡ 3)
+RoomIn n dataRun cs = length cs * 3 + 4 ≤ n
+RoomIn n (indexRun f x short) cs = (length cs * 3 + 5 ≤ f) × (f ≤ n)
+RoomIn n defect cs = Unit {0}
+
+room-past : (n k : ℕ) (cs : List Construct) → length cs ≡ 0 → n + k ≡ 3 → RoomIn (suc n) (pastLabel k) cs
+unfolding pastLabel
+room-past n zero cs h e = omega arith
+room-past n (suc k) cs h e = (h, omega arith)
+
+room-step : (B n : ℕ) (r : Run) (cs : List Construct) (e : Element) → RoomIn n r cs → RoomIn (suc n) (runAfter B n r e) (closedBy n r cs e)
+unfolding runAfter closedBy
+room-step B n (labels k) cs e w = room-past n k cs (w .0) (w .1)
+room-step B n dataRun cs mark w = (omega arith, omega arith)
+room-step B n dataRun cs (block x) w = split (λ b. RoomIn (suc n) (cond b defect dataRun) cs) (ltb B (length x)) (λ e. tt) (λ e. omega arith)
+room-step B n (indexRun f x short) cs mark w =
+    split (λ b. eqb f n ≡ b → RoomIn (suc n) (cond b defect dataRun) (cond b cs (record { first = f; upTo = suc n; text = x } ∷ cs))) (eqb f n)
+    (λ e q. tt) (λ e q. let u : f ≡ n → ⊥ = eqb-false f n q in omega arith) refl
+room-step B n (indexRun f y short) cs (block x) w =
+    split (λ b. RoomIn (suc n) (cond b defect (cond (ltb B (length x)) defect (indexRun f (y ++ x) (ltb (length x) B)))) cs) short (λ e. tt)
+    (λ e. split (λ b. RoomIn (suc n) (cond b defect (indexRun f (y ++ x) (ltb (length x) B))) cs) (ltb B (length x)) (λ u. tt) (λ u. (w .0, omega arith)))
+room-step B n defect cs e w = tt
+
+room-scan : (B : ℕ) (s : Scan) (t : Tape) → RoomIn (s .at) (s .run) (s .done) → RoomIn (scan B s t .at) (scan B s t .run) (scan B s t .done)
+unfolding scan step
+room-scan B s [] w = w
+room-scan B s (e ∷ t) w = room-scan B (step B s e) t (room-step B (s .at) (s .run) (s .done) e w)
+
+pub bytes-within : (t : Tape) (n : ℕ) → bytesBefore t n ≤ length (store t)
+bytes-within t n =
+    let e : min (bytesBefore t n) (length (store t)) ≡ bytesBefore t n = sym (length-take (bytesBefore t n) (store t)) ∙ ap length (store-front n t) in
+    omega arith
+
+-- there is room for a construct that closes
+roomy : (t : Tape) (n off : ℕ) (r : Run) (cs : List Construct) → n < 65536 → length (store t) ≤ 16777216 → off ≤ length (store t)
+    → RoomIn n r cs → Roomy (length cs) (phaseOf t r) n off
+roomy t n off (labels k) cs h b o w = tt
+roomy t n off dataRun cs h b o w = tt
+roomy t n off (indexRun f x short) cs h b o w =
+    record { few = omega arith; inFirst = omega arith; inEnd = omega arith; inFrom = omega (arith, bytes-within t f); inTo = omega arith }
+roomy t n off defect cs h b o w = tt
+
+module _ (B : ℕ) (t : Tape) (n : ℕ) (e : Element) (rest : Tape) (d : drop n t ≡ e ∷ rest) where
+  pub room-here : (off : ℕ) → n < 65536 → length (store t) ≤ 16777216 → off ≡ bytesBefore t n
+      → Roomy (length (scanned B t n .done)) (phaseOf t (scanned B t n .run)) n off
+  room-here off h b o =
+      roomy t n off (scanned B t n .run) (scanned B t n .done) h b (omega (arith, bytes-within t n))
+      (subst (λ (k : ℕ). RoomIn k (scanned B t n .run) (scanned B t n .done)) (scanned-at B t n e rest d)
+      (room-scan B start (take n t) (refl, refl)))

@@ -1,0 +1,35 @@
+-- Constructs in a table of numbers, four for each, the first construct first.
+use mathlib.Core.Path.{_≡_}
+use mathlib.Core.List.{List, [], _∷_, _++_}
+use Prim.Native.Nat.{ℕ, _-_}
+use lib.ListN.{length, take}
+use lib.Seq.{sets}
+use Rattle.tape.specs.Tape.{Tape, store, Encodes}
+use Rattle.constructs.specs.Constructs.{Construct, standing}
+
+-- the bytes of the blocks before element n
+abbrev pub bytesBefore : Tape → ℕ → ℕ
+bytesBefore t n = length (store (take n t))
+
+-- a construct: its first block's number, the number of elements through its closing mark, and where its text begins and ends in the store
+abbrev pub entry : Tape → Construct → List ℕ
+entry t c = c .first ∷ c .upTo ∷ bytesBefore t (c .first) ∷ bytesBefore t (c .upTo - 1) ∷ []
+
+-- constructs that are listed the last one first
+unfoldable pub entries : Tape → List Construct → List ℕ
+entries t [] = []
+entries t (c ∷ cs) = entries t cs ++ entry t c
+
+-- a list and a store of a tape with so many elements
+pub record Held (l s : List ℕ) (count : ℕ) : Type 0 where
+  pub tape : Tape
+  pub encodes : Encodes l s tape
+  pub counted : length tape ≡ count
+
+-- the number of standing constructs, and the table with them at its front
+pub record Found (B : ℕ) (t : Tape) (before after : List ℕ) (n : ℕ) : Type 0 where
+  pub number : n ≡ length (standing B t)
+  pub table : after ≡ sets before 0 (entries t (standing B t))
+
+abbrev pub Finds : ℕ → List ℕ → List ℕ → List ℕ → List ℕ → ℕ → Type 0
+Finds B l s before after n = (t : Tape) → Encodes l s t → Found B t before after n
