@@ -11,11 +11,16 @@ use lib.Seq.{sets, take-all}
 use Rattle.tape.specs.Tape.{Element, mark, block, Tape, list, store, content, Encodes}
 use Rattle.tape.proofs.Elements.{MarkAt, BlockAt}
 use Rattle.tape.proofs.Encoding.{one-tape}
+use Rattle.tape.proofs.Keeping.{Present, absent}
+use Rattle.tape.specs.Answers.{elementCount}
+use Rattle.refusals.specs.declared.Refusal.{Refusal}
+use Rattle.refusals.specs.Refusals.{refused, answer}
+use Rattle.constructs.specs.declared.Scanned.the-variants as Scanned·is
 use Rattle.constructs.specs.declared.Phase.{Phase}
 use Rattle.constructs.specs.declared.Phase.the-variants.{Labels, Data, Index, Defect}
 use Rattle.constructs.specs.Constructs.{Construct, Run, runAfter, closedBy, Scan, step, scan, start, standing}
 use Rattle.constructs.specs.Phases.{afterMark, afterBlock, closedCount, closedTable, Roomy}
-use Rattle.constructs.specs.Tables.{bytesBefore, entries, Held, Found, Finds}
+use Rattle.constructs.specs.Tables.{bytesBefore, entries, Held, Found, Finds, Scans}
 use Rattle.constructs.proofs.Scanning.{bytes-within, scanned, scanned-next, scanned-at, bytes-next, drop-next, phaseOf, phase-mark, phase-block, count-mark, done-block, table-mark, room-here}
 
 -- the walk is at element at, which stands at a place of the list
@@ -117,3 +122,15 @@ bytes-bound {at} m =
     let small = m .encodes .bytes in
     let b = m .bytes in
     omega (arith, ap length (m .encodes .stores), bytes-within (m .tape) at)
+
+pub held : (l s : List ℕ) (count : ℕ) → Present l s count → Held l s count
+held l s count p = record { tape = p .tape; encodes = p .encodes; counted = p .count }
+
+-- what a scan answers of a tape that is there, or is not
+pub scans-found : (B n : ℕ) (l s before after : List ℕ) (count : ℕ) (p : Present l s count) → Finds B l s before after n → Scans B l s before after (Scanned·is.Constructs n)
+scans-found B n l s before after count p f =
+    let r = f (p .tape) (p .encodes) in
+    record { answers = rw (p .read) (ap answer (r .number)); holds = rw (p .read) (r .table) }
+
+pub scans-refused : (B : ℕ) (l s table : List ℕ) (r : Refusal) → refused r ≡ elementCount l s → Scans B l s table table (Scanned·is.Refused r)
+scans-refused B l s table r e = let a = absent l s r e in record { answers = rw a; holds = rw a }

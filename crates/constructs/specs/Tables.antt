@@ -5,6 +5,10 @@ use Prim.Native.Nat.{ℕ, _-_}
 use lib.ListN.{length, take}
 use lib.Seq.{sets}
 use Rattle.tape.specs.Tape.{Tape, store, Encodes}
+use Rattle.tape.specs.Answers.{tapeIn}
+use Rattle.refusals.specs.Refusals.{Answer, refused, answer, andThen}
+use Rattle.constructs.specs.declared.Scanned.{Scanned}
+use Rattle.constructs.specs.declared.Scanned.the-variants as scannedIs
 use Rattle.constructs.specs.Constructs.{Construct, standing}
 
 -- the bytes of the blocks before element n
@@ -33,3 +37,16 @@ pub record Found (B : ℕ) (t : Tape) (before after : List ℕ) (n : ℕ) : Type
 
 abbrev pub Finds : ℕ → List ℕ → List ℕ → List ℕ → List ℕ → ℕ → Type 0
 Finds B l s before after n = (t : Tape) → Encodes l s t → Found B t before after n
+
+-- what a scan answers: the number of standing constructs, and the table with them at its front; or a refusal, and the table as it was
+abbrev pub tableAfter : ℕ → List ℕ → Answer Tape → List ℕ
+tableAfter B before (refused r) = before
+tableAfter B before (answer t) = sets before 0 (entries t (standing B t))
+
+abbrev pub scannedCount : Scanned → Answer ℕ
+scannedCount (scannedIs.Constructs n) = answer n
+scannedCount (scannedIs.Refused r) = refused r
+
+pub record Scans (B : ℕ) (l s before after : List ℕ) (r : Scanned) : Type 0 where
+  pub answers : scannedCount r ≡ andThen (tapeIn l s) (λ t. answer (length (standing B t)))
+  pub holds : after ≡ tableAfter B before (tapeIn l s)

@@ -4,8 +4,10 @@ ghost use mathlib.Core.Path.{_≡_};
 ghost use Prim.Native.Nat.{_+_, _*_, _<_, _≤_};
 ghost use lib.Seq.{sets};
 ghost use mathlib.Core.List.{[], _∷_};
+use refusals::Refusal;
+use tape::Checked;
 use tape::Entry;
-ghost use Rattle.constructs.specs.Tables.{Held, Finds};
+ghost use Rattle.constructs.specs.Tables.{Held, Finds, Scans};
 ghost use Rattle.constructs.specs.Phases.{pastLabels, afterMark, afterBlock, closedCount, closedTable, Roomy, Fitting};
 
 // Where the next element stands: among the four of the labels, so many after it there; in a data run; in an index run, with its first
@@ -149,4 +151,27 @@ fn fill(list: &[u8], store: &[u8], count: usize, size: usize, table: &mut [u32; 
         }
     }
     n
+}
+
+// What a scan for constructs answers: how many stand.
+pub enum Scanned {
+    Constructs(usize),
+    Refused(Refusal),
+}
+
+// Puts the standing constructs of a partition into a table, four numbers for each: its first block, the elements through its closing
+// mark, and where its text begins and ends in the store.
+pub fn scan(list: &[u8], store: &[u8], block_size: usize, table: &mut [u32; 87380]) -> Scanned
+    ensures { λ r. ⌜ Scans «block_size» (now (list .entry)) (now (store .entry)) (now (table .entry)) (now (table .exit)) r ⌝ }
+{
+    match tape::check(list, store) {
+        Checked::Elements(count) => Scanned::Constructs(fill(
+            list,
+            store,
+            count,
+            block_size,
+            table,
+        )),
+        Checked::Refused(r) => Scanned::Refused(r),
+    }
 }
