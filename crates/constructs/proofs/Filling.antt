@@ -21,7 +21,8 @@ use Rattle.constructs.specs.declared.Phase.the-variants.{Labels, Data, I
 use Rattle.constructs.specs.Constructs.{Construct, Run, runAfter, closedBy, Scan, step, scan, start, standing}
 use Rattle.constructs.specs.Phases.{afterMark, afterBlock, closedCount, closedTable, Roomy}
 use Rattle.constructs.specs.Tables.{bytesBefore, entries, Held, Found, Finds, Scans}
-use Rattle.constructs.proofs.Scanning.{bytes-within, scanned, scanned-next, scanned-at, bytes-next, drop-next, phaseOf, phase-mark, phase-block, count-mark, done-block, table-mark, room-here}
+use Rattle.constructs.proofs.Sequences.{drop-next}
+use Rattle.constructs.proofs.Scanning.{bytes-within, scanned, scanned-next, scanned-at, bytes-next, phaseOf, phase-mark, phase-block, count-mark, done-block, table-mark, room-here}
 
 -- the walk is at element at, which stands at a place of the list
 pub record Matched (B : ℕ) (l s : List ℕ) (count : ℕ) (T table : List ℕ) (place at off n : ℕ) (phase : Phase) : Type 0 where

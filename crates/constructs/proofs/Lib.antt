@@ -1,4 +1,6 @@
 pub mod Suffixes
+pub mod Sequences
 pub mod Fronts
 pub mod Scanning
 pub mod Filling
+pub mod Lengths

@@ -14,6 +14,7 @@ use borrow.Author.Tests.{eqb-true, eqb-false, ne-eqb}
 use Rattle.slices.proofs.Booleans.{split}
 use Rattle.tape.proofs.Keeping.{store-front}
 use Rattle.tape.specs.Tape.{Element, mark, block, Tape, store, content}
+use Rattle.constructs.proofs.Sequences.{take-next, drop-next, length-taken, sets-append}
 use Rattle.constructs.specs.declared.Phase.{Phase}
 use Rattle.constructs.specs.declared.Phase.the-variants.{Labels, Data, Index, Defect}
 use Rattle.constructs.specs.Constructs.{Construct, Run, labels, dataRun, indexRun, defect, pastLabel, runAfter, closedBy, Scan, step, scan, start, standing}
@@ -33,25 +34,6 @@ scan-at : (B : ℕ) (s : Scan) (t : Tape) → scan B s t .at ≡ s .at + length 
 unfolding scan step
 scan-at B s [] = sym (add-zero (s .at))
 scan-at B s (e ∷ t) = scan-at B (step B s e) t ∙ omega arith
-
--- one element more
-take-next : (t : Tape) (n : ℕ) (e : Element) (rest : Tape) → drop n t ≡ e ∷ rest → take (suc n) t ≡ take n t ++ e ∷ []
-take-next [] zero e rest d = let z : _≡_ {A = ℕ} 0 1 = cc in absurd (omega arith)
-take-next [] (suc n) e rest d = let z : _≡_ {A = ℕ} 0 1 = cc in absurd (omega arith)
-take-next (f ∷ t) zero e rest d = let z : f ≡ e = cc in rw z
-take-next (f ∷ t) (suc n) e rest d = ap (λ (u : Tape). f ∷ u) (take-next t n e rest d)
-
-pub drop-next : (t : Tape) (n : ℕ) (e : Element) (rest : Tape) → drop n t ≡ e ∷ rest → drop (suc n) t ≡ rest
-drop-next [] zero e rest d = let z : _≡_ {A = ℕ} 0 1 = cc in absurd (omega arith)
-drop-next [] (suc n) e rest d = let z : _≡_ {A = ℕ} 0 1 = cc in absurd (omega arith)
-drop-next (f ∷ t) zero e rest d = cc
-drop-next (f ∷ t) (suc n) e rest d = drop-next t n e rest d
-
-length-taken : (t : Tape) (n : ℕ) (e : Element) (rest : Tape) → drop n t ≡ e ∷ rest → length (take n t) ≡ n
-length-taken [] zero e rest d = refl
-length-taken [] (suc n) e rest d = let z : _≡_ {A = ℕ} 0 1 = cc in absurd (omega arith)
-length-taken (f ∷ t) zero e rest d = refl
-length-taken (f ∷ t) (suc n) e rest d = ap suc (length-taken t n e rest d)
 
 store-snoc : (t : Tape) (e : Element) → store (t ++ e ∷ []) ≡ store t ++ content e
 unfolding store
@@ -115,13 +97,6 @@ done-block n (labels k) cs x = refl
 done-block n dataRun cs x = refl
 done-block n (indexRun f y short) cs x = refl
 done-block n defect cs x = refl
-
--- stores in a row, and then in a row behind them
-sets-append : (l : List ℕ) (i : ℕ) (xs ys : List ℕ) → sets (sets l i xs) (i + length xs) ys ≡ sets l i (xs ++ ys)
-sets-append l i [] ys = rw (add-zero i)
-sets-append l i (x ∷ xs) ys =
-    let e : i + suc (length xs) ≡ suc i + length xs = omega arith in
-    rw e (sets-append (set l i x) (suc i) xs ys)
 
 pub length-entries : (t : Tape) (cs : List Construct) → length (entries t cs) ≡ length cs * 4
 unfolding entries

@@ -1,3 +1,4 @@
 pub mod Constructs
 pub mod Phases
 pub mod Tables
+pub mod Reach

@@ -4,6 +4,9 @@ ghost use mathlib.Core.Path.{_≡_};
 ghost use Prim.Native.Nat.{_+_, _*_, _<_, _≤_};
 ghost use lib.Seq.{sets};
 ghost use mathlib.Core.List.{[], _∷_};
+
+mod reach;
+
 use refusals::Refusal;
 use tape::Checked;
 use tape::Entry;

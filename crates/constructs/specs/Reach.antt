@@ -1,0 +1,36 @@
+-- How far data blocks reach from each element on, so that one number tells whether an extent lies on the tape.
+use mathlib.Core.Bool.{Bool, true, false, not, cond}
+use mathlib.Core.List.{List, [], _∷_}
+use Prim.Native.Nat.{ℕ, _+_, _-_, min}
+use lib.Dec.{eqb}
+use lib.ListN.{getD}
+use lib.Seq.{sets}
+use mathlib.Core.Path.{_≡_}
+use Rattle.tape.specs.Tape.{Tape, Encodes}
+use Rattle.constructs.specs.Constructs.{dataLengths}
+
+-- a data block of x bytes, or 0 for any other element, before an element from which data blocks reach next bytes: a block of exactly B
+-- bytes is added to them, any other counts for itself, with at most B bytes
+abbrev pub reachOne : ℕ → ℕ → ℕ → ℕ
+reachOne B x next = cond (eqb x B) (B + next) (min x B)
+
+-- the same for each element
+unfoldable pub reaches : ℕ → List ℕ → List ℕ
+reaches B [] = []
+reaches B (x ∷ xs) = reachOne B x (getD (reaches B xs) 0 0) ∷ reaches B xs
+
+-- elements of the labels that are still to come, behind an element
+abbrev pub labelsAfter : ℕ → ℕ
+labelsAfter k = cond (eqb k 0) 0 (k - 1)
+
+-- whether the marks behind the labels are even in number, behind a mark
+abbrev pub evenAfter : ℕ → Bool → Bool
+evenAfter k even = cond (eqb k 0) (not even) even
+
+-- the length of a block of n bytes as a data block
+abbrev pub dataLength : ℕ → Bool → ℕ → ℕ
+dataLength k even n = cond (eqb k 0) (cond even n 0) 0
+
+-- the table with the data blocks' lengths at its front
+abbrev pub PutsLengths : List ℕ → List ℕ → List ℕ → List ℕ → Type 0
+PutsLengths l s before after = (t : Tape) → Encodes l s t → after ≡ sets before 0 (dataLengths t)

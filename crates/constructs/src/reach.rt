@@ -1,0 +1,83 @@
+// How far data blocks reach from each element of a partition on.
+use tape::Entry;
+ghost use mathlib.Core.Path.{_≡_};
+ghost use Prim.Native.Nat.{_+_, _≤_, _<_};
+ghost use Rattle.constructs.specs.Reach.{reachOne, labelsAfter, evenAfter, dataLength, PutsLengths};
+ghost use Rattle.constructs.specs.Tables.{Held};
+
+fn labels_after(k: usize) -> usize
+    ensures { λ r. ⌜ r ≡ labelsAfter k ⌝ }
+{
+    if k == 0 {
+        return 0;
+    }
+    k - 1
+}
+
+fn even_after(k: usize, even: bool) -> bool
+    ensures { λ r. ⌜ r ≡ evenAfter k even ⌝ }
+{
+    if k == 0 {
+        return !even;
+    }
+    even
+}
+
+fn data_length(k: usize, even: bool, n: usize) -> usize
+    ensures { λ r. ⌜ r ≡ dataLength k even n ⌝ }
+{
+    if k == 0 {
+        if even {
+            return n;
+        }
+        return 0;
+    }
+    0
+}
+
+fn reach_one(size: usize, x: usize, next: usize) -> usize
+    requires { ⌜ x + next < 4294967296 ⌝ }
+    ensures { λ r. ⌜ r ≡ reachOne size x next ⌝ }
+{
+    if x == size {
+        return size + next;
+    }
+    if x < size {
+        return x;
+    }
+    size
+}
+
+// Puts the lengths of a partition's data blocks into the table, 0 for any other element.
+fn put_lengths(list: &[u8], store: &[u8], count: usize, table: &mut [u32; 65536])
+    requires { ⌜ Held (now list) (now store) count ⌝ }
+    ensures { λ r. ⌜ PutsLengths (now (list .entry)) (now (store .entry)) (now (table .entry)) (now (table .exit)) ⌝ }
+{
+    let mut place: usize = 0;
+    let mut at: usize = 0;
+    let mut labels: usize = 4;
+    let mut even = true;
+    while at < count {
+        match tape::entry_at(list, place) {
+            Entry::Mark(next) => {
+                table[at] = 0;
+                even = even_after(labels, even);
+                labels = labels_after(labels);
+                place = next;
+                at += 1;
+            }
+            Entry::Block(n, next) => {
+                table[at] = data_length(labels, even, n) as u32;
+                labels = labels_after(labels);
+                place = next;
+                at += 1;
+            }
+            Entry::End => {
+                return;
+            }
+            Entry::Bad => {
+                return;
+            }
+        }
+    }
+}
