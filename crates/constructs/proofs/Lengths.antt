@@ -6,7 +6,7 @@ use Prim.Native.Nat.{ℕ, zero, suc, _+_, _-_, _≤_, _<_}
 use native.Mathlib.Numerals.{add-one}
 use native.Mathlib.Omega.{arith}
 use lib.ListN.{length, take, drop, set}
-use lib.Seq.{sets, take-all}
+use lib.Seq.{sets, length-sets, take-all}
 use lib.Dec.{eqb}
 use borrow.Author.Tests.{ne-eqb}
 use Rattle.slices.proofs.Booleans.{split}
@@ -35,14 +35,15 @@ pub record LengthsAt (l s : List ℕ) (count : ℕ) (T table : List ℕ) (place 
   pub tape : Tape
   pub encodes : Encodes l s tape
   pub counted : length tape ≡ count
+  pub room : count ≤ length T
   pub inside : at ≤ count
   pub left : drop place l ≡ list (drop at tape)
   pub rest : drop at (dataLengths tape) ≡ dataLengthsFrom k even (drop at tape)
   pub holds : table ≡ sets T 0 (take at (dataLengths tape))
 
-pub lengths-start : (l s : List ℕ) (count : ℕ) (T : List ℕ) → Held l s count → LengthsAt l s count T T 0 0 4 true
-lengths-start l s count T w =
-    record { tape = w .tape; encodes = w .encodes; counted = w .counted; inside = omega arith; left = w .encodes .lists; rest = refl; holds = refl }
+pub lengths-start : (l s : List ℕ) (count : ℕ) (T : List ℕ) → Held l s count → count ≤ length T → LengthsAt l s count T T 0 0 4 true
+lengths-start l s count T w room =
+    record { tape = w .tape; encodes = w .encodes; counted = w .counted; room = room; inside = omega arith; left = w .encodes .lists; rest = refl; holds = refl }
 
 module _ {l s : List ℕ} {count : ℕ} {T table : List ℕ} {place at k : ℕ} {even : Bool}
     (m : LengthsAt l s count T table place at k even) (more : at < count) where
@@ -55,6 +56,7 @@ module _ {l s : List ℕ} {count : ℕ} {T table : List ℕ} {place at k : ℕ} 
         tape = m .tape;
         encodes = m .encodes;
         counted = m .counted;
+        room = m .room;
         inside = omega arith;
         left = rw (add-one at, d′) h;
         rest = rw (add-one at, d′) (drop-next (dataLengths (m .tape)) at v (dataLengthsFrom k′ even′ t) r);
@@ -85,6 +87,11 @@ lengths-end {T} {at} m done t e =
     let whole : take at (dataLengths (m .tape)) ≡ dataLengths (m .tape)
     = take-all at (dataLengths (m .tape)) (omega (arith, length-lengths 4 true (m .tape))) in
     m .holds ∙ ap (sets T 0) (whole ∙ ap dataLengths same)
+
+-- the table keeps its length
+pub lengths-kept : {l s : List ℕ} {count : ℕ} {T table : List ℕ} {place at k : ℕ} {even : Bool}
+    → LengthsAt l s count T table place at k even → length table ≡ length T
+lengths-kept {T} {at} m = ap length (m .holds) ∙ length-sets T 0 (take at (dataLengths (m .tape)))
 
 pub length-at-most : (k : ℕ) (even : Bool) (n : ℕ) → dataLength k even n ≤ n
 length-at-most k even n =

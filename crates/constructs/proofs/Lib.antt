@@ -4,3 +4,4 @@ pub mod Fronts
 pub mod Scanning
 pub mod Filling
 pub mod Lengths
+pub mod Reaching

@@ -19,6 +19,10 @@ unfoldable pub reaches : ℕ → List ℕ → List ℕ
 reaches B [] = []
 reaches B (x ∷ xs) = reachOne B x (getD (reaches B xs) 0 0) ∷ reaches B xs
 
+unfoldable pub sumOf : List ℕ → ℕ
+sumOf [] = 0
+sumOf (x ∷ xs) = x + sumOf xs
+
 -- elements of the labels that are still to come, behind an element
 abbrev pub labelsAfter : ℕ → ℕ
 labelsAfter k = cond (eqb k 0) 0 (k - 1)

@@ -2,7 +2,9 @@
 use tape::Entry;
 ghost use mathlib.Core.Path.{_≡_};
 ghost use Prim.Native.Nat.{_+_, _≤_, _<_};
-ghost use Rattle.constructs.specs.Reach.{reachOne, labelsAfter, evenAfter, dataLength, PutsLengths};
+ghost use mathlib.Core.List.{_++_};
+ghost use lib.ListN.{take, drop, length};
+ghost use Rattle.constructs.specs.Reach.{reachOne, labelsAfter, evenAfter, dataLength, PutsLengths, reaches, sumOf};
 ghost use Rattle.constructs.specs.Tables.{Held};
 
 fn labels_after(k: usize) -> usize
@@ -49,8 +51,8 @@ fn reach_one(size: usize, x: usize, next: usize) -> usize
 }
 
 // Puts the lengths of a partition's data blocks into the table, 0 for any other element.
-fn put_lengths(list: &[u8], store: &[u8], count: usize, table: &mut [u32; 65536])
-    requires { ⌜ Held (now list) (now store) count ⌝ }
+fn put_lengths(list: &[u8], store: &[u8], count: usize, table: &mut [u32])
+    requires { ⌜ Held (now list) (now store) count × (count ≤ length (now table)) ⌝ }
     ensures { λ r. ⌜ PutsLengths (now (list .entry)) (now (store .entry)) (now (table .entry)) (now (table .exit)) ⌝ }
 {
     let mut place: usize = 0;
@@ -80,4 +82,24 @@ fn put_lengths(list: &[u8], store: &[u8], count: usize, table: &mut [u32; 65536]
             }
         }
     }
+}
+
+// Turns the lengths at the front of the table into how far data blocks reach, from the last element back.
+fn extend(count: usize, size: usize, table: &mut [u32])
+    requires { ⌜ (count ≤ length (now table)) × (sumOf (take count (now table)) ≤ 16777216) ⌝ }
+    ensures { λ r. ⌜ now (table .exit) ≡ reaches size (take count (now (table .entry))) ++ drop count (now (table .entry)) ⌝ }
+{
+    let mut i = count;
+    let mut next: usize = 0;
+    while 0 < i {
+        i -= 1;
+        next = reach_one(size, wide(table[i]), next);
+        table[i] = next as u32;
+    }
+}
+
+fn wide(x: u32) -> usize
+    ensures { λ r. ⌜ r ≡ x ⌝ }
+{
+    x as usize
 }

@@ -1,0 +1,110 @@
+-- The walk back that turns lengths into how far data blocks reach.
+use mathlib.Core.Path.{_≡_, refl, sym, _∙_, ap}
+use mathlib.Core.Bool.{Bool, true, false, cond}
+use mathlib.Core.List.{List, [], _∷_, _++_}
+use Prim.Native.Nat.{ℕ, zero, suc, _+_, _-_, _≤_, _<_, min}
+use native.Mathlib.Omega.{arith}
+use lib.Dec.{eqb}
+use lib.ListN.{length, getD, take, drop, set, take-append-drop, length-append, length-drop, length-take, List·getD-append}
+use lib.Seq.{length-take-le, take-suc, drop-cons, getD-take, set-at, drop-length, append-snoc}
+use borrow.Author.Tests.{eqb-true}
+use Rattle.slices.proofs.Booleans.{split}
+use Rattle.constructs.specs.Reach.{reachOne, reaches, sumOf}
+
+pub length-reaches : (B : ℕ) (xs : List ℕ) → length (reaches B xs) ≡ length xs
+unfolding reaches
+length-reaches B [] = refl
+length-reaches B (x ∷ xs) = ap suc (length-reaches B xs)
+
+-- no reach passes the sum of the lengths
+pub reach-one-sum : (B x next : ℕ) → reachOne B x next ≤ x + next
+reach-one-sum B x next = split (λ b. eqb x B ≡ b → cond b (B + next) (min x B) ≤ x + next) (eqb x B) (λ e q. let z = eqb-true x B q in omega arith) (λ e q. omega arith) refl
+
+pub reach-sum : (B : ℕ) (xs : List ℕ) → getD (reaches B xs) 0 0 ≤ sumOf xs
+unfolding reaches sumOf
+reach-sum B [] = omega arith
+reach-sum B (x ∷ xs) = omega (arith, reach-one-sum B x (getD (reaches B xs) 0 0), reach-sum B xs)
+
+sum-drop : (n : ℕ) (xs : List ℕ) → sumOf (drop n xs) ≤ sumOf xs
+unfolding sumOf
+sum-drop zero xs = omega arith
+sum-drop (suc n) [] = omega arith
+sum-drop (suc n) (x ∷ xs) = omega (arith, sum-drop n xs)
+
+-- the walk has come back to element i
+pub record ReachAt (B count : ℕ) (T table : List ℕ) (i next : ℕ) : Type 0 where
+  pub inside : i ≤ count
+  pub room : count ≤ length T
+  pub small : sumOf (take count T) ≤ 16777216
+  pub holds : table ≡ take i T ++ (reaches B (drop i (take count T)) ++ drop count T)
+  pub ahead : next ≡ getD (reaches B (drop i (take count T))) 0 0
+
+pub reach-start : (B count : ℕ) (T : List ℕ) → count ≤ length T → sumOf (take count T) ≤ 16777216 → ReachAt B count T T count 0
+unfolding reaches
+reach-start B count T room small =
+    let n : length (take count T) ≡ count = length-take-le count T room in
+    let e : drop count (take count T) ≡ [] = ap (λ (k : ℕ). drop k (take count T)) (sym n) ∙ drop-length (take count T) in
+    record { inside = omega arith; room = room; small = small; holds = rw e (sym (take-append-drop count T)); ahead = rw e }
+
+pub reach-kept : {B count : ℕ} {T table : List ℕ} {i next : ℕ} → ReachAt B count T table i next → length table ≡ length T
+reach-kept {B} {count} {T} {table} {i} m =
+    let xs : List ℕ = take count T in
+    let inside = m .inside in
+    let room = m .room in
+    let n : length (take count T) ≡ count = length-take-le count T room in
+    ap length (m .holds)
+    ∙ omega
+    ( arith, length-append (take i T) (reaches B (drop i (take count T)) ++ drop count T), length-append (reaches B (drop i (take count T))) (drop count T)
+    , length-take-le i T (omega arith), length-reaches B (drop i (take count T)), length-drop i (take count T), length-drop count T )
+
+module _ {B count : ℕ} {T table : List ℕ} {i next : ℕ} (m : ReachAt B count T table i next) (more : 0 < i) where
+  pub reach-value : getD table (i - 1) 0 ≡ getD T (i - 1) 0
+  reach-value =
+      let inside = m .inside in
+      let room = m .room in
+      let n : length (take i T) ≡ i = length-take-le i T (omega arith) in
+      ap (λ (l : List ℕ). getD l (i - 1) 0) (m .holds)
+      ∙ List·getD-append (take i T) (reaches B (drop i (take count T)) ++ drop count T) 0 (i - 1) (omega arith)
+      ∙ getD-take i T (i - 1) 0 (omega arith)
+
+  -- the lengths from the element before on
+  next-back : drop (i - 1) (take count T) ≡ getD T (i - 1) 0 ∷ drop i (take count T)
+  next-back =
+      let inside = m .inside in
+      let room = m .room in
+      let n : length (take count T) ≡ count = length-take-le count T room in
+      let e : suc (i - 1) ≡ i = omega arith in
+      drop-cons (take count T) (i - 1) 0 (omega arith) ∙ rw (e, getD-take count T (i - 1) 0 (omega arith))
+
+  pub reach-bound : getD T (i - 1) 0 + next ≤ 16777216
+  unfolding sumOf
+  reach-bound =
+      let small = m .small in
+      let q : sumOf (drop (i - 1) (take count T)) ≡ getD T (i - 1) 0 + sumOf (drop i (take count T)) = ap sumOf next-back in
+      let a = m .ahead in
+      omega (arith, reach-sum B (drop i (take count T)), sum-drop (i - 1) (take count T))
+
+  pub reach-back : ReachAt B count T (set table (i - 1) (reachOne B (getD T (i - 1) 0) next)) (i - 1) (reachOne B (getD T (i - 1) 0) next)
+  unfolding reaches
+  reach-back =
+      let inside = m .inside in
+      let room = m .room in
+      let v : ℕ = reachOne B (getD T (i - 1) 0) next in
+      let R : List ℕ = reaches B (drop i (take count T)) ++ drop count T in
+      let e : suc (i - 1) ≡ i = omega arith in
+      let t : take i T ≡ take (i - 1) T ++ getD T (i - 1) 0 ∷ [] = rw e at (take-suc T (i - 1) 0 (omega arith)) in
+      let q : reaches B (drop (i - 1) (take count T)) ≡ reachOne B (getD T (i - 1) 0) next ∷ reaches B (drop i (take count T))
+            = ap (reaches B) next-back ∙ rw (m .ahead) in
+      record {
+        inside = omega arith;
+        room = room;
+        small = m .small;
+        holds =
+          rw (m .holds, t, append-snoc (take (i - 1) T) (getD T (i - 1) 0) (reaches B (drop i (take count T)) ++ drop count T), q)
+          (set-at (take (i - 1) T) (getD T (i - 1) 0) (reaches B (drop i (take count T)) ++ drop count T) (reachOne B (getD T (i - 1) 0) next) (i - 1)
+          (length-take-le (i - 1) T (omega arith)));
+        ahead = rw q
+      }
+
+pub reach-end : {B count : ℕ} {T table : List ℕ} {i next : ℕ} → ReachAt B count T table i next → i ≤ 0 → table ≡ reaches B (take count T) ++ drop count T
+reach-end {B} {count} {T} {i} m h = let z : i ≡ 0 = omega arith in m .holds ∙ rw z
