@@ -1,15 +1,24 @@
 -- The walk back that turns lengths into how far data blocks reach.
 use mathlib.Core.Path.{_≡_, refl, sym, _∙_, ap}
-use mathlib.Core.Bool.{Bool, true, false, cond}
+use mathlib.Core.Bool.{Bool, true, false, not, cond}
 use mathlib.Core.List.{List, [], _∷_, _++_}
 use Prim.Native.Nat.{ℕ, zero, suc, _+_, _-_, _≤_, _<_, min}
 use native.Mathlib.Omega.{arith}
-use lib.Dec.{eqb}
+use lib.Dec.{eqb, leb}
 use lib.ListN.{length, getD, take, drop, set, take-append-drop, length-append, length-drop, length-take, List·getD-append}
-use lib.Seq.{length-take-le, take-suc, drop-cons, getD-take, set-at, drop-length, append-snoc}
-use borrow.Author.Tests.{eqb-true}
+use lib.Seq.{sets, sets-eq, take-at, drop-at, length-take-le, take-suc, drop-cons, getD-take, set-at, drop-length, append-snoc}
+use borrow.Author.Tests.{eqb-true, le-leb, lt-leb}
 use Rattle.slices.proofs.Booleans.{split}
-use Rattle.constructs.specs.Reach.{reachOne, reaches, sumOf}
+use Rattle.refusals.specs.declared.Refusal.{Refusal}
+use Rattle.refusals.specs.declared.Refusal.the-variants as refusal
+use Rattle.refusals.specs.Refusals.{refused, answer}
+use Rattle.tape.specs.declared.Checked.the-variants as checked
+use Rattle.tape.specs.Tape.{Tape, mark, block, store, content}
+use Rattle.tape.specs.Answers.{elementCount}
+use Rattle.tape.proofs.Keeping.{Present, absent}
+use Rattle.constructs.specs.Constructs.{dataLengths, dataLengthsFrom}
+use Rattle.constructs.specs.Reach.{reachOne, reaches, sumOf, Reaches}
+use Rattle.constructs.proofs.Lengths.{length-lengths}
 
 pub length-reaches : (B : ℕ) (xs : List ℕ) → length (reaches B xs) ≡ length xs
 unfolding reaches
@@ -53,9 +62,15 @@ reach-kept {B} {count} {T} {table} {i} m =
     let room = m .room in
     let n : length (take count T) ≡ count = length-take-le count T room in
     ap length (m .holds)
-    ∙ omega
-    ( arith, length-append (take i T) (reaches B (drop i (take count T)) ++ drop count T), length-append (reaches B (drop i (take count T))) (drop count T)
-    , length-take-le i T (omega arith), length-reaches B (drop i (take count T)), length-drop i (take count T), length-drop count T )
+    ∙ omega (
+      arith,
+      length-append (take i T) (reaches B (drop i (take count T)) ++ drop count T),
+      length-append (reaches B (drop i (take count T))) (drop count T),
+      length-take-le i T (omega arith),
+      length-reaches B (drop i (take count T)),
+      length-drop i (take count T),
+      length-drop count T,
+    )
 
 module _ {B count : ℕ} {T table : List ℕ} {i next : ℕ} (m : ReachAt B count T table i next) (more : 0 < i) where
   pub reach-value : getD table (i - 1) 0 ≡ getD T (i - 1) 0
@@ -94,17 +109,57 @@ module _ {B count : ℕ} {T table : List ℕ} {i next : ℕ} (m : ReachAt B coun
       let e : suc (i - 1) ≡ i = omega arith in
       let t : take i T ≡ take (i - 1) T ++ getD T (i - 1) 0 ∷ [] = rw e at (take-suc T (i - 1) 0 (omega arith)) in
       let q : reaches B (drop (i - 1) (take count T)) ≡ reachOne B (getD T (i - 1) 0) next ∷ reaches B (drop i (take count T))
-            = ap (reaches B) next-back ∙ rw (m .ahead) in
+      = ap (reaches B) next-back ∙ rw (m .ahead) in
       record {
         inside = omega arith;
         room = room;
         small = m .small;
         holds =
-          rw (m .holds, t, append-snoc (take (i - 1) T) (getD T (i - 1) 0) (reaches B (drop i (take count T)) ++ drop count T), q)
-          (set-at (take (i - 1) T) (getD T (i - 1) 0) (reaches B (drop i (take count T)) ++ drop count T) (reachOne B (getD T (i - 1) 0) next) (i - 1)
-          (length-take-le (i - 1) T (omega arith)));
-        ahead = rw q
+            rw (m .holds, t, append-snoc (take (i - 1) T) (getD T (i - 1) 0) (reaches B (drop i (take count T)) ++ drop count T), q)
+            (set-at (take (i - 1) T) (getD T (i - 1) 0) (reaches B (drop i (take count T)) ++ drop count T) (reachOne B (getD T (i - 1) 0) next) (i - 1)
+            (length-take-le (i - 1) T (omega arith)));
+        ahead = rw q;
       }
 
 pub reach-end : {B count : ℕ} {T table : List ℕ} {i next : ℕ} → ReachAt B count T table i next → i ≤ 0 → table ≡ reaches B (take count T) ++ drop count T
 reach-end {B} {count} {T} {i} m h = let z : i ≡ 0 = omega arith in m .holds ∙ rw z
+
+sum-lengths : (k : ℕ) (even : Bool) (t : Tape) → sumOf (dataLengthsFrom k even t) ≤ length (store t)
+unfolding dataLengthsFrom sumOf store content
+sum-lengths k even [] = omega arith
+sum-lengths (suc k) even (e ∷ t) = omega (arith, sum-lengths k even t, length-append (content e) (store t))
+sum-lengths zero even (mark ∷ t) = omega (arith, sum-lengths zero (not even) t)
+sum-lengths zero true (block x ∷ t) = omega (arith, sum-lengths zero true t, length-append x (store t))
+sum-lengths zero false (block x ∷ t) = omega (arith, sum-lengths zero false t, length-append x (store t))
+
+-- a table with lengths at its front: its front is the lengths, and behind them it is as it was
+module _ (T : List ℕ) (l s : List ℕ) (count : ℕ) (p : Present l s count) (room : count ≤ length T) where
+  stored : sets T 0 (dataLengths (p .tape)) ≡ dataLengths (p .tape) ++ drop count T
+  stored =
+      let n : length (dataLengths (p .tape)) ≡ count = length-lengths 4 true (p .tape) ∙ p .count in
+      let z : 0 + length (dataLengths (p .tape)) ≡ count = omega arith in
+      sets-eq (dataLengths (p .tape)) T 0 (omega arith) ∙ rw z
+
+  pub front-lengths : take count (sets T 0 (dataLengths (p .tape))) ≡ dataLengths (p .tape)
+  front-lengths = ap (take count) stored ∙ take-at (dataLengths (p .tape)) (drop count T) count (length-lengths 4 true (p .tape) ∙ p .count)
+
+  pub back-lengths : drop count (sets T 0 (dataLengths (p .tape))) ≡ drop count T
+  back-lengths = ap (drop count) stored ∙ drop-at (dataLengths (p .tape)) (drop count T) count (length-lengths 4 true (p .tape) ∙ p .count)
+
+  pub small-lengths : sumOf (take count (sets T 0 (dataLengths (p .tape)))) ≤ 16777216
+  small-lengths =
+      let b = p .encodes .bytes in
+      rw front-lengths (omega (arith, sum-lengths 4 true (p .tape), ap length (p .encodes .stores)))
+
+  pub reaches-found : (B : ℕ) → Reaches B l s T (reaches B (take count (sets T 0 (dataLengths (p .tape)))) ++ drop count (sets T 0 (dataLengths (p .tape)))) (checked.Elements count)
+  reaches-found B =
+      let w : leb (length (p .tape)) (length T) ≡ true = le-leb (length (p .tape)) (length T) (rw (p .count) room) in
+      record { answers = rw (p .read, w, p .count); holds = rw (p .read, w, p .count, front-lengths, back-lengths) }
+
+pub reaches-short : (B : ℕ) (T l s : List ℕ) (count : ℕ) → Present l s count → length T < count → Reaches B l s T T (checked.Refused refusal.Short)
+reaches-short B T l s count p h =
+    let w : leb (length (p .tape)) (length T) ≡ false = lt-leb (length (p .tape)) (length T) (rw (p .count) h) in
+    record { answers = rw (p .read, w); holds = rw (p .read, w) }
+
+pub reaches-refused : (B : ℕ) (T l s : List ℕ) (r : Refusal) → refused r ≡ elementCount l s → Reaches B l s T T (checked.Refused r)
+reaches-refused B T l s r e = let a = absent l s r e in record { answers = rw a; holds = rw a }

@@ -1,12 +1,16 @@
 -- How far data blocks reach from each element on, so that one number tells whether an extent lies on the tape.
 use mathlib.Core.Bool.{Bool, true, false, not, cond}
-use mathlib.Core.List.{List, [], _∷_}
+use mathlib.Core.List.{List, [], _∷_, _++_}
 use Prim.Native.Nat.{ℕ, _+_, _-_, min}
-use lib.Dec.{eqb}
-use lib.ListN.{getD}
+use lib.Dec.{eqb, leb}
+use lib.ListN.{length, getD, drop}
 use lib.Seq.{sets}
 use mathlib.Core.Path.{_≡_}
+use Rattle.refusals.specs.declared.Refusal.the-variants.{Short}
+use Rattle.refusals.specs.Refusals.{Answer, refused, answer, require, andThen}
+use Rattle.tape.specs.declared.Checked.{Checked}
 use Rattle.tape.specs.Tape.{Tape, Encodes}
+use Rattle.tape.specs.Answers.{tapeIn, counted}
 use Rattle.constructs.specs.Constructs.{dataLengths}
 
 -- a data block of x bytes, or 0 for any other element, before an element from which data blocks reach next bytes: a block of exactly B
@@ -38,3 +42,13 @@ dataLength k even n = cond (eqb k 0) (cond even n 0) 0
 -- the table with the data blocks' lengths at its front
 abbrev pub PutsLengths : List ℕ → List ℕ → List ℕ → List ℕ → Type 0
 PutsLengths l s before after = (t : Tape) → Encodes l s t → after ≡ sets before 0 (dataLengths t)
+
+-- what is answered of a partition: the number of elements, and the table with how far data blocks reach from each at its front; or a
+-- refusal, 10 among them, and the table as it was
+abbrev pub reachAfter : ℕ → List ℕ → Answer Tape → List ℕ
+reachAfter B before (refused r) = before
+reachAfter B before (answer t) = cond (leb (length t) (length before)) (reaches B (dataLengths t) ++ drop (length t) before) before
+
+pub record Reaches (B : ℕ) (l s before after : List ℕ) (r : Checked) : Type 0 where
+  pub answers : counted r ≡ andThen (tapeIn l s) (λ t. require (leb (length t) (length before)) Short (answer (length t)))
+  pub holds : after ≡ reachAfter B before (tapeIn l s)

@@ -5,7 +5,7 @@ ghost use Prim.Native.Nat.{_+_, _*_, _<_, _≤_};
 ghost use lib.Seq.{sets};
 ghost use mathlib.Core.List.{[], _∷_};
 
-mod reach;
+pub mod reach;
 
 use refusals::Refusal;
 use tape::Checked;

@@ -1,10 +1,12 @@
 // How far data blocks reach from each element of a partition on.
+use refusals::Refusal;
+use tape::Checked;
 use tape::Entry;
 ghost use mathlib.Core.Path.{_≡_};
 ghost use Prim.Native.Nat.{_+_, _≤_, _<_};
 ghost use mathlib.Core.List.{_++_};
 ghost use lib.ListN.{take, drop, length};
-ghost use Rattle.constructs.specs.Reach.{reachOne, labelsAfter, evenAfter, dataLength, PutsLengths, reaches, sumOf};
+ghost use Rattle.constructs.specs.Reach.{reachOne, labelsAfter, evenAfter, dataLength, PutsLengths, reaches, sumOf, Reaches};
 ghost use Rattle.constructs.specs.Tables.{Held};
 
 fn labels_after(k: usize) -> usize
@@ -102,4 +104,21 @@ fn wide(x: u32) -> usize
     ensures { λ r. ⌜ r ≡ x ⌝ }
 {
     x as usize
+}
+
+// Puts into a table, for each element of a partition, how far data blocks reach from there; the number of elements.
+pub fn reach(list: &[u8], store: &[u8], block_size: usize, table: &mut [u32]) -> Checked
+    ensures { λ r. ⌜ Reaches «block_size» (now (list .entry)) (now (store .entry)) (now (table .entry)) (now (table .exit)) r ⌝ }
+{
+    match tape::check(list, store) {
+        Checked::Elements(count) => {
+            if table.len() < count {
+                return Checked::Refused(Refusal::Short);
+            }
+            put_lengths(list, store, count, table);
+            extend(count, block_size, table);
+            Checked::Elements(count)
+        }
+        Checked::Refused(r) => Checked::Refused(r),
+    }
 }
