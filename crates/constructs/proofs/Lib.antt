@@ -5,3 +5,4 @@ pub mod Scanning
 pub mod Filling
 pub mod Lengths
 pub mod Reaching
+pub mod Lying
