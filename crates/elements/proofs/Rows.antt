@@ -83,3 +83,18 @@ module _ {s : List ℕ} {i : ℕ} where
           around = around-empty t;
           place = (t .place .0, omega arith, t .place .1);
         }
+
+    -- an end tag leaves the element that is open at i
+    pub behind-close : NextTag s i (Close n) → Behind s i n
+    behind-close t =
+        record { left = sym (around-close t); ahead = omega (arith, t .place); inside = t .place .1 }
+
+  -- and so does the end of the text
+  pub behind-end : NextTag s i End → Behind s i (length s)
+  behind-end t =
+      record { left = left-end s (length s) (omega arith) ∙ sym (around-end t); ahead = omega arith; inside = omega arith }
+
+  -- what is left behind an element is the same from anywhere along its row
+  pub behind-along : {k j : ℕ} → k ≤ i → aroundAt s i ≡ aroundAt s k → Behind s i j → Behind s k j
+  behind-along h e l =
+      record { left = l .left ∙ e; ahead = omega (arith, l .ahead); inside = l .inside }
