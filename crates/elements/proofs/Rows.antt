@@ -73,7 +73,8 @@ module _ {s : List ℕ} {i : ℕ} where
         record {
           row = row-open t l ∙ ap (λ (k : Forest). node (headAt s n) k (rowAt s j)) (sym (children-open t));
           around = around-open t l;
-          place = (t .place .0, omega (arith, t .place, l .ahead), l .inside);
+          place = t .place;
+          after = (omega (arith, t .place, l .ahead), l .inside);
         }
 
     pub first-empty : NextTag s i (Empty n) → FirstOf s i n n
@@ -81,7 +82,8 @@ module _ {s : List ℕ} {i : ℕ} where
         record {
           row = row-empty t ∙ ap (λ (k : Forest). node (headAt s n) k (rowAt s n)) (sym (children-empty t));
           around = around-empty t;
-          place = (t .place .0, omega arith, t .place .1);
+          place = t .place;
+          after = (omega arith, t .place .1);
         }
 
     -- an end tag leaves the element that is open at i
