@@ -3,13 +3,15 @@ use mathlib.Core.Path.{_≡_, refl, ap, sym, _∙_}
 use mathlib.Core.Bool.{Bool, true, false, cond, _&&_, and-false}
 use mathlib.Core.List.{List}
 use mathlib.Core.Option.{some, none}
-use Prim.Native.Nat.{ℕ, _<_, _≤_}
+use Prim.Native.Nat.{ℕ, _+_, _*_, _<_, _≤_}
 use native.Mathlib.Omega.{arith}
 use borrow.Author.Tests.{le-leb, lt-leb, leb-true}
 use lib.Dec.{leb}
+use lib.ListN.{length, drop, getD}
 use Rattle.slices.specs.Slices.{every}
 use Rattle.slices.proofs.Booleans.{and-parts}
-use Rattle.digits.specs.Decimal.{isDigit, decimal, plain, largest, isNumber, number, short}
+use Rattle.digits.specs.Decimal.{isDigit, digitOf, decimal, plain, largest, isNumber, number, short}
+use Rattle.digits.proofs.Values.{value-on, value-grows}
 use Rattle.digits.proofs.Short.{decimal-short, digits-short, plain-short, short-decimal}
 
 module _ (s : List ℕ) where
@@ -33,6 +35,13 @@ module _ (s : List ℕ) where
   pub too-large : largest < decimal 0 s → number s ≡ none
   unfolding isNumber
   too-large h = no-number (rw (lt-leb _ _ h) (and-false (every isDigit s && plain s)))
+
+  -- a digit takes what was read so far past the largest
+  pub grown-too-large : (i v : ℕ) → i < length s → decimal 0 s ≡ decimal v (drop i s) → largest < v * 10 + digitOf (getD s i 0) → number s ≡ none
+  grown-too-large i v h e g =
+      let z = e ∙ value-on 10 digitOf s i v h in
+      let n = value-grows 10 digitOf (omega arith) (drop (i + 1) s) (v * 10 + digitOf (getD s i 0)) in
+      too-large (omega arith)
 
   pub a-number : every isDigit s ≡ true → plain s ≡ true → decimal 0 s ≤ largest → number s ≡ some (decimal 0 s)
   unfolding isNumber number

@@ -1,11 +1,11 @@
 -- The short form of a number: its digits by tens, that it says the number, that no other plain run does, and how long it is.
 use mathlib.Core.Path.{_≡_, refl, ap, ap₂, _∙_}
-use mathlib.Core.Bool.{Bool, true, false, not, cond, false≢true}
+use mathlib.Core.Bool.{Bool, true, false, not, cond, and-false, false≢true}
 use mathlib.Core.List.{List, [], _∷_, _++_, append-nil, append-assoc}
 use Prim.Native.Nat.{ℕ, zero, suc, _+_, _*_, _-_, _/_, _%_, _^_, _<_, _≤_}
 use native.Mathlib.Nat.{pow-suc, div-lt-iff-lt-mul}
 use native.Mathlib.Omega.{arith}
-use borrow.Author.Tests.{le-leb, lt-ltb, le-ltb, ltb-true, ltb-false, leb-true, ne-eqb, eqb-false, not-true}
+use borrow.Author.Tests.{le-leb, lt-leb, lt-ltb, le-ltb, ltb-true, ltb-false, leb-true, ne-eqb, eqb-false, not-true}
 use lib.Dec.{leb, ltb, eqb}
 use lib.ListN.{length, getD, length-append, List·getD-append}
 use Rattle.slices.specs.Slices.{every}
@@ -83,6 +83,12 @@ decimal-short = by-tens (λ (n : ℕ). decimal 0 (short n) ≡ n)
 
 pub digit-between : (b : ℕ) → 48 ≤ b → b ≤ 57 → isDigit b ≡ true
 digit-between b lo hi = rw (le-leb _ _ lo) (le-leb _ _ hi)
+
+pub digit-below : (b : ℕ) → b < 48 → isDigit b ≡ false
+digit-below b h = rw (lt-leb 48 b h)
+
+pub digit-above : (b : ℕ) → 57 < b → isDigit b ≡ false
+digit-above b h = rw (lt-leb b 57 h) (and-false (leb 48 b))
 
 a-digit : (d : ℕ) → d < 10 → isDigit (byteOf d) ≡ true
 a-digit d h = digit-between (byteOf d) (omega arith) (omega arith)

@@ -46,13 +46,13 @@ abbrev pub valueOf : Number → Option ℕ
 valueOf (Value n) = some n
 valueOf Nothing = none
 
--- the digits of n: below ten one digit, else those of its tenth and then its last; tenths bounds how often a tenth is taken
+-- the digits of n: below ten its digit alone, else those of its tenth and then its last; at most so many tenths are taken
 unfoldable pub shortIn : ℕ → ℕ → List ℕ
 shortIn zero n = byteOf n ∷ []
 shortIn (suc tenths) n =
     let longer = shortIn tenths (n / 10) ++ (byteOf (n % 10) ∷ []) in
     cond (ltb n 10) (byteOf n ∷ []) longer
 
--- the short form: n has less than n tenths
+-- the short form: n itself bounds how often a tenth is taken
 unfoldable pub short : ℕ → List ℕ
 short n = shortIn n n

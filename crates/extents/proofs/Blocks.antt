@@ -31,6 +31,9 @@ module _ (offset ahead size : ℕ) (inside : offset < size) where
 pub div-mono : (size m n : ℕ) → 0 < size → m ≤ n → m / size ≤ n / size
 div-mono size m n h g = le-div-iff-mul-le h .1 (le-trans (div-mul-le-self m size) g)
 
+pub rest-below : (n size offset : ℕ) → offset < size → n % size < size
+rest-below n size offset h = mod-lt n (omega arith)
+
 -- blocks of more than a byte are at most half as many as their bytes
 pub blocks-half : (size n : ℕ) → 1 < size → n / size * 2 ≤ n
 blocks-half size n h = le-trans (mul-le-mul-left (n / size) h) (div-mul-le-self n size)

@@ -1,16 +1,18 @@
 -- The byte map's answers: what each failed test gives, and the place along the rows.
-use mathlib.Core.Path.{_≡_, ap}
-use mathlib.Core.Bool.{true, false, _&&_, and-false}
-use mathlib.Core.List.{List}
-use Prim.Native.Nat.{ℕ, _+_, _-_, _*_, _/_, _%_, _<_, _≤_}
+use mathlib.Core.Path.{_≡_, refl, ap}
+use mathlib.Core.Bool.{Bool, true, false, cond, _&&_, and-false}
+use mathlib.Core.List.{List, [], _∷_}
+use Prim.Native.Nat.{ℕ, zero, suc, _+_, _-_, _*_, _/_, _%_, _<_, _≤_}
+use native.Mathlib.Nat.{not-suc-le-zero, le-of-suc-le-suc}
+use native.Mathlib.Omega.{arith}
 use borrow.Author.Tests.{le-leb, lt-leb, eq-eqb, ne-eqb}
 use lib.Dec.{leb, ltb, eqb}
-use lib.ListN.{length, drop}
+use lib.ListN.{length, drop, getD}
 use Rattle.refusals.specs.Refusals.{refused, answer, require}
 use Rattle.refusals.specs.declared.Refusal.the-variants.{Caller, TooMany, Extents, Missing}
 use Rattle.slices.specs.Slices.{within}
 use Rattle.extents.specs.Rows.{Row, rowsOf, rowAt}
-use Rattle.extents.specs.Lawful.{inRow, lawful}
+use Rattle.extents.specs.Lawful.{inRow, lawful, holders}
 use Rattle.extents.specs.Map.{stored, unstored, placeIn, placeOf, lettered, byteMap}
 use Rattle.extents.proofs.Rows.{rows-on, rows-end, rows-count}
 
@@ -70,3 +72,34 @@ module _ (s : List ℕ) (B p i : ℕ) where
 pub placed : (B p : ℕ) (r : Row) (letter blocks byte : ℕ) → letter ≡ r .letter → blocks ≡ (r .byteoffset + (p - r .fileoffset)) / B → byte ≡ (r .byteoffset + (p - r .fileoffset)) % B
     → stored letter (r .startblock + blocks) byte ≡ placeIn B p r
 placed B p r letter blocks byte e f g = cc
+
+-- the paper's two sentences: in a row, by that row, whichever it is; in no row, unstored
+module _ (d : Row) (B p : ℕ) where
+  held : (rows : List Row) (i : ℕ) → i < length rows → inRow p (getD rows i d) ≡ true → 1 ≤ holders p rows
+  unfolding holders
+  held [] i h e = absurd (not-suc-le-zero h)
+  held (r ∷ rows) zero h e = rw e (omega arith)
+  held (r ∷ rows) (suc i) h e = omega (arith, held rows i (le-of-suc-le-suc h) e)
+
+  pub place-in-row : (rows : List Row) (i : ℕ) → i < length rows → inRow p (getD rows i d) ≡ true → holders p rows ≤ 1 → placeOf B p rows ≡ placeIn B p (getD rows i d)
+  unfolding placeOf holders
+  place-in-row [] i h e u = absurd (not-suc-le-zero h)
+  place-in-row (r ∷ rows) zero h e u = rw e
+  place-in-row (r ∷ rows) (suc i) h e u = go (inRow p r) refl (place-in-row rows i g e)
+    where
+      g : i < length rows
+      g = le-of-suc-le-suc h
+
+      go : (t : Bool) → inRow p r ≡ t → (holders p rows ≤ 1 → placeOf B p rows ≡ placeIn B p (getD rows i d))
+          → cond t (placeIn B p r) (placeOf B p rows) ≡ placeIn B p (getD rows i d)
+      go true f next = let z : 1 + holders p rows ≤ 1 = rw f at u in absurd (omega (arith, held rows i g e))
+      go false f next = next (omega (arith, u))
+
+pub place-in-none : (B p : ℕ) (rows : List Row) → holders p rows ≡ 0 → placeOf B p rows ≡ unstored
+unfolding placeOf holders
+place-in-none B p [] e = refl
+place-in-none B p (r ∷ rows) e = go (inRow p r) refl (place-in-none B p rows)
+  where
+    go : (t : Bool) → inRow p r ≡ t → (holders p rows ≡ 0 → placeOf B p rows ≡ unstored) → cond t (placeIn B p r) (placeOf B p rows) ≡ unstored
+    go true f next = let z : 1 + holders p rows ≡ 0 = rw f at e in absurd (omega arith)
+    go false f next = next (omega (arith, e))

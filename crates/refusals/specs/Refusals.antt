@@ -1,6 +1,8 @@
 -- Refusals and answers (01, Refusal numbers): the number of each refusal, what a function answers, and the order of checks.
-use Prim.Native.Nat.{ℕ}
+use mathlib.Core.Path.{_≡_}
 use mathlib.Core.Bool.{Bool, true, false}
+use mathlib.Core.List.{List, []}
+use Prim.Native.Nat.{ℕ}
 use Rattle.refusals.specs.declared.Refusal.{Refusal}
 use Rattle.refusals.specs.declared.Refusal.the-variants as is
 
@@ -38,3 +40,18 @@ module _ {A B : Type 0} where
   abbrev pub andThen : Answer A → (A → Answer B) → Answer B
   andThen (refused r) next = refused r
   andThen (answer a) next = next a
+
+-- the number that an answer shows: a refusal's, or 0
+abbrev pub shownNumber : {A : Type 0} → Answer A → ℕ
+shownNumber (refused r) = numberOf r
+shownNumber (answer a) = 0
+
+-- the bytes that it hands out: none where it is refused
+abbrev pub shownBytes : Answer (List ℕ) → List ℕ
+shownBytes (refused r) = []
+shownBytes (answer x) = x
+
+-- a returned part and the refusal number beside it show the answer
+pub record Shows (a : Answer (List ℕ)) (bytes : List ℕ) (number : ℕ) : Type 0 where
+  pub part : bytes ≡ shownBytes a
+  pub refusal : number ≡ shownNumber a

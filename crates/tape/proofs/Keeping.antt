@@ -8,6 +8,7 @@ use native.Mathlib.Omega.{arith}
 use lib.ListN.{length, take, length-append, length-take}
 use lib.Seq.{take-nil, take-append-add}
 use Rattle.refusals.specs.declared.Refusal.{Refusal}
+use Rattle.refusals.specs.declared.Refusal.the-variants as refusal
 use Rattle.refusals.specs.Refusals.{Answer, refused, answer, andThen}
 use Rattle.tape.specs.declared.Front.{Front}
 use Rattle.tape.specs.Tape.{Tape, Element, mark, block, list, store, entry, content, cellOf, Encodes}
@@ -36,6 +37,14 @@ absent l s r e = go (tapeOf l s) e
   where
     go : (o : Option Tape) → refused r ≡ andThen (orRefused o) (λ t. answer (length t)) → orRefused o ≡ refused r
     go none f = cc
+    go (some t) f = let z : _≡_ {A = ℕ} 0 1 = cc in absurd (omega arith)
+
+-- the refusal is 1
+pub absent-list : (l s : List ℕ) (r : Refusal) → refused r ≡ elementCount l s → tapeIn l s ≡ refused refusal.List
+absent-list l s r e = go (tapeOf l s) e
+  where
+    go : (o : Option Tape) → refused r ≡ andThen (orRefused o) (λ t. answer (length t)) → orRefused o ≡ refused refusal.List
+    go none f = refl
     go (some t) f = let z : _≡_ {A = ℕ} 0 1 = cc in absurd (omega arith)
 
 take-least : (n : ℕ) (t : Tape) → take (min n (length t)) t ≡ take n t

@@ -3,3 +3,4 @@ pub mod Counting
 pub mod Encoding
 pub mod Walking
 pub mod Keeping
+pub mod Blocks

@@ -13,6 +13,8 @@ use Rattle.tape.specs.declared.Checked.{Checked}
 use Rattle.tape.specs.declared.Checked.the-variants as checked
 use Rattle.tape.specs.declared.Kept.{Kept}
 use Rattle.tape.specs.declared.Kept.the-variants as keptIs
+use Rattle.tape.specs.declared.Located.{Located}
+use Rattle.tape.specs.declared.Located.the-variants as locatedIs
 use Rattle.tape.specs.Tape.{Tape, Element, mark, block, list, store}
 use Rattle.tape.specs.Reading.{tapeOf}
 
@@ -83,3 +85,22 @@ unfoldable pub blockOf : ℕ → ℕ → ℕ → ℕ → Answer Tape → Answer 
 blockOf i d letter n indexTape dataTape =
     require (areLetters i d letter) is.Caller
     (andThen indexTape (λ ti. andThen dataTape (λ td. blockOn (cond (eqb letter i) ti td) n)))
+
+-- where a block lies: whether on the index side, from which byte of the store on, and how long
+pub record Place : Type 0 where
+  pub onIndex : Bool
+  pub from : ℕ
+  pub size : ℕ
+
+abbrev pub placeOn : Bool → Tape → ℕ → Answer Place
+placeOn side t n = andThen (blockOn t n) (λ x. answer (record { onIndex = side; from = length (store (take n t)); size = length x }))
+
+unfoldable pub placeOf : ℕ → ℕ → ℕ → ℕ → Answer Tape → Answer Tape → Answer Place
+placeOf i d letter n indexTape dataTape =
+    require (areLetters i d letter) is.Caller
+    (andThen indexTape (λ ti. andThen dataTape (λ td. placeOn (eqb letter i) (cond (eqb letter i) ti td) n)))
+
+abbrev pub located : Located → Answer Place
+located (locatedIs.Index from n) = answer (record { onIndex = true; from = from; size = n })
+located (locatedIs.Data from n) = answer (record { onIndex = false; from = from; size = n })
+located (locatedIs.Refused r) = refused r

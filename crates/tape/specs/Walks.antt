@@ -1,4 +1,4 @@
--- What the walks over a list answer: its totals, and how far its first n entries reach.
+-- What the walks over a list answer: its totals, how far its first n entries reach, and the block that stands behind them.
 use mathlib.Core.Bool.{Bool, true, false, cond}
 use mathlib.Core.Option.{Option, none, some}
 use mathlib.Core.List.{List, [], _∷_}
@@ -8,6 +8,8 @@ use lib.Dec.{leb}
 use Rattle.tape.specs.declared.Entry.{Entry}
 use Rattle.tape.specs.declared.Entry.the-variants.{Mark, Block, End, Bad as Broken}
 use Rattle.tape.specs.declared.Front.{Front}
+use Rattle.tape.specs.declared.Spot.{Spot}
+use Rattle.tape.specs.declared.Spot.the-variants as Spot·is
 use Rattle.tape.specs.declared.Totals.{Totals}
 use Rattle.tape.specs.declared.Totals.the-variants.{Of, Bad}
 use Rattle.tape.specs.Tape.{Cell, maxElements}
@@ -29,3 +31,17 @@ pastEntry walk here Broken = here
 unfoldable pub reach : ℕ → List ℕ → ℕ → ℕ → Front
 reach zero l at v = record { list = at; store = v }
 reach (suc n) l at v = pastEntry (reach n l) (record { list = at; store = v }) (entryAt l at)
+
+abbrev pub spotOf : ℕ → Entry → Spot
+spotOf from (Mark next) = Spot·is.Nothing
+spotOf from (Block n next) = Spot·is.Block from n
+spotOf from End = Spot·is.Nothing
+spotOf from Broken = Spot·is.Nothing
+
+-- the block behind the first n entries: where its bytes begin, and their number
+unfoldable pub spotAt : List ℕ → ℕ → Spot
+spotAt l n = spotOf (reach n l 0 0 .store) (entryAt l (reach n l 0 0 .list))
+
+-- the block with a number, of a list with so many elements
+abbrev pub spotBelow : ℕ → List ℕ → ℕ → Spot
+spotBelow count l n = cond (leb count n) Spot·is.Nothing (spotAt l n)

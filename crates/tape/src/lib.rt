@@ -1,12 +1,13 @@
 // A partition's block list and store (01, The block list): checked, walked, cut after n elements, and asked for a block.
+use quantities::BlockNumber;
 use refusals::Refusal;
 ghost use mathlib.Core.Path.{_≡_};
 ghost use Prim.Native.Nat.{_+_, _≤_, _<_, min};
 ghost use lib.ListN.{length};
-ghost use Rattle.refusals.specs.Refusals.{answer, andThen};
+ghost use Rattle.refusals.specs.Refusals.{answer, andThen, Shows};
 ghost use Rattle.tape.specs.Reading.{numberAt, entryAt, cells, kind};
-ghost use Rattle.tape.specs.Walks.{totalsFrom, reach};
-ghost use Rattle.tape.specs.Answers.{elementCount, counted, keeping, keptLengths, lengths, listPart, storePart};
+ghost use Rattle.tape.specs.Walks.{totalsFrom, reach, spotAt, spotBelow};
+ghost use Rattle.tape.specs.Answers.{elementCount, counted, keeping, keptLengths, lengths, listPart, storePart, areLetters, tapeIn, blockOf, placeOf, located};
 
 // What stands at a place of a list, with the place of the next entry: a file mark, a block with its length, nothing since the list
 // ends, or no entry of a list.
@@ -80,7 +81,7 @@ fn sum_up(list: &[u8]) -> Totals
         match entry_at(list, at) {
             Entry::Mark(next) => {
                 at = next;
-                elements += 1;
+                elements += 1; // marks count too
             }
             Entry::Block(n, next) => {
                 at = next;
@@ -208,5 +209,140 @@ pub fn kept_store<'a>(list: &[u8], store: &'a [u8], n: usize) -> &'a [u8]
     match keep(list, store, n) {
         Kept::Lengths(_, s) => &store[..s],
         Kept::Refused(_) => &store[..0],
+    }
+}
+
+// A block of a list: where its bytes begin in the store, and their number.
+enum Spot {
+    Block(usize, usize),
+    Nothing,
+}
+
+// The block behind the first n entries of a list.
+fn find(list: &[u8], n: usize) -> Spot
+    requires { ⌜ n ≤ 65536 ⌝ }
+    ensures { λ r. ⌜ r ≡ spotAt (now (list .entry)) n ⌝ }
+{
+    let f = walk(list, n);
+    match entry_at(list, f.list) {
+        Entry::Mark(_) => Spot::Nothing,
+        Entry::Block(k, _) => Spot::Block(f.store, k),
+        Entry::End => Spot::Nothing,
+        Entry::Bad => Spot::Nothing,
+    }
+}
+
+// Two different partition letters, and a letter that is one of them.
+pub fn are_letters(index: u8, data: u8, letter: u8) -> bool
+    ensures { λ r. ⌜ r ≡ areLetters index «data» letter ⌝ }
+{
+    if !quantities::is_letter(index as u64) {
+        return false;
+    }
+    if !quantities::is_letter(data as u64) {
+        return false;
+    }
+    if index == data {
+        return false;
+    }
+    if letter == index {
+        return true;
+    }
+    letter == data
+}
+
+// Where a block lies: in the store of the index or of the data partition, from a byte on, so many bytes.
+pub enum Located {
+    Index(usize, usize),
+    Data(usize, usize),
+    Refused(Refusal),
+}
+
+// The block with a number, of a list with so many elements.
+fn numbered(list: &[u8], count: usize, number: BlockNumber) -> Spot
+    requires { ⌜ count ≤ 65536 ⌝ }
+    ensures { λ r. ⌜ r ≡ spotBelow count (now (list .entry)) (number .0) ⌝ }
+{
+    let n = number.0 as usize;
+    if count <= n {
+        return Spot::Nothing;
+    }
+    find(list, n)
+}
+
+// Where the block with a letter and a number lies.
+pub fn find_block(
+    index_list: &[u8],
+    index_store: &[u8],
+    data_list: &[u8],
+    data_store: &[u8],
+    index_letter: u8,
+    data_letter: u8,
+    letter: u8,
+    number: BlockNumber,
+) -> Located
+    ensures { λ r. ⌜ located r ≡ placeOf «index_letter» «data_letter» letter (number .0) (tapeIn (now («index_list» .entry)) (now («index_store» .entry))) (tapeIn (now («data_list» .entry)) (now («data_store» .entry))) ⌝ }
+{
+    if !are_letters(index_letter, data_letter, letter) {
+        return Located::Refused(Refusal::Caller);
+    }
+    let Checked::Elements(index_count) = check(index_list, index_store) else {
+        return Located::Refused(Refusal::List);
+    };
+    let Checked::Elements(data_count) = check(data_list, data_store) else {
+        return Located::Refused(Refusal::List);
+    };
+    if letter == index_letter {
+        match numbered(index_list, index_count, number) {
+            Spot::Block(from, n) => Located::Index(from, n),
+            Spot::Nothing => Located::Refused(Refusal::Missing),
+        }
+    } else {
+        match numbered(data_list, data_count, number) {
+            Spot::Block(from, n) => Located::Data(from, n),
+            Spot::Nothing => Located::Refused(Refusal::Missing),
+        }
+    }
+}
+
+// The bytes of the block with a letter and a number, a part of whichever store holds it, empty where refused; the refusal's number,
+// or 0, beside it.
+pub fn block<'a>(
+    index_list: &[u8],
+    index_store: &'a [u8],
+    data_list: &[u8],
+    data_store: &'a [u8],
+    index_letter: u8,
+    data_letter: u8,
+    letter: u8,
+    number: BlockNumber,
+    refusal: &mut u64,
+) -> &'a [u8]
+    ensures { λ r. ⌜ Shows (blockOf «index_letter» «data_letter» letter (number .0) (tapeIn (now («index_list» .entry)) (now («index_store» .entry))) (tapeIn (now («data_list» .entry)) (now («data_store» .entry)))) (now r) (now (refusal .exit)) ⌝ }
+{
+    match find_block(
+        index_list,
+        index_store,
+        data_list,
+        data_store,
+        index_letter,
+        data_letter,
+        letter,
+        number,
+    ) {
+        Located::Index(from, n) => {
+            *refusal = 0;
+            let end = from + n;
+            &index_store[from..end]
+        }
+        Located::Data(from, n) => {
+            *refusal = 0;
+            let end = from + n;
+            &data_store[from..end]
+        }
+        Located::Refused(r) => {
+            *refusal = refusals::number(r);
+            &index_store[..0]
+        }
     }
 }

@@ -1,18 +1,17 @@
 -- `digits::read` meets its contract. Invariant: the digits passed say v, and what is left says the number after it.
 use mathlib.Core.Path.{_≡_, refl, ap, sym, _∙_}
-use mathlib.Core.Bool.{true, false, and-false}
+use mathlib.Core.Bool.{true}
 use mathlib.Core.Option.{some}
 use Prim.Native.Nat.{ℕ, _+_, _*_, _-_, _≤_}
 use native.Mathlib.Omega.{arith}
-use borrow.Author.Tests.{lt-leb, not-true, not-false}
-use lib.Dec.{leb}
+use borrow.Author.Tests.{not-true, not-false}
 use lib.ListN.{length, drop, getD}
 use Rattle.slices.specs.Slices.{every}
 use Rattle.slices.proofs.Every.{every-on, every-off, every-end}
 use Rattle.digits.specs.Decimal.{isDigit, digitOf, decimal, largest}
-use Rattle.digits.proofs.Values.{value-on, value-end, value-grows}
-use Rattle.digits.proofs.Short.{digit-between}
-use Rattle.digits.proofs.Numbers.{not-plain, not-digits, too-large, a-number}
+use Rattle.digits.proofs.Values.{value-on, value-end}
+use Rattle.digits.proofs.Short.{digit-between, digit-below, digit-above}
+use Rattle.digits.proofs.Numbers.{not-plain, not-digits, grown-too-large, a-number}
 use borrow.Author.Needs.{needs}
 use Rattle.digits.proofs.read.Statement.{statement}
 use Rattle.digits.proofs.read.Tie as tie
@@ -39,15 +38,13 @@ returns-2 : tie.Need-returns-2 Inv-loop μ-loop
 returns-2 c =
     let s = c .before .before .before .before .before .before .before .args .s .now in
     let l = c .before .before .before .loop in
-    let f : isDigit (getD s (l .i) 0) ≡ false = rw (lt-leb _ _ (c .if2 .taken)) in
-    sym (not-digits s (l .inv .1 ∙ every-off isDigit 0 s (l .i) (search needs) f))
+    sym (not-digits s (l .inv .1 ∙ every-off isDigit 0 s (l .i) (search needs) (digit-below _ (c .if2 .taken))))
 
 returns-3 : tie.Need-returns-3 Inv-loop μ-loop
 returns-3 c =
     let s = c .before .before .before .before .before .before .before .before .args .s .now in
     let l = c .before .before .before .before .loop in
-    let f : isDigit (getD s (l .i) 0) ≡ false = rw (lt-leb _ _ (c .if3 .taken)) (and-false (leb 48 (getD s (l .i) 0))) in
-    sym (not-digits s (l .inv .1 ∙ every-off isDigit 0 s (l .i) (search needs) f))
+    sym (not-digits s (l .inv .1 ∙ every-off isDigit 0 s (l .i) (search needs) (digit-above _ (c .if3 .taken))))
 
 wide-requires : tie.Need-wide-requires Inv-loop μ-loop
 wide-requires c κs = search needs
@@ -56,9 +53,7 @@ returns-4 : tie.Need-returns-4 Inv-loop μ-loop
 returns-4 c =
     let s = c .before .before .before .before .before .before .before .before .before .before .args .s .now in
     let l = c .before .before .before .before .before .before .loop in
-    let z = l .inv .2 ∙ value-on 10 digitOf s (l .i) (l .v) (search needs) in
-    let g = value-grows 10 digitOf (omega arith) (drop (l .i + 1) s) (l .v * 10 + (getD s (l .i) 0 - 48)) in
-    sym (too-large s (omega arith))
+    sym (grown-too-large s (l .i) (l .v) (search needs) (l .inv .2) (omega arith))
 
 mul-t : tie.Need-mul-t Inv-loop μ-loop
 mul-t c = search needs
@@ -70,9 +65,7 @@ returns-5 : tie.Need-returns-5 Inv-loop μ-loop
 returns-5 c =
     let s = c .before .before .before .before .before .before .before .before .before .before .before .args .s .now in
     let l = c .before .before .before .before .before .before .before .loop in
-    let z = l .inv .2 ∙ value-on 10 digitOf s (l .i) (l .v) (search needs) in
-    let g = value-grows 10 digitOf (omega arith) (drop (l .i + 1) s) (l .v * 10 + (getD s (l .i) 0 - 48)) in
-    sym (too-large s (omega arith))
+    sym (grown-too-large s (l .i) (l .v) (search needs) (l .inv .2) (omega arith))
 
 add-v : tie.Need-add-v Inv-loop μ-loop
 add-v c = search needs

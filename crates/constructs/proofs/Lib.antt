@@ -1,0 +1,2 @@
+pub mod Suffixes
+pub mod Fronts

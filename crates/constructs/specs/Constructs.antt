@@ -1,0 +1,76 @@
+-- What stands on a partition from element 4 on: data runs and index runs, the standing constructs, the data blocks (01, Constructs,
+-- verdict and cut). B is the block size.
+use mathlib.Core.Bool.{Bool, true, false, not, cond}
+use mathlib.Core.List.{List, [], _∷_, _++_}
+use Prim.Native.Nat.{ℕ, zero, suc}
+use lib.ListN.{length}
+use lib.Dec.{ltb, eqb}
+use Rattle.tape.specs.Tape.{Element, mark, block, Tape}
+
+-- an index construct that stands: the number of its first block, the number of elements through its closing mark, and its text
+pub record Construct : Type 0 where
+  pub first : ℕ
+  pub upTo : ℕ
+  pub text : List ℕ
+
+-- where the next element stands: among the four of the labels, so many of them after it; in a data run; in an index run, with the number
+-- of its first element, its bytes so far, and whether a block shorter than B was met; or behind the first defect
+pub data Run : Type 0 where
+  labels : ℕ → Run
+  dataRun : Run
+  indexRun : ℕ → List ℕ → Bool → Run
+  defect : Run
+
+unfoldable pub pastLabel : ℕ → Run
+pastLabel zero = dataRun
+pastLabel (suc k) = labels k
+
+-- where the element after element n stands. Defects: a block longer than B, an empty index run, a block before the last of an index run
+-- that is not B long
+unfoldable pub runAfter : ℕ → ℕ → Run → Element → Run
+runAfter B n (labels k) e = pastLabel k
+runAfter B n dataRun mark = indexRun (suc n) [] false
+runAfter B n dataRun (block x) = cond (ltb B (length x)) defect dataRun
+runAfter B n (indexRun f t short) mark = cond (eqb f n) defect dataRun
+runAfter B n (indexRun f t short) (block x) = cond short defect (cond (ltb B (length x)) defect (indexRun f (t ++ x) (ltb (length x) B)))
+runAfter B n defect e = defect
+
+-- the constructs closed through element n, the last one first: a mark closes an index run that is not empty
+unfoldable pub closedBy : ℕ → Run → List Construct → Element → List Construct
+closedBy n (labels k) cs e = cs
+closedBy n dataRun cs e = cs
+closedBy n (indexRun f t short) cs mark = cond (eqb f n) cs (record { first = f; upTo = suc n; text = t } ∷ cs)
+closedBy n (indexRun f t short) cs (block x) = cs
+closedBy n defect cs e = cs
+
+-- how far a tape is read: the next element's number, where it stands, and the constructs closed so far, the last one first
+pub record Scan : Type 0 where
+  pub at : ℕ
+  pub run : Run
+  pub done : List Construct
+
+unfoldable pub step : ℕ → Scan → Element → Scan
+step B s e = record { at = suc (s .at); run = runAfter B (s .at) (s .run) e; done = closedBy (s .at) (s .run) (s .done) e }
+
+unfoldable pub scan : ℕ → Scan → Tape → Scan
+scan B s [] = s
+scan B s (e ∷ t) = scan B (step B s e) t
+
+abbrev pub start : Scan
+start = record { at = 0; run = labels 3; done = [] }
+
+-- the constructs that stand on a tape, the last one first; the first of all has number 0
+unfoldable pub standing : ℕ → Tape → List Construct
+standing B t = scan B start t .done
+
+-- for each element the length of the data block that it is, or 0. So many elements of the labels are still to come; behind them a run
+-- is a data run where the number of marks passed is even
+unfoldable pub dataLengthsFrom : ℕ → Bool → Tape → List ℕ
+dataLengthsFrom k even [] = []
+dataLengthsFrom (suc k) even (e ∷ t) = 0 ∷ dataLengthsFrom k even t
+dataLengthsFrom zero even (mark ∷ t) = 0 ∷ dataLengthsFrom zero (not even) t
+dataLengthsFrom zero true (block x ∷ t) = length x ∷ dataLengthsFrom zero true t
+dataLengthsFrom zero false (block x ∷ t) = 0 ∷ dataLengthsFrom zero false t
+
+abbrev pub dataLengths : Tape → List ℕ
+dataLengths t = dataLengthsFrom 4 true t

@@ -1,0 +1,2 @@
+pub mod Constructs
+pub mod Phases

@@ -1,0 +1,115 @@
+// Constructs of a partition (01, Constructs, verdict and cut): where each standing construct lies, and how far data blocks reach.
+
+ghost use mathlib.Core.Path.{_≡_};
+ghost use Prim.Native.Nat.{_+_, _*_, _<_, _≤_};
+ghost use lib.Seq.{sets};
+ghost use mathlib.Core.List.{[], _∷_};
+ghost use Rattle.constructs.specs.Phases.{pastLabels, afterMark, afterBlock, closedCount, closedTable, Roomy, Fitting};
+
+// Where the next element stands: among the four of the labels, so many after it there; in a data run; in an index run, with its first
+// element, where its bytes begin in the store, and whether a short block was met; behind the first defect.
+enum Phase {
+    Labels(usize),
+    Data,
+    Index {
+        first: usize,
+        from: usize,
+        short: bool,
+    },
+    Defect,
+}
+
+// The phase behind a mark, element at, with off bytes of blocks before it.
+fn after_mark(phase: Phase, at: usize, off: usize) -> Phase
+    requires { ⌜ at < 65536 ⌝ }
+    ensures { λ r. ⌜ r ≡ afterMark phase at off ⌝ }
+{
+    match phase {
+        Phase::Labels(k) => past_label(k),
+        Phase::Data => Phase::Index {
+            first: at + 1,
+            from: off,
+            short: false,
+        },
+        Phase::Index {
+            first,
+            from: _,
+            short: _,
+        } => {
+            if first == at {
+                Phase::Defect
+            } else {
+                Phase::Data
+            }
+        }
+        Phase::Defect => Phase::Defect,
+    }
+}
+
+fn past_label(k: usize) -> Phase
+    ensures { λ r. ⌜ r ≡ pastLabels k ⌝ }
+{
+    if k == 0 {
+        return Phase::Data;
+    }
+    Phase::Labels(k - 1)
+}
+
+// The phase behind a block of n bytes.
+fn after_block(phase: Phase, size: usize, n: usize) -> Phase
+    ensures { λ r. ⌜ r ≡ afterBlock phase size n ⌝ }
+{
+    match phase {
+        Phase::Labels(k) => past_label(k),
+        Phase::Data => { if size < n { Phase::Defect } else { Phase::Data } }
+        Phase::Index { first, from, short } => {
+            if short {
+                return Phase::Defect;
+            }
+            if size < n {
+                return Phase::Defect;
+            }
+            Phase::Index {
+                first: first,
+                from: from,
+                short: n < size,
+            }
+        }
+        Phase::Defect => Phase::Defect,
+    }
+}
+
+// Puts a construct into the table behind the n that are there.
+fn enter(table: &mut [u32; 87380], n: usize, first: usize, end: usize, from: usize, to: usize)
+    requires { ⌜ Fitting n first end from to ⌝ }
+    ensures { λ r. ⌜ now (table .exit) ≡ sets (now (table .entry)) (n * 4) (first ∷ end ∷ from ∷ to ∷ []) ⌝ }
+{
+    let k = n * 4;
+    table[k] = first as u32;
+    table[k + 1] = end as u32;
+    table[k + 2] = from as u32;
+    table[k + 3] = to as u32;
+}
+
+// Puts the construct that a mark, element at, closes into the table behind the n that are there; the number that are there then.
+fn close(table: &mut [u32; 87380], n: usize, phase: Phase, at: usize, off: usize) -> usize
+    requires { ⌜ Roomy n phase at off ⌝ }
+    ensures { λ r. ⌜ (r ≡ closedCount n phase at) × (now (table .exit) ≡ closedTable (now (table .entry)) n phase at off) ⌝ }
+{
+    match phase {
+        Phase::Labels(_) => n,
+        Phase::Data => n,
+        Phase::Index {
+            first,
+            from,
+            short: _,
+        } => {
+            if first == at {
+                return n;
+            }
+            enter(table, n, first, at + 1, from, off);
+            n + 1
+        }
+        Phase::Defect => n,
+    }
+}

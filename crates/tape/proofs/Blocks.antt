@@ -1,0 +1,158 @@
+-- A block by its number: the walk ends where it stands, and its bytes are a part of the store.
+use mathlib.Core.Path.{_≡_, refl, sym, _∙_, ap, subst}
+use mathlib.Core.Bool.{Bool, true, false, cond}
+use mathlib.Core.Option.{Option, none, some}
+use mathlib.Core.List.{List, [], _∷_, _++_}
+use Prim.Native.Nat.{ℕ, zero, suc, _+_, _-_, _≤_, _<_}
+use native.Mathlib.Nat.{add-zero, zero-add}
+use native.Mathlib.Omega.{arith}
+use lib.ListN.{length, take, drop, getElem?, length-append}
+use lib.Seq.{take-append-seam, drop-append-add}
+use borrow.Author.Tests.{leb-true}
+use lib.Dec.{leb, eqb}
+use Rattle.refusals.specs.declared.Refusal.{Refusal}
+use Rattle.refusals.specs.declared.Refusal.the-variants as refusal
+use Rattle.refusals.specs.Refusals.{Answer, refused, answer, require, andThen, Shows}
+use Rattle.tape.specs.declared.Entry.{Entry}
+use Rattle.tape.specs.declared.Front.{Front}
+use Rattle.tape.specs.declared.Spot.{Spot}
+use Rattle.tape.specs.declared.Spot.the-variants as spot
+use Rattle.tape.specs.Tape.{Tape, Element, mark, block, Cell, markCell, blockCell, list, store, content, lawful, isBlockLength}
+use Rattle.tape.specs.Reading.{entryAt, tapeOf}
+use Rattle.tape.specs.Walks.{reach, spotOf, spotAt, spotBelow}
+use Rattle.tape.specs.Answers.{orRefused, Place, placeOf, placeOn, asBlock, blockOn, blockOf, tapeIn, elementCount, areLetters}
+use Rattle.slices.proofs.Booleans.{split, and-left, and-right}
+use Rattle.tape.proofs.Walking.{entry-here, entry-none, next-here}
+use Rattle.tape.proofs.Encoding.{Bytes, encodes-read}
+use Rattle.tape.proofs.Keeping.{Present, absent-list}
+
+-- the spot from the walk's end and the entry there
+pub spot-as : (l : List ℕ) (n : ℕ) {f : Front} {e a : Entry} → f ≡ reach n l 0 0 → e ≡ entryAt l (f .list) → e ≡ a → spotOf (f .store) a ≡ spotAt l n
+unfolding spotAt
+spot-as l n {f} {e} {a} w q g = rw (← g, q, w)
+
+-- an element as a spot
+abbrev pub spotFor : ℕ → Option Element → Spot
+spotFor v none = spot.Nothing
+spotFor v (some mark) = spot.Nothing
+spotFor v (some (block x)) = spot.Block v (length x)
+
+-- the walk over n entries of a tape ends at element n
+spot-from : (n : ℕ) (l : List ℕ) (at v : ℕ) (t : Tape) → lawful t ≡ true → drop at l ≡ list t
+    → spotOf (reach n l at v .store) (entryAt l (reach n l at v .list)) ≡ spotFor (v + length (store (take n t))) (getElem? t n)
+unfolding reach list store lawful content
+spot-from zero l at v [] h d = rw (entry-none l at d)
+spot-from zero l at v (mark ∷ t) h d = rw (entry-here l at markCell (list t) refl d)
+spot-from zero l at v (block x ∷ t) h d =
+    rw (entry-here l at (blockCell (length x)) (list t) (and-left (isBlockLength (length x)) (lawful t) h) d, add-zero v)
+spot-from (suc n) l at v [] h d = rw (entry-none l at d, entry-none l at d)
+spot-from (suc n) l at v (mark ∷ t) h d =
+    rw (entry-here l at markCell (list t) refl d) (spot-from n l (at + 1) v t h (next-here l at markCell (list t) d))
+spot-from (suc n) l at v (block x ∷ t) h d =
+    let c : Cell = blockCell (length x) in
+    let ok : isBlockLength (length x) ≡ true = and-left (isBlockLength (length x)) (lawful t) h in
+    let rest : lawful t ≡ true = and-right (isBlockLength (length x)) (lawful t) h in
+    let f : (v + length x) + length (store (take n t)) ≡ v + length (x ++ store (take n t))
+    = omega (arith, length-append x (store (take n t))) in
+    rw (entry-here l at c (list t) ok d, ← f) (spot-from n l (at + 5) (v + length x) t rest (next-here l at c (list t) d))
+
+pub spot-of : (n count : ℕ) (l s : List ℕ) (p : Present l s count) → spotAt l n ≡ spotFor (length (store (take n (p .tape)))) (getElem? (p .tape) n)
+unfolding spotAt
+spot-of n count l s p = rw (zero-add (length (store (take n (p .tape))))) at (spot-from n l 0 0 (p .tape) (p .encodes .blocks) (p .encodes .lists))
+
+past-end : (t : Tape) (n : ℕ) → length t ≤ n → getElem? t n ≡ none
+past-end [] n h = refl
+past-end (e ∷ t) zero h = absurd (omega arith)
+past-end (e ∷ t) (suc n) h = past-end t n (omega arith)
+
+below-of : (n count : ℕ) (l s : List ℕ) (p : Present l s count) → spotBelow count l n ≡ spotFor (length (store (take n (p .tape)))) (getElem? (p .tape) n)
+below-of n count l s p =
+    split (λ b. cond b spot.Nothing (spotAt l n) ≡ spotFor (length (store (take n (p .tape)))) (getElem? (p .tape) n)) (leb count n)
+    (λ e. rw (past-end (p .tape) n (rw (p .count) (leb-true count n e))))
+    (λ e. spot-of n count l s p)
+
+-- what a spot on one side answers
+abbrev pub placeFrom : Bool → Spot → Answer Place
+placeFrom side (spot.Block v k) = answer (record { onIndex = side; from = v; size = k })
+placeFrom side spot.Nothing = refused refusal.Missing
+
+placed : (side : Bool) (v : ℕ) (o : Option Element) → andThen (asBlock o) (λ x. answer (record { onIndex = side; from = v; size = length x })) ≡ placeFrom side (spotFor v o)
+placed side v none = refl
+placed side v (some mark) = refl
+placed side v (some (block x)) = refl
+
+module _ (i d c n : ℕ) where
+  pub place-letters : (a b : Answer Tape) → areLetters i d c ≡ false → placeOf i d c n a b ≡ refused refusal.Caller
+  unfolding placeOf
+  place-letters a b h = rw h
+
+  pub place-index : (l s : List ℕ) (b : Answer Tape) (r : Refusal) → areLetters i d c ≡ true → refused r ≡ elementCount l s → placeOf i d c n (tapeIn l s) b ≡ refused refusal.List
+  unfolding placeOf
+  place-index l s b r h e = rw (h, absent-list l s r e)
+
+  module _ (l s : List ℕ) (count : ℕ) (p : Present l s count) (l′ s′ : List ℕ) where
+    pub place-data : (r : Refusal) → areLetters i d c ≡ true → refused r ≡ elementCount l′ s′ → placeOf i d c n (tapeIn l s) (tapeIn l′ s′) ≡ refused refusal.List
+    unfolding placeOf
+    place-data r h e = rw (h, p .read, absent-list l′ s′ r e)
+
+    -- both tapes are there: the spot on the side that the letter picks
+    pub place-found : (count′ : ℕ) → Present l′ s′ count′ → areLetters i d c ≡ true → (side : Bool) → eqb c i ≡ side → (x : Spot)
+        → x ≡ spotBelow (cond side count count′) (cond side l l′) n → placeOf i d c n (tapeIn l s) (tapeIn l′ s′) ≡ placeFrom side x
+    unfolding placeOf
+    place-found count′ q h true e x f =
+        rw (h, p .read, q .read, e) (placed true _ (getElem? (p .tape) n) ∙ ap (placeFrom true) (sym (f ∙ below-of n count l s p)))
+    place-found count′ q h false e x f =
+        rw (h, p .read, q .read, e) (placed false _ (getElem? (q .tape) n) ∙ ap (placeFrom false) (sym (f ∙ below-of n count′ l′ s′ q)))
+
+-- block n is a part of the store
+pub block-bytes : (t : Tape) (n : ℕ) (x : List ℕ) → getElem? t n ≡ some (block x)
+    → (take (length x) (drop (length (store (take n t))) (store t)) ≡ x) × (length (store (take n t)) + length x ≤ length (store t))
+unfolding store content
+block-bytes [] n x e = let z : _≡_ {A = ℕ} 0 1 = cc in absurd (omega arith)
+block-bytes (mark ∷ t) zero x e = let z : mark ≡ block x = cc in let y : _≡_ {A = ℕ} 0 1 = cc in absurd (omega arith)
+block-bytes (block y ∷ t) zero x e =
+    let p : y ≡ x = cc in
+    rw p (take-append-seam x (store t), omega (arith, length-append x (store t)))
+block-bytes (d ∷ t) (suc n) x e =
+    let ih = block-bytes t n x e in
+    let w : length (content d ++ store (take n t)) ≡ length (content d) + length (store (take n t)) = length-append (content d) (store (take n t)) in
+    rw (w, drop-append-add (content d) (store t) (length (store (take n t))))
+    (ih .0, let b = ih .1 in omega (arith, length-append (content d) (store t)))
+
+-- what a place says of the block that was asked for
+abbrev pub Holds : Answer Place → List ℕ → List ℕ → Answer (List ℕ) → Type 0
+Holds (refused r) s s′ b = b ≡ refused r
+Holds (answer p) s s′ b =
+    (b ≡ answer (take (p .size) (drop (p .from) (cond (p .onIndex) s s′)))) × (p .from + p .size ≤ length (cond (p .onIndex) s s′))
+
+holds-on : (side : Bool) (t : Tape) (n : ℕ) (s s′ : List ℕ) (o : Option Element) → getElem? t n ≡ o → cond side s s′ ≡ store t
+    → Holds (andThen (asBlock o) (λ x. answer (record { onIndex = side; from = length (store (take n t)); size = length x }))) s s′ (asBlock o)
+holds-on side t n s s′ none e q = refl
+holds-on side t n s s′ (some mark) e q = refl
+holds-on side t n s s′ (some (block x)) e q = rw q (let b = block-bytes t n x e in (ap answer (sym (b .0)), b .1))
+
+holds-of : (i d c n : ℕ) (l s l′ s′ : List ℕ) (o o′ : Option Tape) → Bytes l → Bytes l′ → tapeOf l s ≡ o → tapeOf l′ s′ ≡ o′
+    → Holds (placeOf i d c n (orRefused o) (orRefused o′)) s s′ (blockOf i d c n (orRefused o) (orRefused o′))
+unfolding placeOf blockOf
+holds-of i d c n l s l′ s′ o o′ w w′ e e′ = by-letters (areLetters i d c) o o′ e e′
+  where
+    by-letters : (b : Bool) (o o′ : Option Tape) → tapeOf l s ≡ o → tapeOf l′ s′ ≡ o′
+        → Holds (require b refusal.Caller (andThen (orRefused o) (λ ti. andThen (orRefused o′) (λ td. placeOn (eqb c i) (cond (eqb c i) ti td) n)))) s s′
+        (require b refusal.Caller (andThen (orRefused o) (λ ti. andThen (orRefused o′) (λ td. blockOn (cond (eqb c i) ti td) n))))
+    by-letters false o o′ e e′ = refl
+    by-letters true none o′ e e′ = refl
+    by-letters true (some t) none e e′ = refl
+    by-letters true (some t) (some u) e e′ =
+        split (λ b. Holds (placeOn b (cond b t u) n) s s′ (blockOn (cond b t u) n)) (eqb c i)
+        (λ y. holds-on true t n s s′ (getElem? t n) refl (encodes-read l s t w e .stores))
+        (λ y. holds-on false u n s s′ (getElem? u n) refl (encodes-read l′ s′ u w′ e′ .stores))
+
+pub holds : (i d c n : ℕ) (l s l′ s′ : List ℕ) → Bytes l → Bytes l′ → (a : Answer Place) → a ≡ placeOf i d c n (tapeIn l s) (tapeIn l′ s′)
+    → Holds a s s′ (blockOf i d c n (tapeIn l s) (tapeIn l′ s′))
+holds i d c n l s l′ s′ w w′ a e =
+    subst (λ (x : Answer Place). Holds x s s′ (blockOf i d c n (tapeIn l s) (tapeIn l′ s′))) (sym e)
+    (holds-of i d c n l s l′ s′ (tapeOf l s) (tapeOf l′ s′) w w′ refl refl)
+
+-- a part of a store, cut out between two places, and the refusal beside it
+pub shows-part : (s : List ℕ) (from n : ℕ) {b : Answer (List ℕ)} → b ≡ answer (take n (drop from s)) → Shows b (take ((from + n) - from) (drop from s)) 0
+shows-part s from n e = let w : (from + n) - from ≡ n = omega arith in rw (w, e) record { part = refl; refusal = refl }

@@ -1,0 +1,146 @@
+// Cases of the block list, read from files beside the program: checks, elements kept, blocks asked for.
+use quantities::BlockNumber;
+ghost use Prim.Native.Nat.{_≤_};
+
+// A list and a store; the refusal and the number of elements expected.
+fn check_case(fd: i32) -> bool {
+    let mut list = [0u8; 131072];
+    let l = case_files::bytes(fd, &mut list);
+    let mut store = [0u8; 24576];
+    let s = case_files::bytes(fd, &mut store);
+    let refusal = case_files::number(fd);
+    let elements = case_files::number(fd) as usize;
+    match tape::check(&list[..l], &store[..s]) {
+        tape::Checked::Elements(n) => {
+            if refusal != 0 {
+                return false;
+            }
+            n == elements
+        }
+        tape::Checked::Refused(r) => refusals::number(r) == refusal,
+    }
+}
+
+// A list, a store and a number of elements; the refusal and the two fronts expected.
+fn keep_case(fd: i32) -> bool {
+    let mut list = [0u8; 4096];
+    let l = case_files::bytes(fd, &mut list);
+    let mut store = [0u8; 24576];
+    let s = case_files::bytes(fd, &mut store);
+    let n = case_files::number(fd) as usize;
+    let refusal = case_files::number(fd);
+    let mut list_front = [0u8; 4096];
+    let a = case_files::bytes(fd, &mut list_front);
+    let mut store_front = [0u8; 24576];
+    let b = case_files::bytes(fd, &mut store_front);
+    if !lengths_as(&list[..l], &store[..s], n, refusal, a, b) {
+        return false;
+    }
+    if !slices::same(
+        tape::kept_list(&list[..l], &store[..s], n),
+        &list_front[..a],
+    ) {
+        return false;
+    }
+    slices::same(
+        tape::kept_store(&list[..l], &store[..s], n),
+        &store_front[..b],
+    )
+}
+
+fn lengths_as(list: &[u8], store: &[u8], n: usize, refusal: u64, a: usize, b: usize) -> bool {
+    match tape::keep(list, store, n) {
+        tape::Kept::Lengths(x, y) => {
+            if refusal != 0 {
+                return false;
+            }
+            if x != a {
+                return false;
+            }
+            y == b
+        }
+        tape::Kept::Refused(r) => refusals::number(r) == refusal,
+    }
+}
+
+// Two lists with their stores, three letters and a number; the refusal and the bytes expected.
+fn block_case(fd: i32) -> bool {
+    let mut index_list = [0u8; 4096];
+    let il = case_files::bytes(fd, &mut index_list);
+    let mut index_store = [0u8; 24576];
+    let is = case_files::bytes(fd, &mut index_store);
+    let mut data_list = [0u8; 4096];
+    let dl = case_files::bytes(fd, &mut data_list);
+    let mut data_store = [0u8; 24576];
+    let ds = case_files::bytes(fd, &mut data_store);
+    let i = (case_files::number(fd) % 256) as u8;
+    let d = (case_files::number(fd) % 256) as u8;
+    let letter = (case_files::number(fd) % 256) as u8;
+    let number = case_files::number(fd);
+    let refusal = case_files::number(fd);
+    let mut expected = [0u8; 24576];
+    let e = case_files::bytes(fd, &mut expected);
+    let mut shown: u64 = 99;
+    let part = tape::block(
+        &index_list[..il],
+        &index_store[..is],
+        &data_list[..dl],
+        &data_store[..ds],
+        i,
+        d,
+        letter,
+        BlockNumber(number),
+        &mut shown,
+    );
+    if shown != refusal {
+        return false;
+    }
+    slices::same(part, &expected[..e])
+}
+
+fn one(kind: u64, fd: i32) -> bool {
+    if kind == 0 {
+        return check_case(fd);
+    }
+    if kind == 1 {
+        return keep_case(fd);
+    }
+    block_case(fd)
+}
+
+fn shown_good(good: bool, case: u64) -> u64
+    ensures { λ r. ⌜ r ≤ 1 ⌝ }
+{
+    if good {
+        return 1;
+    }
+    io::write_all(1, b"not as expected: case ");
+    io::print_decimal(1, case);
+    io::write_all(1, b"\n");
+    0
+}
+
+// The cases of one file.
+fn run(path: &[u8], kind: u64) {
+    let fd = os::open_read(path);
+    if fd < 0 {
+        os::fail(path);
+        return;
+    }
+    let cases = case_files::number(fd);
+    let mut good: u64 = 0;
+    let mut i: u64 = 0;
+    while i < cases {
+        good += shown_good(one(kind, fd), i);
+        i += 1;
+    }
+    libc::close(fd);
+    case_files::report(path, good, cases);
+}
+
+fn main() {
+    run(b"check", 0);
+    run(b"keep", 1);
+    run(b"block", 2);
+    run(b"block_own", 2);
+}
