@@ -11,7 +11,8 @@ use lib.Dec.{eqb}
 use lib.ListN.{length, drop, getD, drop-of-length-le, List·getD-eq-default}
 use lib.Seq.{drop-cons, drop-drop, getD-drop}
 use Rattle.xml.specs.Tree.{front, past, quoteAfter, Forest, forests, put, notOpen, closed, alone, opened, pop}
-use Rattle.elements.specs.Reading.{leftAt, headAt, emptyAt, behindTag}
+use Rattle.elements.specs.Reading.{leftAt, headAt, emptyAt, behindTag, Next, NextTag}
+use Rattle.elements.specs.declared.tags.Tag.the-variants.{End, Close, Open, Empty}
 use Rattle.xml.specs.Scans.{Past}
 use Rattle.xml.proofs.Past.{past-stop}
 
@@ -47,37 +48,50 @@ pub left-end : (s : List ℕ) (i : ℕ) → length s ≤ i → leftAt s i ≡ []
 unfolding forests
 left-end s i h = ap forests (drop-of-length-le s h)
 
--- the next `<` is at j
-module _ (s : List ℕ) (i j : ℕ) (found : Past notOpen s i j) where
-  left-found : leftAt s i ≡ leftAt s j
-  left-found = forests-front (drop i s) ∙ ap forests (drop-drop (front notOpen (drop i s)) i s) ∙ ap (leftAt s) (sym (found .found))
-
-  pub left-none : length s ≤ j → leftAt s i ≡ []
-  left-none h = left-found ∙ left-end s j h
-
-  pub left-put : j < length s → leftAt s i ≡ put (drop (j + 1) s) (leftAt s (j + 1))
-  unfolding forests
-  left-put h = left-found ∙ rw (drop-cons s j 0, add-one) (simp (past-stop found h))
-
 -- a tag at n, before fs
 module _ (s : List ℕ) (n : ℕ) (fs : List Forest) where
   first : getD (drop n s) 0 0 ≡ getD s n 0
   first = getD-drop n s 0 0 ∙ ap (λ (k : ℕ). getD s k 0) (add-zero n)
 
-  pub put-closed : getD s n 0 ≡ 47 → put (drop n s) fs ≡ closed fs
+  put-closed : getD s n 0 ≡ 47 → put (drop n s) fs ≡ closed fs
   unfolding put
   put-closed e = simp (eq-eqb _ _ (first ∙ e))
 
-  pub put-alone : (getD s n 0 ≡ 47 → ⊥) → emptyAt s n ≡ true → put (drop n s) fs ≡ alone (headAt s n) fs
+  put-alone : (getD s n 0 ≡ 47 → ⊥) → emptyAt s n ≡ true → put (drop n s) fs ≡ alone (headAt s n) fs
   unfolding put behindTag
   put-alone g e = simp (ne-eqb _ _ (λ z. g (sym first ∙ z)), e)
 
-  pub put-opened : (getD s n 0 ≡ 47 → ⊥) → emptyAt s n ≡ false → put (drop n s) fs ≡ opened (headAt s n) fs
+  put-opened : (getD s n 0 ≡ 47 → ⊥) → emptyAt s n ≡ false → put (drop n s) fs ≡ opened (headAt s n) fs
   unfolding put behindTag
   put-opened g e = simp (ne-eqb _ _ (λ z. g (sym first ∙ z)), e)
 
 pub no-slash : (s : List ℕ) (n : ℕ) → length s ≤ n → getD s n 0 ≡ 47 → ⊥
 no-slash s n h e = omega (arith, List·getD-eq-default s 0 h)
+
+-- the next `<` is at j: no tag, or the tag behind it
+module _ (s : List ℕ) (i j : ℕ) (found : Past notOpen s i j) where
+  left-found : leftAt s i ≡ leftAt s j
+  left-found = forests-front (drop i s) ∙ ap forests (drop-drop (front notOpen (drop i s)) i s) ∙ ap (leftAt s) (sym (found .found))
+
+  pub none-next : length s ≤ j → NextTag s i End
+  none-next h = record { left = left-found ∙ left-end s j h; kind = tt; place = tt }
+
+  module _ (h : j < length s) where
+    left-put : leftAt s i ≡ put (drop (j + 1) s) (leftAt s (j + 1))
+    unfolding forests
+    left-put = left-found ∙ rw (drop-cons s j 0, add-one) (simp (past-stop found h))
+
+    place : Next s i (j + 1)
+    place = (ap (λ (k : ℕ). k + 1) (found .found), omega arith)
+
+    pub close-next : getD s (j + 1) 0 ≡ 47 → NextTag s i (Close (j + 1))
+    close-next e = record { left = left-put ∙ put-closed s (j + 1) _ e; kind = tt; place = place }
+
+    pub empty-next : (getD s (j + 1) 0 ≡ 47 → ⊥) → emptyAt s (j + 1) ≡ true → NextTag s i (Empty (j + 1))
+    empty-next g e = record { left = left-put ∙ put-alone s (j + 1) _ g e; kind = e; place = place }
+
+    pub open-next : (getD s (j + 1) 0 ≡ 47 → ⊥) → emptyAt s (j + 1) ≡ false → NextTag s i (Open (j + 1))
+    open-next g e = record { left = left-put ∙ put-opened s (j + 1) _ g e; kind = e; place = place }
 
 -- what is left around d elements
 unfoldable pub pops : ℕ → List Forest → List Forest

@@ -73,7 +73,8 @@ module _ {s : List ℕ} {i : ℕ} where
         record {
           row = row-open t l ∙ ap (λ (k : Forest). node (headAt s n) k (rowAt s j)) (sym (children-open t));
           around = around-open t l;
-          place = (t .place .0, omega (arith, t .place, l .ahead), l .inside);
+          place = t .place;
+          after = (omega (arith, t .place, l .ahead), l .inside);
         }
 
     pub first-empty : NextTag s i (Empty n) → FirstOf s i n n
@@ -81,5 +82,21 @@ module _ {s : List ℕ} {i : ℕ} where
         record {
           row = row-empty t ∙ ap (λ (k : Forest). node (headAt s n) k (rowAt s n)) (sym (children-empty t));
           around = around-empty t;
-          place = (t .place .0, omega arith, t .place .1);
+          place = t .place;
+          after = (omega arith, t .place .1);
         }
+
+    -- an end tag leaves the element that is open at i
+    pub behind-close : NextTag s i (Close n) → Behind s i n
+    behind-close t =
+        record { left = sym (around-close t); ahead = omega (arith, t .place); inside = t .place .1 }
+
+  -- and so does the end of the text
+  pub behind-end : NextTag s i End → Behind s i (length s)
+  behind-end t =
+      record { left = left-end s (length s) (omega arith) ∙ sym (around-end t); ahead = omega arith; inside = omega arith }
+
+  -- what is left behind an element is the same from anywhere along its row
+  pub behind-along : {k j : ℕ} → k ≤ i → aroundAt s i ≡ aroundAt s k → Behind s i j → Behind s k j
+  behind-along h e l =
+      record { left = l .left ∙ e; ahead = omega (arith, l .ahead); inside = l .inside }

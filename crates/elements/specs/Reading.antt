@@ -3,9 +3,9 @@
 use mathlib.Core.Path.{_≡_}
 use mathlib.Core.Bool.{Bool, true, false, cond}
 use mathlib.Core.List.{List, []}
-use Prim.Native.Nat.{ℕ, _<_, _≤_, min}
+use Prim.Native.Nat.{ℕ, _+_, _≤_, min}
 use lib.ListN.{length, drop}
-use Rattle.xml.specs.Tree.{Head, Forest, none, node, past, headOf, top, pop, closed, opened, alone, forests}
+use Rattle.xml.specs.Tree.{Head, Forest, none, node, front, notOpen, past, headOf, top, pop, closed, opened, alone, forests}
 use Rattle.elements.specs.declared.tags.Tag.{Tag}
 use Rattle.elements.specs.declared.tags.Tag.the-variants.{End, Close, Open, Empty}
 use Rattle.elements.specs.declared.tags.Child.{Child}
@@ -23,7 +23,7 @@ rowAt s i = top (leftAt s i)
 abbrev pub aroundAt : List ℕ → ℕ → List Forest
 aroundAt s i = pop (leftAt s i)
 
--- what follows the tag that r begins with, from behind its `<` on: nothing that belongs to it where it is an empty-element tag
+-- what follows the tag that r begins with, from behind its `<` on; behind an empty-element tag nothing counts
 unfoldable pub behindTag : List ℕ → List ℕ
 behindTag r = cond (past 0 0 r .empty) [] (past 0 0 r .rest)
 
@@ -49,19 +49,22 @@ seen s (Close n) = closed (leftAt s n)
 seen s (Open n) = opened (headAt s n) (leftAt s n)
 seen s (Empty n) = alone (headAt s n) (leftAt s n)
 
--- it is the tag that it is taken for
+-- it is an empty-element tag or not, as it is taken for
 abbrev pub told : List ℕ → Tag → Type 0
 told s End = Unit {0}
 told s (Close n) = Unit {0}
 told s (Open n) = emptyAt s n ≡ false
 told s (Empty n) = emptyAt s n ≡ true
 
--- it stands behind i, in the text
+-- n is the place behind the first `<` from i on
+abbrev pub Next : List ℕ → ℕ → ℕ → Type 0
+Next s i n = (n ≡ i + front notOpen (drop i s) + 1) × (n ≤ length s)
+
 abbrev pub ahead : List ℕ → ℕ → Tag → Type 0
 ahead s i End = Unit {0}
-ahead s i (Close n) = (i < n) × (n ≤ length s)
-ahead s i (Open n) = (i < n) × (n ≤ length s)
-ahead s i (Empty n) = (i < n) × (n ≤ length s)
+ahead s i (Close n) = Next s i n
+ahead s i (Open n) = Next s i n
+ahead s i (Empty n) = Next s i n
 
 -- the next tag from i on
 pub record NextTag (s : List ℕ) (i : ℕ) (tag : Tag) : Type 0 where
@@ -79,7 +82,8 @@ pub record Behind (s : List ℕ) (i j : ℕ) : Type 0 where
 pub record FirstOf (s : List ℕ) (i n j : ℕ) : Type 0 where
   pub row : rowAt s i ≡ node (headAt s n) (childrenAt s n) (rowAt s j)
   pub around : aroundAt s i ≡ aroundAt s j
-  pub place : (i < n) × (n ≤ j) × (j ≤ length s)
+  pub place : Next s i n
+  pub after : (n ≤ j) × (j ≤ length s)
 
 -- the next element of the row at i
 abbrev pub NextChild : List ℕ → ℕ → Child → Type 0

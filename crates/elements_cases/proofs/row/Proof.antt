@@ -3,7 +3,6 @@ use Prim.Native.Nat.{_-_}
 use mathlib.Core.Path.{subst}
 use native.Mathlib.Omega.{arith}
 use lib.ListN.{length}
-use Rattle.elements.specs.declared.tags.Child.the-variants.{At}
 use Rattle.elements.specs.Reading.{NextChild}
 use borrow.Author.Needs.{needs}
 use Rattle.elements_cases.proofs.row.Statement.{statement}
@@ -38,8 +37,8 @@ loop-less c =
     let s = c .before .before .before .before .before .before .before .args .text .now in
     let l = c .before .before .before .before .before .loop in
     let g = c .before .before .n .given in
-    let t : NextChild s (l .i) (At (g .0 .0) (g .0 .1 .0)) = subst (NextChild s (l .i)) (g .1) (c .before .before .before .before .next-child .ensures) in
-    omega (arith, t .place)
+    let t = subst (NextChild s (l .i)) (g .1) (c .before .before .before .before .next-child .ensures) in
+    omega (arith, t .place, t .after)
 
 loop-again : tie.Need-loop-again Inv-loop μ-loop
 loop-again c = search needs

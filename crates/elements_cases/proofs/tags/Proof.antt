@@ -3,7 +3,6 @@ use Prim.Native.Nat.{_-_}
 use mathlib.Core.Path.{subst}
 use native.Mathlib.Omega.{arith}
 use lib.ListN.{length}
-use Rattle.elements.specs.declared.tags.Tag.the-variants.{Close, Open, Empty}
 use Rattle.elements.specs.Reading.{NextTag}
 use borrow.Author.Needs.{needs}
 use Rattle.elements_cases.proofs.tags.Statement.{statement}
@@ -38,7 +37,7 @@ loop-less c =
     let s = c .before .before .before .before .before .before .before .args .text .now in
     let l = c .before .before .before .before .before .loop in
     let g = c .before .before .p .given in
-    let t : NextTag s (l .i) (Close (g .0 .0)) = subst (NextTag s (l .i)) (g .1) (c .before .before .before .before .next-tag .ensures) in
+    let t = subst (NextTag s (l .i)) (g .1) (c .before .before .before .before .next-tag .ensures) in
     omega (arith, t .place)
 
 loop-again : tie.Need-loop-again Inv-loop μ-loop
@@ -55,7 +54,7 @@ loop-less-2 c =
     let s = c .before .before .before .before .before .before .before .args .text .now in
     let l = c .before .before .before .before .before .loop in
     let g = c .before .before .p2 .given in
-    let t : NextTag s (l .i) (Open (g .0 .0)) = subst (NextTag s (l .i)) (g .1) (c .before .before .before .before .next-tag .ensures) in
+    let t = subst (NextTag s (l .i)) (g .1) (c .before .before .before .before .next-tag .ensures) in
     omega (arith, t .place)
 
 loop-again-2 : tie.Need-loop-again-2 Inv-loop μ-loop
@@ -72,7 +71,7 @@ loop-less-3 c =
     let s = c .before .before .before .before .before .before .before .args .text .now in
     let l = c .before .before .before .before .before .loop in
     let g = c .before .before .p3 .given in
-    let t : NextTag s (l .i) (Empty (g .0 .0)) = subst (NextTag s (l .i)) (g .1) (c .before .before .before .before .next-tag .ensures) in
+    let t = subst (NextTag s (l .i)) (g .1) (c .before .before .before .before .next-tag .ensures) in
     omega (arith, t .place)
 
 loop-again-3 : tie.Need-loop-again-3 Inv-loop μ-loop

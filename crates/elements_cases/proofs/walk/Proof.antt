@@ -3,7 +3,6 @@ use Prim.Native.Nat.{_-_}
 use mathlib.Core.Path.{subst}
 use native.Mathlib.Omega.{arith}
 use lib.ListN.{length}
-use Rattle.elements.specs.declared.tags.Tag.the-variants.{Close, Open, Empty}
 use Rattle.elements.specs.Reading.{NextTag}
 use borrow.Author.Needs.{needs}
 use Rattle.elements_cases.proofs.walk.Statement.{statement}
@@ -38,7 +37,7 @@ loop-less c =
     let s = c .before .before .before .before .before .before .before .args .text .now in
     let l = c .before .before .before .before .before .loop in
     let g = c .before .before .n .given in
-    let t : NextTag s (l .i) (Close (g .0 .0)) = subst (NextTag s (l .i)) (g .1) (c .before .before .before .before .next-tag .ensures) in
+    let t = subst (NextTag s (l .i)) (g .1) (c .before .before .before .before .next-tag .ensures) in
     omega (arith, t .place)
 
 loop-again : tie.Need-loop-again Inv-loop μ-loop
@@ -58,7 +57,7 @@ loop-less-2 c =
     let s = c .before .before .before .before .before .before .before .before .args .text .now in
     let l = c .before .before .before .before .before .before .loop in
     let g = c .before .before .before .n2 .given in
-    let t : NextTag s (l .i) (Open (g .0 .0)) = subst (NextTag s (l .i)) (g .1) (c .before .before .before .before .before .next-tag .ensures) in
+    let t = subst (NextTag s (l .i)) (g .1) (c .before .before .before .before .before .next-tag .ensures) in
     omega (arith, t .place)
 
 loop-again-2 : tie.Need-loop-again-2 Inv-loop μ-loop
@@ -75,7 +74,7 @@ loop-less-3 c =
     let s = c .before .before .before .before .before .before .before .args .text .now in
     let l = c .before .before .before .before .before .loop in
     let g = c .before .before .n3 .given in
-    let t : NextTag s (l .i) (Empty (g .0 .0)) = subst (NextTag s (l .i)) (g .1) (c .before .before .before .before .next-tag .ensures) in
+    let t = subst (NextTag s (l .i)) (g .1) (c .before .before .before .before .next-tag .ensures) in
     omega (arith, t .place)
 
 loop-again-3 : tie.Need-loop-again-3 Inv-loop μ-loop

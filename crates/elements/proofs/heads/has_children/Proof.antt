@@ -1,7 +1,6 @@
 -- `has_children` meets its contract: its children's row has an element where a start tag or an empty-element tag comes next.
 use mathlib.Core.Path.{sym, ap, _∙_, subst}
 use Rattle.xml.specs.Tree.{top, opened, alone}
-use Rattle.elements.specs.declared.tags.Tag.the-variants.{End, Close, Open, Empty}
 use Rattle.elements.specs.Reading.{isRow, NextTag}
 use Rattle.elements.proofs.Rows.{row-end, row-close}
 use borrow.Author.Needs.{needs}
@@ -30,7 +29,7 @@ returns : tie.Need-returns
 unfolding isRow
 returns c =
     let s = c .before .before .before .before .before .args .text .now in
-    let t : NextTag s (c .before .before .before .first-child .result) End = subst (NextTag s (c .before .before .before .first-child .result)) (c .enum-told .given .1) (c .before .before .next-tag .ensures) in
+    let t = subst (NextTag s (c .before .before .before .first-child .result)) (c .enum-told .given .1) (c .before .before .next-tag .ensures) in
     sym (ap isRow (sym (c .before .before .before .first-child .ensures .row) ∙ row-end t))
 
 returns-2 : tie.Need-returns-2
@@ -38,7 +37,7 @@ unfolding isRow
 returns-2 c =
     let s = c .before .before .before .before .before .args .text .now in
     let g = c .enum-told2 .given in
-    let t : NextTag s (c .before .before .before .first-child .result) (Close (g .0 .0)) = subst (NextTag s (c .before .before .before .first-child .result)) (g .1) (c .before .before .next-tag .ensures) in
+    let t = subst (NextTag s (c .before .before .before .first-child .result)) (g .1) (c .before .before .next-tag .ensures) in
     sym (ap isRow (sym (c .before .before .before .first-child .ensures .row) ∙ row-close t))
 
 returns-3 : tie.Need-returns-3
@@ -46,7 +45,7 @@ unfolding isRow top opened
 returns-3 c =
     let s = c .before .before .before .before .before .args .text .now in
     let g = c .enum-told3 .given in
-    let t : NextTag s (c .before .before .before .first-child .result) (Open (g .0 .0)) = subst (NextTag s (c .before .before .before .first-child .result)) (g .1) (c .before .before .next-tag .ensures) in
+    let t = subst (NextTag s (c .before .before .before .first-child .result)) (g .1) (c .before .before .next-tag .ensures) in
     sym (ap isRow (sym (c .before .before .before .first-child .ensures .row) ∙ ap top (t .left)))
 
 returns-4 : tie.Need-returns-4
@@ -54,7 +53,7 @@ unfolding isRow top alone
 returns-4 c =
     let s = c .before .before .before .before .before .args .text .now in
     let g = c .enum-told4 .given in
-    let t : NextTag s (c .before .before .before .first-child .result) (Empty (g .0 .0)) = subst (NextTag s (c .before .before .before .first-child .result)) (g .1) (c .before .before .next-tag .ensures) in
+    let t = subst (NextTag s (c .before .before .before .first-child .result)) (g .1) (c .before .before .next-tag .ensures) in
     sym (ap isRow (sym (c .before .before .before .first-child .ensures .row) ∙ ap top (t .left)))
 
 pub has-children-spec : {M : Type 1} → statement M

@@ -6,7 +6,6 @@ use native.Mathlib.Omega.{arith}
 use native.Mathlib.Numerals.{add-one}
 use lib.ListN.{length}
 use Rattle.xml.specs.Tree.{forests, pop, closed, opened, alone}
-use Rattle.elements.specs.declared.tags.Tag.the-variants.{End, Close, Open, Empty}
 use Rattle.elements.specs.Reading.{leftAt, aroundAt, NextTag}
 use Rattle.elements.proofs.Left.{left-end, pops, pops-none}
 use borrow.Author.Needs.{needs}
@@ -36,7 +35,7 @@ returns : tie.Need-returns Inv-loop μ-loop
 returns c =
     let s = c .before .before .before .before .before .before .args .text .now in
     let l = c .before .before .before .loop in
-    let w : NextTag s (l .i) End = subst (NextTag s (l .i)) (c .enum-told .given .1) (c .before .before .next-tag .ensures) in
+    let w = subst (NextTag s (l .i)) (c .enum-told .given .1) (c .before .before .next-tag .ensures) in
     let e : leftAt s (length s) ≡ [] = left-end s (length s) (search needs) in
     record {
       left = e ∙ sym (pops-none (suc (l .d))) ∙ ap (pops (suc (l .d))) (sym (w .left)) ∙ l .inv .3;
@@ -53,7 +52,7 @@ returns-2 c =
     let s = c .before .before .before .before .before .before .before .before .args .text .now in
     let l = c .before .before .before .before .before .loop in
     let n = c .before .before .n .given in
-    let w : NextTag s (l .i) (Close (n .0 .0)) = subst (NextTag s (l .i)) (n .1) (c .before .before .before .before .next-tag .ensures) in
+    let w = subst (NextTag s (l .i)) (n .1) (c .before .before .before .before .next-tag .ensures) in
     record {
       left = ap (λ (d : ℕ). pops d (closed (leftAt s (n .0 .0)))) (sym (ap suc (c .if1 .taken))) ∙ ap (pops (suc (l .d))) (sym (w .left)) ∙ l .inv .3;
       ahead = omega (arith, w .place);
@@ -68,7 +67,7 @@ loop-less c =
     let s = c .before .before .before .before .before .before .before .before .args .text .now in
     let l = c .before .before .before .before .before .loop in
     let n = c .before .before .n .given in
-    let w : NextTag s (l .i) (Close (n .0 .0)) = subst (NextTag s (l .i)) (n .1) (c .before .before .before .before .next-tag .ensures) in
+    let w = subst (NextTag s (l .i)) (n .1) (c .before .before .before .before .next-tag .ensures) in
     omega (arith, w .place)
 
 loop-again : tie.Need-loop-again Inv-loop μ-loop
@@ -77,7 +76,7 @@ loop-again c =
     let s = c .before .before .before .before .before .before .before .before .args .text .now in
     let l = c .before .before .before .before .before .loop in
     let n = c .before .before .n .given in
-    let w : NextTag s (l .i) (Close (n .0 .0)) = subst (NextTag s (l .i)) (n .1) (c .before .before .before .before .next-tag .ensures) in
+    let w = subst (NextTag s (l .i)) (n .1) (c .before .before .before .before .next-tag .ensures) in
     let one : suc (l .d - 1) ≡ l .d = omega arith in (
       omega (arith, w .place),
       w .place .1,
@@ -96,7 +95,7 @@ loop-less-2 c =
     let s = c .before .before .before .before .before .before .before .args .text .now in
     let l = c .before .before .before .before .loop in
     let n = c .before .n2 .given in
-    let w : NextTag s (l .i) (Open (n .0 .0)) = subst (NextTag s (l .i)) (n .1) (c .before .before .before .next-tag .ensures) in
+    let w = subst (NextTag s (l .i)) (n .1) (c .before .before .before .next-tag .ensures) in
     omega (arith, w .place)
 
 loop-again-2 : tie.Need-loop-again-2 Inv-loop μ-loop
@@ -105,7 +104,7 @@ loop-again-2 c =
     let s = c .before .before .before .before .before .before .before .args .text .now in
     let l = c .before .before .before .before .loop in
     let n = c .before .n2 .given in
-    let w : NextTag s (l .i) (Open (n .0 .0)) = subst (NextTag s (l .i)) (n .1) (c .before .before .before .next-tag .ensures) in (
+    let w = subst (NextTag s (l .i)) (n .1) (c .before .before .before .next-tag .ensures) in (
       omega (arith, w .place),
       w .place .1,
       omega (arith, w .place),
@@ -120,7 +119,7 @@ loop-less-3 c =
     let s = c .before .before .before .before .before .before .before .args .text .now in
     let l = c .before .before .before .before .loop in
     let n = c .before .n3 .given in
-    let w : NextTag s (l .i) (Empty (n .0 .0)) = subst (NextTag s (l .i)) (n .1) (c .before .before .before .next-tag .ensures) in
+    let w = subst (NextTag s (l .i)) (n .1) (c .before .before .before .next-tag .ensures) in
     omega (arith, w .place)
 
 loop-again-3 : tie.Need-loop-again-3 Inv-loop μ-loop
@@ -129,7 +128,7 @@ loop-again-3 c =
     let s = c .before .before .before .before .before .before .before .args .text .now in
     let l = c .before .before .before .before .loop in
     let n = c .before .n3 .given in
-    let w : NextTag s (l .i) (Empty (n .0 .0)) = subst (NextTag s (l .i)) (n .1) (c .before .before .before .next-tag .ensures) in
+    let w = subst (NextTag s (l .i)) (n .1) (c .before .before .before .next-tag .ensures) in
     (omega (arith, w .place), w .place .1, omega (arith, w .place), ap (pops (suc (l .d))) (sym (w .left)) ∙ l .inv .3)
 
 pub leave-spec : {M : Type 1} → statement M

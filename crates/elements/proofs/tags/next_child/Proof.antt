@@ -1,6 +1,5 @@
 -- `next_child` meets its contract: the row's first element by its tag, and the row behind it where the element is left.
 use mathlib.Core.Path.{subst}
-use Rattle.elements.specs.declared.tags.Tag.the-variants.{End, Close, Open, Empty}
 use Rattle.elements.specs.Reading.{NextTag}
 use Rattle.elements.proofs.Rows.{row-end, row-close, first-open, first-empty}
 use borrow.Author.Needs.{needs}
@@ -27,25 +26,25 @@ enum-known-n-2 c = search needs
 
 returns : tie.Need-returns
 returns c =
-    let t : NextTag (c .before .before .before .before .args .text .now) (c .before .before .before .before .args .at) End = subst (NextTag (c .before .before .before .before .args .text .now) (c .before .before .before .before .args .at)) (c .enum-told .given .1) (c .before .before .next-tag .ensures) in
+    let t = subst (NextTag (c .before .before .before .before .args .text .now) (c .before .before .before .before .args .at)) (c .enum-told .given .1) (c .before .before .next-tag .ensures) in
     row-end t
 
 returns-2 : tie.Need-returns-2
 returns-2 c =
     let g = c .enum-told2 .given in
-    let t : NextTag (c .before .before .before .before .args .text .now) (c .before .before .before .before .args .at) (Close (g .0 .0)) = subst (NextTag (c .before .before .before .before .args .text .now) (c .before .before .before .before .args .at)) (g .1) (c .before .before .next-tag .ensures) in
+    let t = subst (NextTag (c .before .before .before .before .args .text .now) (c .before .before .before .before .args .at)) (g .1) (c .before .before .next-tag .ensures) in
     row-close t
 
 returns-3 : tie.Need-returns-3
 returns-3 c =
     let g = c .before .before .n .given in
-    let t : NextTag (c .before .before .before .before .before .before .args .text .now) (c .before .before .before .before .before .before .args .at) (Open (g .0 .0)) = subst (NextTag (c .before .before .before .before .before .before .args .text .now) (c .before .before .before .before .before .before .args .at)) (g .1) (c .before .before .before .before .next-tag .ensures) in
+    let t = subst (NextTag (c .before .before .before .before .before .before .args .text .now) (c .before .before .before .before .before .before .args .at)) (g .1) (c .before .before .before .before .next-tag .ensures) in
     first-open t (c .leave .ensures)
 
 returns-4 : tie.Need-returns-4
 returns-4 c =
     let g = c .before .n2 .given in
-    let t : NextTag (c .before .before .before .before .before .args .text .now) (c .before .before .before .before .before .args .at) (Empty (g .0 .0)) = subst (NextTag (c .before .before .before .before .before .args .text .now) (c .before .before .before .before .before .args .at)) (g .1) (c .before .before .before .next-tag .ensures) in
+    let t = subst (NextTag (c .before .before .before .before .before .args .text .now) (c .before .before .before .before .before .args .at)) (g .1) (c .before .before .before .next-tag .ensures) in
     first-empty t
 
 pub next-child-spec : {M : Type 1} → statement M

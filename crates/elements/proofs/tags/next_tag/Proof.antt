@@ -3,7 +3,7 @@ use mathlib.Core.Path.{ap, _∙_}
 use mathlib.Core.Logic.{⊎-elim}
 use Prim.Native.Nat.{_+_}
 use Rattle.xml.specs.Tree.{Rest}
-use Rattle.elements.proofs.Left.{left-end, left-none, left-put, put-closed, put-alone, put-opened, no-slash}
+use Rattle.elements.proofs.Left.{left-end, none-next, close-next, empty-next, open-next, no-slash}
 use borrow.Author.Needs.{needs}
 use Rattle.elements.proofs.tags.next_tag.Statement.{statement}
 use Rattle.elements.proofs.tags.next_tag.Tie as tie
@@ -15,10 +15,7 @@ find-requires : tie.Need-find-requires
 find-requires c κs = search needs
 
 returns-2 : tie.Need-returns-2
-returns-2 c =
-    let a = c .before .before .before .before .args in
-    let f = c .before .find in
-    record { left = left-none (a .text .now) (a .at) (f .result) (f .ensures) (search needs); kind = tt; place = tt }
+returns-2 c = none-next (c .before .before .before .before .args .text .now) (c .before .before .before .before .args .at) (c .before .find .result) (c .before .find .ensures) (c .if2 .taken)
 
 add-n : tie.Need-add-n
 add-n c = search needs
@@ -27,41 +24,24 @@ shared-slice-read-if4 : tie.Need-shared-slice-read-if4
 shared-slice-read-if4 c = search needs
 
 returns-3 : tie.Need-returns-3
-returns-3 c =
-    let a = c .before .before .before .before .before .before .before .args in
-    let f = c .before .before .before .before .find in
-    record {
-      left = left-put (a .text .now) (a .at) (f .result) (f .ensures) (search needs) ∙ put-closed (a .text .now) (f .result + 1) _ (c .if4 .taken);
-      kind = tt;
-      place = search needs;
-    }
+returns-3 c = close-next (c .before .before .before .before .before .before .before .args .text .now) (c .before .before .before .before .before .before .before .args .at) (c .before .before .before .before .find .result) (c .before .before .before .before .find .ensures) (c .before .before .before .if2 .left) (c .if4 .taken)
 
 tag-end-requires : tie.Need-tag-end-requires
 tag-end-requires c κs = search needs
 
 returns-4 : tie.Need-returns-4
 returns-4 c =
-    let a = c .before .before .before .before .before .before .before .args in
-    let f = c .before .before .before .before .find in
+    let s = c .before .before .before .before .before .before .before .args .text .now in
     let e = ap (λ (r : Rest). r .empty) (c .before .tag-end .ensures .0) ∙ c .if5 .taken in
-    let k = ⊎-elim (λ w. w .2 .left) (λ w. no-slash (a .text .now) (f .result + 1) (w .left)) (c .before .before .if3 .came) in
-    record {
-      left = left-put (a .text .now) (a .at) (f .result) (f .ensures) (search needs) ∙ put-alone (a .text .now) (f .result + 1) _ k e;
-      kind = e;
-      place = search needs;
-    }
+    let k = ⊎-elim (λ w. w .2 .left) (λ w. no-slash s (c .before .before .before .before .find .result + 1) (w .left)) (c .before .before .if3 .came) in
+    empty-next s (c .before .before .before .before .before .before .before .args .at) (c .before .before .before .before .find .result) (c .before .before .before .before .find .ensures) (c .before .before .before .if2 .left) k e
 
 returns-5 : tie.Need-returns-5
 returns-5 c =
-    let a = c .before .before .before .before .before .before .before .args in
-    let f = c .before .before .before .before .find in
+    let s = c .before .before .before .before .before .before .before .args .text .now in
     let e = ap (λ (r : Rest). r .empty) (c .before .tag-end .ensures .0) ∙ c .if5 .left in
-    let k = ⊎-elim (λ w. w .2 .left) (λ w. no-slash (a .text .now) (f .result + 1) (w .left)) (c .before .before .if3 .came) in
-    record {
-      left = left-put (a .text .now) (a .at) (f .result) (f .ensures) (search needs) ∙ put-opened (a .text .now) (f .result + 1) _ k e;
-      kind = e;
-      place = search needs;
-    }
+    let k = ⊎-elim (λ w. w .2 .left) (λ w. no-slash s (c .before .before .before .before .find .result + 1) (w .left)) (c .before .before .if3 .came) in
+    open-next s (c .before .before .before .before .before .before .before .args .at) (c .before .before .before .before .find .result) (c .before .before .before .before .find .ensures) (c .before .before .before .if2 .left) k e
 
 pub next-tag-spec : {M : Type 1} → statement M
 next-tag-spec =

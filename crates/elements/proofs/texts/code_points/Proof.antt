@@ -3,7 +3,6 @@ use Prim.Native.Nat.{_+_, _-_, _≤_}
 use mathlib.Core.Path.{_≡_, ap, subst}
 use native.Mathlib.Omega.{arith}
 use lib.ListN.{length, drop}
-use Rattle.elements.specs.declared.texts.Spelled.the-variants.{End, Byte}
 use Rattle.elements.specs.Decoded.{decoded, codePoints, NextByte}
 use borrow.Author.Needs.{needs}
 use Rattle.elements.proofs.texts.code_points.Statement.{statement}
@@ -29,7 +28,7 @@ unfolding codePoints
 returns c =
     let s = c .before .before .before .before .before .args .raw .now in
     let l = c .before .before .before .loop in
-    let e : NextByte s (l .i) End = subst (NextByte s (l .i)) (c .enum-told .given .1) (c .before .before .next-byte .ensures) in
+    let e = subst (NextByte s (l .i)) (c .enum-told .given .1) (c .before .before .next-byte .ensures) in
     omega (arith, ap codePoints e)
 
 enum-known-b : tie.Need-enum-known-b Inv-loop μ-loop
@@ -46,7 +45,7 @@ loop-less c =
     let s = c .before .before .before .before .before .before .before .args .raw .now in
     let l = c .before .before .before .before .before .loop in
     let g = c .before .before .b .given in
-    let m : NextByte s (l .i) (Byte (g .0 .0) (g .0 .1 .0)) = subst (NextByte s (l .i)) (g .1) (c .before .before .before .before .next-byte .ensures) in
+    let m = subst (NextByte s (l .i)) (g .1) (c .before .before .before .before .next-byte .ensures) in
     omega (arith, m .place)
 
 loop-again : tie.Need-loop-again Inv-loop μ-loop
@@ -55,7 +54,7 @@ loop-again c =
     let s = c .before .before .before .before .before .before .before .args .raw .now in
     let l = c .before .before .before .before .before .loop in
     let g = c .before .before .b .given in
-    let m : NextByte s (l .i) (Byte (g .0 .0) (g .0 .1 .0)) = subst (NextByte s (l .i)) (g .1) (c .before .before .before .before .next-byte .ensures) in
+    let m = subst (NextByte s (l .i)) (g .1) (c .before .before .before .before .next-byte .ensures) in
     (omega (arith, m .place, c .begun .ensures .1), m .place .1, omega (arith, ap codePoints (m .bytes), c .begun .ensures .0))
 
 pub code-points-spec : {M : Type 1} → statement M

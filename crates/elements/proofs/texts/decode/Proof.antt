@@ -7,7 +7,6 @@ use lib.ListN.{length, drop, length-set}
 use Rattle.slices.specs.Slices.{written}
 use Rattle.slices.proofs.Writing.{written-nil}
 use Rattle.slices.proofs.Writers.{puts-short, puts-whole}
-use Rattle.elements.specs.declared.texts.Spelled.the-variants.{End, Byte}
 use Rattle.elements.specs.Decoded.{decoded, NextByte}
 use Rattle.elements.proofs.Meanings.{written-on}
 use borrow.Author.Needs.{needs}
@@ -50,7 +49,7 @@ returns-3 : tie.Need-returns-3 Inv-loop μ-loop
 returns-3 c =
     let a = c .before .before .before .before .before .before .before .before .before .args in
     let l = c .before .before .before .loop in
-    let e : NextByte (a .raw .now) (l .i) End = subst (NextByte (a .raw .now) (l .i)) (c .enum-told .given .1) (c .before .before .next-byte .ensures) in
+    let e = subst (NextByte (a .raw .now) (l .i)) (c .enum-told .given .1) (c .before .before .next-byte .ensures) in
     puts-whole (a .at) (decoded (a .raw .now)) (a .out .now) (l .out) (l .k) (l .inv .3) (omega (arith, ap length e))
     (sym (written-nil (l .k) (l .out)) ∙ ap (λ (w : List ℕ). written (l .k) w (l .out)) (sym e) ∙ l .inv .4)
 
@@ -62,7 +61,7 @@ slice-write-out c =
     let s = c .before .before .before .before .before .before .before .before .before .before .args .raw .now in
     let l = c .before .before .before .before .loop in
     let g = c .before .b .given in
-    let m : NextByte s (l .i) (Byte (g .0 .0) (g .0 .1 .0)) = subst (NextByte s (l .i)) (g .1) (c .before .before .before .next-byte .ensures) in
+    let m = subst (NextByte s (l .i)) (g .1) (c .before .before .before .next-byte .ensures) in
     omega (arith, ap length (m .bytes))
 
 add-k : tie.Need-add-k Inv-loop μ-loop
@@ -70,7 +69,7 @@ add-k c =
     let s = c .before .before .before .before .before .before .before .before .before .before .args .raw .now in
     let l = c .before .before .before .before .loop in
     let g = c .before .b .given in
-    let m : NextByte s (l .i) (Byte (g .0 .0) (g .0 .1 .0)) = subst (NextByte s (l .i)) (g .1) (c .before .before .before .next-byte .ensures) in
+    let m = subst (NextByte s (l .i)) (g .1) (c .before .before .before .next-byte .ensures) in
     omega (arith, ap length (m .bytes))
 
 loop-less : tie.Need-loop-less Inv-loop μ-loop
@@ -78,7 +77,7 @@ loop-less c =
     let s = c .before .before .before .before .before .before .before .before .before .before .args .raw .now in
     let l = c .before .before .before .before .loop in
     let g = c .before .b .given in
-    let m : NextByte s (l .i) (Byte (g .0 .0) (g .0 .1 .0)) = subst (NextByte s (l .i)) (g .1) (c .before .before .before .next-byte .ensures) in
+    let m = subst (NextByte s (l .i)) (g .1) (c .before .before .before .next-byte .ensures) in
     omega (arith, m .place)
 
 loop-again : tie.Need-loop-again Inv-loop μ-loop
@@ -86,7 +85,7 @@ loop-again c =
     let s = c .before .before .before .before .before .before .before .before .before .before .args .raw .now in
     let l = c .before .before .before .before .loop in
     let g = c .before .b .given in
-    let m : NextByte s (l .i) (Byte (g .0 .0) (g .0 .1 .0)) = subst (NextByte s (l .i)) (g .1) (c .before .before .before .next-byte .ensures) in (
+    let m = subst (NextByte s (l .i)) (g .1) (c .before .before .before .next-byte .ensures) in (
       m .place .1,
       simp length-set (l .inv .1),
       omega (arith, ap length (m .bytes)),

@@ -4,7 +4,6 @@ use mathlib.Core.Path.{_≡_, refl, ap, sym, _∙_, subst}
 use mathlib.Core.List.{List, _∷_}
 use native.Mathlib.Omega.{arith}
 use lib.ListN.{length, drop, getD}
-use Rattle.elements.specs.declared.texts.Spelled.the-variants.{End, Byte}
 use Rattle.elements.specs.Decoded.{decoded, NextByte}
 use borrow.Author.Needs.{needs}
 use Rattle.elements.proofs.texts.decoded_byte.Statement.{statement}
@@ -29,7 +28,7 @@ returns : tie.Need-returns Inv-loop μ-loop
 returns c =
     let s = c .before .before .before .before .before .args .raw .now in
     let l = c .before .before .before .loop in
-    let e : NextByte s (l .i) End = subst (NextByte s (l .i)) (c .enum-told .given .1) (c .before .before .next-byte .ensures) in
+    let e = subst (NextByte s (l .i)) (c .enum-told .given .1) (c .before .before .next-byte .ensures) in
     sym (l .inv .1 ∙ ap (λ (w : List ℕ). getD w (l .left) 0) e)
 
 enum-known-b : tie.Need-enum-known-b Inv-loop μ-loop
@@ -40,7 +39,7 @@ returns-2 c =
     let s = c .before .before .before .before .before .before .before .args .raw .now in
     let l = c .before .before .before .before .before .loop in
     let g = c .before .before .b .given in
-    let m : NextByte s (l .i) (Byte (g .0 .0) (g .0 .1 .0)) = subst (NextByte s (l .i)) (g .1) (c .before .before .before .before .next-byte .ensures) in
+    let m = subst (NextByte s (l .i)) (g .1) (c .before .before .before .before .next-byte .ensures) in
     sym (l .inv .1 ∙ ap (λ (w : List ℕ). getD w (l .left) 0) (m .bytes) ∙ ap (λ (k : ℕ). getD (g .0 .0 ∷ decoded (drop (g .0 .1 .0) s)) k 0) (c .if1 .taken))
 
 sub-left : tie.Need-sub-left Inv-loop μ-loop
@@ -51,7 +50,7 @@ loop-less c =
     let s = c .before .before .before .before .before .before .before .args .raw .now in
     let l = c .before .before .before .before .before .loop in
     let g = c .before .before .b .given in
-    let m : NextByte s (l .i) (Byte (g .0 .0) (g .0 .1 .0)) = subst (NextByte s (l .i)) (g .1) (c .before .before .before .before .next-byte .ensures) in
+    let m = subst (NextByte s (l .i)) (g .1) (c .before .before .before .before .next-byte .ensures) in
     omega (arith, m .place)
 
 loop-again : tie.Need-loop-again Inv-loop μ-loop
@@ -59,7 +58,7 @@ loop-again c =
     let s = c .before .before .before .before .before .before .before .args .raw .now in
     let l = c .before .before .before .before .before .loop in
     let g = c .before .before .b .given in
-    let m : NextByte s (l .i) (Byte (g .0 .0) (g .0 .1 .0)) = subst (NextByte s (l .i)) (g .1) (c .before .before .before .before .next-byte .ensures) in
+    let m = subst (NextByte s (l .i)) (g .1) (c .before .before .before .before .next-byte .ensures) in
     let e : l .left ≡ suc (l .left - 1) = omega arith in
     (m .place .1, l .inv .1 ∙ ap (λ (w : List ℕ). getD w (l .left) 0) (m .bytes) ∙ ap (λ (k : ℕ). getD (g .0 .0 ∷ decoded (drop (g .0 .1 .0) s)) k 0) e)
 

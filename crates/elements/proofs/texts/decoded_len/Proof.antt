@@ -3,7 +3,6 @@ use Prim.Native.Nat.{_+_, _-_, _≤_}
 use mathlib.Core.Path.{_≡_, ap, subst}
 use native.Mathlib.Omega.{arith}
 use lib.ListN.{length, drop}
-use Rattle.elements.specs.declared.texts.Spelled.the-variants.{End, Byte}
 use Rattle.elements.specs.Decoded.{decoded, NextByte}
 use borrow.Author.Needs.{needs}
 use Rattle.elements.proofs.texts.decoded_len.Statement.{statement}
@@ -28,7 +27,7 @@ returns : tie.Need-returns Inv-loop μ-loop
 returns c =
     let s = c .before .before .before .before .before .args .raw .now in
     let l = c .before .before .before .loop in
-    let e : NextByte s (l .i) End = subst (NextByte s (l .i)) (c .enum-told .given .1) (c .before .before .next-byte .ensures) in
+    let e = subst (NextByte s (l .i)) (c .enum-told .given .1) (c .before .before .next-byte .ensures) in
     omega (arith, ap length e)
 
 enum-known-next : tie.Need-enum-known-next Inv-loop μ-loop
@@ -42,7 +41,7 @@ loop-less c =
     let s = c .before .before .before .before .before .before .args .raw .now in
     let l = c .before .before .before .before .loop in
     let g = c .before .next .given in
-    let m : NextByte s (l .i) (Byte (g .0 .0) (g .0 .1 .0)) = subst (NextByte s (l .i)) (g .1) (c .before .before .before .next-byte .ensures) in
+    let m = subst (NextByte s (l .i)) (g .1) (c .before .before .before .next-byte .ensures) in
     omega (arith, m .place)
 
 loop-again : tie.Need-loop-again Inv-loop μ-loop
@@ -50,7 +49,7 @@ loop-again c =
     let s = c .before .before .before .before .before .before .args .raw .now in
     let l = c .before .before .before .before .loop in
     let g = c .before .next .given in
-    let m : NextByte s (l .i) (Byte (g .0 .0) (g .0 .1 .0)) = subst (NextByte s (l .i)) (g .1) (c .before .before .before .next-byte .ensures) in
+    let m = subst (NextByte s (l .i)) (g .1) (c .before .before .before .next-byte .ensures) in
     (omega (arith, m .place), m .place .1, omega (arith, ap length (m .bytes)))
 
 pub decoded-len-spec : {M : Type 1} → statement M

@@ -5,7 +5,6 @@ use borrow.Author.Tests.{eq-eqb, ne-eqb}
 use native.Mathlib.Omega.{arith}
 use lib.ListN.{length, drop}
 use Rattle.slices.specs.Slices.{same}
-use Rattle.elements.specs.declared.texts.Spelled.the-variants.{End, Byte}
 use Rattle.elements.specs.Decoded.{decoded, NextByte}
 use borrow.Author.Needs.{needs}
 use Rattle.elements.proofs.texts.same_decoded.Statement.{statement}
@@ -36,8 +35,8 @@ returns : tie.Need-returns Inv-loop μ-loop
 unfolding same
 returns c =
     let l = c .before .before .before .before .before .before .loop in
-    let e : NextByte (c .before .before .before .before .before .before .before .before .before .args .a .now) (l .i) End = subst (NextByte (c .before .before .before .before .before .before .before .before .before .args .a .now) (l .i)) (c .before .before .before .enum-told .given .1) (c .before .before .before .before .before .next-byte .ensures) in
-    let f : NextByte (c .before .before .before .before .before .before .before .before .before .args .b .now) (l .j) End = subst (NextByte (c .before .before .before .before .before .before .before .before .before .args .b .now) (l .j)) (c .enum-told2 .given .1) (c .before .before .next-byte2 .ensures) in
+    let e = subst (NextByte (c .before .before .before .before .before .before .before .before .before .args .a .now) (l .i)) (c .before .before .before .enum-told .given .1) (c .before .before .before .before .before .next-byte .ensures) in
+    let f = subst (NextByte (c .before .before .before .before .before .before .before .before .before .args .b .now) (l .j)) (c .enum-told2 .given .1) (c .before .before .next-byte2 .ensures) in
     sym (l .inv .2 ∙ ap₂ same e f)
 
 enum-told-3 : tie.Need-enum-told-3 Inv-loop μ-loop
@@ -48,8 +47,8 @@ unfolding same
 returns-2 c =
     let l = c .before .before .before .before .before .before .loop in
     let g = c .enum-told3 .given in
-    let e : NextByte (c .before .before .before .before .before .before .before .before .before .args .a .now) (l .i) End = subst (NextByte (c .before .before .before .before .before .before .before .before .before .args .a .now) (l .i)) (c .before .before .before .enum-told .given .1) (c .before .before .before .before .before .next-byte .ensures) in
-    let f : NextByte (c .before .before .before .before .before .before .before .before .before .args .b .now) (l .j) (Byte (g .0 .0) (g .0 .1 .0)) = subst (NextByte (c .before .before .before .before .before .before .before .before .before .args .b .now) (l .j)) (g .1) (c .before .before .next-byte2 .ensures) in
+    let e = subst (NextByte (c .before .before .before .before .before .before .before .before .before .args .a .now) (l .i)) (c .before .before .before .enum-told .given .1) (c .before .before .before .before .before .next-byte .ensures) in
+    let f = subst (NextByte (c .before .before .before .before .before .before .before .before .before .args .b .now) (l .j)) (g .1) (c .before .before .next-byte2 .ensures) in
     sym (l .inv .2 ∙ ap₂ same e (f .bytes))
 
 enum-known-x : tie.Need-enum-known-x Inv-loop μ-loop
@@ -66,8 +65,8 @@ unfolding same
 returns-3 c =
     let l = c .before .before .before .before .before .before .before .loop in
     let g = c .before .before .before .before .x .given in
-    let e : NextByte (c .before .before .before .before .before .before .before .before .before .before .args .a .now) (l .i) (Byte (g .0 .0) (g .0 .1 .0)) = subst (NextByte (c .before .before .before .before .before .before .before .before .before .before .args .a .now) (l .i)) (g .1) (c .before .before .before .before .before .before .next-byte .ensures) in
-    let f : NextByte (c .before .before .before .before .before .before .before .before .before .before .args .b .now) (l .j) End = subst (NextByte (c .before .before .before .before .before .before .before .before .before .before .args .b .now) (l .j)) (c .enum-told4 .given .1) (c .before .before .next-byte3 .ensures) in
+    let e = subst (NextByte (c .before .before .before .before .before .before .before .before .before .before .args .a .now) (l .i)) (g .1) (c .before .before .before .before .before .before .next-byte .ensures) in
+    let f = subst (NextByte (c .before .before .before .before .before .before .before .before .before .before .args .b .now) (l .j)) (c .enum-told4 .given .1) (c .before .before .next-byte3 .ensures) in
     sym (l .inv .2 ∙ ap₂ same (e .bytes) f)
 
 enum-known-y : tie.Need-enum-known-y Inv-loop μ-loop
@@ -79,15 +78,15 @@ returns-4 c =
     let l = c .before .before .before .before .before .before .before .before .before .loop in
     let g = c .before .before .before .before .before .before .x .given in
     let h = c .before .before .y .given in
-    let e : NextByte (c .before .before .before .before .before .before .before .before .before .before .before .before .args .a .now) (l .i) (Byte (g .0 .0) (g .0 .1 .0)) = subst (NextByte (c .before .before .before .before .before .before .before .before .before .before .before .before .args .a .now) (l .i)) (g .1) (c .before .before .before .before .before .before .before .before .next-byte .ensures) in
-    let f : NextByte (c .before .before .before .before .before .before .before .before .before .before .before .before .args .b .now) (l .j) (Byte (h .0 .0) (h .0 .1 .0)) = subst (NextByte (c .before .before .before .before .before .before .before .before .before .before .before .before .args .b .now) (l .j)) (h .1) (c .before .before .before .before .next-byte3 .ensures) in
+    let e = subst (NextByte (c .before .before .before .before .before .before .before .before .before .before .before .before .args .a .now) (l .i)) (g .1) (c .before .before .before .before .before .before .before .before .next-byte .ensures) in
+    let f = subst (NextByte (c .before .before .before .before .before .before .before .before .before .before .before .before .args .b .now) (l .j)) (h .1) (c .before .before .before .before .next-byte3 .ensures) in
     sym (l .inv .2 ∙ ap₂ same (e .bytes) (f .bytes) ∙ rw (ne-eqb _ _ (c .if1 .taken)))
 
 loop-less : tie.Need-loop-less Inv-loop μ-loop
 loop-less c =
     let l = c .before .before .before .before .before .before .before .before .before .loop in
     let g = c .before .before .before .before .before .before .x .given in
-    let e : NextByte (c .before .before .before .before .before .before .before .before .before .before .before .before .args .a .now) (l .i) (Byte (g .0 .0) (g .0 .1 .0)) = subst (NextByte (c .before .before .before .before .before .before .before .before .before .before .before .before .args .a .now) (l .i)) (g .1) (c .before .before .before .before .before .before .before .before .next-byte .ensures) in
+    let e = subst (NextByte (c .before .before .before .before .before .before .before .before .before .before .before .before .args .a .now) (l .i)) (g .1) (c .before .before .before .before .before .before .before .before .next-byte .ensures) in
     omega (arith, e .place)
 
 loop-again : tie.Need-loop-again Inv-loop μ-loop
@@ -96,8 +95,8 @@ loop-again c =
     let l = c .before .before .before .before .before .before .before .before .before .loop in
     let g = c .before .before .before .before .before .before .x .given in
     let h = c .before .before .y .given in
-    let e : NextByte (c .before .before .before .before .before .before .before .before .before .before .before .before .args .a .now) (l .i) (Byte (g .0 .0) (g .0 .1 .0)) = subst (NextByte (c .before .before .before .before .before .before .before .before .before .before .before .before .args .a .now) (l .i)) (g .1) (c .before .before .before .before .before .before .before .before .next-byte .ensures) in
-    let f : NextByte (c .before .before .before .before .before .before .before .before .before .before .before .before .args .b .now) (l .j) (Byte (h .0 .0) (h .0 .1 .0)) = subst (NextByte (c .before .before .before .before .before .before .before .before .before .before .before .before .args .b .now) (l .j)) (h .1) (c .before .before .before .before .next-byte3 .ensures) in
+    let e = subst (NextByte (c .before .before .before .before .before .before .before .before .before .before .before .before .args .a .now) (l .i)) (g .1) (c .before .before .before .before .before .before .before .before .next-byte .ensures) in
+    let f = subst (NextByte (c .before .before .before .before .before .before .before .before .before .before .before .before .args .b .now) (l .j)) (h .1) (c .before .before .before .before .next-byte3 .ensures) in
     (e .place .1, f .place .1, l .inv .2 ∙ ap₂ same (e .bytes) (f .bytes) ∙ rw (eq-eqb _ _ (c .if1 .left)))
 
 pub same-decoded-spec : {M : Type 1} → statement M
