@@ -1,6 +1,7 @@
 -- The XML form: the machine accepts exactly the texts of the grammar; a text has one tree, the one that is read; what holds of that tree; and
 -- where a text leaves the form.
-use mathlib.Core.Path.{_≡_, _∙_, sym}
+use mathlib.Core.Path.{_≡_, refl, _∙_, sym}
+use mathlib.Core.Bool.{true, false≢true}
 use mathlib.Core.List.{List, [], _∷_}
 use mathlib.Core.Logic.{_↔_}
 use Prim.Native.Nat.{ℕ, _-_}
@@ -8,7 +9,7 @@ use lib.ListN.{length}
 use Rattle.xml.specs.Tree.{Head, Forest}
 use Rattle.xml.specs.Grammar.{Document}
 use Rattle.xml.specs.Form.{Reads, LongestFront}
-use Rattle.xml.specs.Machine.{good, broken, form}
+use Rattle.xml.specs.Machine.{Outcome, good, broken, form, isGood, inForm}
 use Rattle.xml.proofs.Fronts.{longest-run}
 use Rattle.xml.proofs.Derived.{form-derives}
 use Rattle.xml.proofs.Accepted.{derived-form}
@@ -18,6 +19,14 @@ use Rattle.xml.proofs.Lawful.{elements-height, elements-lawful}
 -- the machine accepts exactly the texts that the grammar derives
 pub same-form : (s : List ℕ) → (form s ≡ good) ↔ ((f : Forest) × Document f s)
 same-form s = (form-derives s, λ d. derived-form (d .1))
+
+pub in-form : (s : List ℕ) → inForm s ≡ true → form s ≡ good
+unfolding inForm
+in-form s e = go (form s) refl e
+  where
+    go : (o : Outcome) → form s ≡ o → isGood o ≡ true → form s ≡ good
+    go good h g = h
+    go (broken u) h g = absurd (false≢true g)
 
 -- a text has one tree
 pub one-tree : {f g : Forest} {s : List ℕ} → Document f s → Document g s → f ≡ g

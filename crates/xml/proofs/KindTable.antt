@@ -1,47 +1,38 @@
 -- The kinds of bytes: the table has them, by one computed test, and a range of kinds is a class of bytes.
 use mathlib.Core.Path.{_≡_, refl, sym, _∙_}
 use mathlib.Core.Bool.{Bool, true, false, cond}
-use mathlib.Core.List.{List, [], _∷_}
+use mathlib.Core.List.{List}
 use Prim.Native.Nat.{ℕ}
+use native.Mathlib.Omega.{arith}
 use borrow.Author.Tests.{ne-eqb, eq-eqb}
-use lib.Dec.{eqb, eqb→eq}
-use lib.ListN.{getD}
+use lib.Dec.{eqb, T, eqb→eq}
+use lib.ListN.{length, getD}
 use Rattle.slices.specs.Slices.{within}
-use Rattle.slices.proofs.Tables.{at}
+use Rattle.slices.proofs.Tables.{at, passes}
 use Rattle.xml.specs.Bytes.{isSpace, isLetter, isNameByte}
 use Rattle.xml.specs.Scans.{isText, kindOf, ofKind, Kinds}
 use Rattle.xml.proofs.Classes.{space-no-name, letter-no-space, letter-name, name-text, space-text}
 
-unfoldable pub table : List ℕ
-table =
-    4 ∷ 4 ∷ 4 ∷ 4 ∷ 4 ∷ 4 ∷ 4 ∷ 4 ∷ 4 ∷ 3 ∷ 3 ∷ 4 ∷ 4 ∷ 3 ∷ 4 ∷ 4 ∷ 4 ∷ 4 ∷ 4 ∷ 4 ∷ 4 ∷ 4 ∷ 4 ∷ 4 ∷ 4 ∷ 4 ∷ 4 ∷ 4 ∷ 4 ∷ 4 ∷ 4 ∷ 4
-    ∷ 3 ∷ 2 ∷ 2 ∷ 2 ∷ 2 ∷ 2 ∷ 4 ∷ 2 ∷ 2 ∷ 2 ∷ 2 ∷ 2 ∷ 2 ∷ 1 ∷ 1 ∷ 2 ∷ 1 ∷ 1 ∷ 1 ∷ 1 ∷ 1 ∷ 1 ∷ 1 ∷ 1 ∷ 1 ∷ 1 ∷ 2 ∷ 2 ∷ 4 ∷ 2 ∷ 4 ∷ 2
-    ∷ 2 ∷ 0 ∷ 0 ∷ 0 ∷ 0 ∷ 0 ∷ 0 ∷ 0 ∷ 0 ∷ 0 ∷ 0 ∷ 0 ∷ 0 ∷ 0 ∷ 0 ∷ 0 ∷ 0 ∷ 0 ∷ 0 ∷ 0 ∷ 0 ∷ 0 ∷ 0 ∷ 0 ∷ 0 ∷ 0 ∷ 0 ∷ 2 ∷ 2 ∷ 4 ∷ 2 ∷ 1
-    ∷ 2 ∷ 0 ∷ 0 ∷ 0 ∷ 0 ∷ 0 ∷ 0 ∷ 0 ∷ 0 ∷ 0 ∷ 0 ∷ 0 ∷ 0 ∷ 0 ∷ 0 ∷ 0 ∷ 0 ∷ 0 ∷ 0 ∷ 0 ∷ 0 ∷ 0 ∷ 0 ∷ 0 ∷ 0 ∷ 0 ∷ 0 ∷ 2 ∷ 2 ∷ 2 ∷ 2 ∷ 2
-    ∷ 4 ∷ 4 ∷ 4 ∷ 4 ∷ 4 ∷ 4 ∷ 4 ∷ 4 ∷ 4 ∷ 4 ∷ 4 ∷ 4 ∷ 4 ∷ 4 ∷ 4 ∷ 4 ∷ 4 ∷ 4 ∷ 4 ∷ 4 ∷ 4 ∷ 4 ∷ 4 ∷ 4 ∷ 4 ∷ 4 ∷ 4 ∷ 4 ∷ 4 ∷ 4 ∷ 4 ∷ 4
-    ∷ 4 ∷ 4 ∷ 4 ∷ 4 ∷ 4 ∷ 4 ∷ 4 ∷ 4 ∷ 4 ∷ 4 ∷ 4 ∷ 4 ∷ 4 ∷ 4 ∷ 4 ∷ 4 ∷ 4 ∷ 4 ∷ 4 ∷ 4 ∷ 4 ∷ 4 ∷ 4 ∷ 4 ∷ 4 ∷ 4 ∷ 4 ∷ 4 ∷ 4 ∷ 4 ∷ 4 ∷ 4
-    ∷ 4 ∷ 4 ∷ 4 ∷ 4 ∷ 4 ∷ 4 ∷ 4 ∷ 4 ∷ 4 ∷ 4 ∷ 4 ∷ 4 ∷ 4 ∷ 4 ∷ 4 ∷ 4 ∷ 4 ∷ 4 ∷ 4 ∷ 4 ∷ 4 ∷ 4 ∷ 4 ∷ 4 ∷ 4 ∷ 4 ∷ 4 ∷ 4 ∷ 4 ∷ 4 ∷ 4 ∷ 4
-    ∷ 4 ∷ 4 ∷ 4 ∷ 4 ∷ 4 ∷ 4 ∷ 4 ∷ 4 ∷ 4 ∷ 4 ∷ 4 ∷ 4 ∷ 4 ∷ 4 ∷ 4 ∷ 4 ∷ 4 ∷ 4 ∷ 4 ∷ 4 ∷ 4 ∷ 4 ∷ 4 ∷ 4 ∷ 4 ∷ 4 ∷ 4 ∷ 4 ∷ 4 ∷ 4 ∷ 4 ∷ 4 ∷ []
-
-unfoldable right : ℕ → ℕ → Bool
+-- the entry k of the byte b is its kind
+unfoldable pub right : ℕ → ℕ → Bool
 right b k = eqb k (kindOf b)
 
-pub table-kinds : Kinds table
-unfolding table right kindOf isText isSpace isLetter isNameByte
-table-kinds = record { each = λ b h. eqb→eq (getD table b 0) (kindOf b) (at right table tt b h) }
+pub table-kinds : (ks : List ℕ) → length ks ≡ 256 → T (passes right 0 ks) → Kinds ks
+unfolding right
+table-kinds ks l t = record { each = λ b h. eqb→eq (getD ks b 0) (kindOf b) (at right ks t b (omega arith)) }
 
 -- by the answers l, n, s and t to the four tests of `kindOf`
 abbrev pick : Bool → Bool → Bool → Bool → ℕ
-pick l n s t = cond l 0 (cond n 1 (cond s 3 (cond t 2 4)))
+pick l n s t = cond l 97 (cond n 98 (cond s 100 (cond t 99 101)))
 
-names : (l n s t : Bool) → (l ≡ true → n ≡ true) → within 0 1 (pick l n s t) ≡ n
+names : (l n s t : Bool) → (l ≡ true → n ≡ true) → within 97 98 (pick l n s t) ≡ n
 names true n s t h = sym (h refl)
 names false true s t h = refl
 names false false true t h = refl
 names false false false true h = refl
 names false false false false h = refl
 
-spaces : (l n s t : Bool) → (s ≡ true → n ≡ false) → (l ≡ true → s ≡ false) → within 3 3 (pick l n s t) ≡ s
+spaces : (l n s t : Bool) → (s ≡ true → n ≡ false) → (l ≡ true → s ≡ false) → within 100 100 (pick l n s t) ≡ s
 spaces true n s t h g = sym (g refl)
 spaces false true true t h g = sym (h refl)
 spaces false true false t h g = refl
@@ -49,40 +40,40 @@ spaces false false true t h g = refl
 spaces false false false true h g = refl
 spaces false false false false h g = refl
 
-texts : (l n s t : Bool) → (l ≡ true → n ≡ true) → (n ≡ true → t ≡ true) → (s ≡ true → t ≡ true) → within 0 3 (pick l n s t) ≡ t
+texts : (l n s t : Bool) → (l ≡ true → n ≡ true) → (n ≡ true → t ≡ true) → (s ≡ true → t ≡ true) → within 97 100 (pick l n s t) ≡ t
 texts true n s t h g k = sym (g (h refl))
 texts false true s t h g k = sym (g refl)
 texts false false true t h g k = sym (k refl)
 texts false false false true h g k = refl
 texts false false false false h g k = refl
 
-letters : (l n s t : Bool) → eqb (pick l n s t) 0 ≡ l
+letters : (l n s t : Bool) → eqb (pick l n s t) 97 ≡ l
 letters true n s t = refl
 letters false true s t = refl
 letters false false true t = refl
 letters false false false true = refl
 letters false false false false = refl
 
-pub kind-name : (b : ℕ) → ofKind 0 1 b ≡ isNameByte b
+pub kind-name : (b : ℕ) → ofKind 97 98 b ≡ isNameByte b
 unfolding kindOf
 kind-name b = names (isLetter b) (isNameByte b) (isSpace b) (isText b) (letter-name b)
 
-pub kind-space : (b : ℕ) → ofKind 3 3 b ≡ isSpace b
+pub kind-space : (b : ℕ) → ofKind 100 100 b ≡ isSpace b
 unfolding kindOf
 kind-space b = spaces (isLetter b) (isNameByte b) (isSpace b) (isText b) (space-no-name b) (letter-no-space b)
 
-pub kind-text : (b : ℕ) → ofKind 0 3 b ≡ isText b
+pub kind-text : (b : ℕ) → ofKind 97 100 b ≡ isText b
 unfolding kindOf
 kind-text b = texts (isLetter b) (isNameByte b) (isSpace b) (isText b) (letter-name b) (name-text b) (space-text b)
 
-pub kind-letter : (b : ℕ) → eqb (kindOf b) 0 ≡ isLetter b
+pub kind-letter : (b : ℕ) → eqb (kindOf b) 97 ≡ isLetter b
 unfolding kindOf
 kind-letter b = letters (isLetter b) (isNameByte b) (isSpace b) (isText b)
 
 -- what the kind k of the byte b says
 module _ (k b : ℕ) (e : k ≡ kindOf b) where
-  pub no-letter : (k ≡ 0 → ⊥) → isLetter b ≡ false
-  no-letter h = sym (kind-letter b) ∙ ne-eqb (kindOf b) 0 (λ z. h (e ∙ z))
+  pub no-letter : (k ≡ 97 → ⊥) → isLetter b ≡ false
+  no-letter h = sym (kind-letter b) ∙ ne-eqb (kindOf b) 97 (λ z. h (e ∙ z))
 
-  pub a-letter : k ≡ 0 → isLetter b ≡ true
-  a-letter h = sym (kind-letter b) ∙ eq-eqb (kindOf b) 0 (sym e ∙ h)
+  pub a-letter : k ≡ 97 → isLetter b ≡ true
+  a-letter h = sym (kind-letter b) ∙ eq-eqb (kindOf b) 97 (sym e ∙ h)

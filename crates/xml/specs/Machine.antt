@@ -5,6 +5,8 @@ use mathlib.Core.List.{List, [], _∷_, _++_}
 use Prim.Native.Nat.{ℕ, suc, _+_, _-_, min}
 use lib.ListN.{length}
 use lib.Dec.{leb, ltb, eqb}
+use Rattle.refusals.specs.Refusals.{Answer, require}
+use Rattle.refusals.specs.declared.Refusal.the-variants.{Form}
 use Rattle.xml.specs.Bytes.{isSpace, isLetter, isNameByte, declaration}
 use Rattle.xml.specs.declared.Checked.{Checked}
 use Rattle.xml.specs.declared.Checked.the-variants.{Good, Broken}
@@ -168,6 +170,18 @@ start = at (word before declaration) []
 -- what becomes of a whole text
 unfoldable pub form : List ℕ → Outcome
 form s = run start s
+
+abbrev pub isGood : Outcome → Bool
+isGood good = true
+isGood (broken u) = false
+
+unfoldable pub inForm : List ℕ → Bool
+inForm s = isGood (form s)
+
+module _ {A : Type 0} where
+  -- refused 4 where the text is not in the form; else what follows
+  abbrev pub requireForm : List ℕ → Answer A → Answer A
+  requireForm s next = require (inForm s) Form next
 
 -- the outcome that `check` answers
 abbrev pub outcomeOf : Checked → Outcome

@@ -19,9 +19,9 @@ use Rattle.xml.specs.declared.Turn.{Turn}
 unfoldable pub isText : ℕ → Bool
 isText b = isSpace b || (within 32 127 b && not (eqb b 60 || eqb b 38 || eqb b 62 || eqb b 93))
 
--- 0 a letter, 1 another byte of a name, 3 white space, 2 another byte of text, 4 any other byte
+-- `a` a letter, `b` another byte of a name, `c` another byte of text, `d` white space, `e` any other byte
 unfoldable pub kindOf : ℕ → ℕ
-kindOf b = cond (isLetter b) 0 (cond (isNameByte b) 1 (cond (isSpace b) 3 (cond (isText b) 2 4)))
+kindOf b = cond (isLetter b) 97 (cond (isNameByte b) 98 (cond (isSpace b) 100 (cond (isText b) 99 101)))
 
 abbrev pub ofKind : ℕ → ℕ → ℕ → Bool
 ofKind lo hi b = within lo hi (kindOf b)

@@ -65,22 +65,22 @@ fn read_tag(
     }
 }
 
-// The content of the element at depth d whose name is from start to end, up to the end of its next tag; it has children already or not.
+// The content of the element at this depth whose name is from start to end, up to the end of its next tag; it has children already or not.
 fn next_tag(
     text: &[u8],
     from: usize,
     children: bool,
-    d: usize,
+    depth: usize,
     start: usize,
     end: usize,
     kinds: &[u8; 256],
 ) -> Turn
     requires { ⌜ (from ≤ length (now text)) × (start ≤ end) × (end ≤ length (now text)) × Kinds (now kinds) ⌝ }
-    ensures { λ r. ⌜ Turns (now (text .entry)) from (part (now (text .entry)) start end) (ltb d 64) (at (content (held children))) (λ ns. suc (length ns) ≡ d) r ⌝ }
+    ensures { λ r. ⌜ Turns (now (text .entry)) from (part (now (text .entry)) start end) (ltb depth 64) (at (content (held children))) (λ ns. suc (length ns) ≡ depth) r ⌝ }
 {
     let i = past_spaces(text, from, kinds);
     if byte(text, i) == b'<' {
-        return read_tag(text, i + 1, d < 64, start, end, kinds);
+        return read_tag(text, i + 1, depth < 64, start, end, kinds);
     }
     if children {
         return Turn::Broken(text.len() - i);
@@ -112,15 +112,23 @@ fn elements(text: &[u8], from: usize, start: usize, end: usize, kinds: &[u8; 256
     let mut ends = [0usize; 64];
     starts[0] = start;
     ends[0] = end;
-    let mut d: usize = 1;
+    let mut depth: usize = 1;
     let mut i = from;
     let mut children = false;
     while i < text.len() {
-        match next_tag(text, i, children, d, starts[d - 1], ends[d - 1], kinds) {
+        match next_tag(
+            text,
+            i,
+            children,
+            depth,
+            starts[depth - 1],
+            ends[depth - 1],
+            kinds,
+        ) {
             Turn::Opened(s, e, j) => {
-                starts[d] = s;
-                ends[d] = e;
-                d += 1;
+                starts[depth] = s;
+                ends[depth] = e;
+                depth += 1;
                 children = false;
                 i = j;
             }
@@ -129,10 +137,10 @@ fn elements(text: &[u8], from: usize, start: usize, end: usize, kinds: &[u8; 256
                 i = j;
             }
             Turn::Outside(j) => {
-                if d == 1 {
+                if depth == 1 {
                     return finish(text, j, kinds);
                 }
-                d -= 1;
+                depth -= 1;
                 children = true;
                 i = j;
             }

@@ -85,7 +85,7 @@ fn tag_end(text: &[u8], from: usize, kinds: &[u8; 256]) -> Tag
     ensures { λ r. ⌜ Tags (now (text .entry)) from (at tag) r ⌝ }
 {
     let i = past_spaces(text, from, kinds);
-    if kind(byte(text, i), kinds) != 0 {
+    if kind(byte(text, i), kinds) != b'a' {
         return close(text, i);
     }
     match attribute_end(text, i + 1, kinds) {
@@ -106,7 +106,7 @@ pub(crate) fn start_tag(text: &[u8], from: usize, kinds: &[u8; 256]) -> Start
     requires { ⌜ (from ≤ length (now text)) × Kinds (now kinds) ⌝ }
     ensures { λ r. ⌜ Starts (now (text .entry)) from r ⌝ }
 {
-    if kind(byte(text, from), kinds) != 0 {
+    if kind(byte(text, from), kinds) != b'a' {
         return Start::Broken(text.len() - from);
     }
     let e = past_name(text, from, kinds);

@@ -1,11 +1,11 @@
 -- `check` meets its contract: the declaration, and then the root.
-use mathlib.Core.Path.{ap, _∙_, sym}
+use mathlib.Core.Path.{refl, ap, _∙_, sym}
 use mathlib.Core.List.{[]}
 use borrow.Author.Needs.{needs}
-use Rattle.xml.specs.Bytes.{declaration}
+use Rattle.xml.specs.Bytes.{isSpace, isLetter, isNameByte, declaration}
 use Rattle.xml.specs.Machine.{before, at, reads, form}
-use Rattle.xml.specs.Scans.{goesOn}
-use Rattle.xml.proofs.KindTable.{table, table-kinds}
+use Rattle.xml.specs.Scans.{isText, kindOf, goesOn}
+use Rattle.xml.proofs.KindTable.{right, table-kinds}
 use Rattle.xml.proofs.Scanned.{scan-bounds}
 use Rattle.xml.proofs.check.Statement.{statement}
 use Rattle.xml.proofs.check.Tie as tie
@@ -20,10 +20,10 @@ enum-known-j : tie.Need-enum-known-j
 enum-known-j c = search needs
 
 root-requires : tie.Need-root-requires
-unfolding table
+unfolding right kindOf isText isSpace isLetter isNameByte
 root-requires c κs =
     let b = scan-bounds (c .before .before .j .given .0 .0) (c .before .before .before .before .word-end .ensures before) (c .before .before .j .given .1) in
-    (b .1, table-kinds)
+    (b .1, table-kinds _ refl tt)
 
 enum-known-u : tie.Need-enum-known-u
 enum-known-u c = search needs

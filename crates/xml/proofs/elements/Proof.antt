@@ -13,10 +13,10 @@ use Rattle.xml.proofs.elements.Statement.{statement}
 use Rattle.xml.proofs.elements.Tie as tie
 
 abbrev Inv-loop : tie.InvT-loop
-Inv-loop text from start end kinds starts₀ ends₀ d₀ i₀ children₀ starts ends d i children = Stands text (run (at (content blank) (part text start end ∷ [])) (drop from text)) starts ends d i children
+Inv-loop text from start end kinds starts₀ ends₀ depth₀ i₀ children₀ starts ends depth i children = Stands text (run (at (content blank) (part text start end ∷ [])) (drop from text)) starts ends depth i children
 
 abbrev μ-loop : tie.MeasureT-loop
-μ-loop text from start end kinds starts₀ ends₀ d₀ i₀ children₀ starts ends d i children = length text - i
+μ-loop text from start end kinds starts₀ ends₀ depth₀ i₀ children₀ starts ends depth i children = length text - i
 
 array-write-starts : tie.Need-array-write-starts Inv-loop μ-loop
 array-write-starts c = search needs
@@ -48,7 +48,7 @@ array-read-next-tag-2 c = let l = c .before .loop .inv in search needs
 next-tag-requires : tie.Need-next-tag-requires Inv-loop μ-loop
 next-tag-requires c κs =
     let l = c .before .loop .inv in
-    let n = l .named (c .before .loop .d - 1) (search needs) in
+    let n = l .named (c .before .loop .depth - 1) (search needs) in
     (search needs, n .ordered, n .inside, c .before .before .before .pre .3)
 
 enum-known-s : tie.Need-enum-known-s Inv-loop μ-loop
@@ -78,8 +78,8 @@ array-write-ends-2 c =
     let l = c .before .before .before .before .before .loop .inv in
     search needs
 
-add-d : tie.Need-add-d Inv-loop μ-loop
-add-d c =
+add-depth : tie.Need-add-depth Inv-loop μ-loop
+add-depth c =
     let b = opened-below (c .before .before .before .before .before .loop .inv) (c .before .before .before .next-tag .ensures) (c .before .s .given .0 .0) (c .before .s .given .0 .1 .0) (c .before .s .given .0 .1 .1 .0) (c .before .s .given .1) in
     let l = c .before .before .before .before .before .loop .inv in
     search needs
@@ -115,8 +115,8 @@ finish-requires c κs =
 returns : tie.Need-returns Inv-loop μ-loop
 returns c = c .finish .ensures ∙ sym (root-ended (c .before .before .before .before .before .before .before .loop .inv) (c .before .before .before .before .before .next-tag .ensures) (c .before .before .before .j2 .given .0 .0) (c .before .before .before .j2 .given .1) (c .before .if1 .taken))
 
-sub-d : tie.Need-sub-d Inv-loop μ-loop
-sub-d c = let l = c .before .before .before .before .before .before .loop .inv in search needs
+sub-depth : tie.Need-sub-depth Inv-loop μ-loop
+sub-depth c = let l = c .before .before .before .before .before .before .loop .inv in search needs
 
 loop-less-3 : tie.Need-loop-less-3 Inv-loop μ-loop
 loop-less-3 c =
@@ -162,7 +162,7 @@ elements-spec =
     array-write-starts-2
     mul-ends
     array-write-ends-2
-    add-d
+    add-depth
     loop-less
     loop-again
     enum-known-j
@@ -171,7 +171,7 @@ elements-spec =
     enum-known-j-2
     finish-requires
     returns
-    sub-d
+    sub-depth
     loop-less-3
     loop-again-3
     enum-known-u

@@ -44,7 +44,7 @@ returns c =
     let i = c .before .before .before .past-spaces .result in
     let e = c .before .before .before .past-spaces .ensures in
     let h = stands t i (c .before .before .byte .result) (c .before .before .byte .ensures) (search needs) in
-    turns-after (ltb (c .before .before .before .before .before .args .d) 64) (i + 1) (λ z. z) (λ ns g. ap (λ (k : ℕ). ltb k 64) g)
+    turns-after (ltb (c .before .before .before .before .before .args .depth) 64) (i + 1) (λ z. z) (λ ns g. ap (λ (k : ℕ). ltb k 64) g)
     (scan-past (held-stay (c .before .before .before .before .before .args .children)) e
     (scan-on (c .before .before .byte .result) (c .before .before .byte .ensures) (search needs) (λ ns. ap (step (content (held (c .before .before .before .before .before .args .children))) ns) (c .before .if1 .taken) ∙ held-opens (c .before .before .before .before .before .args .children) ns) (scan-done (search needs))))
     (c .read-tag .ensures true)
