@@ -1,11 +1,13 @@
 -- Document 01's starred cases (01, Bench examples), each a test of the definitions: one table.
-use mathlib.Core.Bool.{Bool, true, false}
+use mathlib.Core.Bool.{Bool, true, false, _&&_}
 use mathlib.Core.List.{List, [], _∷_}
 use mathlib.Core.Option.{Option, none, some}
 use Prim.Native.Nat.{ℕ}
 use lib.Dec.{eqb}
 use lib.ListN.{length, getElem?, replicate}
+use Rattle.refusals.specs.Refusals.{Answer, refused, answer, shownNumber}
 use Rattle.digits.specs.Decimal.{number}
+use Rattle.extents.specs.Map.{Place, stored, unstored, byteMap}
 use Rattle.tape.specs.Tape.{Tape, Element, mark, block, list}
 
 -- VOL1, mark, label, mark, mark, one index block, mark; the blocks' bytes don't matter here
@@ -26,6 +28,27 @@ abbrev pub isNone : Option ℕ → Bool
 isNone none = true
 isNone (some n) = false
 
+-- the row (b, 10, 100, 8000, 0), for a file of 9000 bytes and blocks of 4096
+abbrev pub bytesAt : ℕ → Answer Place
+bytesAt p = byteMap (98 ∷ 10 ∷ 100 ∷ 8000 ∷ 0 ∷ []) 9000 4096 p
+
+abbrev pub isStored : ℕ → ℕ → Answer Place → Bool
+isStored k n (refused r) = false
+isStored k n (answer unstored) = false
+isStored k n (answer (stored letter block byte)) = eqb letter 98 && eqb block k && eqb byte n
+
+abbrev pub isUnstored : Answer Place → Bool
+isUnstored (refused r) = false
+isUnstored (answer unstored) = true
+isUnstored (answer (stored letter block byte)) = false
+
+abbrev pub isRefused : ℕ → Answer Place → Bool
+isRefused n a = eqb (shownNumber a) n
+
+-- a row of n bytes from file position p on
+abbrev pub rowOf : ℕ → ℕ → List ℕ → List ℕ
+rowOf p n rest = 98 ∷ 10 ∷ 0 ∷ n ∷ p ∷ rest
+
 unfoldable pub cases : List Bool
 cases =
     -- a fresh partition has 7 elements
@@ -40,4 +63,12 @@ cases =
     ∷ isNone (number (49 ∷ 56 ∷ 52 ∷ 52 ∷ 54 ∷ 55 ∷ 52 ∷ 52 ∷ 48 ∷ 55 ∷ 51 ∷ 55 ∷ 48 ∷ 57 ∷ 53 ∷ 53 ∷ 49 ∷ 54 ∷ 49 ∷ 54 ∷ []))
     -- nor does 007
     ∷ isNone (number (48 ∷ 48 ∷ 55 ∷ []))
+    -- position 3995 is block 10 byte 4095, 3996 is block 11 byte 0, 8000 is an unstored zero, 9000 is refused 2
+    ∷ isStored 10 4095 (bytesAt 3995)
+    ∷ isStored 11 0 (bytesAt 3996)
+    ∷ isUnstored (bytesAt 8000)
+    ∷ isRefused 2 (bytesAt 9000)
+    -- rows of positions 0 to 9 and 10 to 19 are lawful, 0 to 9 and 9 to 18 are 11
+    ∷ isStored 10 0 (byteMap (rowOf 0 10 (rowOf 10 10 [])) 20 4096 0)
+    ∷ isRefused 11 (byteMap (rowOf 0 10 (rowOf 9 10 [])) 20 4096 0)
     ∷ []
