@@ -35,12 +35,12 @@ bytesAt p = byteMap (98 ∷ 10 ∷ 100 ∷ 8000 ∷ 0 ∷ []) 9000 4096 p
 abbrev pub isStored : ℕ → ℕ → Answer Place → Bool
 isStored k n (refused r) = false
 isStored k n (answer unstored) = false
-isStored k n (answer (stored letter block byte)) = eqb letter 98 && eqb block k && eqb byte n
+isStored k n (answer (stored l b m)) = eqb l 98 && eqb b k && eqb m n
 
 abbrev pub isUnstored : Answer Place → Bool
 isUnstored (refused r) = false
 isUnstored (answer unstored) = true
-isUnstored (answer (stored letter block byte)) = false
+isUnstored (answer (stored l b m)) = false
 
 abbrev pub isRefused : ℕ → Answer Place → Bool
 isRefused n a = eqb (shownNumber a) n
