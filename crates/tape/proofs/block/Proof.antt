@@ -1,11 +1,24 @@
 -- `tape::block` meets its contract: the place that is found is the part of the store that holds the block.
-use mathlib.Core.Path.{refl, sym, _∙_, ap}
+use mathlib.Core.Path.{_≡_, refl, sym, _∙_, ap}
 use native.Mathlib.Omega.{arith}
-use Rattle.tape.specs.Answers.{located}
-use Rattle.tape.proofs.Blocks.{holds, shows-part}
+use mathlib.Core.Bool.{cond}
+use Rattle.tape.specs.declared.Located.{Located}
+use Rattle.tape.specs.Answers.{located, blockOf, tapeIn}
+use Rattle.tape.proofs.Blocks.{Holds, holds, shows-part}
 use borrow.Author.Needs.{needs}
 use Rattle.tape.proofs.block.Statement.{statement}
 use Rattle.tape.proofs.block.Tie as tie
+
+-- what the place that was found says
+found : (f : tie.After-find-block) (r : Located) → f .find-block .result ≡ r
+    → (let a = f .before .before .before .before .before .args in
+    Holds (located r) (a .index-store .now) (a .data-store .now)
+    (blockOf (a .index-letter) (a .data-letter) (a .letter) (a .number .0) (tapeIn (a .index-list .now) (a .index-store .now)) (tapeIn (a .data-list .now) (a .data-store .now))))
+found f r e =
+    let a = f .before .before .before .before .before .args in
+    holds (a .index-letter) (a .data-letter) (a .letter) (a .number .0) (a .index-list .now) (a .index-store .now) (a .data-list .now) (a .data-store .now)
+    (λ k. f .before .before .before .before .shared-slice-known .given k .fits) (λ k. f .before .before .shared-slice-known3 .given k .fits) _
+    (ap located (sym e) ∙ f .find-block .ensures)
 
 find-block-requires : tie.Need-find-block-requires
 find-block-requires c κs = search needs
@@ -15,10 +28,7 @@ enum-known-from c = search needs
 
 add-end : tie.Need-add-end
 add-end c =
-    let h =
-    holds (c .before .before .before .before .before .before .before .before .args .index-letter) (c .before .before .before .before .before .before .before .before .args .data-letter) (c .before .before .before .before .before .before .before .before .args .letter) (c .before .before .before .before .before .before .before .before .args .number .0) (c .before .before .before .before .before .before .before .before .args .index-list .now) (c .before .before .before .before .before .before .before .before .args .index-store .now) (c .before .before .before .before .before .before .before .before .args .data-list .now) (c .before .before .before .before .before .before .before .before .args .data-store .now) (λ k. c .before .before .before .before .before .before .before .shared-slice-known .given k .fits) (λ k. c .before .before .before .before .before .shared-slice-known3 .given k .fits) _
-    (ap located (sym (c .before .from .given .1)) ∙ c .before .before .before .find-block .ensures) in
-    let b = h .1 in
+    let b = found (c .before .before .before) _ (c .before .from .given .1) .1 in
     search needs
 
 sub-result : tie.Need-sub-result
@@ -28,21 +38,14 @@ part-result-start : tie.Need-part-result-start
 part-result-start c = search needs
 
 part-result-end : tie.Need-part-result-end
-part-result-end c =
-    let h =
-    holds (c .before .before .before .before .before .before .before .before .args .index-letter) (c .before .before .before .before .before .before .before .before .args .data-letter) (c .before .before .before .before .before .before .before .before .args .letter) (c .before .before .before .before .before .before .before .before .args .number .0) (c .before .before .before .before .before .before .before .before .args .index-list .now) (c .before .before .before .before .before .before .before .before .args .index-store .now) (c .before .before .before .before .before .before .before .before .args .data-list .now) (c .before .before .before .before .before .before .before .before .args .data-store .now) (λ k. c .before .before .before .before .before .before .before .shared-slice-known .given k .fits) (λ k. c .before .before .before .before .before .shared-slice-known3 .given k .fits) _
-    (ap located (sym (c .before .from .given .1)) ∙ c .before .before .before .find-block .ensures) in
-    h .1
+part-result-end c = found (c .before .before .before) _ (c .before .from .given .1) .1
 
 enum-known-from-2 : tie.Need-enum-known-from-2
 enum-known-from-2 c = search needs
 
 add-end-2 : tie.Need-add-end-2
 add-end-2 c =
-    let h =
-    holds (c .before .before .before .before .before .before .before .before .args .index-letter) (c .before .before .before .before .before .before .before .before .args .data-letter) (c .before .before .before .before .before .before .before .before .args .letter) (c .before .before .before .before .before .before .before .before .args .number .0) (c .before .before .before .before .before .before .before .before .args .index-list .now) (c .before .before .before .before .before .before .before .before .args .index-store .now) (c .before .before .before .before .before .before .before .before .args .data-list .now) (c .before .before .before .before .before .before .before .before .args .data-store .now) (λ k. c .before .before .before .before .before .before .before .shared-slice-known .given k .fits) (λ k. c .before .before .before .before .before .shared-slice-known3 .given k .fits) _
-    (ap located (sym (c .before .from2 .given .1)) ∙ c .before .before .before .find-block .ensures) in
-    let b = h .1 in
+    let b = found (c .before .before .before) _ (c .before .from2 .given .1) .1 in
     search needs
 
 sub-result-2 : tie.Need-sub-result-2
@@ -52,11 +55,7 @@ part-result-start-2 : tie.Need-part-result-start-2
 part-result-start-2 c = search needs
 
 part-result-end-2 : tie.Need-part-result-end-2
-part-result-end-2 c =
-    let h =
-    holds (c .before .before .before .before .before .before .before .before .args .index-letter) (c .before .before .before .before .before .before .before .before .args .data-letter) (c .before .before .before .before .before .before .before .before .args .letter) (c .before .before .before .before .before .before .before .before .args .number .0) (c .before .before .before .before .before .before .before .before .args .index-list .now) (c .before .before .before .before .before .before .before .before .args .index-store .now) (c .before .before .before .before .before .before .before .before .args .data-list .now) (c .before .before .before .before .before .before .before .before .args .data-store .now) (λ k. c .before .before .before .before .before .before .before .shared-slice-known .given k .fits) (λ k. c .before .before .before .before .before .shared-slice-known3 .given k .fits) _
-    (ap located (sym (c .before .from2 .given .1)) ∙ c .before .before .before .find-block .ensures) in
-    h .1
+part-result-end-2 c = found (c .before .before .before) _ (c .before .from2 .given .1) .1
 
 enum-known-r : tie.Need-enum-known-r
 enum-known-r c = search needs
@@ -69,24 +68,16 @@ slice-aggregate-result c = search needs
 
 returns : tie.Need-returns
 returns c =
-    let h =
-    holds (c .before .before .before .before .before .before .before .before .before .args .index-letter) (c .before .before .before .before .before .before .before .before .before .args .data-letter) (c .before .before .before .before .before .before .before .before .before .args .letter) (c .before .before .before .before .before .before .before .before .before .args .number .0) (c .before .before .before .before .before .before .before .before .before .args .index-list .now) (c .before .before .before .before .before .before .before .before .before .args .index-store .now) (c .before .before .before .before .before .before .before .before .before .args .data-list .now) (c .before .before .before .before .before .before .before .before .before .args .data-store .now) (λ k. c .before .before .before .before .before .before .before .before .shared-slice-known .given k .fits) (λ k. c .before .before .before .before .before .before .shared-slice-known3 .given k .fits) _
-    (ap located (sym (c .before .before .from .given .1)) ∙ c .before .before .before .before .find-block .ensures) in
-    shows-part (c .before .before .before .before .before .before .before .before .before .args .index-store .now) (c .before .before .from .given .0 .0) (c .before .before .from .given .0 .1 .0) (h .0)
+    let g = c .before .before .from .given in
+    shows-part (c .before .before .before .before .before .before .before .before .before .args .index-store .now) (g .0 .0) (g .0 .1 .0) (found (c .before .before .before .before) _ (g .1) .0)
 
 returns-2 : tie.Need-returns-2
 returns-2 c =
-    let h =
-    holds (c .before .before .before .before .before .before .before .before .before .args .index-letter) (c .before .before .before .before .before .before .before .before .before .args .data-letter) (c .before .before .before .before .before .before .before .before .before .args .letter) (c .before .before .before .before .before .before .before .before .before .args .number .0) (c .before .before .before .before .before .before .before .before .before .args .index-list .now) (c .before .before .before .before .before .before .before .before .before .args .index-store .now) (c .before .before .before .before .before .before .before .before .before .args .data-list .now) (c .before .before .before .before .before .before .before .before .before .args .data-store .now) (λ k. c .before .before .before .before .before .before .before .before .shared-slice-known .given k .fits) (λ k. c .before .before .before .before .before .before .shared-slice-known3 .given k .fits) _
-    (ap located (sym (c .before .before .from2 .given .1)) ∙ c .before .before .before .before .find-block .ensures) in
-    shows-part (c .before .before .before .before .before .before .before .before .before .args .data-store .now) (c .before .before .from2 .given .0 .0) (c .before .before .from2 .given .0 .1 .0) (h .0)
+    let g = c .before .before .from2 .given in
+    shows-part (c .before .before .before .before .before .before .before .before .before .args .data-store .now) (g .0 .0) (g .0 .1 .0) (found (c .before .before .before .before) _ (g .1) .0)
 
 returns-3 : tie.Need-returns-3
-returns-3 c =
-    let h =
-    holds (c .before .before .before .before .before .before .before .before .before .before .args .index-letter) (c .before .before .before .before .before .before .before .before .before .before .args .data-letter) (c .before .before .before .before .before .before .before .before .before .before .args .letter) (c .before .before .before .before .before .before .before .before .before .before .args .number .0) (c .before .before .before .before .before .before .before .before .before .before .args .index-list .now) (c .before .before .before .before .before .before .before .before .before .before .args .index-store .now) (c .before .before .before .before .before .before .before .before .before .before .args .data-list .now) (c .before .before .before .before .before .before .before .before .before .before .args .data-store .now) (λ k. c .before .before .before .before .before .before .before .before .before .shared-slice-known .given k .fits) (λ k. c .before .before .before .before .before .before .before .shared-slice-known3 .given k .fits) _
-    (ap located (sym (c .before .before .before .r .given .1)) ∙ c .before .before .before .before .before .find-block .ensures) in
-    rw h record { part = refl; refusal = c .before .number .ensures }
+returns-3 c = rw (found (c .before .before .before .before .before) _ (c .before .before .before .r .given .1)) record { part = refl; refusal = c .before .number .ensures }
 
 pub block-spec : {M : Type 1} → statement M
 block-spec =

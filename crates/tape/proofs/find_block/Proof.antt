@@ -1,19 +1,57 @@
 -- `tape::find_block` meets its contract: the letters, the two checks, and the spot on the side that the letter picks.
-use mathlib.Core.Path.{sym, _∙_, ap}
-use mathlib.Core.Bool.{true, false}
-use borrow.Author.Tests.{eq-eqb, ne-eqb, not-true, not-false}
-use Rattle.tape.specs.Answers.{counted, tapeIn}
-use Rattle.tape.proofs.Keeping.{present}
-use Rattle.tape.proofs.Blocks.{place-letters, place-index, place-data, place-found}
+use mathlib.Core.Path.{_≡_, sym, _∙_, ap}
+use mathlib.Core.Bool.{Bool, true, false, cond}
+use native.Mathlib.Omega.{arith}
+use lib.Dec.{eqb}
 use borrow.Author.Needs.{needs}
+use borrow.Author.Tests.{eq-eqb, ne-eqb, not-true, not-false}
+use Rattle.tape.specs.declared.Spot.{Spot}
+use Rattle.tape.specs.Walks.{spotBelow}
+use Rattle.tape.specs.Answers.{areLetters, counted, placeOf, tapeIn}
+use Rattle.tape.proofs.Keeping.{Present, present}
+use Rattle.tape.proofs.Blocks.{placeFrom, place-letters, place-index, place-data, place-found}
 use Rattle.tape.proofs.find_block.Statement.{statement}
 use Rattle.tape.proofs.find_block.Tie as tie
+
+-- the letters are lawful
+lettered : (f : tie.Else1) → (let a = f .before .before .before .before .before .before .args in areLetters (a .index-letter) (a .data-letter) (a .letter) ≡ true)
+lettered f = sym (f .before .are-letters .ensures) ∙ not-false (f .before .are-letters .result) (f .if1 .left)
+
+-- the index side is checked
+index-present : (f : tie.After-known-told) → (let a = f .before .before .before .before .before .before .before .before .before .before .args in Present (a .index-list .now) (a .index-store .now) (f .before .index-count .given .0 .0))
+index-present f =
+    let a = f .before .before .before .before .before .before .before .before .before .before .args in
+    let g = f .before .index-count .given in
+    present (a .index-list .now) (a .index-store .now) (g .0 .0) (λ k. f .before .before .before .before .before .before .before .before .before .shared-slice-known .given k .fits)
+    (ap counted (sym (g .1)) ∙ f .before .before .before .check .ensures)
+
+-- the data side is checked
+data-present : (f : tie.After-known-told2) → (let a = f .before .before .before .before .before .before .before .before .before .before .before .before .before .before .args in Present (a .data-list .now) (a .data-store .now) (f .before .data-count .given .0 .0))
+data-present f =
+    let a = f .before .before .before .before .before .before .before .before .before .before .before .before .before .before .args in
+    let g = f .before .data-count .given in
+    present (a .data-list .now) (a .data-store .now) (g .0 .0) (λ k. f .before .before .before .before .before .before .before .before .before .before .before .shared-slice-known3 .given k .fits)
+    (ap counted (sym (g .1)) ∙ f .before .before .before .check2 .ensures)
+
+-- a spot on the side that the letter picks
+found : (f : tie.After-known-told2) (side : Bool) (x : Spot)
+    → (let a = f .before .before .before .before .before .before .before .before .before .before .before .before .before .before .args in
+    eqb (a .letter) (a .index-letter) ≡ side
+    → x ≡ spotBelow (cond side (f .before .before .before .before .before .index-count .given .0 .0) (f .before .data-count .given .0 .0)) (cond side (a .index-list .now) (a .data-list .now)) (a .number .0)
+    → placeFrom side x
+    ≡ placeOf (a .index-letter) (a .data-letter) (a .letter) (a .number .0) (tapeIn (a .index-list .now) (a .index-store .now)) (tapeIn (a .data-list .now) (a .data-store .now)))
+found f side x e h =
+    let a = f .before .before .before .before .before .before .before .before .before .before .before .before .before .before .args in
+    sym (place-found (a .index-letter) (a .data-letter) (a .letter) (a .number .0) (a .index-list .now) (a .index-store .now) _ (index-present (f .before .before .before .before))
+    (a .data-list .now) (a .data-store .now) _ (data-present f) (lettered (f .before .before .before .before .before .before .before .before)) side e x h)
 
 are-letters-requires : tie.Need-are-letters-requires
 are-letters-requires c κs = search needs
 
 returns : tie.Need-returns
-returns c = sym (place-letters (c .before .before .before .before .before .before .args .index-letter) (c .before .before .before .before .before .before .args .data-letter) (c .before .before .before .before .before .before .args .letter) (c .before .before .before .before .before .before .args .number .0) (tapeIn (c .before .before .before .before .before .before .args .index-list .now) (c .before .before .before .before .before .before .args .index-store .now)) (tapeIn (c .before .before .before .before .before .before .args .data-list .now) (c .before .before .before .before .before .before .args .data-store .now)) (sym (c .before .are-letters .ensures) ∙ not-true (c .before .are-letters .result) (c .if1 .taken)))
+returns c =
+    let a = c .before .before .before .before .before .before .args in
+    sym (place-letters (a .index-letter) (a .data-letter) (a .letter) (a .number .0) _ _ (sym (c .before .are-letters .ensures) ∙ not-true (c .before .are-letters .result) (c .if1 .taken)))
 
 check-requires : tie.Need-check-requires
 check-requires c κs = search needs
@@ -25,7 +63,10 @@ enum-told : tie.Need-enum-told
 enum-told c = search needs
 
 returns-2 : tie.Need-returns-2
-returns-2 c = sym (place-index (c .before .before .before .before .before .before .before .before .before .args .index-letter) (c .before .before .before .before .before .before .before .before .before .args .data-letter) (c .before .before .before .before .before .before .before .before .before .args .letter) (c .before .before .before .before .before .before .before .before .before .args .number .0) (c .before .before .before .before .before .before .before .before .before .args .index-list .now) (c .before .before .before .before .before .before .before .before .before .args .index-store .now) (tapeIn (c .before .before .before .before .before .before .before .before .before .args .data-list .now) (c .before .before .before .before .before .before .before .before .before .args .data-store .now)) (c .enum-told .given .0 .0) (sym (c .before .before .before .before .are-letters .ensures) ∙ not-false (c .before .before .before .before .are-letters .result) (c .before .before .before .if1 .left)) (ap counted (sym (c .enum-told .given .1)) ∙ c .before .before .check .ensures))
+returns-2 c =
+    let a = c .before .before .before .before .before .before .before .before .before .args in
+    sym (place-index (a .index-letter) (a .data-letter) (a .letter) (a .number .0) (a .index-list .now) (a .index-store .now) _ (c .enum-told .given .0 .0) (lettered (c .before .before .before))
+    (ap counted (sym (c .enum-told .given .1)) ∙ c .before .before .check .ensures))
 
 check-requires-2 : tie.Need-check-requires-2
 check-requires-2 c κs = search needs
@@ -38,12 +79,13 @@ enum-told-2 c = search needs
 
 returns-3 : tie.Need-returns-3
 returns-3 c =
-    let p = present (c .before .before .before .before .before .before .before .before .before .before .before .before .before .args .index-list .now) (c .before .before .before .before .before .before .before .before .before .before .before .before .before .args .index-store .now) (c .before .before .before .before .index-count .given .0 .0) (λ k. c .before .before .before .before .before .before .before .before .before .before .before .before .shared-slice-known .given k .fits) (ap counted (sym (c .before .before .before .before .index-count .given .1)) ∙ c .before .before .before .before .before .before .check .ensures) in
-    sym (place-data (c .before .before .before .before .before .before .before .before .before .before .before .before .before .args .index-letter) (c .before .before .before .before .before .before .before .before .before .before .before .before .before .args .data-letter) (c .before .before .before .before .before .before .before .before .before .before .before .before .before .args .letter) (c .before .before .before .before .before .before .before .before .before .before .before .before .before .args .number .0) (c .before .before .before .before .before .before .before .before .before .before .before .before .before .args .index-list .now) (c .before .before .before .before .before .before .before .before .before .before .before .before .before .args .index-store .now) (c .before .before .before .before .index-count .given .0 .0) p (c .before .before .before .before .before .before .before .before .before .before .before .before .before .args .data-list .now) (c .before .before .before .before .before .before .before .before .before .before .before .before .before .args .data-store .now) (c .enum-told2 .given .0 .0) (sym (c .before .before .before .before .before .before .before .before .are-letters .ensures) ∙ not-false (c .before .before .before .before .before .before .before .before .are-letters .result) (c .before .before .before .before .before .before .before .if1 .left)) (ap counted (sym (c .enum-told2 .given .1)) ∙ c .before .before .check2 .ensures))
+    let a = c .before .before .before .before .before .before .before .before .before .before .before .before .before .args in
+    sym (place-data (a .index-letter) (a .data-letter) (a .letter) (a .number .0) (a .index-list .now) (a .index-store .now) _ (index-present (c .before .before .before)) (a .data-list .now) (a .data-store .now) (c .enum-told2 .given .0 .0) (lettered (c .before .before .before .before .before .before .before))
+    (ap counted (sym (c .enum-told2 .given .1)) ∙ c .before .before .check2 .ensures))
 
 numbered-requires : tie.Need-numbered-requires
 numbered-requires c κs =
-    let p = present (c .before .before .before .before .before .before .before .before .before .before .before .before .before .before .before .args .index-list .now) (c .before .before .before .before .before .before .before .before .before .before .before .before .before .before .before .args .index-store .now) (c .before .before .before .before .before .before .index-count .given .0 .0) (λ k. c .before .before .before .before .before .before .before .before .before .before .before .before .before .before .shared-slice-known .given k .fits) (ap counted (sym (c .before .before .before .before .before .before .index-count .given .1)) ∙ c .before .before .before .before .before .before .before .before .check .ensures) in
+    let p = index-present (c .before .before .before .before .before) in
     let few = p .encodes .elements in
     let count = p .count in
     search needs
@@ -56,7 +98,7 @@ enum-told-3 c = search needs
 
 numbered-requires-2 : tie.Need-numbered-requires-2
 numbered-requires-2 c κs =
-    let p = present (c .before .before .before .before .before .before .before .before .before .before .before .before .before .before .before .args .data-list .now) (c .before .before .before .before .before .before .before .before .before .before .before .before .before .before .before .args .data-store .now) (c .before .before .data-count .given .0 .0) (λ k. c .before .before .before .before .before .before .before .before .before .before .before .before .shared-slice-known3 .given k .fits) (ap counted (sym (c .before .before .data-count .given .1)) ∙ c .before .before .before .before .check2 .ensures) in
+    let p = data-present (c .before) in
     let few = p .encodes .elements in
     let count = p .count in
     search needs
@@ -68,28 +110,16 @@ enum-told-4 : tie.Need-enum-told-4
 enum-told-4 c = search needs
 
 returns-4 : tie.Need-returns-4
-returns-4 c =
-    let p = present (c .before .before .before .before .before .before .before .before .before .before .before .before .before .before .before .before .before .before .before .args .index-list .now) (c .before .before .before .before .before .before .before .before .before .before .before .before .before .before .before .before .before .before .before .args .index-store .now) (c .before .before .before .before .before .before .before .before .before .before .index-count .given .0 .0) (λ k. c .before .before .before .before .before .before .before .before .before .before .before .before .before .before .before .before .before .before .shared-slice-known .given k .fits) (ap counted (sym (c .before .before .before .before .before .before .before .before .before .before .index-count .given .1)) ∙ c .before .before .before .before .before .before .before .before .before .before .before .before .check .ensures) in
-    let q = present (c .before .before .before .before .before .before .before .before .before .before .before .before .before .before .before .before .before .before .before .args .data-list .now) (c .before .before .before .before .before .before .before .before .before .before .before .before .before .before .before .before .before .before .before .args .data-store .now) (c .before .before .before .before .before .before .data-count .given .0 .0) (λ k. c .before .before .before .before .before .before .before .before .before .before .before .before .before .before .before .before .shared-slice-known3 .given k .fits) (ap counted (sym (c .before .before .before .before .before .before .data-count .given .1)) ∙ c .before .before .before .before .before .before .before .before .check2 .ensures) in
-    sym (place-found (c .before .before .before .before .before .before .before .before .before .before .before .before .before .before .before .before .before .before .before .args .index-letter) (c .before .before .before .before .before .before .before .before .before .before .before .before .before .before .before .before .before .before .before .args .data-letter) (c .before .before .before .before .before .before .before .before .before .before .before .before .before .before .before .before .before .before .before .args .letter) (c .before .before .before .before .before .before .before .before .before .before .before .before .before .before .before .before .before .before .before .args .number .0) (c .before .before .before .before .before .before .before .before .before .before .before .before .before .before .before .before .before .before .before .args .index-list .now) (c .before .before .before .before .before .before .before .before .before .before .before .before .before .before .before .before .before .before .before .args .index-store .now) (c .before .before .before .before .before .before .before .before .before .before .index-count .given .0 .0) p (c .before .before .before .before .before .before .before .before .before .before .before .before .before .before .before .before .before .before .before .args .data-list .now) (c .before .before .before .before .before .before .before .before .before .before .before .before .before .before .before .before .before .before .before .args .data-store .now) (c .before .before .before .before .before .before .data-count .given .0 .0) q (sym (c .before .before .before .before .before .before .before .before .before .before .before .before .before .before .are-letters .ensures) ∙ not-false (c .before .before .before .before .before .before .before .before .before .before .before .before .before .before .are-letters .result) (c .before .before .before .before .before .before .before .before .before .before .before .before .before .if1 .left)) true (eq-eqb _ _ (c .before .before .before .before .if2 .taken)) _ (sym (c .before .from .given .1) ∙ c .before .before .before .numbered .ensures))
+returns-4 c = found (c .before .before .before .before .before) true _ (eq-eqb _ _ (c .before .before .before .before .if2 .taken)) (sym (c .before .from .given .1) ∙ c .before .before .before .numbered .ensures)
 
 returns-5 : tie.Need-returns-5
-returns-5 c =
-    let p = present (c .before .before .before .before .before .before .before .before .before .before .before .before .before .before .before .before .before .before .args .index-list .now) (c .before .before .before .before .before .before .before .before .before .before .before .before .before .before .before .before .before .before .args .index-store .now) (c .before .before .before .before .before .before .before .before .before .index-count .given .0 .0) (λ k. c .before .before .before .before .before .before .before .before .before .before .before .before .before .before .before .before .before .shared-slice-known .given k .fits) (ap counted (sym (c .before .before .before .before .before .before .before .before .before .index-count .given .1)) ∙ c .before .before .before .before .before .before .before .before .before .before .before .check .ensures) in
-    let q = present (c .before .before .before .before .before .before .before .before .before .before .before .before .before .before .before .before .before .before .args .data-list .now) (c .before .before .before .before .before .before .before .before .before .before .before .before .before .before .before .before .before .before .args .data-store .now) (c .before .before .before .before .before .data-count .given .0 .0) (λ k. c .before .before .before .before .before .before .before .before .before .before .before .before .before .before .before .shared-slice-known3 .given k .fits) (ap counted (sym (c .before .before .before .before .before .data-count .given .1)) ∙ c .before .before .before .before .before .before .before .check2 .ensures) in
-    sym (place-found (c .before .before .before .before .before .before .before .before .before .before .before .before .before .before .before .before .before .before .args .index-letter) (c .before .before .before .before .before .before .before .before .before .before .before .before .before .before .before .before .before .before .args .data-letter) (c .before .before .before .before .before .before .before .before .before .before .before .before .before .before .before .before .before .before .args .letter) (c .before .before .before .before .before .before .before .before .before .before .before .before .before .before .before .before .before .before .args .number .0) (c .before .before .before .before .before .before .before .before .before .before .before .before .before .before .before .before .before .before .args .index-list .now) (c .before .before .before .before .before .before .before .before .before .before .before .before .before .before .before .before .before .before .args .index-store .now) (c .before .before .before .before .before .before .before .before .before .index-count .given .0 .0) p (c .before .before .before .before .before .before .before .before .before .before .before .before .before .before .before .before .before .before .args .data-list .now) (c .before .before .before .before .before .before .before .before .before .before .before .before .before .before .before .before .before .before .args .data-store .now) (c .before .before .before .before .before .data-count .given .0 .0) q (sym (c .before .before .before .before .before .before .before .before .before .before .before .before .before .are-letters .ensures) ∙ not-false (c .before .before .before .before .before .before .before .before .before .before .before .before .before .are-letters .result) (c .before .before .before .before .before .before .before .before .before .before .before .before .if1 .left)) true (eq-eqb _ _ (c .before .before .before .if2 .taken)) _ (sym (c .enum-told3 .given .1) ∙ c .before .before .numbered .ensures))
+returns-5 c = found (c .before .before .before .before) true _ (eq-eqb _ _ (c .before .before .before .if2 .taken)) (sym (c .enum-told3 .given .1) ∙ c .before .before .numbered .ensures)
 
 returns-6 : tie.Need-returns-6
-returns-6 c =
-    let p = present (c .before .before .before .before .before .before .before .before .before .before .before .before .before .before .before .before .before .before .before .args .index-list .now) (c .before .before .before .before .before .before .before .before .before .before .before .before .before .before .before .before .before .before .before .args .index-store .now) (c .before .before .before .before .before .before .before .before .before .before .index-count .given .0 .0) (λ k. c .before .before .before .before .before .before .before .before .before .before .before .before .before .before .before .before .before .before .shared-slice-known .given k .fits) (ap counted (sym (c .before .before .before .before .before .before .before .before .before .before .index-count .given .1)) ∙ c .before .before .before .before .before .before .before .before .before .before .before .before .check .ensures) in
-    let q = present (c .before .before .before .before .before .before .before .before .before .before .before .before .before .before .before .before .before .before .before .args .data-list .now) (c .before .before .before .before .before .before .before .before .before .before .before .before .before .before .before .before .before .before .before .args .data-store .now) (c .before .before .before .before .before .before .data-count .given .0 .0) (λ k. c .before .before .before .before .before .before .before .before .before .before .before .before .before .before .before .before .shared-slice-known3 .given k .fits) (ap counted (sym (c .before .before .before .before .before .before .data-count .given .1)) ∙ c .before .before .before .before .before .before .before .before .check2 .ensures) in
-    sym (place-found (c .before .before .before .before .before .before .before .before .before .before .before .before .before .before .before .before .before .before .before .args .index-letter) (c .before .before .before .before .before .before .before .before .before .before .before .before .before .before .before .before .before .before .before .args .data-letter) (c .before .before .before .before .before .before .before .before .before .before .before .before .before .before .before .before .before .before .before .args .letter) (c .before .before .before .before .before .before .before .before .before .before .before .before .before .before .before .before .before .before .before .args .number .0) (c .before .before .before .before .before .before .before .before .before .before .before .before .before .before .before .before .before .before .before .args .index-list .now) (c .before .before .before .before .before .before .before .before .before .before .before .before .before .before .before .before .before .before .before .args .index-store .now) (c .before .before .before .before .before .before .before .before .before .before .index-count .given .0 .0) p (c .before .before .before .before .before .before .before .before .before .before .before .before .before .before .before .before .before .before .before .args .data-list .now) (c .before .before .before .before .before .before .before .before .before .before .before .before .before .before .before .before .before .before .before .args .data-store .now) (c .before .before .before .before .before .before .data-count .given .0 .0) q (sym (c .before .before .before .before .before .before .before .before .before .before .before .before .before .before .are-letters .ensures) ∙ not-false (c .before .before .before .before .before .before .before .before .before .before .before .before .before .before .are-letters .result) (c .before .before .before .before .before .before .before .before .before .before .before .before .before .if1 .left)) false (ne-eqb _ _ (c .before .before .before .before .if2 .left)) _ (sym (c .before .from2 .given .1) ∙ c .before .before .before .numbered2 .ensures))
+returns-6 c = found (c .before .before .before .before .before) false _ (ne-eqb _ _ (c .before .before .before .before .if2 .left)) (sym (c .before .from2 .given .1) ∙ c .before .before .before .numbered2 .ensures)
 
 returns-7 : tie.Need-returns-7
-returns-7 c =
-    let p = present (c .before .before .before .before .before .before .before .before .before .before .before .before .before .before .before .before .before .before .args .index-list .now) (c .before .before .before .before .before .before .before .before .before .before .before .before .before .before .before .before .before .before .args .index-store .now) (c .before .before .before .before .before .before .before .before .before .index-count .given .0 .0) (λ k. c .before .before .before .before .before .before .before .before .before .before .before .before .before .before .before .before .before .shared-slice-known .given k .fits) (ap counted (sym (c .before .before .before .before .before .before .before .before .before .index-count .given .1)) ∙ c .before .before .before .before .before .before .before .before .before .before .before .check .ensures) in
-    let q = present (c .before .before .before .before .before .before .before .before .before .before .before .before .before .before .before .before .before .before .args .data-list .now) (c .before .before .before .before .before .before .before .before .before .before .before .before .before .before .before .before .before .before .args .data-store .now) (c .before .before .before .before .before .data-count .given .0 .0) (λ k. c .before .before .before .before .before .before .before .before .before .before .before .before .before .before .before .shared-slice-known3 .given k .fits) (ap counted (sym (c .before .before .before .before .before .data-count .given .1)) ∙ c .before .before .before .before .before .before .before .check2 .ensures) in
-    sym (place-found (c .before .before .before .before .before .before .before .before .before .before .before .before .before .before .before .before .before .before .args .index-letter) (c .before .before .before .before .before .before .before .before .before .before .before .before .before .before .before .before .before .before .args .data-letter) (c .before .before .before .before .before .before .before .before .before .before .before .before .before .before .before .before .before .before .args .letter) (c .before .before .before .before .before .before .before .before .before .before .before .before .before .before .before .before .before .before .args .number .0) (c .before .before .before .before .before .before .before .before .before .before .before .before .before .before .before .before .before .before .args .index-list .now) (c .before .before .before .before .before .before .before .before .before .before .before .before .before .before .before .before .before .before .args .index-store .now) (c .before .before .before .before .before .before .before .before .before .index-count .given .0 .0) p (c .before .before .before .before .before .before .before .before .before .before .before .before .before .before .before .before .before .before .args .data-list .now) (c .before .before .before .before .before .before .before .before .before .before .before .before .before .before .before .before .before .before .args .data-store .now) (c .before .before .before .before .before .data-count .given .0 .0) q (sym (c .before .before .before .before .before .before .before .before .before .before .before .before .before .are-letters .ensures) ∙ not-false (c .before .before .before .before .before .before .before .before .before .before .before .before .before .are-letters .result) (c .before .before .before .before .before .before .before .before .before .before .before .before .if1 .left)) false (ne-eqb _ _ (c .before .before .before .if2 .left)) _ (sym (c .enum-told4 .given .1) ∙ c .before .before .numbered2 .ensures))
+returns-7 c = found (c .before .before .before .before) false _ (ne-eqb _ _ (c .before .before .before .if2 .left)) (sym (c .enum-told4 .given .1) ∙ c .before .before .numbered2 .ensures)
 
 pub find-block-spec : {M : Type 1} → statement M
 find-block-spec =
