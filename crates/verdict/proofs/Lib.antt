@@ -1,3 +1,4 @@
 pub mod Chains
 pub mod Cuts
 pub mod Demand
+pub mod Orders
