@@ -2,3 +2,4 @@ pub mod Chains
 pub mod Cuts
 pub mod Demand
 pub mod Orders
+pub mod Partners
