@@ -1,19 +1,20 @@
 -- One number tells whether an extent lies on the tape: how far data blocks reach from its first block.
 use mathlib.Core.Path.{_≡_, refl, sym, _∙_, ap}
-use mathlib.Core.Bool.{Bool, true, false, cond, _&&_, and-false}
-use mathlib.Core.List.{List, [], _∷_}
+use mathlib.Core.Bool.{Bool, true, false, cond, _&&_, and-false, and-true}
+use mathlib.Core.List.{List, [], _∷_, _++_}
 use Prim.Native.Nat.{ℕ, zero, suc, _+_, _-_, _*_, _/_, _%_, _≤_, _<_, min}
 use native.Mathlib.Nat.{add-zero, div-add-mod', mod-lt, mul-suc, suc-mul, zero-mul}
 use native.Mathlib.Omega.{arith}
 use lib.Dec.{leb, ltb, eqb}
-use lib.ListN.{length, getD, take, drop, length-take, List·getD-eq-default}
+use lib.ListN.{length, getD, take, drop, length-take, List·getD-eq-default, List·getD-append}
 use lib.Seq.{getD-drop, getD-take, take-nil, take-take}
-use borrow.Author.Tests.{eqb-true, eqb-false, leb-true, leb-false, le-leb, lt-leb, eq-eqb, ne-eqb, ltb-true, ltb-false}
+use borrow.Author.Tests.{eqb-true, eqb-false, leb-true, leb-false, le-leb, lt-leb, eq-eqb, ne-eqb, ltb-true, ltb-false, le-ltb}
 use Rattle.slices.specs.Slices.{every}
 use Rattle.slices.proofs.Booleans.{split, same-leb}
 use Rattle.extents.specs.Rows.{Row}
 use Rattle.extents.specs.Tape.{liesOnTape}
-use Rattle.constructs.specs.Reach.{reachOne, reaches}
+use Rattle.constructs.specs.Reach.{reachOne, reaches, liesBy}
+use Rattle.constructs.proofs.Reaching.{length-reaches}
 
 drop-reaches : (B n : ℕ) (xs : List ℕ) → drop n (reaches B xs) ≡ reaches B (drop n xs)
 unfolding reaches
@@ -89,3 +90,33 @@ lies-front l B n r =
     let g : getD (take n l) (s + q) 0 ≡ 0 = List·getD-eq-default (take n l) 0 {n = s + q} (omega (arith, length-take n l)) in
     rw (g, lt-leb rem 0 (omega arith)) (and-false (every (eqb B) (take q (drop s (take n l))))))
     refl
+
+module _ (T : List ℕ) (B n first offset count : ℕ) where
+  -- data blocks don't reach that far
+  pub lies-short : getD T first 0 < offset + count → liesBy T B n first offset count ≡ false
+  lies-short h = rw (lt-leb (offset + count) (getD T first 0) h) (and-false (ltb (first + (offset + count - 1) / B) n))
+
+  -- the first block is not one of the first n
+  pub lies-behind : n ≤ first → liesBy T B n first offset count ≡ false
+  lies-behind h = rw (le-ltb (first + (offset + count - 1) / B) n (omega arith))
+
+  -- else the last block decides
+  pub lies-before : offset + count ≤ getD T first 0 → first < n → liesBy T B n first offset count ≡ ltb ((offset + count - 1) / B) (n - first)
+  lies-before h w =
+      rw (le-leb (offset + count) (getD T first 0) h)
+      (and-true (ltb (first + (offset + count - 1) / B) n)
+      ∙ same-leb (suc (first + (offset + count - 1) / B)) n (suc ((offset + count - 1) / B)) (n - first) (λ k. omega arith) (λ k. omega arith))
+
+-- the table's answer is the definition's, on a front of n elements
+pub lies-by : (T lengths rest : List ℕ) (B n : ℕ) (r : Row) → T ≡ reaches B lengths ++ rest → n ≤ length lengths → 1 ≤ B → 1 ≤ r .byteoffset + r .bytecount
+    → liesBy T B n (r .startblock) (r .byteoffset) (r .bytecount) ≡ liesOnTape (take n lengths) B r
+lies-by T lengths rest B n r e w hB hE =
+    let q : ℕ = (r .byteoffset + r .bytecount - 1) / B in
+    sym (lies-front lengths B n r
+    ∙ split (λ b. ltb (r .startblock + (r .byteoffset + r .bytecount - 1) / B) n ≡ b → (b && liesOnTape lengths B r) ≡ (b && leb (r .byteoffset + r .bytecount) (getD T (r .startblock) 0)))
+    (ltb (r .startblock + (r .byteoffset + r .bytecount - 1) / B) n)
+    (λ y h. let k : r .startblock + (r .byteoffset + r .bytecount - 1) / B < n = ltb-true _ _ h in
+    let g : getD T (r .startblock) 0 ≡ getD (reaches B lengths) (r .startblock) 0
+    = ap (λ (l : List ℕ). getD l (r .startblock) 0) e ∙ List·getD-append (reaches B lengths) rest 0 (r .startblock) (omega (arith, length-reaches B lengths)) in
+    lies-reach lengths B r hB hE ∙ ap (leb (r .byteoffset + r .bytecount)) (sym g))
+    (λ y h. refl) refl)

@@ -1,8 +1,8 @@
 -- How far data blocks reach from each element on, so that one number tells whether an extent lies on the tape.
-use mathlib.Core.Bool.{Bool, true, false, not, cond}
+use mathlib.Core.Bool.{Bool, true, false, not, cond, _&&_}
 use mathlib.Core.List.{List, [], _∷_, _++_}
-use Prim.Native.Nat.{ℕ, _+_, _-_, min}
-use lib.Dec.{eqb, leb}
+use Prim.Native.Nat.{ℕ, _+_, _-_, _/_, min}
+use lib.Dec.{eqb, leb, ltb}
 use lib.ListN.{length, getD, drop}
 use lib.Seq.{sets}
 use mathlib.Core.Path.{_≡_}
@@ -52,3 +52,7 @@ reachAfter B before (answer t) = cond (leb (length t) (length before)) (reaches 
 pub record Reaches (B : ℕ) (l s before after : List ℕ) (r : Checked) : Type 0 where
   pub answers : counted r ≡ andThen (tapeIn l s) (λ t. require (leb (length t) (length before)) Short (answer (length t)))
   pub holds : after ≡ reachAfter B before (tapeIn l s)
+
+-- by a table of reaches: the bytes from an offset in a first block on end in a block below n, and data blocks reach that far
+abbrev pub liesBy : List ℕ → ℕ → ℕ → ℕ → ℕ → ℕ → Bool
+liesBy table B n first offset count = ltb (first + (offset + count - 1) / B) n && leb (offset + count) (getD table first 0)

@@ -3,10 +3,10 @@ use refusals::Refusal;
 use tape::Checked;
 use tape::Entry;
 ghost use mathlib.Core.Path.{_≡_};
-ghost use Prim.Native.Nat.{_+_, _≤_, _<_};
+ghost use Prim.Native.Nat.{_+_, _≤_, _<_, _/_, _-_};
 ghost use mathlib.Core.List.{_++_};
-ghost use lib.ListN.{take, drop, length};
-ghost use Rattle.constructs.specs.Reach.{reachOne, labelsAfter, evenAfter, dataLength, PutsLengths, reaches, sumOf, Reaches};
+ghost use lib.ListN.{take, drop, length, getD};
+ghost use Rattle.constructs.specs.Reach.{reachOne, labelsAfter, evenAfter, dataLength, PutsLengths, reaches, sumOf, Reaches, liesBy};
 ghost use Rattle.constructs.specs.Tables.{Held};
 
 fn labels_after(k: usize) -> usize
@@ -121,4 +121,49 @@ pub fn reach(list: &[u8], store: &[u8], block_size: usize, table: &mut [u32]) ->
         }
         Checked::Refused(r) => Checked::Refused(r),
     }
+}
+
+// What stands at a place of the table, 0 past its end.
+fn entry(table: &[u32], k: u64) -> u64
+    ensures { λ r. ⌜ (r ≡ getD (now (table .entry)) k 0) × (r < 4294967296) ⌝ }
+{
+    let i = k as usize;
+    if table.len() <= i {
+        return 0;
+    }
+    table[i] as u64
+}
+
+// How many blocks of a size end before the last of so many bytes.
+fn blocks_before(bytes: u64, size: u64) -> u64
+    ensures { λ r. ⌜ (r ≡ (bytes - 1) / size) × (r ≤ bytes) ⌝ }
+{
+    if bytes == 0 {
+        return 0;
+    }
+    if size == 0 {
+        return 0;
+    }
+    (bytes - 1) / size
+}
+
+// Whether an extent lies on the first kept elements of a partition, by its table: count bytes from an offset in a first block on.
+pub fn lies(table: &[u32], block_size: u64, kept: u64, first: u64, offset: u64, count: u64) -> bool
+    ensures { λ r. ⌜ r ≡ liesBy (now (table .entry)) «block_size» kept first offset count ⌝ }
+{
+    let most = entry(table, first);
+    if 4294967296 <= offset {
+        return false;
+    }
+    if 4294967296 <= count {
+        return false;
+    }
+    let bytes = offset + count;
+    if most < bytes {
+        return false;
+    }
+    if kept <= first {
+        return false;
+    }
+    blocks_before(bytes, block_size) < kept - first
 }
