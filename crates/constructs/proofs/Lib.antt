@@ -6,3 +6,4 @@ pub mod Filling
 pub mod Lengths
 pub mod Reaching
 pub mod Lying
+pub mod Texts

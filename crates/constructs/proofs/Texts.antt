@@ -1,0 +1,138 @@
+-- A construct's text is the part of the store from its first block to its last.
+use mathlib.Core.Path.{_≡_, refl, sym, _∙_, ap, subst}
+use mathlib.Core.Bool.{Bool, true, false, cond}
+use mathlib.Core.List.{List, [], _∷_, _++_}
+use Prim.Native.Nat.{ℕ, zero, suc, _+_, _-_, _*_, _≤_, _<_}
+use native.Mathlib.Nat.{add-zero}
+use native.Mathlib.Omega.{arith}
+use lib.Dec.{ltb, eqb}
+use lib.ListN.{length, getD, take, drop, length-append, List·getD-append}
+use lib.Seq.{take-add, drop-drop, take-append-seam, drop-append-add, take-length, getD-append-add, sets, sets-eq}
+use Rattle.slices.proofs.Booleans.{split}
+use Rattle.tape.specs.Tape.{Element, mark, block, Tape, store, content}
+use Rattle.constructs.specs.Constructs.{Construct, Run, labels, dataRun, indexRun, defect, pastLabel, runAfter, closedBy, Scan, step, scan, start, standing}
+use Rattle.constructs.specs.Tables.{bytesBefore, entry, entries}
+use Rattle.constructs.proofs.Suffixes.{Suffix, here, there, nil-suffix, suffix-length}
+use Rattle.constructs.proofs.Scanning.{scanned, scanned-next, scanned-at, bytes-next, length-entries}
+
+-- the bytes of the blocks from element a to element b, b not included
+abbrev pub part : Tape → ℕ → ℕ → List ℕ
+part t a b = take (bytesBefore t b - bytesBefore t a) (drop (bytesBefore t a) (store t))
+
+part-none : (t : Tape) (a : ℕ) → part t a a ≡ []
+part-none t a = let e : bytesBefore t a - bytesBefore t a ≡ 0 = omega arith in rw e
+
+-- the store from element n on
+drop-store : (t : Tape) (n : ℕ) → drop (bytesBefore t n) (store t) ≡ store (drop n t)
+unfolding store
+drop-store t zero = refl
+drop-store [] (suc n) = refl
+drop-store (e ∷ t) (suc n) = rw (length-append (content e) (store (take n t)), drop-append-add (content e) (store t) (bytesBefore t n)) (drop-store t n)
+
+grows : (t : Tape) (a b : ℕ) → a ≤ b → bytesBefore t a ≤ bytesBefore t b
+unfolding store
+grows t zero b h = omega arith
+grows [] (suc a) b h = omega arith
+grows (e ∷ t) (suc a) zero h = absurd (omega arith)
+grows (e ∷ t) (suc a) (suc b) h =
+    omega (arith, grows t a b (omega arith), length-append (content e) (store (take a t)), length-append (content e) (store (take b t)))
+
+-- one element more
+part-next : (t : Tape) (a n : ℕ) (e : Element) (rest : Tape) → a ≤ n → drop n t ≡ e ∷ rest → part t a (suc n) ≡ part t a n ++ content e
+unfolding store
+part-next t a n e rest h d =
+    let A : ℕ = bytesBefore t a in
+    let N : ℕ = bytesBefore t n in
+    let g : bytesBefore t a ≤ bytesBefore t n = grows t a n h in
+    let b : bytesBefore t (suc n) ≡ bytesBefore t n + length (content e) = bytes-next 0 t n e rest d in
+    let m : bytesBefore t (suc n) - bytesBefore t a ≡ (bytesBefore t n - bytesBefore t a) + length (content e) = omega arith in
+    let s : bytesBefore t a + (bytesBefore t n - bytesBefore t a) ≡ bytesBefore t n = omega arith in
+    rw (m, take-add (bytesBefore t n - bytesBefore t a) (length (content e)) (drop (bytesBefore t a) (store t)))
+    (ap (λ (x : List ℕ). part t a n ++ x)
+    (ap (take (length (content e))) (drop-drop (bytesBefore t n - bytesBefore t a) (bytesBefore t a) (store t) ∙ rw (s, drop-store t n, d))
+    ∙ take-append-seam (content e) (store rest)))
+
+-- what holds of a scan of the first n elements
+abbrev TextIn : Tape → ℕ → Run → Type 0
+TextIn t n (labels k) = Unit {0}
+TextIn t n dataRun = Unit {0}
+TextIn t n (indexRun f x short) = (f ≤ n) × (x ≡ part t f n)
+TextIn t n defect = Unit {0}
+
+abbrev pub Texts : Tape → List Construct → Type 0
+Texts t [] = Unit {0}
+Texts t (c ∷ cs) = (c .text ≡ part t (c .first) (c .upTo - 1)) × Texts t cs
+
+text-past : (t : Tape) (n k : ℕ) → TextIn t n (pastLabel k)
+unfolding pastLabel
+text-past t n zero = tt
+text-past t n (suc k) = tt
+
+module _ (B : ℕ) (t : Tape) (n : ℕ) where
+  text-step : (r : Run) (e : Element) (rest : Tape) → drop n t ≡ e ∷ rest → TextIn t n r → TextIn t (suc n) (runAfter B n r e)
+  unfolding runAfter content
+  text-step (labels k) e rest d w = text-past t (suc n) k
+  text-step dataRun mark rest d w = (omega arith, sym (part-none t (suc n)))
+  text-step dataRun (block y) rest d w = split (λ b. TextIn t (suc n) (cond b defect dataRun)) (ltb B (length y)) (λ u. tt) (λ u. tt)
+  text-step (indexRun f x short) mark rest d w = split (λ b. TextIn t (suc n) (cond b defect dataRun)) (eqb f n) (λ u. tt) (λ u. tt)
+  text-step (indexRun f x short) (block y) rest d w =
+      split (λ b. TextIn t (suc n) (cond b defect (cond (ltb B (length y)) defect (indexRun f (x ++ y) (ltb (length y) B))))) short (λ u. tt)
+      (λ u. split (λ b. TextIn t (suc n) (cond b defect (indexRun f (x ++ y) (ltb (length y) B)))) (ltb B (length y)) (λ z. tt)
+      (λ z. (omega arith, ap (λ (p : List ℕ). p ++ y) (w .1) ∙ sym (part-next t f n (block y) rest (w .0) d))))
+  text-step defect e rest d w = tt
+
+  texts-step : (r : Run) (cs : List Construct) (e : Element) → TextIn t n r → Texts t cs → Texts t (closedBy n r cs e)
+  unfolding closedBy
+  texts-step (labels k) cs e w h = h
+  texts-step dataRun cs e w h = h
+  texts-step (indexRun f x short) cs mark w h =
+      let z : suc n - 1 ≡ n = omega arith in
+      split (λ b. Texts t (cond b cs (record { first = f; upTo = suc n; text = x } ∷ cs))) (eqb f n) (λ u. h) (λ u. (w .1 ∙ ap (part t f) (sym z), h))
+  texts-step (indexRun f x short) cs (block y) w h = h
+  texts-step defect cs e w h = h
+
+next-of : (t : Tape) (n : ℕ) → n < length t → (e : Element) × (rest : Tape) × (drop n t ≡ e ∷ rest)
+next-of [] n h = absurd (omega arith)
+next-of (e ∷ t) zero h = (e, t, refl)
+next-of (e ∷ t) (suc n) h = next-of t n (omega arith)
+
+texts-scanned : (B : ℕ) (t : Tape) (n : ℕ) → n ≤ length t → TextIn t n (scanned B t n .run) × Texts t (scanned B t n .done)
+unfolding scan step
+texts-scanned B t zero h = (tt, tt)
+texts-scanned B t (suc n) h =
+    let ih = texts-scanned B t n (omega arith) in
+    let x = next-of t n (omega arith) in
+    let s = scanned-next B t n (x .0) (x .1) (x .2) in
+    let a = scanned-at B t n (x .0) (x .1) (x .2) in
+    rw (s, a) (text-step B t n (scanned B t n .run) (x .0) (x .1) (x .2) (ih .0), texts-step B t n (scanned B t n .run) (scanned B t n .done) (x .0) (ih .0) (ih .1))
+
+-- each standing construct's text is a part of the store
+pub texts-standing : (B : ℕ) (t : Tape) → Texts t (standing B t)
+unfolding standing
+texts-standing B t = rw (take-length t) at (texts-scanned B t (length t) (omega arith) .1)
+
+pub text-at : {c : Construct} {cs ds : List Construct} (t : Tape) → Suffix (c ∷ cs) ds → Texts t ds → c .text ≡ part t (c .first) (c .upTo - 1)
+text-at {c} {ds = []} t s w = absurd (nil-suffix s)
+text-at {c} {ds = d ∷ ds} t (here q) w = let z : c ≡ d = cc in rw z (w .0)
+text-at {c} {ds = d ∷ ds} t (there s) w = text-at t s (w .1)
+
+-- a construct's numbers in the table
+entries-at : {c : Construct} {cs ds : List Construct} (t : Tape) → Suffix (c ∷ cs) ds → (j : ℕ) → j < 4 → getD (entries t ds) (length cs * 4 + j) 0 ≡ getD (entry t c) j 0
+unfolding entries
+entries-at {c} {cs} {ds = []} t s j h = absurd (nil-suffix s)
+entries-at {c} {cs} {ds = d ∷ ds} t (here q) j h =
+    let z : c ≡ d = cc in
+    let y : cs ≡ ds = cc in
+    let n : length (entries t ds) ≡ length cs * 4 = length-entries t ds ∙ ap (λ (x : List Construct). length x * 4) (sym y) in
+    ap (λ (k : ℕ). getD (entries t ds ++ entry t d) (k + j) 0) (sym n) ∙ getD-append-add (entries t ds) (entry t d) j 0
+    ∙ ap (λ (x : Construct). getD (entry t x) j 0) (sym z)
+entries-at {c} {cs} {ds = d ∷ ds} t (there s) j h =
+    List·getD-append (entries t ds) (entry t d) 0 (length cs * 4 + j) (omega (arith, length-entries t ds, suffix-length s)) ∙ entries-at t s j h
+
+pub table-at : {c : Construct} {cs ds : List Construct} (t : Tape) (T : List ℕ) → length ds * 4 ≤ length T → Suffix (c ∷ cs) ds → (j : ℕ) → j < 4
+    → getD (sets T 0 (entries t ds)) (length cs * 4 + j) 0 ≡ getD (entry t c) j 0
+table-at {c} {cs} {ds} t T room s j h =
+    let n : 0 + length (entries t ds) ≤ length T = omega (arith, length-entries t ds) in
+    ap (λ (l : List ℕ). getD l (length cs * 4 + j) 0) (sets-eq (entries t ds) T 0 n)
+    ∙ List·getD-append (entries t ds) (drop (0 + length (entries t ds)) T) 0 (length cs * 4 + j) (omega (arith, length-entries t ds, suffix-length s))
+    ∙ entries-at t s j h
