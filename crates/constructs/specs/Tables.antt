@@ -1,12 +1,15 @@
 -- Constructs in a table of numbers, four for each, the first construct first.
 use mathlib.Core.Path.{_≡_}
+use mathlib.Core.Bool.{cond}
 use mathlib.Core.List.{List, [], _∷_, _++_}
-use Prim.Native.Nat.{ℕ, _-_}
-use lib.ListN.{length, take}
+use Prim.Native.Nat.{ℕ, _+_, _-_, _*_}
+use lib.Dec.{leb}
+use lib.ListN.{length, getD, take}
 use lib.Seq.{sets}
 use Rattle.tape.specs.Tape.{Tape, store, Encodes}
 use Rattle.tape.specs.Answers.{tapeIn}
 use Rattle.refusals.specs.Refusals.{Answer, refused, answer, andThen}
+use Rattle.constructs.specs.declared.Place.{Place}
 use Rattle.constructs.specs.declared.Scanned.{Scanned}
 use Rattle.constructs.specs.declared.Scanned.the-variants as scannedIs
 use Rattle.constructs.specs.Constructs.{Construct, standing}
@@ -50,3 +53,9 @@ scannedCount (scannedIs.Refused r) = refused r
 pub record Scans (B : ℕ) (l s before after : List ℕ) (r : Scanned) : Type 0 where
   pub answers : scannedCount r ≡ andThen (tapeIn l s) (λ t. answer (length (standing B t)))
   pub holds : after ≡ tableAfter B before (tapeIn l s)
+
+-- the construct with number k of a table
+abbrev pub placeIn : List ℕ → ℕ → Place
+placeIn table k =
+    cond (leb 21845 k) (record { first = 0; end = 0; from = 0; to = 0 })
+    (record { first = getD table (k * 4) 0; end = getD table (k * 4 + 1) 0; from = getD table (k * 4 + 2) 0; to = getD table (k * 4 + 3) 0 })

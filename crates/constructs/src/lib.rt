@@ -10,7 +10,7 @@ pub mod reach;
 use refusals::Refusal;
 use tape::Checked;
 use tape::Entry;
-ghost use Rattle.constructs.specs.Tables.{Held, Finds, Scans};
+ghost use Rattle.constructs.specs.Tables.{Held, Finds, Scans, placeIn};
 ghost use Rattle.constructs.specs.Phases.{pastLabels, afterMark, afterBlock, closedCount, closedTable, Roomy, Fitting};
 
 // Where the next element stands: among the four of the labels, so many after it there; in a data run; in an index run, with its first
@@ -176,5 +176,40 @@ pub fn scan(list: &[u8], store: &[u8], block_size: usize, table: &mut [u32; 8738
             table,
         )),
         Checked::Refused(r) => Scanned::Refused(r),
+    }
+}
+
+// Where a construct lies: its first block, the elements through its closing mark, and where its text begins and ends in the store.
+pub struct Place {
+    pub first: usize,
+    pub end: usize,
+    pub from: usize,
+    pub to: usize,
+}
+
+fn wide(x: u32) -> usize
+    ensures { λ r. ⌜ r ≡ x ⌝ }
+{
+    x as usize
+}
+
+// The construct with number k of a table.
+pub fn construct(table: &[u32; 87380], k: usize) -> Place
+    ensures { λ r. ⌜ r ≡ placeIn (now (table .entry)) k ⌝ }
+{
+    if 21845 <= k {
+        return Place {
+            first: 0,
+            end: 0,
+            from: 0,
+            to: 0,
+        };
+    }
+    let i = k * 4;
+    Place {
+        first: wide(table[i]),
+        end: wide(table[i + 1]),
+        from: wide(table[i + 2]),
+        to: wide(table[i + 3]),
     }
 }

@@ -95,15 +95,9 @@ fn extend(count: usize, size: usize, table: &mut [u32])
     let mut next: usize = 0;
     while 0 < i {
         i -= 1;
-        next = reach_one(size, wide(table[i]), next);
+        next = reach_one(size, crate::wide(table[i]), next);
         table[i] = next as u32;
     }
-}
-
-fn wide(x: u32) -> usize
-    ensures { λ r. ⌜ r ≡ x ⌝ }
-{
-    x as usize
 }
 
 // Puts into a table, for each element of a partition, how far data blocks reach from there; the number of elements.
