@@ -3,3 +3,4 @@ pub mod Below
 pub mod Seats
 pub mod Passed
 pub mod Named
+pub mod Found
