@@ -3,6 +3,9 @@
 //! shortest statement of a rule over speed.
 
 pub mod extents;
+pub mod index;
+pub mod label;
+pub mod structure;
 pub mod tape;
 pub mod values;
 pub mod vol1;
