@@ -5,10 +5,12 @@
 pub mod extents;
 pub mod index;
 pub mod label;
+pub mod program;
 pub mod structure;
 pub mod tape;
 pub mod values;
 pub mod vol1;
+pub mod volume;
 pub mod xml;
 
 /// Why something is refused. The discriminants are the specification's numbers.
