@@ -6,6 +6,7 @@ pub mod extents;
 pub mod index;
 pub mod label;
 pub mod program;
+pub mod random;
 pub mod structure;
 pub mod tape;
 pub mod values;
