@@ -23,7 +23,13 @@ pub struct Row {
 impl Row {
     /// As the five numbers that are handed out.
     pub fn numbers(&self) -> [u64; 5] {
-        [u64::from(self.letter), self.start_block, self.byte_offset, self.byte_count, self.file_offset]
+        [
+            u64::from(self.letter),
+            self.start_block,
+            self.byte_offset,
+            self.byte_count,
+            self.file_offset,
+        ]
     }
 
     /// The file position just past the row.
@@ -63,22 +69,37 @@ pub fn lawful(rows: &[Row], length: u64, block_size: u64) -> bool {
 fn disjoint(rows: &[Row]) -> bool {
     let mut sorted = rows.to_vec();
     sorted.sort_by_key(|row| row.file_offset);
-    sorted.windows(2).all(|pair| pair[0].file_end() <= u128::from(pair[1].file_offset))
+    sorted
+        .windows(2)
+        .all(|pair| pair[0].file_end() <= u128::from(pair[1].file_offset))
 }
 
 /// Where a byte of a file is.
 #[derive(Clone, Copy, Debug, PartialEq, Eq)]
 pub enum FileByte {
-    Stored { letter: u8, block: u64, byte: u64 },
+    Stored {
+        letter: u8,
+        block: u64,
+        byte: u64,
+    },
     /// In no row: zero, and not stored.
     Zero,
 }
 
 /// The place of file position `position`, the rows given as numbers in fives.
-pub fn byte_map(numbers: &[u64], length: u64, block_size: u64, position: u64) -> Result<FileByte, Refusal> {
+pub fn byte_map(
+    numbers: &[u64],
+    length: u64,
+    block_size: u64,
+    position: u64,
+) -> Result<FileByte, Refusal> {
     require(is_block_size(block_size), Refusal::Argument)?;
     require(numbers.len() % 5 == 0, Refusal::Argument)?;
-    let rows: Vec<Row> = numbers.chunks(5).map(row_of_numbers).collect::<Option<_>>().ok_or(Refusal::Argument)?;
+    let rows: Vec<Row> = numbers
+        .chunks(5)
+        .map(row_of_numbers)
+        .collect::<Option<_>>()
+        .ok_or(Refusal::Argument)?;
     require(rows.len() <= MAX_EXTENTS, Refusal::TooLong)?;
     require(lawful(&rows, length, block_size), Refusal::Extents)?;
     require(position < length, Refusal::Missing)?;
@@ -100,7 +121,9 @@ pub fn byte_map(numbers: &[u64], length: u64, block_size: u64, position: u64) ->
 }
 
 fn row_of_numbers(five: &[u64]) -> Option<Row> {
-    let letter = u8::try_from(five[0]).ok().filter(|letter| is_letter(*letter))?;
+    let letter = u8::try_from(five[0])
+        .ok()
+        .filter(|letter| is_letter(*letter))?;
     Some(Row {
         letter,
         start_block: five[1],
@@ -115,16 +138,43 @@ mod tests {
     use super::*;
 
     fn row(start_block: u64, byte_offset: u64, byte_count: u64, file_offset: u64) -> Row {
-        Row { letter: b'b', start_block, byte_offset, byte_count, file_offset }
+        Row {
+            letter: b'b',
+            start_block,
+            byte_offset,
+            byte_count,
+            file_offset,
+        }
     }
 
     #[test]
     fn bench_row() {
         let rows = [u64::from(b'b'), 10, 100, 8000, 0];
         let at = |position| byte_map(&rows, 9000, 4096, position);
-        assert_eq!(at(3995), Ok(FileByte::Stored { letter: b'b', block: 10, byte: 4095 }));
-        assert_eq!(at(3996), Ok(FileByte::Stored { letter: b'b', block: 11, byte: 0 }));
-        assert_eq!(at(7999), Ok(FileByte::Stored { letter: b'b', block: 11, byte: 4003 }));
+        assert_eq!(
+            at(3995),
+            Ok(FileByte::Stored {
+                letter: b'b',
+                block: 10,
+                byte: 4095
+            })
+        );
+        assert_eq!(
+            at(3996),
+            Ok(FileByte::Stored {
+                letter: b'b',
+                block: 11,
+                byte: 0
+            })
+        );
+        assert_eq!(
+            at(7999),
+            Ok(FileByte::Stored {
+                letter: b'b',
+                block: 11,
+                byte: 4003
+            })
+        );
         assert_eq!(at(8000), Ok(FileByte::Zero));
         assert_eq!(at(8999), Ok(FileByte::Zero));
         assert_eq!(at(9000), Err(Refusal::Missing));
@@ -136,7 +186,11 @@ mod tests {
         assert!(lawful(&[row(0, 0, 10, 10), row(0, 0, 10, 0)], 20, 4096));
         assert!(!lawful(&[row(0, 0, 10, 0), row(0, 0, 10, 9)], 20, 4096));
         assert!(!lawful(&[row(0, 0, 10, 9), row(0, 0, 10, 0)], 20, 4096));
-        assert!(!lawful(&[row(0, 0, 10, 0), row(0, 0, 1, 3), row(0, 0, 5, 10)], 20, 4096));
+        assert!(!lawful(
+            &[row(0, 0, 10, 0), row(0, 0, 1, 3), row(0, 0, 5, 10)],
+            20,
+            4096
+        ));
         assert!(!lawful(&[row(0, 0, 1, 3), row(0, 0, 1, 3)], 20, 4096));
     }
 
@@ -160,7 +214,11 @@ mod tests {
         let numbers = row(u64::MAX - 1, 4095, 4097, 0).numbers();
         assert_eq!(
             byte_map(&numbers, 4097, 4096, 4096),
-            Ok(FileByte::Stored { letter: b'b', block: u64::MAX, byte: 4095 })
+            Ok(FileByte::Stored {
+                letter: b'b',
+                block: u64::MAX,
+                byte: 4095
+            })
         );
     }
 
@@ -170,12 +228,21 @@ mod tests {
         assert_eq!(byte_map(&unlawful, 1, 4095, 0), Err(Refusal::Argument));
         assert_eq!(byte_map(&unlawful, 1, 1_048_577, 0), Err(Refusal::Argument));
         assert_eq!(byte_map(&unlawful[..4], 1, 4096, 0), Err(Refusal::Argument));
-        assert_eq!(byte_map(&[65, 0, 0, 1, 0], 1, 4096, 0), Err(Refusal::Argument));
-        assert_eq!(byte_map(&[353, 0, 0, 1, 0], 1, 4096, 0), Err(Refusal::Argument));
+        assert_eq!(
+            byte_map(&[65, 0, 0, 1, 0], 1, 4096, 0),
+            Err(Refusal::Argument)
+        );
+        assert_eq!(
+            byte_map(&[353, 0, 0, 1, 0], 1, 4096, 0),
+            Err(Refusal::Argument)
+        );
         assert_eq!(byte_map(&unlawful, 1, 4096, 9), Err(Refusal::Extents));
         let many = unlawful.repeat(MAX_EXTENTS + 1);
         assert_eq!(byte_map(&many, 1, 4096, 0), Err(Refusal::TooLong));
-        assert_eq!(byte_map(&unlawful.repeat(MAX_EXTENTS), 1, 4096, 0), Err(Refusal::Extents));
+        assert_eq!(
+            byte_map(&unlawful.repeat(MAX_EXTENTS), 1, 4096, 0),
+            Err(Refusal::Extents)
+        );
         let mut capital_late = many;
         capital_late[5 * MAX_EXTENTS] = 65;
         assert_eq!(byte_map(&capital_late, 1, 4096, 0), Err(Refusal::Argument));

@@ -148,7 +148,10 @@ pub struct SideLabels {
 
 /// Whether the labels of the index side and the data side agree.
 pub fn agree(index: &SideLabels, data: &SideLabels) -> bool {
-    let data_moved = Label { location: index.label.location, ..data.label.clone() };
+    let data_moved = Label {
+        location: index.label.location,
+        ..data.label.clone()
+    };
     index.vol1 == data.vol1
         && index.label == data_moved
         && index.label.location == index.label.letters.index
@@ -169,7 +172,10 @@ mod tests {
             format_time: TIME.into(),
             uuid: UUID.into(),
             location: b'a',
-            letters: Letters { index: b'a', data: b'b' },
+            letters: Letters {
+                index: b'a',
+                data: b'b',
+            },
             block_size: 524_288,
             compression: true,
         }
@@ -204,7 +210,11 @@ mod tests {
 
     #[test]
     fn writing_then_reading_gives_the_values_back() {
-        let label = Label { creator: b"a&b<c>d\"'&lt;".to_vec(), compression: false, ..sample() };
+        let label = Label {
+            creator: b"a&b<c>d\"'&lt;".to_vec(),
+            compression: false,
+            ..sample()
+        };
         let mut buffer = [0u8; 1000];
         let length = label.write(&mut buffer).unwrap();
         let text = std::str::from_utf8(&buffer[..length]).unwrap();
@@ -215,7 +225,10 @@ mod tests {
     #[test]
     fn writer_writes_its_own_version() {
         let mut buffer = [0u8; 400];
-        let label = Label { version: Version(2, 0, 9), ..sample() };
+        let label = Label {
+            version: Version(2, 0, 9),
+            ..sample()
+        };
         let length = label.write(&mut buffer).unwrap();
         assert_eq!(&buffer[..length], sample_text().as_bytes());
     }
@@ -224,17 +237,56 @@ mod tests {
     fn writer_refuses_fields_before_the_buffer() {
         let good = sample();
         for bad in [
-            Label { creator: b"".to_vec(), ..good.clone() },
-            Label { creator: b"a\nb".to_vec(), ..good.clone() },
-            Label { creator: b"\xff".to_vec(), ..good.clone() },
-            Label { creator: vec![b'c'; 256], ..good.clone() },
-            Label { format_time: b"".to_vec(), ..good.clone() },
-            Label { uuid: b"x".to_vec(), ..good.clone() },
-            Label { location: b'c', ..good.clone() },
-            Label { letters: Letters { index: b'a', data: b'a' }, ..good.clone() },
-            Label { letters: Letters { index: b'a', data: b'B' }, ..good.clone() },
-            Label { block_size: 4095, ..good.clone() },
-            Label { block_size: 1_048_577, ..good.clone() },
+            Label {
+                creator: b"".to_vec(),
+                ..good.clone()
+            },
+            Label {
+                creator: b"a\nb".to_vec(),
+                ..good.clone()
+            },
+            Label {
+                creator: b"\xff".to_vec(),
+                ..good.clone()
+            },
+            Label {
+                creator: vec![b'c'; 256],
+                ..good.clone()
+            },
+            Label {
+                format_time: b"".to_vec(),
+                ..good.clone()
+            },
+            Label {
+                uuid: b"x".to_vec(),
+                ..good.clone()
+            },
+            Label {
+                location: b'c',
+                ..good.clone()
+            },
+            Label {
+                letters: Letters {
+                    index: b'a',
+                    data: b'a',
+                },
+                ..good.clone()
+            },
+            Label {
+                letters: Letters {
+                    index: b'a',
+                    data: b'B',
+                },
+                ..good.clone()
+            },
+            Label {
+                block_size: 4095,
+                ..good.clone()
+            },
+            Label {
+                block_size: 1_048_577,
+                ..good.clone()
+            },
         ] {
             let mut buffer = [7u8; 3];
             assert_eq!(bad.write(&mut buffer), Err(Refusal::Argument), "{bad:?}");
@@ -245,14 +297,28 @@ mod tests {
     #[test]
     fn reads_free_spelling() {
         assert_eq!(read(sample_text().as_bytes()), Ok(sample()));
-        assert_eq!(changed("version=\"2.0.1\"", "\nversion = '2.0.7' "), Ok(Label { version: Version(2, 0, 7), ..sample() }));
+        assert_eq!(
+            changed("version=\"2.0.1\"", "\nversion = '2.0.7' "),
+            Ok(Label {
+                version: Version(2, 0, 7),
+                ..sample()
+            })
+        );
         assert_eq!(changed("<compression>true", "<compression>1"), Ok(sample()));
-        assert_eq!(changed("<index>a</index><data>b</data>", " <data >b</data>\n<index>a</index >"), Ok(sample()));
+        assert_eq!(
+            changed(
+                "<index>a</index><data>b</data>",
+                " <data >b</data>\n<index>a</index >"
+            ),
+            Ok(sample())
+        );
         assert_eq!(
             changed("<creator>LTFS</creator>", ""),
             Err(Refusal::Structure),
         );
-        let moved = sample_text().replace("<creator>LTFS</creator>", "").replace("</ltfslabel>", "<creator>LTFS</creator></ltfslabel>");
+        let moved = sample_text()
+            .replace("<creator>LTFS</creator>", "")
+            .replace("</ltfslabel>", "<creator>LTFS</creator></ltfslabel>");
         assert_eq!(read(moved.as_bytes()), Ok(sample()));
         assert_eq!(changed("LTFS", "a&quot;&gt;b").unwrap().creator, b"a\">b");
     }
@@ -261,19 +327,39 @@ mod tests {
     fn refusals() {
         let is = |from, to, refusal| assert_eq!(changed(from, to), Err(refusal), "{from} -> {to}");
         is("<?xml", " <?xml", Refusal::Form);
-        is("<ltfslabel version=\"2.0.1\">", "<ltfslabel>", Refusal::Structure);
-        is("<ltfslabel version=\"2.0.1\">", "<ltfslabel Version=\"2.0.1\">", Refusal::Structure);
+        is(
+            "<ltfslabel version=\"2.0.1\">",
+            "<ltfslabel>",
+            Refusal::Structure,
+        );
+        is(
+            "<ltfslabel version=\"2.0.1\">",
+            "<ltfslabel Version=\"2.0.1\">",
+            Refusal::Structure,
+        );
         is("ltfslabel", "ltfsindex", Refusal::Structure);
         is("\"2.0.1\"", "\"\"", Refusal::Version);
         is("\"2.0.1\"", "\"2.1.0\"", Refusal::Version);
         is("<creator>", "<creator a='b'>", Refusal::Structure);
         is("LTFS", "<b/>", Refusal::Structure);
         is("<compression>true</compression>", "", Refusal::Structure);
-        is("<compression>true</compression>", "<compression>true</compression><compression>true</compression>", Refusal::Structure);
-        is("<compression>true</compression>", "<compression>true</compression><other/>", Refusal::Structure);
+        is(
+            "<compression>true</compression>",
+            "<compression>true</compression><compression>true</compression>",
+            Refusal::Structure,
+        );
+        is(
+            "<compression>true</compression>",
+            "<compression>true</compression><other/>",
+            Refusal::Structure,
+        );
         is("<partition>a</partition>", "a", Refusal::Structure);
         is("<partition>a</partition>", "", Refusal::Structure);
-        is("<partition>a</partition>", "<partition>a</partition><startblock>1</startblock>", Refusal::Structure);
+        is(
+            "<partition>a</partition>",
+            "<partition>a</partition><startblock>1</startblock>",
+            Refusal::Structure,
+        );
         is("<data>b</data>", "", Refusal::Structure);
         is("LTFS", "", Refusal::Value);
         is("LTFS", "a\tb", Refusal::Value);
@@ -298,8 +384,14 @@ mod tests {
         };
         let refusal = |text: String| read(text.as_bytes()).unwrap_err();
         assert_eq!(refusal(text("9", "x", "<y/>")), Refusal::Form);
-        assert_eq!(refusal(text("9", "x", "<y/></ltfslabel>")), Refusal::Version);
-        assert_eq!(refusal(text("2.0.1", "x", "<y/></ltfslabel>")), Refusal::Structure);
+        assert_eq!(
+            refusal(text("9", "x", "<y/></ltfslabel>")),
+            Refusal::Version
+        );
+        assert_eq!(
+            refusal(text("2.0.1", "x", "<y/></ltfslabel>")),
+            Refusal::Structure
+        );
         assert_eq!(refusal(text("2.0.1", "x", "</ltfslabel>")), Refusal::Value);
         let long = "x".repeat(MAX_TEXT + 1);
         assert_eq!(refusal(long), Refusal::TooLong);
@@ -312,22 +404,55 @@ mod tests {
 
     #[test]
     fn agreement() {
-        let vol1 = Vol1 { identifier: *b"ABC123", owner: [b' '; 14] };
-        let side = |label: Label| SideLabels { vol1: vol1.clone(), label };
+        let vol1 = Vol1 {
+            identifier: *b"ABC123",
+            owner: [b' '; 14],
+        };
+        let side = |label: Label| SideLabels {
+            vol1: vol1.clone(),
+            label,
+        };
         let index = side(sample());
-        let data_label = Label { location: b'b', ..sample() };
+        let data_label = Label {
+            location: b'b',
+            ..sample()
+        };
         let data = side(data_label.clone());
         assert!(agree(&index, &data));
         assert!(!agree(&data, &index));
         assert!(!agree(&index, &index));
         let other = |label: Label| !agree(&index, &side(label));
-        assert!(other(Label { version: Version(2, 0, 2), ..data_label.clone() }));
-        assert!(other(Label { creator: b"x".to_vec(), ..data_label.clone() }));
-        assert!(other(Label { uuid: UUID.to_uppercase().into(), ..data_label.clone() }));
-        assert!(other(Label { block_size: 4096, ..data_label.clone() }));
-        assert!(other(Label { compression: false, ..data_label.clone() }));
-        assert!(other(Label { format_time: TIME.replace('1', "2").into(), ..data_label.clone() }));
-        let owner = SideLabels { vol1: Vol1 { owner: *b"x             ", ..vol1.clone() }, label: data_label };
+        assert!(other(Label {
+            version: Version(2, 0, 2),
+            ..data_label.clone()
+        }));
+        assert!(other(Label {
+            creator: b"x".to_vec(),
+            ..data_label.clone()
+        }));
+        assert!(other(Label {
+            uuid: UUID.to_uppercase().into(),
+            ..data_label.clone()
+        }));
+        assert!(other(Label {
+            block_size: 4096,
+            ..data_label.clone()
+        }));
+        assert!(other(Label {
+            compression: false,
+            ..data_label.clone()
+        }));
+        assert!(other(Label {
+            format_time: TIME.replace('1', "2").into(),
+            ..data_label.clone()
+        }));
+        let owner = SideLabels {
+            vol1: Vol1 {
+                owner: *b"x             ",
+                ..vol1.clone()
+            },
+            label: data_label,
+        };
         assert!(!agree(&index, &owner));
     }
 }

@@ -20,7 +20,7 @@ impl Random {
         Random(seed)
     }
 
-    pub fn next(&mut self) -> u64 {
+    pub fn draw(&mut self) -> u64 {
         self.0 = self.0.wrapping_add(0x9E37_79B9_7F4A_7C15);
         let mut mixed = self.0;
         mixed = (mixed ^ (mixed >> 30)).wrapping_mul(0xBF58_476D_1CE4_E5B9);
@@ -30,7 +30,7 @@ impl Random {
 
     /// From 0 to `bound` - 1.
     pub fn below(&mut self, bound: usize) -> usize {
-        (self.next() % bound as u64) as usize
+        (self.draw() % bound as u64) as usize
     }
 
     pub fn one_in(&mut self, n: usize) -> bool {
@@ -61,11 +61,21 @@ pub struct Node {
 
 impl Node {
     pub fn value(name: &str, text: impl Into<String>) -> Node {
-        Node { name: name.into(), attribute: None, text: text.into(), children: Vec::new() }
+        Node {
+            name: name.into(),
+            attribute: None,
+            text: text.into(),
+            children: Vec::new(),
+        }
     }
 
     pub fn parent(name: &str, children: Vec<Node>) -> Node {
-        Node { name: name.into(), attribute: None, text: String::new(), children }
+        Node {
+            name: name.into(),
+            attribute: None,
+            text: String::new(),
+            children,
+        }
     }
 
     pub fn with_attribute(mut self, name: &str, value: &str) -> Node {
@@ -156,7 +166,9 @@ fn spell_character(random: &mut Random, character: char, quote: char, text: &mut
         '\'' => "&apos;",
         _ => return text.push(character),
     };
-    let must = matches!(character, '&' | '<') || character == quote || (character == '>' && text.ends_with("]]"));
+    let must = matches!(character, '&' | '<')
+        || character == quote
+        || (character == '>' && text.ends_with("]]"));
     if must || random.one_in(2) {
         text.push_str(reference);
     } else {
@@ -184,9 +196,15 @@ fn time(random: &mut Random) -> String {
 }
 
 fn uuid(random: &mut Random) -> String {
-    let digits = format!("{:016x}{:016x}", random.next(), random.next());
-    let text =
-        format!("{}-{}-{}-{}-{}", &digits[..8], &digits[8..12], &digits[12..16], &digits[16..20], &digits[20..]);
+    let digits = format!("{:016x}{:016x}", random.draw(), random.draw());
+    let text = format!(
+        "{}-{}-{}-{}-{}",
+        &digits[..8],
+        &digits[8..12],
+        &digits[12..16],
+        &digits[16..20],
+        &digits[20..]
+    );
     if random.one_in(4) {
         text.to_uppercase()
     } else {
@@ -243,9 +261,15 @@ pub fn label(random: &mut Random) -> Label {
     let letters = if random.one_in(3) {
         let index = random.below(26);
         let data = (index + 1 + random.below(25)) % 26;
-        Letters { index: b'a' + index as u8, data: b'a' + data as u8 }
+        Letters {
+            index: b'a' + index as u8,
+            data: b'a' + data as u8,
+        }
     } else {
-        Letters { index: b'a', data: b'b' }
+        Letters {
+            index: b'a',
+            data: b'b',
+        }
     };
     let block_size = match random.below(8) {
         0 => 4_097,
@@ -285,7 +309,10 @@ pub fn label_node(random: &mut Random, label: &Label) -> Node {
             Node::value("creator", as_text(&label.creator)),
             Node::value("formattime", as_text(&label.format_time)),
             Node::value("volumeuuid", as_text(&label.uuid)),
-            Node::parent("location", vec![Node::value("partition", letter_text(label.location))]),
+            Node::parent(
+                "location",
+                vec![Node::value("partition", letter_text(label.location))],
+            ),
             Node::parent(
                 "partitions",
                 vec![
@@ -379,11 +406,17 @@ impl VolumeFiles {
     }
 
     pub fn index(&self) -> Side<'_> {
-        Side { list: &self.index_list, store: &self.index_store }
+        Side {
+            list: &self.index_list,
+            store: &self.index_store,
+        }
     }
 
     pub fn data(&self) -> Side<'_> {
-        Side { list: &self.data_list, store: &self.data_store }
+        Side {
+            list: &self.data_list,
+            store: &self.data_store,
+        }
     }
 }
 
@@ -422,7 +455,11 @@ fn extent(random: &mut Random, blocks: &[DataBlock], block_size: u64) -> Option<
     {
         last += 1;
     }
-    let byte_offset = if random.one_in(2) { 0 } else { random.next() % start.length };
+    let byte_offset = if random.one_in(2) {
+        0
+    } else {
+        random.draw() % start.length
+    };
     let before_last = (last - first) as u64 * block_size;
     // The end must lie in the last block and past the offset.
     let least_end = before_last.max(byte_offset) + 1;
@@ -430,7 +467,7 @@ fn extent(random: &mut Random, blocks: &[DataBlock], block_size: u64) -> Option<
     let end = match random.below(3) {
         0 => least_end,
         1 => greatest_end,
-        _ => least_end + random.next() % (greatest_end - least_end + 1),
+        _ => least_end + random.draw() % (greatest_end - least_end + 1),
     };
     Some(Row {
         letter: start.letter,
@@ -447,15 +484,22 @@ fn rows(random: &mut Random, blocks: &[DataBlock], block_size: u64) -> (Vec<Row>
     let mut position = 0;
     for _ in 0..random.below(4) {
         if random.one_in(3) {
-            position += 1 + random.next() % 20;
+            position += 1 + random.draw() % 20;
         }
         if let Some(row) = extent(random, blocks, block_size) {
-            rows.push(Row { file_offset: position, ..row });
+            rows.push(Row {
+                file_offset: position,
+                ..row
+            });
             position += row.byte_count;
         }
     }
     random.shuffle(&mut rows);
-    let sparse_end = if random.one_in(3) { random.next() % 100 } else { 0 };
+    let sparse_end = if random.one_in(3) {
+        random.draw() % 100
+    } else {
+        0
+    };
     (rows, position + sparse_end)
 }
 
@@ -485,7 +529,13 @@ fn entry_nodes(random: &mut Random, uid: u64, name: String) -> Vec<Node> {
         Node::value("name", name),
         Node::value("readonly", boolean(random, read_only)),
     ];
-    for element in ["creationtime", "changetime", "modifytime", "accesstime", "backuptime"] {
+    for element in [
+        "creationtime",
+        "changetime",
+        "modifytime",
+        "accesstime",
+        "backuptime",
+    ] {
         nodes.push(Node::value(element, time(random)));
     }
     if random.one_in(6) {
@@ -528,14 +578,24 @@ fn file_node(random: &mut Random, pool: &mut Pool) -> Node {
     let (rows, length) = rows(random, pool.blocks, pool.block_size);
     nodes.push(Node::value("length", length.to_string()));
     if !rows.is_empty() || random.one_in(2) {
-        nodes.push(Node::parent("extentinfo", rows.iter().map(row_node).collect()));
+        nodes.push(Node::parent(
+            "extentinfo",
+            rows.iter().map(row_node).collect(),
+        ));
     }
     Node::parent("file", nodes)
 }
 
 fn directory_node(random: &mut Random, pool: &mut Pool, root: bool, depth: usize) -> Node {
     let (uid, directory_name) = if root {
-        (1, if random.one_in(2) { String::new() } else { name(random) })
+        (
+            1,
+            if random.one_in(2) {
+                String::new()
+            } else {
+                name(random)
+            },
+        )
     } else {
         (pool.uid(), name(random))
     };
@@ -563,10 +623,20 @@ fn place_node(element: &str, place: Place) -> Node {
 }
 
 /// A lawful index of the label's volume, its extents on the given data blocks.
-pub fn index_node(random: &mut Random, label: &Label, header: &Header, blocks: &[DataBlock]) -> Node {
+pub fn index_node(
+    random: &mut Random,
+    label: &Label,
+    header: &Header,
+    blocks: &[DataBlock],
+) -> Node {
     let update_policy = random.one_in(2);
     let version = Version(2, 0, *random.pick(&[&0u16, &1, &9, &65_535]));
-    let mut pool = Pool { blocks, block_size: label.block_size, next_uid: 1, uid_step: 1 + random.next() % 9 };
+    let mut pool = Pool {
+        blocks,
+        block_size: label.block_size,
+        next_uid: 1,
+        uid_step: 1 + random.draw() % 9,
+    };
     let directory = directory_node(random, &mut pool, true, 3);
     let highest = if random.one_in(4) { 0 } else { pool.next_uid };
     let mut nodes = vec![
@@ -600,9 +670,19 @@ pub fn index_node(random: &mut Random, label: &Label, header: &Header, blocks: &
 /// A lawful index text with its label and place, for tests of the reader.
 pub fn index_case(random: &mut Random) -> (Node, Label, Place) {
     let label = label(random);
-    let letter = if random.one_in(2) { label.letters.index } else { label.letters.data };
-    let location = Place { letter, start_block: 5 + random.next() % 20 };
-    let back_pointer = Place { letter: label.letters.data, start_block: random.next() % 30 };
+    let letter = if random.one_in(2) {
+        label.letters.index
+    } else {
+        label.letters.data
+    };
+    let location = Place {
+        letter,
+        start_block: 5 + random.draw() % 20,
+    };
+    let back_pointer = Place {
+        letter: label.letters.data,
+        start_block: random.draw() % 30,
+    };
     let header = Header {
         generation: generation(random),
         location,
@@ -610,9 +690,17 @@ pub fn index_case(random: &mut Random) -> (Node, Label, Place) {
     };
     let blocks: Vec<DataBlock> = (0..6)
         .map(|at| DataBlock {
-            letter: if at < 3 { label.letters.index } else { label.letters.data },
+            letter: if at < 3 {
+                label.letters.index
+            } else {
+                label.letters.data
+            },
             number: 4 + at,
-            length: if random.one_in(2) { label.block_size } else { 1 + random.next() % 4_096 },
+            length: if random.one_in(2) {
+                label.block_size
+            } else {
+                1 + random.draw() % 4_096
+            },
         })
         .collect();
     let node = index_node(random, &label, &header, &blocks);
@@ -622,8 +710,8 @@ pub fn index_case(random: &mut Random) -> (Node, Label, Place) {
 fn generation(random: &mut Random) -> u64 {
     match random.below(4) {
         0 => 1,
-        1 => u64::MAX - 40 + random.next() % 20,
-        _ => 1 + random.next() % 10,
+        1 => u64::MAX - 40 + random.draw() % 20,
+        _ => 1 + random.draw() % 10,
     }
 }
 
@@ -641,6 +729,9 @@ struct Writer<'a> {
     data_indexes: Vec<Place>,
     /// One in how many chances something unlawful is written; 0 for never.
     faults: usize,
+    /// Indexes of the index partition point at any of the data partition's. Each
+    /// can still end a consistent cut, so several cuts compete.
+    any_back_pointer: bool,
 }
 
 impl Writer<'_> {
@@ -656,41 +747,84 @@ impl Writer<'_> {
         }
     }
 
+    /// The label construct of the partition that the label is for.
+    fn write_labels(&mut self, vol1: &Vol1, label: &Label) {
+        let mut label = label.clone();
+        let letter = label.location;
+        let mut vol1 = vol1.clone();
+        if self.fault() {
+            match self.random.below(6) {
+                0 => vol1.owner[0] ^= 1,
+                1 => label.creator = b"another".to_vec(),
+                2 => label.compression = !label.compression,
+                3 => label.version.2 ^= 1,
+                4 => label.uuid.make_ascii_uppercase(),
+                _ => std::mem::swap(&mut label.letters.index, &mut label.letters.data),
+            }
+        }
+        let mut node = label_node(self.random, &label);
+        if self.fault() {
+            damage_node(self.random, &mut node);
+        }
+        let text = document(self.random, &node);
+        self.side(letter).labels(&vol1, text);
+    }
+
     /// Data blocks for a data run, some of them full.
     fn write_data(&mut self, letter: u8) {
         for _ in 0..self.random.below(3) {
             let small = self.label.block_size == 4_096;
             let mut length = match self.random.below(4) {
                 0 if small => 4_096,
-                _ => 1 + self.random.next() % 60,
+                _ => 1 + self.random.draw() % 60,
             };
             if small && self.fault() {
                 length = self.label.block_size + 1;
             }
             let number = self.side(letter).elements.len() as u64;
-            let byte = self.random.next() as u8;
+            let byte = self.random.draw() as u8;
             self.side(letter).block(vec![byte; length as usize]);
-            self.blocks.push(DataBlock { letter, number, length });
+            self.blocks.push(DataBlock {
+                letter,
+                number,
+                length,
+            });
         }
-        self.blocks.sort_by_key(|block| (block.letter, block.number));
+        self.blocks
+            .sort_by_key(|block| (block.letter, block.number));
     }
 
     fn write_index(&mut self, letter: u8) {
         let on_data = letter == self.label.letters.data;
-        let place = Place { letter, start_block: self.side(letter).elements.len() as u64 + 1 };
+        let place = Place {
+            letter,
+            start_block: self.side(letter).elements.len() as u64 + 1,
+        };
         let mut header = Header {
             generation: self.generation,
             location: place,
             back_pointer: self.data_indexes.last().copied(),
         };
+        if !on_data && self.any_back_pointer {
+            let at = self.random.below(self.data_indexes.len());
+            header.back_pointer = Some(self.data_indexes[at]);
+        }
         if self.fault() {
             self.spoil_header(&mut header);
         }
         let mut blocks = self.blocks.clone();
-        if self.fault() {
-            // Extents past what is written.
-            let number = self.side(letter).elements.len() as u64 + self.random.next() % 4;
-            blocks.push(DataBlock { letter, number, length: 10 });
+        // More often than other faults: few indexes end a volume and have rows.
+        if self.faults > 0 && self.random.one_in(10) {
+            // Extents on blocks that are not there, not data, or shorter than told.
+            let other = *self
+                .random
+                .pick(&[&self.label.letters.index, &self.label.letters.data]);
+            let number = self.random.draw() % (self.side(other).elements.len() as u64 + 4);
+            blocks = vec![DataBlock {
+                letter: other,
+                number,
+                length: 1 + self.random.draw() % 70,
+            }];
         }
         let label = self.label.clone();
         let mut node = index_node(self.random, &label, &header, &blocks);
@@ -714,13 +848,17 @@ impl Writer<'_> {
 
     fn spoil_header(&mut self, header: &mut Header) {
         let place = Place {
-            letter: *self.random.pick(&[&self.label.letters.index, &self.label.letters.data, &b'q']),
-            start_block: self.random.next() % 12,
+            letter: *self.random.pick(&[
+                &self.label.letters.index,
+                &self.label.letters.data,
+                &b'q',
+            ]),
+            start_block: self.random.draw() % 12,
         };
         match self.random.below(6) {
             0 => header.location.start_block += 1,
             1 => header.location = place,
-            2 => header.generation = self.random.next() % 3,
+            2 => header.generation = self.random.draw() % 3,
             3 => header.back_pointer = None,
             4 => header.back_pointer = Some(place),
             _ => {
@@ -753,9 +891,13 @@ impl Writer<'_> {
 /// written wrong.
 pub fn tape(random: &mut Random, faults: usize) -> (TapeSide, TapeSide, Label) {
     let label = label(random);
-    let data_label = Label { location: label.letters.data, ..label.clone() };
+    let data_label = Label {
+        location: label.letters.data,
+        ..label.clone()
+    };
     let vol1 = vol1(random);
     let generation = generation(random);
+    let any_back_pointer = faults > 0 && random.one_in(3);
     let mut writer = Writer {
         random,
         label: label.clone(),
@@ -765,19 +907,22 @@ pub fn tape(random: &mut Random, faults: usize) -> (TapeSide, TapeSide, Label) {
         generation,
         data_indexes: Vec::new(),
         faults,
+        any_back_pointer,
     };
-    let index_text = label_text(writer.random, &label);
-    let data_text = label_text(writer.random, &data_label);
-    writer.index.labels(&vol1, index_text);
-    writer.data.labels(&vol1, data_text);
+    writer.write_labels(&vol1, &label);
+    writer.write_labels(&vol1, &data_label);
     let letters = label.letters;
     if writer.random.one_in(2) {
         writer.write_data(letters.data);
     }
     writer.write_index(letters.data);
     for _ in 0..writer.random.below(7) {
-        writer.generation = writer.generation.saturating_add(writer.random.next() % 3);
-        let letter = if writer.random.one_in(2) { letters.index } else { letters.data };
+        writer.generation = writer.generation.saturating_add(writer.random.draw() % 3);
+        let letter = if writer.random.one_in(2) {
+            letters.index
+        } else {
+            letters.data
+        };
         writer.write_data(letter);
         writer.write_index(letter);
     }
@@ -797,14 +942,18 @@ pub fn volume(random: &mut Random) -> VolumeFiles {
 
 /// A volume with damage of one kind or several.
 pub fn damaged_volume(random: &mut Random) -> VolumeFiles {
-    let faults = *random.pick(&[&0, &30, &15]);
+    let faults = *random.pick(&[&0, &60, &30]);
     let (mut index, mut data, _) = tape(random, faults);
     for _ in 0..random.below(3) {
-        let side = if random.one_in(2) { &mut index } else { &mut data };
+        let side = if random.one_in(2) {
+            &mut index
+        } else {
+            &mut data
+        };
         damage_elements(random, side);
     }
     let mut files = VolumeFiles::of(&index, &data);
-    if random.one_in(4) {
+    if random.one_in(8) {
         damage_files(random, &mut files);
     }
     files
@@ -818,7 +967,13 @@ fn damage_elements(random: &mut Random, side: &mut TapeSide) {
     if elements.is_empty() {
         return;
     }
-    let at = random.below(elements.len());
+    // Mostly past the label construct, so that most volumes still have labels.
+    let labels = if elements.len() > 4 && !random.one_in(8) {
+        4
+    } else {
+        0
+    };
+    let at = labels + random.below(elements.len() - labels);
     match random.below(8) {
         0 | 1 => elements.truncate(at),
         2 => {
@@ -830,7 +985,10 @@ fn damage_elements(random: &mut Random, side: &mut TapeSide) {
         }
         4 => elements.insert(at, None),
         5 => elements.push(Some(vec![b'y'; 1 + random.below(50)])),
-        6 => elements.swap(at, 0),
+        6 => {
+            let other = labels + random.below(elements.len() - labels);
+            elements.swap(at, other);
+        }
         _ => {
             if let Some(bytes) = &mut elements[at] {
                 damage_text(random, bytes);
@@ -870,10 +1028,14 @@ pub fn damage_bytes(random: &mut Random, bytes: &mut Vec<u8>) {
             let again = bytes[at..end].to_vec();
             bytes.splice(at..at, again);
         }
-        3 => bytes.insert(at, random.next() as u8),
+        3 => bytes.insert(at, random.draw() as u8),
         _ => {
             if let Some(byte) = bytes.get_mut(at) {
-                *byte = if random.one_in(2) { *byte ^ (1 << random.below(8)) } else { random.next() as u8 };
+                *byte = if random.one_in(2) {
+                    *byte ^ (1 << random.below(8))
+                } else {
+                    random.draw() as u8
+                };
             }
         }
     }
@@ -885,9 +1047,37 @@ pub fn damage_text(random: &mut Random, text: &mut Vec<u8>) {
         return damage_bytes(random, text);
     }
     const PIECES: [&[u8]; 31] = [
-        b"<!--x-->", b"<![CDATA[x]]>", b"<?x?>", b"<!DOCTYPE a>", b"&#65;", b"&amp;", b"&", b"&foo;", b"&quot", b"<",
-        b">", b"</a>", b"<a/>", b"<a></a>", b"]]>", b"]]", b" a='b'", b" a=\"b\"", b"/", b"'", b"\"", b" ", b"\n", b"x",
-        b"0", b"\x00", b"\x7f", b"\xff", b"\xed\xa0\x80", b"\xef\xbf\xbe", "é".as_bytes(),
+        b"<!--x-->",
+        b"<![CDATA[x]]>",
+        b"<?x?>",
+        b"<!DOCTYPE a>",
+        b"&#65;",
+        b"&amp;",
+        b"&",
+        b"&foo;",
+        b"&quot",
+        b"<",
+        b">",
+        b"</a>",
+        b"<a/>",
+        b"<a></a>",
+        b"]]>",
+        b"]]",
+        b" a='b'",
+        b" a=\"b\"",
+        b"/",
+        b"'",
+        b"\"",
+        b" ",
+        b"\n",
+        b"x",
+        b"0",
+        b"\x00",
+        b"\x7f",
+        b"\xff",
+        b"\xed\xa0\x80",
+        b"\xef\xbf\xbe",
+        "é".as_bytes(),
     ];
     let piece = PIECES[random.below(PIECES.len())];
     // Half the time at a tag, where most places of interest are.
@@ -923,14 +1113,54 @@ pub fn damage_node(random: &mut Random, node: &mut Node) {
         };
     }
     let values = [
-        "", "0", "1", "2", "5", "007", "+1", "-1", " 7", "7 ", "18446744073709551615", "18446744073709551616", "4095", "a",
-        "b", "c", "z", "A", "ab", "true", "TRUE", "yes", "a/b", "a\tb", "\n", " ", "&", "2.0.1", "2.0.01", "2.1.0", "2.0",
-        "2.0.65536", "2010-13-01T18:35:47.866846222Z", "2010-02-31T18:35:47.866846222Z",
-        "30A91A08-DAAE-48D1-AE75-69804E61D2EA", "30a91a08-daae-48d1-ae75-69804e61d2e",
+        "",
+        "0",
+        "1",
+        "2",
+        "5",
+        "007",
+        "+1",
+        "-1",
+        " 7",
+        "7 ",
+        "18446744073709551615",
+        "18446744073709551616",
+        "4095",
+        "a",
+        "b",
+        "c",
+        "z",
+        "A",
+        "ab",
+        "true",
+        "TRUE",
+        "yes",
+        "a/b",
+        "a\tb",
+        "\n",
+        " ",
+        "&",
+        "2.0.1",
+        "2.0.01",
+        "2.1.0",
+        "2.0",
+        "2.0.65536",
+        "2010-13-01T18:35:47.866846222Z",
+        "2010-02-31T18:35:47.866846222Z",
+        "30A91A08-DAAE-48D1-AE75-69804E61D2EA",
+        "30a91a08-daae-48d1-ae75-69804e61d2e",
     ];
     match random.below(9) {
         0 => {
-            let names = ["x", "file", "directory", "extent", "comment", "name", "Creator"];
+            let names = [
+                "x",
+                "file",
+                "directory",
+                "extent",
+                "comment",
+                "name",
+                "Creator",
+            ];
             node.name = random.pick(&names).into();
         }
         1 => node.attribute = None,
@@ -942,7 +1172,11 @@ pub fn damage_node(random: &mut Random, node: &mut Node) {
         _ => {
             let at = random.below(node.children.len());
             let moved = node.children.remove(at);
-            if let Some(other) = node.children.last_mut().filter(|other| other.text.is_empty()) {
+            if let Some(other) = node
+                .children
+                .last_mut()
+                .filter(|other| other.text.is_empty())
+            {
                 other.children.push(moved);
             }
         }
@@ -971,7 +1205,15 @@ pub fn map_case(random: &mut Random) -> MapCase {
             letter: *random.pick(&[&b'a', &b'b', &b'z']),
             start_block: *random.pick(&[&0u64, &4, &10, &(u64::MAX - 1), &u64::MAX]),
             byte_offset: *random.pick(&[&0u64, &1, &100, &4_095, &(block_size - 1), &block_size]),
-            byte_count: *random.pick(&[&1u64, &5, &100, &block_size, &(block_size + 1), &(1 << 63), &0]),
+            byte_count: *random.pick(&[
+                &1u64,
+                &5,
+                &100,
+                &block_size,
+                &(block_size + 1),
+                &(1 << 63),
+                &0,
+            ]),
             file_offset: position,
         };
         position = position.saturating_add(row.byte_count);
@@ -990,13 +1232,19 @@ pub fn map_case(random: &mut Random) -> MapCase {
     let near = match random.below(3) {
         0 => length,
         1 => rows.first().map_or(0, |row| row.file_offset),
-        _ => rows.first().map_or(0, |row| row.file_offset.saturating_add(row.byte_count)),
+        _ => rows
+            .first()
+            .map_or(0, |row| row.file_offset.saturating_add(row.byte_count)),
     };
     let mut case = MapCase {
         numbers: rows.iter().flat_map(|row| row.numbers()).collect(),
         length,
         block_size,
-        position: if random.one_in(2) { near.saturating_sub(random.next() % 3) } else { random.next() % length.max(1) },
+        position: if random.one_in(2) {
+            near.saturating_sub(random.draw() % 3)
+        } else {
+            random.draw() % length.max(1)
+        },
     };
     match random.below(16) {
         0 => {

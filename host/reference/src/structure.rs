@@ -29,10 +29,17 @@ pub enum Times {
 pub fn children(element: &Element, allowed: &[(&str, Times)]) -> Result<(), Refusal> {
     require(element.raw_text.bytes().all(is_white), Refusal::Structure)?;
     for child in &element.children {
-        require(allowed.iter().any(|(name, _)| child.name == *name), Refusal::Structure)?;
+        require(
+            allowed.iter().any(|(name, _)| child.name == *name),
+            Refusal::Structure,
+        )?;
     }
     for (name, times) in allowed {
-        let count = element.children.iter().filter(|child| child.name == *name).count();
+        let count = element
+            .children
+            .iter()
+            .filter(|child| child.name == *name)
+            .count();
         let lawful = match times {
             Times::Once => count == 1,
             Times::AtMostOnce => count <= 1,
@@ -70,12 +77,20 @@ pub fn text(element: &Element) -> String {
 }
 
 /// The value of the child `name`, read by `read`; refusal 6 when it reads none.
-pub fn read<T>(element: &Element, name: &str, read: impl Fn(&[u8]) -> Option<T>) -> Result<T, Refusal> {
+pub fn read<T>(
+    element: &Element,
+    name: &str,
+    read: impl Fn(&[u8]) -> Option<T>,
+) -> Result<T, Refusal> {
     read(text(only(element, name)).as_bytes()).ok_or(Refusal::Value)
 }
 
 /// The text of the child `name` when it passes `rule`.
-pub fn read_text(element: &Element, name: &str, rule: impl Fn(&[u8]) -> bool) -> Result<String, Refusal> {
+pub fn read_text(
+    element: &Element,
+    name: &str,
+    rule: impl Fn(&[u8]) -> bool,
+) -> Result<String, Refusal> {
     let text = text(only(element, name));
     require(rule(text.as_bytes()), Refusal::Value)?;
     Ok(text)

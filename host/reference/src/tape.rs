@@ -14,7 +14,10 @@ const BLOCK: u8 = 2;
 pub enum Element {
     FileMark,
     /// A block, with the place of its bytes in the store.
-    Block { start: usize, length: usize },
+    Block {
+        start: usize,
+        length: usize,
+    },
 }
 
 impl Element {
@@ -60,7 +63,10 @@ impl<'a> Partition<'a> {
                     require(body.len() >= 4, Refusal::List)?;
                     let length = u32::from_be_bytes([body[0], body[1], body[2], body[3]]) as usize;
                     require((1..=MAX_BLOCK).contains(&length), Refusal::List)?;
-                    elements.push(Element::Block { start: stored, length });
+                    elements.push(Element::Block {
+                        start: stored,
+                        length,
+                    });
                     // At most MAX_ELEMENTS * MAX_BLOCK, far below 64 bits.
                     stored += length;
                     rest = &body[4..];
@@ -70,7 +76,11 @@ impl<'a> Partition<'a> {
         }
         require(store.len() <= MAX_STORE, Refusal::List)?;
         require(stored == store.len(), Refusal::List)?;
-        Ok(Partition { list, store, elements })
+        Ok(Partition {
+            list,
+            store,
+            elements,
+        })
     }
 
     /// The first `n` elements; all of them when there are fewer.
@@ -87,7 +97,9 @@ impl<'a> Partition<'a> {
 
     /// The bytes of element `number`; refusal 2 for a file mark or a missing number.
     pub fn block(&self, number: u64) -> Result<&'a [u8], Refusal> {
-        let element = usize::try_from(number).ok().and_then(|n| self.elements.get(n));
+        let element = usize::try_from(number)
+            .ok()
+            .and_then(|n| self.elements.get(n));
         match element {
             Some(&Element::Block { start, length }) => Ok(&self.store[start..start + length]),
             _ => Err(Refusal::Missing),
@@ -97,9 +109,13 @@ impl<'a> Partition<'a> {
     /// The part of the store from block `first` to block `last`.
     pub fn blocks(&self, first: usize, last: usize) -> &'a [u8] {
         match (self.elements[first], self.elements[last]) {
-            (Element::Block { start, .. }, Element::Block { start: last_start, length }) => {
-                &self.store[start..last_start + length]
-            }
+            (
+                Element::Block { start, .. },
+                Element::Block {
+                    start: last_start,
+                    length,
+                },
+            ) => &self.store[start..last_start + length],
             _ => panic!("blocks() is asked from block to block"),
         }
     }
@@ -111,7 +127,11 @@ pub fn check(list: &[u8], store: &[u8]) -> Result<usize, Refusal> {
 }
 
 /// The fronts of list and store for the first `n` elements, and how many those are.
-pub fn keep<'a>(list: &'a [u8], store: &'a [u8], n: u64) -> Result<(&'a [u8], &'a [u8], usize), Refusal> {
+pub fn keep<'a>(
+    list: &'a [u8],
+    store: &'a [u8],
+    n: u64,
+) -> Result<(&'a [u8], &'a [u8], usize), Refusal> {
     let kept = Partition::read(list, store)?.keep(usize::try_from(n).unwrap_or(usize::MAX));
     Ok((kept.list, kept.store, kept.elements.len()))
 }
@@ -156,7 +176,10 @@ pub fn block<'a>(
     asked: u8,
     number: u64,
 ) -> Result<&'a [u8], Refusal> {
-    require(letters.lawful() && letters.contain(asked), Refusal::Argument)?;
+    require(
+        letters.lawful() && letters.contain(asked),
+        Refusal::Argument,
+    )?;
     let index = index.read()?;
     let data = data.read()?;
     if asked == letters.index {
@@ -184,12 +207,26 @@ mod tests {
 
     #[test]
     fn fresh_partition_is_seven_elements_in_nineteen_bytes() {
-        let list = [&block_entry(80)[..], &[1], &block_entry(378), &[1, 1], &block_entry(900), &[1]].concat();
+        let list = [
+            &block_entry(80)[..],
+            &[1],
+            &block_entry(378),
+            &[1, 1],
+            &block_entry(900),
+            &[1],
+        ]
+        .concat();
         assert_eq!(list.len(), 19);
         assert_eq!(check(&list, &vec![0; 80 + 378 + 900]), Ok(7));
         let store = vec![0; 80 + 378 + 900];
         let partition = Partition::read(&list, &store).unwrap();
-        assert!(matches!(partition.elements[5], Element::Block { start: 458, length: 900 }));
+        assert!(matches!(
+            partition.elements[5],
+            Element::Block {
+                start: 458,
+                length: 900
+            }
+        ));
     }
 
     #[test]
@@ -202,7 +239,10 @@ mod tests {
         assert_eq!(check(&[2, 0, 0, 0, 1], &[9, 9]), Err(Refusal::List));
         assert_eq!(check(&[2, 0, 0, 0, 2], &[9]), Err(Refusal::List));
         assert_eq!(check(&[2, 0, 0x10, 0, 0], &vec![0; MAX_BLOCK]), Ok(1));
-        assert_eq!(check(&[2, 0, 0x10, 0, 1], &vec![0; MAX_BLOCK + 1]), Err(Refusal::List));
+        assert_eq!(
+            check(&[2, 0, 0x10, 0, 1], &vec![0; MAX_BLOCK + 1]),
+            Err(Refusal::List)
+        );
     }
 
     #[test]
@@ -231,21 +271,45 @@ mod tests {
     #[test]
     fn block_by_letter_and_number() {
         let list = [&[1][..], &block_entry(2)].concat();
-        let index = Side { list: &list, store: b"ix" };
-        let data = Side { list: &list, store: b"da" };
-        let broken = Side { list: &[9], store: b"" };
-        let letters = Letters { index: b'a', data: b'b' };
+        let index = Side {
+            list: &list,
+            store: b"ix",
+        };
+        let data = Side {
+            list: &list,
+            store: b"da",
+        };
+        let broken = Side {
+            list: &[9],
+            store: b"",
+        };
+        let letters = Letters {
+            index: b'a',
+            data: b'b',
+        };
         assert_eq!(block(index, data, letters, b'a', 1), Ok(&b"ix"[..]));
         assert_eq!(block(index, data, letters, b'b', 1), Ok(&b"da"[..]));
         assert_eq!(block(index, data, letters, b'b', 0), Err(Refusal::Missing));
         assert_eq!(block(index, data, letters, b'b', 2), Err(Refusal::Missing));
-        assert_eq!(block(index, data, letters, b'b', u64::MAX), Err(Refusal::Missing));
+        assert_eq!(
+            block(index, data, letters, b'b', u64::MAX),
+            Err(Refusal::Missing)
+        );
         assert_eq!(block(index, broken, letters, b'a', 1), Err(Refusal::List));
         assert_eq!(block(broken, data, letters, b'b', 0), Err(Refusal::List));
-        assert_eq!(block(broken, data, letters, b'c', 0), Err(Refusal::Argument));
-        let equal = Letters { index: b'a', data: b'a' };
+        assert_eq!(
+            block(broken, data, letters, b'c', 0),
+            Err(Refusal::Argument)
+        );
+        let equal = Letters {
+            index: b'a',
+            data: b'a',
+        };
         assert_eq!(block(index, data, equal, b'a', 1), Err(Refusal::Argument));
-        let capital = Letters { index: b'A', data: b'b' };
+        let capital = Letters {
+            index: b'A',
+            data: b'b',
+        };
         assert_eq!(block(index, data, capital, b'b', 1), Err(Refusal::Argument));
     }
 }

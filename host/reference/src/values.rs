@@ -46,7 +46,11 @@ pub fn is_time(text: &[u8]) -> bool {
         return false;
     }
     let two = |at: usize| (text[at] - b'0') * 10 + (text[at + 1] - b'0');
-    (1..=12).contains(&two(5)) && (1..=31).contains(&two(8)) && two(11) <= 23 && two(14) <= 59 && two(17) <= 59
+    (1..=12).contains(&two(5))
+        && (1..=31).contains(&two(8))
+        && two(11) <= 23
+        && two(14) <= 59
+        && two(17) <= 59
 }
 
 /// 8-4-4-4-12 hexadecimal digits of either case.
@@ -91,7 +95,9 @@ pub fn is_creator(text: &[u8]) -> bool {
 /// A decoded name. Only the root directory's may be empty.
 pub fn is_name(text: &str, root_directory: bool) -> bool {
     let least = if root_directory { 0 } else { 1 };
-    (least..=255).contains(&text.chars().count()) && !text.contains('/') && !has_control_byte(text.as_bytes())
+    (least..=255).contains(&text.chars().count())
+        && !text.contains('/')
+        && !has_control_byte(text.as_bytes())
 }
 
 /// Three numbers M.N.R.
@@ -119,7 +125,19 @@ mod tests {
         assert_eq!(number(b"0"), Some(0));
         assert_eq!(number(b"7"), Some(7));
         assert_eq!(number(b"18446744073709551615"), Some(u64::MAX));
-        for refused in ["", "18446744073709551616", "99999999999999999999999", "007", "00", "+1", "-1", " 7", "7 ", "1a", "\u{661}"] {
+        for refused in [
+            "",
+            "18446744073709551616",
+            "99999999999999999999999",
+            "007",
+            "00",
+            "+1",
+            "-1",
+            " 7",
+            "7 ",
+            "1a",
+            "\u{661}",
+        ] {
             assert_eq!(number(refused.as_bytes()), None, "{refused:?}");
         }
     }
@@ -224,7 +242,22 @@ mod tests {
         assert_eq!(version(b"2.0.1"), Some(Version(2, 0, 1)));
         assert_eq!(version(b"2.0.65535"), Some(Version(2, 0, 65535)));
         assert_eq!(version(b"2.0.0"), Some(Version(2, 0, 0)));
-        for refused in ["", "2", "2.0", "2.0.", ".0.1", "2.0.1.0", "2.0.01", " 2.0.1", "2.0.65536", "2.1.0", "1.0.1", "65536.0.0", "2.0.-1", "2.0.1 "] {
+        for refused in [
+            "",
+            "2",
+            "2.0",
+            "2.0.",
+            ".0.1",
+            "2.0.1.0",
+            "2.0.01",
+            " 2.0.1",
+            "2.0.65536",
+            "2.1.0",
+            "1.0.1",
+            "65536.0.0",
+            "2.0.-1",
+            "2.0.1 ",
+        ] {
             assert_eq!(version(refused.as_bytes()), None, "{refused:?}");
         }
     }

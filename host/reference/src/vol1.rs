@@ -33,7 +33,10 @@ impl Vol1 {
             identifier: block[4..10].try_into().expect("six bytes"),
             owner: block[37..51].try_into().expect("fourteen bytes"),
         };
-        require(is_printable(&label.identifier) && is_printable(&label.owner), Refusal::Vol1)?;
+        require(
+            is_printable(&label.identifier) && is_printable(&label.owner),
+            Refusal::Vol1,
+        )?;
         // The constant fields are right when writing the two others gives the block back.
         require(label.bytes() == block, Refusal::Vol1)?;
         Ok(label)
@@ -41,7 +44,10 @@ impl Vol1 {
 
     /// Writes the label to the front of the buffer; answers its length.
     pub fn write(identifier: &[u8], owner: &[u8], buffer: &mut [u8]) -> Result<usize, Refusal> {
-        require(is_printable(identifier) && is_printable(owner), Refusal::Argument)?;
+        require(
+            is_printable(identifier) && is_printable(owner),
+            Refusal::Argument,
+        )?;
         let label = Vol1 {
             identifier: identifier.try_into().map_err(|_| Refusal::Argument)?,
             owner: owner.try_into().map_err(|_| Refusal::Argument)?,
@@ -66,7 +72,10 @@ mod tests {
         assert_eq!(&label.identifier, b"ABC123");
         assert_eq!(&label.owner, b"Owner         ");
         let mut buffer = [7u8; 83];
-        assert_eq!(Vol1::write(b"ABC123", b"Owner         ", &mut buffer), Ok(80));
+        assert_eq!(
+            Vol1::write(b"ABC123", b"Owner         ", &mut buffer),
+            Ok(80)
+        );
         assert_eq!(&buffer[..80], SAMPLE);
         assert_eq!(&buffer[80..], [7, 7, 7]);
     }
@@ -88,7 +97,10 @@ mod tests {
     #[test]
     fn length_is_exact() {
         assert_eq!(Vol1::read(&SAMPLE[..79]), Err(Refusal::Vol1));
-        assert_eq!(Vol1::read(&[&SAMPLE[..], b" "].concat()), Err(Refusal::Vol1));
+        assert_eq!(
+            Vol1::read(&[&SAMPLE[..], b" "].concat()),
+            Err(Refusal::Vol1)
+        );
         assert_eq!(Vol1::read(b""), Err(Refusal::Vol1));
     }
 
@@ -103,11 +115,17 @@ mod tests {
             (b"ABC123", b"owner\x1f        "),
         ] {
             let mut buffer = [7u8; 10];
-            assert_eq!(Vol1::write(identifier, owner, &mut buffer), Err(Refusal::Argument));
+            assert_eq!(
+                Vol1::write(identifier, owner, &mut buffer),
+                Err(Refusal::Argument)
+            );
             assert_eq!(buffer, [7; 10]);
         }
         let mut buffer = [7u8; 79];
-        assert_eq!(Vol1::write(b"ABC123", &owner, &mut buffer), Err(Refusal::ShortOutput));
+        assert_eq!(
+            Vol1::write(b"ABC123", &owner, &mut buffer),
+            Err(Refusal::ShortOutput)
+        );
         assert_eq!(buffer, [7; 79]);
     }
 }

@@ -31,8 +31,14 @@ fn read_labels(index: &Partition, data: &Partition) -> Result<VolumeLabels, Refu
     let index_label = label::read(index.block(2)?)?;
     let data_label = label::read(data.block(2)?)?;
     let labels = VolumeLabels {
-        index: SideLabels { vol1: index_vol1, label: index_label },
-        data: SideLabels { vol1: data_vol1, label: data_label },
+        index: SideLabels {
+            vol1: index_vol1,
+            label: index_label,
+        },
+        data: SideLabels {
+            vol1: data_vol1,
+            label: data_label,
+        },
     };
     require(agree(&labels.index, &labels.data), Refusal::Disagreement)?;
     Ok(labels)
@@ -42,7 +48,13 @@ fn read_labels(index: &Partition, data: &Partition) -> Result<VolumeLabels, Refu
 fn has_label_construct(partition: &Partition) -> bool {
     matches!(
         partition.elements[..],
-        [Element::Block { .. }, Element::FileMark, Element::Block { .. }, Element::FileMark, ..]
+        [
+            Element::Block { .. },
+            Element::FileMark,
+            Element::Block { .. },
+            Element::FileMark,
+            ..
+        ]
     )
 }
 
@@ -63,14 +75,19 @@ pub struct Layout {
     pub standing: Vec<Construct>,
     /// The element where the first defect shows.
     pub first_defect: Option<usize>,
-    /// The element numbers of data blocks, by the parity of marks also after a defect.
+    /// The element numbers of data blocks in rising order, by the parity of marks
+    /// also after a defect.
     pub data_blocks: Vec<usize>,
 }
 
 /// Walks the runs. A block shorter than the block size in an index run becomes a
 /// defect at the block that follows it.
 pub fn layout(partition: &Partition, block_size: u64) -> Layout {
-    let mut layout = Layout { standing: Vec::new(), first_defect: None, data_blocks: Vec::new() };
+    let mut layout = Layout {
+        standing: Vec::new(),
+        first_defect: None,
+        data_blocks: Vec::new(),
+    };
     // The blocks of the index run that is open, if one is.
     let mut index_run: Option<Vec<(usize, u64)>> = None;
     for (number, element) in partition.elements.iter().enumerate().skip(4) {
@@ -111,17 +128,28 @@ pub fn layout(partition: &Partition, block_size: u64) -> Layout {
 
 /// Whether the last element is the closing mark of a standing construct.
 fn ends_with_construct(partition: &Partition, layout: &Layout) -> bool {
-    layout.standing.last().is_some_and(|construct| construct.closing_mark + 1 == partition.elements.len())
+    layout
+        .standing
+        .last()
+        .is_some_and(|construct| construct.closing_mark + 1 == partition.elements.len())
 }
 
 /// The text of a construct's index, read at its place.
-fn read_construct(partition: &Partition, label: &Label, letter: u8, construct: &Construct) -> Result<Index, Refusal> {
+fn read_construct(
+    partition: &Partition,
+    label: &Label,
+    letter: u8,
+    construct: &Construct,
+) -> Result<Index, Refusal> {
     let text = partition.blocks(construct.first_block, construct.last_block);
     index::read(text, label, construct_place(letter, construct))
 }
 
 fn construct_place(letter: u8, construct: &Construct) -> Place {
-    Place { letter, start_block: construct.first_block as u64 }
+    Place {
+        letter,
+        start_block: construct.first_block as u64,
+    }
 }
 
 /// The index of standing construct `number` on the partition `letter`, with the
@@ -135,7 +163,10 @@ pub fn index_of_construct(
     index::check_arguments(label, letter)?;
     let partition = side.read()?;
     let standing = layout(&partition, label.block_size).standing;
-    let construct = usize::try_from(number).ok().and_then(|n| standing.get(n)).ok_or(Refusal::Missing)?;
+    let construct = usize::try_from(number)
+        .ok()
+        .and_then(|n| standing.get(n))
+        .ok_or(Refusal::Missing)?;
     let index = read_construct(&partition, label, letter, construct)?;
     Ok((index, *construct))
 }
@@ -154,7 +185,7 @@ pub fn lies_on(row: &Row, partition: &Partition, layout: &Layout, block_size: u6
             Element::Block { length, .. } => length as u128,
             Element::FileMark => return false,
         };
-        layout.data_blocks.contains(&number)
+        layout.data_blocks.binary_search(&number).is_ok()
             && if number as u128 == last {
                 length >= row.need_of_last_block(block_size)
             } else {
@@ -169,7 +200,10 @@ pub fn lies_on(row: &Row, partition: &Partition, layout: &Layout, block_size: u6
 pub enum Verdict {
     Consistent,
     /// The first break that holds, and its number.
-    Break { which: u64, number: u64 },
+    Break {
+        which: u64,
+        number: u64,
+    },
 }
 
 /// The verdict on a whole volume; refused where its labels are.
@@ -186,7 +220,10 @@ fn judge(index: &Partition, data: &Partition, labels: &VolumeLabels) -> Verdict 
     let letters = label.letters;
     let index_layout = layout(index, label.block_size);
     let data_layout = layout(data, label.block_size);
-    let breaks = |which, number: usize| Verdict::Break { which, number: number as u64 };
+    let breaks = |which, number: usize| Verdict::Break {
+        which,
+        number: number as u64,
+    };
 
     if !ends_with_construct(index, &index_layout) {
         return breaks(1, 0);
@@ -204,7 +241,9 @@ fn judge(index: &Partition, data: &Partition, labels: &VolumeLabels) -> Verdict 
         };
         let chained = match before {
             None => read.back_pointer.is_none(),
-            Some((generation, place)) => read.back_pointer == Some(place) && read.generation >= generation,
+            Some((generation, place)) => {
+                read.back_pointer == Some(place) && read.generation >= generation
+            }
         };
         if !chained {
             return breaks(3, number);
@@ -229,7 +268,11 @@ fn judge(index: &Partition, data: &Partition, labels: &VolumeLabels) -> Verdict 
             lies_on(row, data, &data_layout, label.block_size)
         }
     };
-    match read.files.iter().position(|file| !file.rows.iter().all(on_tape)) {
+    match read
+        .files
+        .iter()
+        .position(|file| !file.rows.iter().all(on_tape))
+    {
         Some(file) => breaks(5, file),
         None => Verdict::Consistent,
     }
@@ -252,9 +295,20 @@ pub struct Cut {
 /// partition. Looks at every pair, so it is for small volumes.
 pub fn rescue_by_every_pair(index: Side, data: Side) -> Result<Cut, Refusal> {
     let pairs = consistent_pairs(index, data)?;
-    let most = pairs.iter().map(|cut| cut.index_construct).max().ok_or(Refusal::NoCut)?;
-    let best: Vec<&Cut> = pairs.iter().filter(|cut| cut.index_construct == most).collect();
-    assert_eq!(best.len(), 1, "the pair that keeps most index constructs is the only one");
+    let most = pairs
+        .iter()
+        .map(|cut| cut.index_construct)
+        .max()
+        .ok_or(Refusal::NoCut)?;
+    let best: Vec<&Cut> = pairs
+        .iter()
+        .filter(|cut| cut.index_construct == most)
+        .collect();
+    assert_eq!(
+        best.len(),
+        1,
+        "the pair that keeps most index constructs is the only one"
+    );
     Ok(*best[0])
 }
 
@@ -286,8 +340,11 @@ fn describe(index: &Partition, data: &Partition, labels: &VolumeLabels) -> Cut {
     let label = &labels.index.label;
     let index_standing = layout(index, label.block_size).standing;
     let data_standing = layout(data, label.block_size).standing;
-    let last = index_standing.last().expect("a consistent volume ends with one");
-    let read = read_construct(index, label, label.letters.index, last).expect("its last index is sound");
+    let last = index_standing
+        .last()
+        .expect("a consistent volume ends with one");
+    let read =
+        read_construct(index, label, label.letters.index, last).expect("its last index is sound");
     Cut {
         index_construct: index_standing.len() as u64 - 1,
         data_construct: data_standing.len() as u64 - 1,

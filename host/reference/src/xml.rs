@@ -48,7 +48,9 @@ pub fn parse(text: &[u8]) -> Option<Element> {
     if !text.chars().all(is_xml_char) {
         return None;
     }
-    let mut cursor = Cursor { rest: text.strip_prefix(DECLARATION)? };
+    let mut cursor = Cursor {
+        rest: text.strip_prefix(DECLARATION)?,
+    };
     cursor.skip_white();
     let root = cursor.element(1)?;
     cursor.skip_white();
@@ -105,7 +107,12 @@ impl<'a> Cursor<'a> {
         } else {
             None
         };
-        let mut element = Element { name, attribute, raw_text: String::new(), children: Vec::new() };
+        let mut element = Element {
+            name,
+            attribute,
+            raw_text: String::new(),
+            children: Vec::new(),
+        };
         if self.eat("/>").is_some() {
             return Some(element);
         }
@@ -129,7 +136,10 @@ impl<'a> Cursor<'a> {
         if raw.contains('<') || !only_known_references(raw) {
             return None;
         }
-        Some(Attribute { name, raw: raw.to_string() })
+        Some(Attribute {
+            name,
+            raw: raw.to_string(),
+        })
     }
 
     /// Text and children up to and with the end tag.
@@ -156,8 +166,11 @@ impl<'a> Cursor<'a> {
 }
 
 fn only_known_references(text: &str) -> bool {
-    text.match_indices('&')
-        .all(|(at, _)| REFERENCES.iter().any(|reference| text[at..].starts_with(reference)))
+    text.match_indices('&').all(|(at, _)| {
+        REFERENCES
+            .iter()
+            .any(|reference| text[at..].starts_with(reference))
+    })
 }
 
 // ---- The longest front ----
@@ -198,17 +211,31 @@ enum State {
     AttributeName,
     AfterAttributeName,
     BeforeValue,
-    Value { quote: u8 },
-    ValueReference { quote: u8, read: Vec<u8> },
-    ValueCharacter { quote: u8, read: Vec<u8> },
+    Value {
+        quote: u8,
+    },
+    ValueReference {
+        quote: u8,
+        read: Vec<u8>,
+    },
+    ValueCharacter {
+        quote: u8,
+        read: Vec<u8>,
+    },
     /// In a start tag after its attribute.
     AfterValue,
     /// After the `/` of an empty-element tag.
     EmptySlash,
     /// In an element; `brackets` counts the `]` directly before, up to two.
-    Content { brackets: usize },
-    ContentReference { read: Vec<u8> },
-    ContentCharacter { read: Vec<u8> },
+    Content {
+        brackets: usize,
+    },
+    ContentReference {
+        read: Vec<u8>,
+    },
+    ContentCharacter {
+        read: Vec<u8>,
+    },
     /// After a `<` in an element.
     ContentTag,
     /// This many bytes of the end tag's name are read.
@@ -225,7 +252,10 @@ struct FormReader {
 
 impl FormReader {
     fn new() -> Self {
-        FormReader { state: State::Declaration(0), open: Vec::new() }
+        FormReader {
+            state: State::Declaration(0),
+            open: Vec::new(),
+        }
     }
 
     /// Reads one byte. False when nothing in the form begins with what is read
@@ -292,10 +322,16 @@ impl FormReader {
             State::Value { quote } => match byte {
                 _ if byte == quote => Some(State::AfterValue),
                 b'<' => None,
-                b'&' => Some(State::ValueReference { quote, read: vec![byte] }),
+                b'&' => Some(State::ValueReference {
+                    quote,
+                    read: vec![byte],
+                }),
                 _ => match character(&[byte]) {
                     Character::Whole => Some(State::Value { quote }),
-                    Character::Begun => Some(State::ValueCharacter { quote, read: vec![byte] }),
+                    Character::Begun => Some(State::ValueCharacter {
+                        quote,
+                        read: vec![byte],
+                    }),
                     Character::None => None,
                 },
             },
@@ -375,7 +411,11 @@ impl FormReader {
         if !is_name_start(byte) {
             return None;
         }
-        self.open.push(OpenElement { name: vec![byte], has_child: false, has_text: false });
+        self.open.push(OpenElement {
+            name: vec![byte],
+            has_child: false,
+            has_text: false,
+        });
         Some(State::StartName)
     }
 
@@ -402,7 +442,9 @@ impl FormReader {
         self.top().has_text = true;
         match byte {
             b'&' => Some(State::ContentReference { read: vec![byte] }),
-            b']' => Some(State::Content { brackets: (brackets + 1).min(2) }),
+            b']' => Some(State::Content {
+                brackets: (brackets + 1).min(2),
+            }),
             b'>' if brackets == 2 => None,
             _ => match character(&[byte]) {
                 Character::Whole => Some(State::Content { brackets: 0 }),
@@ -432,9 +474,15 @@ enum Character {
 }
 
 fn reference(read: &[u8]) -> Character {
-    if REFERENCES.iter().any(|reference| reference.as_bytes() == read) {
+    if REFERENCES
+        .iter()
+        .any(|reference| reference.as_bytes() == read)
+    {
         Character::Whole
-    } else if REFERENCES.iter().any(|reference| reference.as_bytes().starts_with(read)) {
+    } else if REFERENCES
+        .iter()
+        .any(|reference| reference.as_bytes().starts_with(read))
+    {
         Character::Begun
     } else {
         Character::None
@@ -461,8 +509,17 @@ fn character(read: &[u8]) -> Character {
     let missing_bits = 6 * (length - read.len());
     let first = (code << missing_bits).max(least);
     let last = (code << missing_bits) | ((1 << missing_bits) - 1);
-    let allowed = [(0x9, 0xA), (0xD, 0xD), (0x20, 0xD7FF), (0xE000, 0xFFFD), (0x1_0000, 0x10_FFFF)];
-    if !allowed.iter().any(|(from, to)| first.max(*from) <= last.min(*to)) {
+    let allowed = [
+        (0x9, 0xA),
+        (0xD, 0xD),
+        (0x20, 0xD7FF),
+        (0xE000, 0xFFFD),
+        (0x1_0000, 0x10_FFFF),
+    ];
+    if !allowed
+        .iter()
+        .any(|(from, to)| first.max(*from) <= last.min(*to))
+    {
         Character::None
     } else if missing_bits == 0 {
         Character::Whole
@@ -627,13 +684,163 @@ mod tests {
         bad("<a>".repeat(64).as_bytes(), 3 * 64);
     }
 
+    /// Bytes that complete what the reader has read to a text in the form.
+    fn completion(reader: &FormReader) -> Vec<u8> {
+        // To the end of the current character or reference, by trying bytes.
+        let rest = |read: &[u8], whole: fn(&[u8]) -> Character| -> Vec<u8> {
+            let mut read = read.to_vec();
+            let mut added = Vec::new();
+            loop {
+                match whole(&read) {
+                    Character::Whole => return added,
+                    Character::None => panic!("a state that cannot be completed"),
+                    Character::Begun => {
+                        let next = (0..=255u8)
+                            .find(|byte| {
+                                !matches!(whole(&[&read[..], &[*byte]].concat()), Character::None)
+                            })
+                            .expect("a byte that goes on");
+                        read.push(next);
+                        added.push(next);
+                    }
+                }
+            }
+        };
+        let close_all = |open: &[OpenElement]| -> Vec<u8> {
+            open.iter()
+                .rev()
+                .flat_map(|element| [b"</", &element.name[..], b">"].concat())
+                .collect()
+        };
+        let open = &reader.open[..];
+        let inner = open.len().saturating_sub(1);
+        match &reader.state {
+            State::Declaration(read) => [&DECLARATION.as_bytes()[*read..], b"<a/>"].concat(),
+            State::BeforeRoot => b"<a/>".to_vec(),
+            State::RootTag => b"a/>".to_vec(),
+            State::StartName | State::BeforeAttribute | State::AfterValue => {
+                [b"/>".to_vec(), close_all(&open[..inner])].concat()
+            }
+            State::AttributeName | State::AfterAttributeName => {
+                [b"=''/>".to_vec(), close_all(&open[..inner])].concat()
+            }
+            State::BeforeValue => [b"''/>".to_vec(), close_all(&open[..inner])].concat(),
+            State::Value { quote } => {
+                [vec![*quote], b"/>".to_vec(), close_all(&open[..inner])].concat()
+            }
+            State::ValueReference { quote, read } => [
+                rest(read, reference),
+                vec![*quote],
+                b"/>".to_vec(),
+                close_all(&open[..inner]),
+            ]
+            .concat(),
+            State::ValueCharacter { quote, read } => [
+                rest(read, character),
+                vec![*quote],
+                b"/>".to_vec(),
+                close_all(&open[..inner]),
+            ]
+            .concat(),
+            State::EmptySlash => [b">".to_vec(), close_all(&open[..inner])].concat(),
+            State::Content { .. } => close_all(open),
+            State::ContentReference { read } => [rest(read, reference), close_all(open)].concat(),
+            State::ContentCharacter { read } => [rest(read, character), close_all(open)].concat(),
+            State::ContentTag => [
+                &b"/"[..],
+                &open[inner].name,
+                b">",
+                &close_all(&open[..inner]),
+            ]
+            .concat(),
+            State::EndName(read) => {
+                [&open[inner].name[*read..], b">", &close_all(&open[..inner])].concat()
+            }
+            State::AfterEndName => [b">".to_vec(), close_all(&open[..inner])].concat(),
+            State::AfterRoot => Vec::new(),
+        }
+    }
+
+    /// Every front that the byte reader takes can be completed, by the tree
+    /// reader's account.
+    #[test]
+    fn fronts_can_be_completed() {
+        use crate::random::{damage_text, document, index_case, label, label_text, Random};
+        let mut random = Random::new(11);
+        for case in 0..400 {
+            let mut text = if case % 4 == 0 {
+                let (node, ..) = index_case(&mut random);
+                document(&mut random, &node)
+            } else {
+                let label = label(&mut random);
+                label_text(&mut random, &label)
+            };
+            damage_text(&mut random, &mut text);
+            text.truncate(3_000);
+            let mut reader = FormReader::new();
+            for (read, byte) in text.iter().enumerate() {
+                // Not after every byte, to save time, but wherever a state is short.
+                let short = !matches!(
+                    reader.state,
+                    State::Content { .. } | State::StartName | State::EndName(_)
+                );
+                if short || read % 7 == 0 {
+                    let whole = [&text[..read], &completion(&reader)].concat();
+                    assert!(
+                        parse(&whole).is_some(),
+                        "{}",
+                        String::from_utf8_lossy(&whole)
+                    );
+                }
+                if !reader.step(*byte) {
+                    break;
+                }
+            }
+        }
+    }
+
+    /// The two readers agree on every text of up to five of these pieces. So no
+    /// text in the form is refused on the way, and a refused front is the longest.
+    #[test]
+    fn readers_agree_on_short_texts() {
+        const PIECES: [&str; 13] = [
+            "<a", "<b", "</a", "</b", ">", "/>", " ", " x='", "'", "]", "&lt;", "t", "<a>",
+        ];
+        let mut in_form = 0;
+        let mut texts = vec![DECLARATION.to_string()];
+        for _ in 0..5 {
+            let mut longer = Vec::new();
+            for text in &texts {
+                for piece in PIECES {
+                    let text = format!("{text}{piece}");
+                    let form = check_form(text.as_bytes());
+                    assert_eq!(form.is_ok(), parse(text.as_bytes()).is_some(), "{text}");
+                    in_form += usize::from(form.is_ok());
+                    longer.push(text);
+                }
+            }
+            texts = longer;
+        }
+        assert!(in_form > 100, "{in_form}");
+    }
+
     #[test]
     fn tree() {
         let text = with_declaration(b"\n<r v = '1&amp;2'> <x>a&lt;b</x><y/><z></z></r>");
         let root = parse(&text).unwrap();
         assert_eq!(root.name, "r");
-        assert_eq!(root.attribute, Some(Attribute { name: "v".into(), raw: "1&amp;2".into() }));
-        let names: Vec<&str> = root.children.iter().map(|child| child.name.as_str()).collect();
+        assert_eq!(
+            root.attribute,
+            Some(Attribute {
+                name: "v".into(),
+                raw: "1&amp;2".into()
+            })
+        );
+        let names: Vec<&str> = root
+            .children
+            .iter()
+            .map(|child| child.name.as_str())
+            .collect();
         assert_eq!(names, ["x", "y", "z"]);
         assert_eq!(root.children[0].raw_text, "a&lt;b");
         assert_eq!(root.children[1].raw_text, "");

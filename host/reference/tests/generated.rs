@@ -7,7 +7,12 @@ use reference::{extents, index, label, program, xml, Refusal};
 use std::collections::BTreeSet;
 
 fn answer(files: &VolumeFiles) -> String {
-    program::answer(&files.index_list, &files.index_store, &files.data_list, &files.data_store)
+    program::answer(
+        &files.index_list,
+        &files.index_store,
+        &files.data_list,
+        &files.data_store,
+    )
 }
 
 #[test]
@@ -16,7 +21,12 @@ fn lawful_labels_read_back() {
     for case in 0..2_000 {
         let label = random::label(&mut random);
         let text = random::label_text(&mut random, &label);
-        assert_eq!(label::read(&text), Ok(label), "case {case}: {}", String::from_utf8_lossy(&text));
+        assert_eq!(
+            label::read(&text),
+            Ok(label),
+            "case {case}: {}",
+            String::from_utf8_lossy(&text)
+        );
     }
 }
 
@@ -28,7 +38,10 @@ fn written_labels_read_back() {
         let mut buffer = vec![7; 2_000];
         let length = label.write(&mut buffer).unwrap();
         assert!(buffer[length..].iter().all(|byte| *byte == 7));
-        let expected = label::Label { version: reference::values::Version(2, 0, 1), ..label.clone() };
+        let expected = label::Label {
+            version: reference::values::Version(2, 0, 1),
+            ..label.clone()
+        };
         assert_eq!(label::read(&buffer[..length]), Ok(expected));
         let mut short = vec![7; random.below(length)];
         let before = short.clone();
@@ -44,11 +57,21 @@ fn lawful_indexes_read() {
         let (node, label, place) = random::index_case(&mut random);
         let text = random::document(&mut random, &node);
         let read = index::read(&text, &label, place);
-        assert!(read.is_ok(), "case {case}: {read:?} {}", String::from_utf8_lossy(&text));
+        assert!(
+            read.is_ok(),
+            "case {case}: {read:?} {}",
+            String::from_utf8_lossy(&text)
+        );
         let read = read.unwrap();
         assert_eq!(read.location, place);
-        let elsewhere = Place { start_block: place.start_block + 1, ..place };
-        assert_eq!(index::read(&text, &label, elsewhere), Err(Refusal::Location));
+        let elsewhere = Place {
+            start_block: place.start_block + 1,
+            ..place
+        };
+        assert_eq!(
+            index::read(&text, &label, elsewhere),
+            Err(Refusal::Location)
+        );
         for (number, file) in read.files.iter().enumerate() {
             let mut buffer = vec![9; 5 * file.rows.len() + 1];
             let rows = index::file_rows(&text, &label, place, number as u64, &mut buffer);
@@ -62,7 +85,10 @@ fn lawful_indexes_read() {
             }
         }
         let past = read.files.len() as u64;
-        assert_eq!(index::file_rows(&text, &label, place, past, &mut []), Err(Refusal::Missing));
+        assert_eq!(
+            index::file_rows(&text, &label, place, past, &mut []),
+            Err(Refusal::Missing)
+        );
     }
 }
 
@@ -70,7 +96,12 @@ fn lawful_indexes_read() {
 /// is the longest by the byte reader's own account.
 fn check_form_readings(text: &[u8]) {
     let form = xml::check_form(text);
-    assert_eq!(form.is_ok(), xml::parse(text).is_some(), "{}", String::from_utf8_lossy(text));
+    assert_eq!(
+        form.is_ok(),
+        xml::parse(text).is_some(),
+        "{}",
+        String::from_utf8_lossy(text)
+    );
     if let Err(front) = form {
         assert!(front <= text.len());
         let of_front = xml::check_form(&text[..front]);
@@ -119,6 +150,34 @@ fn damaged_texts_are_refused_without_panic() {
 }
 
 #[test]
+fn arbitrary_bytes_are_refused_without_panic() {
+    let mut random = Random::new(8);
+    for _ in 0..20_000 {
+        let bytes = |random: &mut Random, alphabet: &[u8]| -> Vec<u8> {
+            let length = random.below(30);
+            (0..length)
+                .map(|_| alphabet[random.below(alphabet.len())])
+                .collect()
+        };
+        let list = bytes(&mut random, &[0, 1, 1, 2, 2, 3]);
+        let other = bytes(&mut random, &[0, 1, 1, 2, 0, 0, 0, 1]);
+        let store = bytes(&mut random, &[1, 2, 3]);
+        let files = VolumeFiles {
+            index_list: list,
+            index_store: store.clone(),
+            data_list: other,
+            data_store: store,
+        };
+        assert!(answer(&files).starts_with("refused "));
+        let rest = bytes(&mut random, b"<>/=' \"&;]a1\xc3\xa9\xef\xbf\xbe");
+        let text = [xml::DECLARATION.as_bytes(), &rest].concat();
+        check_form_readings(&text);
+        check_form_readings(&rest);
+        assert!(label::read(&text).is_err());
+    }
+}
+
+#[test]
 fn byte_map_gives_a_place_or_a_refusal() {
     let mut random = Random::new(5);
     let mut outcomes = BTreeSet::new();
@@ -142,10 +201,17 @@ fn written_volumes_are_consistent_and_kept_whole() {
     let mut random = Random::new(6);
     for case in 0..500 {
         let files = random::volume(&mut random);
-        assert_eq!(volume::verdict(files.index(), files.data()), Ok(Verdict::Consistent), "case {case}");
+        assert_eq!(
+            volume::verdict(files.index(), files.data()),
+            Ok(Verdict::Consistent),
+            "case {case}"
+        );
         let cut = volume::rescue(files.index(), files.data()).unwrap();
         let all = |side: reference::tape::Side| side.read().unwrap().elements.len() as u64;
-        assert_eq!((cut.index_kept, cut.data_kept), (all(files.index()), all(files.data())));
+        assert_eq!(
+            (cut.index_kept, cut.data_kept),
+            (all(files.index()), all(files.data()))
+        );
     }
 }
 
@@ -164,7 +230,11 @@ fn both_rescues_agree() {
             (Ok(_) | Err(Refusal::NoCut), verdict) => assert!(verdict.is_ok(), "case {case}"),
             (Err(refusal), verdict) => {
                 assert_eq!(verdict, Err(refusal), "case {case}");
-                assert_eq!(volume::check_labels(files.index(), files.data()), Err(refusal), "case {case}");
+                assert_eq!(
+                    volume::check_labels(files.index(), files.data()),
+                    Err(refusal),
+                    "case {case}"
+                );
             }
         }
         if let Ok(cut) = direct {
@@ -176,7 +246,11 @@ fn both_rescues_agree() {
                 data_list: data.list.to_vec(),
                 data_store: data.store.to_vec(),
             };
-            assert_eq!(volume::verdict(kept.index(), kept.data()), Ok(Verdict::Consistent), "case {case}");
+            assert_eq!(
+                volume::verdict(kept.index(), kept.data()),
+                Ok(Verdict::Consistent),
+                "case {case}"
+            );
         }
         // The kind of each line: the refusal, or the verdict with its break, and the cut.
         for line in answer(&files).lines() {
@@ -205,6 +279,9 @@ fn both_rescues_agree() {
         "refused 15",
     ];
     for answer in expected {
-        assert!(answers.contains(answer), "{answer} is missing from {answers:?}");
+        assert!(
+            answers.contains(answer),
+            "{answer} is missing from {answers:?}"
+        );
     }
 }

@@ -14,6 +14,11 @@ fn main() {
     let file = |name: &str| std::fs::read(Path::new(&folder).join(name)).unwrap_or_default();
     print!(
         "{}",
-        reference::program::answer(&file("index.list"), &file("index.store"), &file("data.list"), &file("data.store"))
+        reference::program::answer(
+            &file("index.list"),
+            &file("index.store"),
+            &file("data.list"),
+            &file("data.store")
+        )
     );
 }

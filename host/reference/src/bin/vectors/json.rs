@@ -13,7 +13,10 @@ pub enum Json {
 
 impl Json {
     pub fn read(text: &str) -> Result<Json, String> {
-        let mut reader = Reader { bytes: text.as_bytes(), at: 0 };
+        let mut reader = Reader {
+            bytes: text.as_bytes(),
+            at: 0,
+        };
         let value = reader.value()?;
         reader.skip_white();
         if reader.at != reader.bytes.len() {
@@ -88,7 +91,11 @@ struct Reader<'a> {
 
 impl Reader<'_> {
     fn skip_white(&mut self) {
-        while self.bytes.get(self.at).is_some_and(|byte| byte.is_ascii_whitespace()) {
+        while self
+            .bytes
+            .get(self.at)
+            .is_some_and(|byte| byte.is_ascii_whitespace())
+        {
             self.at += 1;
         }
     }
@@ -155,7 +162,10 @@ impl Reader<'_> {
             self.at += 1;
         }
         let digits = std::str::from_utf8(&self.bytes[start..self.at]).expect("digits");
-        digits.parse().map(Json::Number).map_err(|error| format!("{error} at byte {start}"))
+        digits
+            .parse()
+            .map(Json::Number)
+            .map_err(|error| format!("{error} at byte {start}"))
     }
 
     /// A string without escapes: the vectors have hexadecimal and names only.
@@ -170,7 +180,8 @@ impl Reader<'_> {
                 None => return Err("string without end".to_string()),
             }
         }
-        let text = std::str::from_utf8(&self.bytes[start..self.at]).map_err(|error| error.to_string())?;
+        let text =
+            std::str::from_utf8(&self.bytes[start..self.at]).map_err(|error| error.to_string())?;
         self.at += 1;
         Ok(text.to_string())
     }
