@@ -1,2 +1,4 @@
 pub mod Shape
 pub mod Values
+pub mod Adding
+pub mod Blocks

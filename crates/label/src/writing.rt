@@ -1,0 +1,13 @@
+// A text put together piece by piece.
+use slices::Written;
+ghost use Rattle.label.specs.Writing.{Adds};
+
+// Adds src at the place at, and answers the place behind it.
+pub(crate) fn add(out: &mut [u8], at: usize, src: &[u8]) -> usize
+    ensures { λ r. ⌜ Adds (now (out .entry)) at (now (src .entry)) (now (out .exit)) r ⌝ }
+{
+    match slices::put(out, at, src) {
+        Written::To(end) => end,
+        Written::Refused(_) => at,
+    }
+}
