@@ -1,0 +1,61 @@
+use borrow.Author.Needs.{needs}
+use Rattle.index.proofs.rows.row_in.Statement.{statement}
+use Rattle.index.proofs.rows.row_in.Tie as tie
+use Rattle.index.proofs.rows.row_in.Reads as reads
+use Rattle.index.proofs.rows.row_in.Lts as lts
+use Rattle.elements.proofs.first_child.Reads as first-child-reads
+use Rattle.elements.proofs.name_is.Reads as name-is-reads
+use Rattle.elements.proofs.next_child.Reads as next-child-reads
+
+abbrev Inv-loop : tie.InvT-loop
+Inv-loop text at name i₀ i = ?
+
+abbrev μ-loop : tie.MeasureT-loop
+μ-loop text at name i₀ i = ?
+
+loop-holds : tie.Need-loop-holds Inv-loop μ-loop
+loop-holds c = search needs
+
+next-child-requires : tie.Need-next-child-requires Inv-loop μ-loop
+next-child-requires c κs = search needs
+
+enum-told : tie.Need-enum-told Inv-loop μ-loop
+enum-told c = search needs
+
+returns : tie.Need-returns Inv-loop μ-loop
+returns c = search needs
+
+enum-known-n : tie.Need-enum-known-n Inv-loop μ-loop
+enum-known-n c = search needs
+
+name-is-requires : tie.Need-name-is-requires Inv-loop μ-loop
+name-is-requires c κs = search needs
+
+first-child-requires : tie.Need-first-child-requires Inv-loop μ-loop
+first-child-requires c κs = search needs
+
+returns-2 : tie.Need-returns-2 Inv-loop μ-loop
+returns-2 c = search needs
+
+loop-less : tie.Need-loop-less Inv-loop μ-loop
+loop-less c = search needs
+
+loop-again : tie.Need-loop-again Inv-loop μ-loop
+loop-again c = search needs
+
+pub row-in-spec : {M : Type 1} → statement M
+row-in-spec =
+    tie.close
+    (tie.spec
+    Inv-loop
+    μ-loop
+    loop-holds
+    next-child-requires
+    enum-told
+    returns
+    enum-known-n
+    name-is-requires
+    first-child-requires
+    returns-2
+    loop-less
+    loop-again)

@@ -1,0 +1,4 @@
+pub mod Elements
+pub mod Structure
+pub mod Entries
+pub mod Sweep
