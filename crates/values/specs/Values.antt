@@ -1,0 +1,106 @@
+-- Values (01, Values): what the text of an element says, or that it says nothing. Number, boolean, time, UUID and letter are told by the text
+-- as spelled; creator and name by the bytes that it means, decoded.
+use mathlib.Core.Bool.{Bool, true, false, not, cond, _&&_, _||_}
+use mathlib.Core.List.{List, [], _∷_}
+use mathlib.Core.Option.{Option, some, none}
+use Prim.Native.Nat.{ℕ, _+_, _*_}
+use lib.Dec.{leb, eqb}
+use lib.ListN.{length, drop, getD}
+use Rattle.slices.specs.Slices.{within, every, same}
+use Rattle.slices.specs.Words.{bytes}
+use Rattle.quantities.specs.Letters.{isLetter}
+use Rattle.digits.specs.Decimal as decimal
+use Rattle.digits.specs.Hex.{isHex}
+use Rattle.elements.specs.Decoded.{begins, codePoints}
+use Rattle.values.specs.declared.Boolean.{Boolean}
+use Rattle.values.specs.declared.Boolean.the-variants as aBoolean
+use Rattle.values.specs.declared.Letter.{Letter}
+use Rattle.values.specs.declared.Letter.the-variants as aLetter
+use Rattle.values.specs.declared.Version.{Version}
+use Rattle.values.specs.declared.Version.the-variants as aVersion
+
+-- Number: what a number's text means to every reader
+unfoldable pub number : List ℕ → Option ℕ
+number s = decimal.number s
+
+-- Boolean: `true`, `1`, `false`, `0`
+unfoldable pub boolean : List ℕ → Option Bool
+boolean s =
+    cond (same s (bytes "true") || same s (bytes "1")) (some true)
+    (cond (same s (bytes "false") || same s (bytes "0")) (some false) none)
+
+-- a byte by a form's: `#` stands for a decimal digit, `*` for a hex digit, any other byte for itself
+unfoldable pub fits : ℕ → ℕ → Bool
+fits p b = cond (eqb p 35) (decimal.isDigit b) (cond (eqb p 42) (isHex b) (eqb p b))
+
+-- each byte by the form's, and none missing
+unfoldable pub inForm : List ℕ → List ℕ → Bool
+inForm [] [] = true
+inForm [] (b ∷ s) = false
+inForm (p ∷ ps) [] = false
+inForm (p ∷ ps) (b ∷ s) = fits p b && inForm ps s
+
+-- the number of the two decimal digits at i
+abbrev pub two : List ℕ → ℕ → ℕ
+two s i = decimal.digitOf (getD s i 0) * 10 + decimal.digitOf (getD s (i + 1) 0)
+
+-- the ranges of a time's fields (002, 5.7): month 01 to 12, day 01 to 31 in any month, hour to 23, minute and second to 59
+unfoldable pub inRanges : List ℕ → Bool
+inRanges s =
+    within 1 12 (two s 5) && within 1 31 (two s 8) && within 0 23 (two s 11) && within 0 59 (two s 14) && within 0 59 (two s 17)
+
+-- Time: 30 bytes, the fields in their ranges
+unfoldable pub isTime : List ℕ → Bool
+isTime s = inForm (bytes "####-##-##T##:##:##.#########Z") s && inRanges s
+
+-- UUID (002, 5.8): 8-4-4-4-12 hex digits
+unfoldable pub isUuid : List ℕ → Bool
+isUuid s = inForm (bytes "********-****-****-****-************") s
+
+-- two UUIDs are the same when their bytes are
+unfoldable pub sameUuid : List ℕ → List ℕ → Bool
+sameUuid a b = same a b
+
+-- Letter: `a` to `z`
+unfoldable pub letter : List ℕ → Option ℕ
+letter [] = none
+letter (b ∷ []) = cond (isLetter b) (some b) none
+letter (b ∷ c ∷ s) = none
+
+-- a byte not below 32, and no `/` where none may be
+abbrev pub isPlain : Bool → ℕ → Bool
+isPlain slash b = leb 32 b && (slash || not (eqb b 47))
+
+-- Creator: 1 to 255 bytes decoded, none below 32
+unfoldable pub isCreator : List ℕ → Bool
+isCreator s = within 1 255 (length s) && every (isPlain true) s
+
+-- Name: 1 to 255 code points decoded, no byte below 32, no `/`
+unfoldable pub isName : List ℕ → Bool
+isName s = within 1 255 (codePoints s) && every (isPlain false) s
+
+-- the root directory's name: a name, or empty
+unfoldable pub isRootName : List ℕ → Bool
+isRootName s = eqb (length s) 0 || isName s
+
+-- what is said, if it is at most the bound
+abbrev pub atMost : ℕ → Option ℕ → Option ℕ
+atMost bound (some n) = cond (leb n bound) (some n) none
+atMost bound none = none
+
+-- a version (01, Refusal numbers: 7): the R of 2.0.R, in plain numbers up to 65,535
+unfoldable pub version : List ℕ → Option ℕ
+version s = cond (begins (bytes "2.0.") s) (atMost 65535 (decimal.number (drop 4 s))) none
+
+-- what an answer says
+abbrev pub booleanOf : Boolean → Option Bool
+booleanOf (aBoolean.Value b) = some b
+booleanOf aBoolean.Nothing = none
+
+abbrev pub letterOf : Letter → Option ℕ
+letterOf (aLetter.Value b) = some b
+letterOf aLetter.Nothing = none
+
+abbrev pub versionOf : Version → Option ℕ
+versionOf (aVersion.Release n) = some n
+versionOf aVersion.Nothing = none
