@@ -5,7 +5,7 @@ use mathlib.Core.Option.{Option, some, none}
 use Prim.Native.Nat.{ℕ}
 use lib.Dec.{eqb}
 use Rattle.slices.specs.Words.{bytes}
-use Rattle.digits.specs.Decimal as decimal
+use Rattle.values.specs.Values as is
 use Rattle.xml.specs.Tree.{Forest}
 use Rattle.index_names.specs.Sorts.{root, directory, file}
 use Rattle.index.specs.Elements.{textIn}
@@ -20,7 +20,7 @@ orZero none = 0
 orZero (some n) = n
 
 abbrev pub numberSaid : List ℕ → ℕ
-numberSaid t = orZero (decimal.number t)
+numberSaid t = orZero (is.number t)
 
 -- the fileuid of an entry
 unfoldable pub uidOf : Forest → ℕ

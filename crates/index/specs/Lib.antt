@@ -1,4 +1,5 @@
 pub mod Elements
 pub mod Structure
 pub mod Entries
+pub mod Tests
 pub mod Sweep

@@ -1,3 +1,4 @@
 // Reading an index's text (01, Index): one walk over its elements gathers what the refusals ask.
 mod rows;
+mod tests;
 mod walk;

@@ -3,7 +3,7 @@ use digits::Number;
 use elements::Child;
 ghost use mathlib.Core.Path.{_≡_};
 ghost use Prim.Native.Nat.{_≤_};
-ghost use lib.ListN.{length};
+ghost use lib.ListN.{length, getD, set};
 ghost use Rattle.elements.specs.Reading.{rowAt};
 ghost use Rattle.index.specs.Elements.{textIn, rowIn};
 ghost use Rattle.index.specs.Entries.{numberSaid};
@@ -52,8 +52,27 @@ pub fn row_in(text: &[u8], at: usize, name: &[u8]) -> usize
 pub fn number_said(raw: &[u8]) -> u64
     ensures { λ r. ⌜ r ≡ numberSaid (now (raw .entry)) ⌝ }
 {
-    match digits::read(raw) {
+    match values::read_number(raw) {
         Number::Value(n) => n,
         Number::Nothing => 0,
     }
+}
+
+// v at n, if the table has that place.
+pub fn put(table: &mut [u64], n: usize, v: u64)
+    ensures { λ r. ⌜ now (table .exit) ≡ set (now (table .entry)) n v ⌝ }
+{
+    if n < table.len() {
+        table[n] = v;
+    }
+}
+
+// What is at n, 0 past the end.
+pub fn item(table: &[u64], n: usize) -> u64
+    ensures { λ r. ⌜ r ≡ getD (now (table .entry)) n 0 ⌝ }
+{
+    if n < table.len() {
+        return table[n];
+    }
+    0
 }

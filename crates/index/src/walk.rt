@@ -1,5 +1,7 @@
 // The walk over an index's elements.
 use crate::rows;
+use crate::tests;
+use crate::tests::Volume;
 use elements::Tag;
 use index_names::DIRECTORY;
 use index_names::EXTENT;
@@ -11,21 +13,26 @@ use index_names::UNKNOWN;
 ghost use mathlib.Core.Path.{_≡_};
 ghost use mathlib.Core.Bool.{cond, _&&_};
 ghost use Prim.Native.Nat.{_≤_, _<_};
-ghost use lib.ListN.{length, getD};
+ghost use lib.ListN.{length, getD, set};
 ghost use Rattle.xml.specs.Form.{height};
 ghost use Rattle.elements.specs.Reading.{rowAt, headAt, childrenAt, Behind};
 ghost use Rattle.index_names.specs.Sorts.{holds, must};
 ghost use Rattle.index.specs.Elements.{numberOf, sortOf};
 ghost use Rattle.index.specs.Structure.{fits, below, once};
 ghost use Rattle.index.specs.Entries.{isEntry, uidOf};
+ghost use Rattle.index.specs.Tests.{given};
 ghost use Rattle.index.specs.Sweep.{gathered, more, fresh, marked, done, endedSums, entered, sweep};
 
 // What the walk gathers besides the fileuids: whether the structure is right so far, how many directories and files there are, how many
 // of them files.
 pub struct Sums {
     pub structure: bool,
-    pub entries: usize,
-    pub files: usize,
+    pub few: bool,
+    pub values: bool,
+    pub own: bool,
+    pub lawful: bool,
+    pub entries: u64,
+    pub files: u64,
 }
 
 // Where reading goes on, and what was gathered.
@@ -34,7 +41,7 @@ pub struct Left {
     pub sums: Sums,
 }
 
-fn bump(n: usize) -> usize
+fn bump(n: u64) -> u64
     ensures { λ r. ⌜ r ≡ more n ⌝ }
 {
     if n < 5000 {
@@ -44,16 +51,15 @@ fn bump(n: usize) -> usize
 }
 
 // The name of number j is seen in a row.
-fn mark(seen: &mut [usize; 16], j: usize)
+fn mark(seen: &mut [u64; 16], j: usize)
     ensures { λ r. ⌜ now (seen .exit) ≡ marked j (now (seen .entry)) ⌝ }
 {
-    if j < 16 {
-        seen[j] = bump(seen[j]);
-    }
+    let n = rows::item(seen, j);
+    rows::put(seen, j, bump(n));
 }
 
 // Whether a name of number j that was seen n times comes as often as it must.
-fn is_once(needed: usize, j: usize, n: usize) -> bool
+fn is_once(needed: usize, j: usize, n: u64) -> bool
     ensures { λ r. ⌜ r ≡ once needed j n ⌝ }
 {
     if j < needed {
@@ -63,7 +69,7 @@ fn is_once(needed: usize, j: usize, n: usize) -> bool
 }
 
 // Whether a row in an element of a kind is complete, by how often each name was seen.
-fn is_done(kind: usize, seen: &[usize; 16]) -> bool
+fn is_done(kind: usize, seen: &[u64; 16]) -> bool
     ensures { λ r. ⌜ r ≡ done kind (now (seen .entry)) ⌝ }
 {
     if index_names::may_repeat(kind) {
@@ -81,7 +87,7 @@ fn is_done(kind: usize, seen: &[usize; 16]) -> bool
 }
 
 // The row is over.
-fn finish(kind: usize, seen: &[usize; 16], a: Sums) -> Sums
+fn finish(kind: usize, seen: &[u64; 16], a: Sums) -> Sums
     ensures { λ r. ⌜ r ≡ endedSums kind (now (seen .entry)) a ⌝ }
 {
     if is_done(kind, seen) {
@@ -89,6 +95,10 @@ fn finish(kind: usize, seen: &[usize; 16], a: Sums) -> Sums
     }
     Sums {
         structure: false,
+        few: a.few,
+        values: a.values,
+        own: a.own,
+        lawful: a.lawful,
         entries: a.entries,
         files: a.files,
     }
@@ -146,7 +156,7 @@ fn uid_at(text: &[u8], n: usize) -> u64
 }
 
 // One more where it is one of those that are counted.
-fn bump_if(one: bool, n: usize) -> usize
+fn bump_if(one: bool, n: u64) -> u64
     ensures { λ r. ⌜ r ≡ cond one (more n) n ⌝ }
 {
     if one {
@@ -156,26 +166,39 @@ fn bump_if(one: bool, n: usize) -> usize
 }
 
 // The fileuid of the entry at n goes into the table; no other element has one there.
-fn put_uid(text: &[u8], uids: &mut [u64; 4096], n: usize, entry: bool, at: usize)
-    ensures { λ r. ⌜ now (uids .exit) ≡ cond entry (lib.ListN.set (now (uids .entry)) at (uidOf (childrenAt (now (text .entry)) n))) (now (uids .entry)) ⌝ }
+fn put_uid(text: &[u8], uids: &mut [u64; 4096], n: usize, entry: bool, at: u64)
+    ensures { λ r. ⌜ now (uids .exit) ≡ cond entry (set (now (uids .entry)) at (uidOf (childrenAt (now (text .entry)) n))) (now (uids .entry)) ⌝ }
 {
     if entry {
-        if at < 4096 {
-            uids[at] = uid_at(text, n);
-        }
+        rows::put(uids, at as usize, uid_at(text, n));
     }
 }
 
-// The start tag at n, of an element of a sort.
-fn enter(text: &[u8], uids: &mut [u64; 4096], n: usize, sort: usize, a: Sums) -> Sums
-    ensures { λ r. ⌜ gathered r (now (uids .exit)) ≡ entered sort (headAt (now (text .entry)) n) (childrenAt (now (text .entry)) n) (gathered a (now (uids .entry))) ⌝ }
+// The start tag at n, of an element of a sort; rows is a table to read extents into.
+fn enter(
+    text: &[u8],
+    uuid: &[u8],
+    uids: &mut [u64; 4096],
+    rows: &mut [u64; 5120],
+    n: usize,
+    sort: usize,
+    volume: Volume,
+    a: Sums,
+) -> Sums
+    ensures { λ r. ⌜ gathered r (now (uids .exit)) ≡ entered (given (now (uuid .entry)) volume) sort (headAt (now (text .entry)) n) (childrenAt (now (text .entry)) n) (gathered a (now (uids .entry))) ⌝ }
 {
     let entry = is_entry(sort);
     let entries = a.entries;
     put_uid(text, uids, n, entry, entries);
     let good = fits_at(text, n, sort);
+    let judged = tests::judge(text, rows, n, sort, volume);
+    let raw = elements::text_of(text, n);
     Sums {
         structure: both(a.structure, good),
+        few: both(a.few, judged.few),
+        values: both(a.values, tests::is_valued(sort, raw)),
+        own: both(a.own, tests::is_own(uuid, volume, sort, raw)),
+        lawful: both(a.lawful, judged.lawful),
         entries: bump_if(entry, entries),
         files: bump_if(sort == FILE, a.files),
     }
@@ -200,18 +223,21 @@ fn number_at(text: &[u8], n: usize, kind: usize) -> usize
 // The rest of the element of a kind that is open at at, with depth levels of nesting left.
 pub fn walk(
     text: &[u8],
+    uuid: &[u8],
     uids: &mut [u64; 4096],
+    rows: &mut [u64; 5120],
     at: usize,
     kind: usize,
     depth: usize,
+    volume: Volume,
     sums: Sums,
 ) -> Left
     requires { ⌜ (at ≤ length (now text)) × (height (rowAt (now text) at) ≤ depth) ⌝ }
-    ensures { λ r. ⌜ (gathered (r .sums) (now (uids .exit)) ≡ sweep kind fresh (rowAt (now (text .entry)) at) (gathered sums (now (uids .entry)))) × Behind (now (text .entry)) at (r .at) ⌝ }
+    ensures { λ r. ⌜ (gathered (r .sums) (now (uids .exit)) ≡ sweep (given (now (uuid .entry)) volume) kind fresh (rowAt (now (text .entry)) at) (gathered sums (now (uids .entry)))) × Behind (now (text .entry)) at (r .at) ⌝ }
 {
     let mut i = at;
     let mut a = sums;
-    let mut seen = [0usize; 16];
+    let mut seen = [0u64; 16];
     loop {
         match elements::next_tag(text, i) {
             Tag::End => {
@@ -230,9 +256,9 @@ pub fn walk(
                 let j = number_at(text, n, kind);
                 let sort = index_names::sort_in(kind, j);
                 mark(&mut seen, j);
-                a = enter(text, uids, n, sort, a);
+                a = enter(text, uuid, uids, rows, n, sort, volume, a);
                 if is_open(sort) {
-                    let w = walk(text, uids, n, sort, depth - 1, a);
+                    let w = walk(text, uuid, uids, rows, n, sort, depth - 1, volume, a);
                     a = w.sums;
                     i = w.at;
                 } else {
@@ -243,9 +269,9 @@ pub fn walk(
                 let j = number_at(text, n, kind);
                 let sort = index_names::sort_in(kind, j);
                 mark(&mut seen, j);
-                a = enter(text, uids, n, sort, a);
+                a = enter(text, uuid, uids, rows, n, sort, volume, a);
                 if is_open(sort) {
-                    a = finish(sort, &[0usize; 16], a);
+                    a = finish(sort, &[0u64; 16], a);
                 }
                 i = n;
             }
