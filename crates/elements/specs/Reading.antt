@@ -3,8 +3,8 @@
 use mathlib.Core.Path.{_≡_}
 use mathlib.Core.Bool.{Bool, true, false, cond}
 use mathlib.Core.List.{List, []}
-use Prim.Native.Nat.{ℕ, _<_, _≤_, min}
-use lib.ListN.{length, drop}
+use Prim.Native.Nat.{ℕ, _+_, _<_, _≤_, min}
+use lib.ListN.{length, take, drop}
 use Rattle.xml.specs.Tree.{Head, Forest, none, node, past, headOf, top, pop, closed, opened, alone, forests}
 use Rattle.elements.specs.declared.tags.Tag.{Tag}
 use Rattle.elements.specs.declared.tags.Tag.the-variants.{End, Close, Open, Empty}
@@ -90,3 +90,8 @@ NextChild s i (At n j) = FirstOf s i n j
 pub record ChildrenFrom (s : List ℕ) (n j : ℕ) : Type 0 where
   pub row : rowAt s j ≡ childrenAt s n
   pub inside : j ≤ length s
+
+-- the n bytes of the text s from i on are the part w
+pub record Spans (s : List ℕ) (i n : ℕ) (w : List ℕ) : Type 0 where
+  pub part : take n (drop i s) ≡ w
+  pub inside : i + n ≤ length s

@@ -10,7 +10,7 @@ ghost use lib.ListN.{length, drop};
 ghost use Rattle.slices.specs.Slices as slices;
 ghost use Rattle.xml.specs.Bytes.{isSpace};
 ghost use Rattle.xml.specs.Tree.{quoted};
-ghost use Rattle.elements.specs.Reading.{headAt, childrenAt, isRow, ChildrenFrom};
+ghost use Rattle.elements.specs.Reading.{headAt, childrenAt, isRow, ChildrenFrom, Spans};
 
 // Its name.
 pub fn name_of(text: &[u8], n: usize) -> &[u8]
@@ -88,6 +88,28 @@ pub fn text_of(text: &[u8], n: usize) -> &[u8]
         return &text[a..a];
     }
     &text[a..e]
+}
+
+// A part of a text: where it begins, and how many bytes it has.
+pub struct Span {
+    pub from: usize,
+    pub len: usize,
+}
+
+// Where its text stands.
+pub fn text_at(text: &[u8], n: usize) -> Span
+    ensures { λ r. ⌜ Spans (now (text .entry)) (r .from) (r .len) (headAt (now (text .entry)) n .text) ⌝ }
+{
+    let tag = scan::tag_end(text, scan::inside(text, n));
+    let a = tag.at;
+    let e = scan::find(text, a, 60);
+    if tag.empty {
+        return Span { from: a, len: 0 };
+    }
+    Span {
+        from: a,
+        len: e - a,
+    }
 }
 
 // Whether a text is white space alone.

@@ -5,12 +5,14 @@ mod scan;
 mod tags;
 mod texts;
 
+pub use heads::Span;
 pub use heads::first_child;
 pub use heads::has_children;
 pub use heads::is_blank;
 pub use heads::key_of;
 pub use heads::name_is;
 pub use heads::name_of;
+pub use heads::text_at;
 pub use heads::text_of;
 pub use heads::value_of;
 pub use tags::Child;

@@ -1,0 +1,42 @@
+-- In a lawful row each required child stands at its seat: its text and its children are those of the element there.
+use mathlib.Core.Path.{_≡_, refl, ap, _∙_, sym}
+use mathlib.Core.Bool.{Bool, true, false, not, _&&_, false≢true}
+use mathlib.Core.List.{List}
+use Prim.Native.Nat.{ℕ, zero, suc, _<_}
+use native.Mathlib.Omega.{arith}
+use native.Mathlib.Nat.{not-suc-le-zero}
+use borrow.Author.Tests.{eq-eqb, eqb-true, eqb-false}
+use lib.Dec.{eqb}
+use lib.ListN.{length, getD}
+use Rattle.slices.proofs.Booleans.{and-left, and-right}
+use Rattle.xml.specs.Tree.{Forest}
+use Rattle.elements.specs.Reading.{headAt, childrenAt, isRow}
+use Rattle.children.specs.Rules.{Rule}
+use Rattle.children.specs.Children.{allKnown, pick, atMostOne, below, lawful, only, textOf, childrenOf}
+use Rattle.children.specs.Rows.{Seated}
+use Rattle.children.proofs.Named.{nameOf, fresh, pick-only}
+use Rattle.children.proofs.Seats.{row-seat, seat-text, seat-children}
+
+pub below-at : (test : ℕ → Bool) (n k : ℕ) → below n test ≡ true → k < n → test k ≡ true
+unfolding below
+below-at test zero k e h = absurd (not-suc-le-zero h)
+below-at test (suc n) k e h = go (eqb k n) refl (below-at test n k (and-right (test n) (below n test) e))
+  where
+    go : (t : Bool) → eqb k n ≡ t → (k < n → test k ≡ true) → test k ≡ true
+    go true q r = ap test (eqb-true k n q) ∙ and-left (test n) (below n test) e
+    go false q r = r (omega (arith, eqb-false k n q))
+
+module _ {s : List ℕ} {rs : List Rule} {must : ℕ} {f : Forest} {ok : Bool} {seats : List ℕ} (row : Seated s rs must f ok seats) (t : ok ≡ true)
+    (k : ℕ) (h : k < must) (new : fresh rs k ≡ true) where
+  here : isRow (pick rs k f) ≡ true
+  unfolding lawful
+  here = below-at (λ j. isRow (pick rs j f)) must k (and-right (allKnown rs f && below (length rs) (λ j. atMostOne (pick rs j f))) (below must (λ j. isRow (pick rs j f))) (sym (row .told) ∙ t)) h
+
+  there : getD seats k 0 ≡ 0 → ⊥
+  there e = false≢true (ap not (sym (eq-eqb _ _ e)) ∙ sym (row-seat s (getD seats k 0)) ∙ sym (ap isRow (row .found t k)) ∙ here)
+
+  pub found-text : textOf (only (nameOf rs k) f) ≡ headAt s (getD seats k 0) .text
+  found-text = ap textOf (sym (pick-only rs k new f) ∙ row .found t k) ∙ seat-text s (getD seats k 0) there
+
+  pub found-children : childrenOf (only (nameOf rs k) f) ≡ childrenAt s (getD seats k 0)
+  found-children = ap childrenOf (sym (pick-only rs k new f) ∙ row .found t k) ∙ seat-children s (getD seats k 0) there

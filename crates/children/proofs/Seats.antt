@@ -1,0 +1,66 @@
+-- The element at a place, alone: none for the place 0, else its head and its children.
+use mathlib.Core.Path.{_≡_, refl, ap}
+use mathlib.Core.Bool.{Bool, true, false, not}
+use mathlib.Core.List.{List}
+use Prim.Native.Nat.{ℕ}
+use borrow.Author.Tests.{eq-eqb, ne-eqb, eqb-true, eqb-false, ltb-true, ltb-false}
+use lib.Dec.{eqb, ltb}
+use lib.ListN.{getD, replicate, getD-replicate, List·getD-eq-default}
+use Rattle.xml.specs.Tree.{Forest, none, node}
+use Rattle.elements.specs.Reading.{headAt, childrenAt, isRow}
+use Rattle.children.specs.Children.{atMostOne, textOf, childrenOf}
+use Rattle.children.specs.Rows.{seat}
+
+-- a row, and then another
+unfoldable pub join : Forest → Forest → Forest
+join none g = g
+join (node h k f) g = node h k (join f g)
+
+module _ (s : List ℕ) (n : ℕ) where
+  pub seat-none : n ≡ 0 → seat s n ≡ none
+  unfolding seat
+  seat-none e = rw (eq-eqb _ _ e)
+
+  pub seat-some : (n ≡ 0 → ⊥) → seat s n ≡ node (headAt s n) (childrenAt s n) none
+  unfolding seat
+  seat-some e = rw (ne-eqb _ _ e)
+
+  pub join-seat : join (seat s n) none ≡ seat s n
+  unfolding join
+  join-seat = go (eqb n 0) refl
+    where
+      go : (t : Bool) → eqb n 0 ≡ t → join (seat s n) none ≡ seat s n
+      go true e = rw (seat-none (eqb-true _ _ e))
+      go false e = rw (seat-some (eqb-false _ _ e))
+
+  pub row-seat : isRow (seat s n) ≡ not (eqb n 0)
+  unfolding isRow
+  row-seat = go (eqb n 0) refl
+    where
+      go : (t : Bool) → eqb n 0 ≡ t → isRow (seat s n) ≡ not t
+      go true e = ap isRow (seat-none (eqb-true _ _ e))
+      go false e = ap isRow (seat-some (eqb-false _ _ e))
+
+  pub one-seat : atMostOne (seat s n) ≡ true
+  unfolding atMostOne isRow
+  one-seat = go (eqb n 0) refl
+    where
+      go : (t : Bool) → eqb n 0 ≡ t → atMostOne (seat s n) ≡ true
+      go true e = ap atMostOne (seat-none (eqb-true _ _ e))
+      go false e = ap atMostOne (seat-some (eqb-false _ _ e))
+
+  pub seat-text : (n ≡ 0 → ⊥) → textOf (seat s n) ≡ headAt s n .text
+  unfolding textOf
+  seat-text e = ap textOf (seat-some e)
+
+  pub seat-children : (n ≡ 0 → ⊥) → childrenOf (seat s n) ≡ childrenAt s n
+  unfolding childrenOf
+  seat-children e = ap childrenOf (seat-some e)
+
+-- no seat is taken
+pub no-seats : (k : ℕ) → getD {A = ℕ} (replicate 16 0) k 0 ≡ 0
+no-seats k = go (ltb k 16) refl
+  where
+    go : (t : Bool) → ltb k 16 ≡ t → getD {A = ℕ} (replicate 16 0) k 0 ≡ 0
+    go true e = getD-replicate 16 k 0 0 (ltb-true k 16 e)
+    go false e = List·getD-eq-default {A = ℕ} (replicate 16 0) 0 (ltb-false k 16 e)

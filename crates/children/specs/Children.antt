@@ -1,0 +1,60 @@
+-- Children once each in any order, nothing else (01, LTFS label, Index): the one definition for every element that has children.
+use mathlib.Core.Bool.{Bool, true, cond, not, _&&_, _||_}
+use mathlib.Core.List.{List, []}
+use Prim.Native.Nat.{ℕ, zero, suc}
+use lib.Dec.{eqb}
+use lib.ListN.{length}
+use Rattle.slices.specs.Slices.{every, same}
+use Rattle.xml.specs.Bytes.{isSpace}
+use Rattle.xml.specs.Tree.{Head, Forest, none, node}
+use Rattle.elements.specs.Reading.{isRow}
+use Rattle.children.specs.Rules.{Rule, placeOf, markOf}
+
+-- only the root has an attribute
+abbrev pub noAttribute : Head → Bool
+noAttribute h = eqb (length (h .key)) 0
+
+-- no text where only children belong: white space beside children is the XML form's duty, so it is text without children
+abbrev pub noText : Head → Forest → Bool
+noText h k = isRow k || every isSpace (h .text)
+
+-- what a child may hold by its mark; a child without a rule has mark 0 and may not stand here
+unfoldable pub holds : ℕ → Head → Forest → Bool
+holds mark h k = cond (eqb mark 61) (not (isRow k)) (cond (eqb mark 47) (noText h k) (eqb mark 42))
+
+-- the elements of a row: each has a rule, no attribute, and holds what it may
+unfoldable pub allKnown : List Rule → Forest → Bool
+allKnown rs none = true
+allKnown rs (node h k f) = noAttribute h && holds (markOf rs (h .name)) h k && allKnown rs f
+
+-- those that the rule of this number is for
+unfoldable pub pick : List Rule → ℕ → Forest → Forest
+pick rs k none = none
+pick rs k (node h c f) = cond (eqb (placeOf rs (h .name)) k) (node h c (pick rs k f)) (pick rs k f)
+
+unfoldable pub atMostOne : Forest → Bool
+atMostOne none = true
+atMostOne (node h k f) = not (isRow f)
+
+-- a test of each number below n
+unfoldable pub below : ℕ → (ℕ → Bool) → Bool
+below zero test = true
+below (suc n) test = test n && below n test
+
+-- each child has a rule, none stands twice, and none of the first `must` rules is left out; the rules after those are optional
+unfoldable pub lawful : List Rule → ℕ → Forest → Bool
+lawful rs must f = allKnown rs f && below (length rs) (λ k. atMostOne (pick rs k f)) && below must (λ k. isRow (pick rs k f))
+
+-- the elements of a row that have a name
+unfoldable pub only : List ℕ → Forest → Forest
+only name none = none
+only name (node h k f) = cond (same name (h .name)) (node h k (only name f)) (only name f)
+
+-- of the first element of a row: its text, its children
+unfoldable pub textOf : Forest → List ℕ
+textOf none = []
+textOf (node h k f) = h .text
+
+unfoldable pub childrenOf : Forest → Forest
+childrenOf none = none
+childrenOf (node h k f) = k

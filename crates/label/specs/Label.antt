@@ -1,0 +1,122 @@
+-- The LTFS label (01, LTFS label; 002, 6.1.2): what a label says, and the label that a text is. Each class of refusals is a test of the whole
+-- text, in document 01's order.
+use mathlib.Core.Bool.{Bool, true, false, _&&_, _||_, not}
+use mathlib.Core.List.{List}
+use mathlib.Core.Option.{Option, some, none as nothing}
+use Prim.Native.Nat.{ℕ}
+use Prim.Native.String.{String}
+use lib.Dec.{leb, eqb}
+use lib.ListN.{length}
+use Rattle.refusals.specs.Refusals.{Answer, refused, answer, require}
+use Rattle.refusals.specs.declared.Refusal.{Refusal}
+use Rattle.refusals.specs.declared.Refusal.the-variants.{Form, Structure, Value, Version, TooMany}
+use Rattle.slices.specs.Slices.{within, same}
+use Rattle.slices.specs.Words.{bytes}
+use Rattle.xml.specs.Machine.{Outcome, good, broken, form}
+use Rattle.xml.specs.Tree.{Head, Forest, none, node}
+use Rattle.elements.specs.Reading.{rowAt}
+use Rattle.elements.specs.Decoded.{decoded}
+use Rattle.children.specs.Rules.{Rule, rules}
+use Rattle.children.specs.Children.{lawful, only, textOf, childrenOf}
+use Rattle.values.specs.Values.{number, boolean, letter, version, isTime, isUuid, isCreator}
+
+-- what a label says: the R of its version 2.0.R, and its values
+pub record Label : Type 0 where
+  pub release : ℕ
+  pub creator : List ℕ
+  pub time : List ℕ
+  pub uuid : List ℕ
+  pub location : ℕ
+  pub indexLetter : ℕ
+  pub dataLetter : ℕ
+  pub blockSize : ℕ
+  pub compression : Bool
+
+-- the texts of its elements, as spelled
+pub record Texts : Type 0 where
+  pub creator : List ℕ
+  pub time : List ℕ
+  pub uuid : List ℕ
+  pub location : List ℕ
+  pub indexLetter : List ℕ
+  pub dataLetter : List ℕ
+  pub blockSize : List ℕ
+  pub compression : List ℕ
+
+-- the children of the root, of a location and of the partitions
+abbrev pub ofRoot : List Rule
+ofRoot = rules (bytes "creator=formattime=volumeuuid=location/partitions/blocksize=compression=")
+
+abbrev pub ofLocation : List Rule
+ofLocation = rules (bytes "partition=")
+
+abbrev pub ofPartitions : List Rule
+ofPartitions = rules (bytes "index=data=")
+
+abbrev pub inside : String → Forest → Forest
+inside name f = childrenOf (only (bytes name) f)
+
+-- 5: children once each, in any order
+unfoldable pub isShaped : Forest → Bool
+isShaped f = lawful ofRoot 7 f && lawful ofLocation 1 (inside "location" f) && lawful ofPartitions 2 (inside "partitions" f)
+
+abbrev pub value : String → Forest → List ℕ
+value name f = textOf (only (bytes name) f)
+
+unfoldable pub textsIn : Forest → Texts
+textsIn f =
+    record {
+      creator = value "creator" f;
+      time = value "formattime" f;
+      uuid = value "volumeuuid" f;
+      location = value "partition" (inside "location" f);
+      indexLetter = value "index" (inside "partitions" f);
+      dataLetter = value "data" (inside "partitions" f);
+      blockSize = value "blocksize" f;
+      compression = value "compression" f;
+    }
+
+module _ {A B : Type 0} where
+  -- what is said, and what follows from it; or the refusal
+  abbrev pub told : Option A → Refusal → (A → Answer B) → Answer B
+  told (some a) r next = next a
+  told nothing r next = refused r
+
+-- the letters are different, and the location is one of them
+unfoldable pub lettersFit : ℕ → ℕ → ℕ → Bool
+lettersFit l i d = not (eqb i d) && (eqb l i || eqb l d)
+
+-- 01, Bounds
+abbrev pub isBlockSize : ℕ → Bool
+isBlockSize n = within 4096 1048576 n
+
+-- 6: the values
+unfoldable pub labelFrom : ℕ → Texts → Answer Label
+labelFrom release t =
+    require (isCreator (decoded (t .creator)) && isTime (t .time) && isUuid (t .uuid)) Value
+    (told (letter (t .location)) Value (λ l.
+    told (letter (t .indexLetter)) Value (λ i.
+    told (letter (t .dataLetter)) Value (λ d.
+    require (lettersFit l i d) Value
+    (told (number (t .blockSize)) Value (λ b.
+    require (isBlockSize b) Value
+    (told (boolean (t .compression)) Value (λ c.
+    answer (record { release = release; creator = decoded (t .creator); time = t .time; uuid = t .uuid; location = l; indexLetter = i; dataLetter = d; blockSize = b; compression = c })))))))))
+
+-- 5 for the root and its attribute, 7, the rest of 5, then the values
+unfoldable pub rootOf : Head → Forest → Answer Label
+rootOf h f =
+    require (same (h .name) (bytes "ltfslabel") && same (h .key) (bytes "version")) Structure
+    (told (version (h .value)) Version (λ r. require (isShaped f) Structure (labelFrom r (textsIn f))))
+
+unfoldable pub firstOf : Forest → Answer Label
+firstOf none = refused Structure
+firstOf (node h k f) = rootOf h k
+
+unfoldable pub isFormed : Outcome → Bool
+isFormed good = true
+isFormed (broken n) = false
+
+-- the label that a text is: 15, 4, then the root
+unfoldable pub labelOf : List ℕ → Answer Label
+labelOf s = require (leb (length s) 4096) TooMany (require (isFormed (form s)) Form (firstOf (rowAt s 38)))

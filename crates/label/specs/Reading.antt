@@ -1,0 +1,54 @@
+-- What the answers of the label's readers mean.
+use mathlib.Core.Path.{_≡_}
+use mathlib.Core.Bool.{true}
+use mathlib.Core.List.{List}
+use Prim.Native.Nat.{ℕ}
+use lib.ListN.{take, drop}
+use Rattle.refusals.specs.Refusals.{Answer, refused, answer}
+use Rattle.elements.specs.Reading.{headAt}
+use Rattle.elements.specs.Decoded.{decoded}
+use Rattle.elements.specs.declared.heads.Span.{Span}
+use Rattle.xml.specs.Tree.{Forest}
+use Rattle.label.specs.Label.{Label, Texts, isShaped, textsIn}
+use Rattle.label.specs.declared.reader.Places.{Places}
+use Rattle.label.specs.declared.reader.Label.{Label as Answered}
+use Rattle.label.specs.declared.reader.Label.the-variants.{Says, Refused}
+
+-- the texts of the elements at the places found
+abbrev pub textsAt : List ℕ → Places → Texts
+textsAt s p =
+    record {
+      creator = headAt s (p .creator) .text;
+      time = headAt s (p .time) .text;
+      uuid = headAt s (p .uuid) .text;
+      location = headAt s (p .location) .text;
+      indexLetter = headAt s (p .«index_letter») .text;
+      dataLetter = headAt s (p .«data_letter») .text;
+      blockSize = headAt s (p .«block_size») .text;
+      compression = headAt s (p .compression) .text;
+    }
+
+-- whether the children are lawful, and if so where they stand
+pub record Finds (s : List ℕ) (f : Forest) (p : Places) : Type 0 where
+  pub shaped : p .ok ≡ isShaped f
+  pub texts : p .ok ≡ true → textsAt s p ≡ textsIn f
+
+-- a part of a text
+abbrev pub part : List ℕ → Span → List ℕ
+part s w = take (w .len) (drop (w .from) s)
+
+-- what an answer of the reader says of the text
+abbrev pub means : List ℕ → Answered → Answer Label
+means s (Refused r) = refused r
+means s (Says f) =
+    answer (record {
+      release = f .release;
+      creator = decoded (part s (f .creator));
+      time = part s (f .time);
+      uuid = part s (f .uuid);
+      location = f .location;
+      indexLetter = f .«index_letter»;
+      dataLetter = f .«data_letter»;
+      blockSize = f .«block_size»;
+      compression = f .compression;
+    })

@@ -1,0 +1,215 @@
+// The LTFS label, read.
+use digits::Number;
+use elements::Child;
+use elements::Span;
+use refusals::Refusal;
+use values::Boolean;
+use values::Letter;
+use values::Version;
+use xml::Checked;
+ghost use mathlib.Core.Path.{_≡_};
+ghost use mathlib.Core.Bool.{_&&_};
+ghost use Rattle.digits.specs.Decimal.{valueOf};
+ghost use Rattle.slices.specs.Slices as slices;
+ghost use Rattle.slices.specs.Words.{bytes};
+ghost use Rattle.elements.specs.Reading.{headAt, childrenAt};
+ghost use Rattle.elements.specs.Decoded.{decoded};
+ghost use Rattle.values.specs.Values.{isCreator, isTime, isUuid, letter, letterOf, boolean, booleanOf};
+ghost use Rattle.label.specs.Label.{lettersFit, isBlockSize, labelFrom, rootOf, labelOf};
+ghost use Rattle.label.specs.Reading.{textsAt, Finds, means};
+
+// Whether the children of the root are lawful, and the places of the elements that hold the values.
+pub struct Places {
+    pub ok: bool,
+    pub creator: usize,
+    pub time: usize,
+    pub uuid: usize,
+    pub location: usize,
+    pub index_letter: usize,
+    pub data_letter: usize,
+    pub block_size: usize,
+    pub compression: usize,
+}
+
+// What a label says: the R of its version 2.0.R, its values, and where in the text its creator, as spelled, its time and its UUID stand.
+pub struct Fields {
+    pub release: u64,
+    pub creator: Span,
+    pub time: Span,
+    pub uuid: Span,
+    pub location: u8,
+    pub index_letter: u8,
+    pub data_letter: u8,
+    pub block_size: u64,
+    pub compression: bool,
+}
+
+pub enum Label {
+    Says(Fields),
+    Refused(Refusal),
+}
+
+fn all_three(a: bool, b: bool, c: bool) -> bool
+    ensures { λ r. ⌜ r ≡ (a && b && c) ⌝ }
+{
+    if !a {
+        return false;
+    }
+    if !b {
+        return false;
+    }
+    c
+}
+
+// The children of the root at n.
+fn find_places(text: &[u8], n: usize) -> Places
+    ensures { λ r. ⌜ Finds (now (text .entry)) (childrenAt (now (text .entry)) n) r ⌝ }
+{
+    let all = children::read_row(
+        text,
+        elements::first_child(text, n),
+        b"creator=formattime=volumeuuid=location/partitions/blocksize=compression=",
+        7,
+    );
+    let a = all.seats;
+    let place = children::read_row(text, elements::first_child(text, a[3]), b"partition=", 1);
+    let p = place.seats;
+    let parts = children::read_row(text, elements::first_child(text, a[4]), b"index=data=", 2);
+    let q = parts.seats;
+    Places {
+        ok: all_three(all.ok, place.ok, parts.ok),
+        creator: a[0],
+        time: a[1],
+        uuid: a[2],
+        location: p[0],
+        index_letter: q[0],
+        data_letter: q[1],
+        block_size: a[5],
+        compression: a[6],
+    }
+}
+
+// Whether the letters are different, and the location is one of them.
+fn letters_fit(location: u8, index: u8, other: u8) -> bool
+    ensures { λ r. ⌜ r ≡ lettersFit location index other ⌝ }
+{
+    if index == other {
+        return false;
+    }
+    if location == index {
+        return true;
+    }
+    location == other
+}
+
+fn is_block_size(n: u64) -> bool
+    ensures { λ r. ⌜ r ≡ isBlockSize n ⌝ }
+{
+    if n < 4096 {
+        return false;
+    }
+    n <= 1048576
+}
+
+// The texts that stay as they are.
+fn texts_lawful(creator: &[u8], time: &[u8], uuid: &[u8]) -> bool
+    ensures { λ r. ⌜ r ≡ (isCreator (decoded (now (creator .entry))) && isTime (now (time .entry)) && isUuid (now (uuid .entry))) ⌝ }
+{
+    if !values::is_creator(creator) {
+        return false;
+    }
+    if !values::is_time(time) {
+        return false;
+    }
+    values::is_uuid(uuid)
+}
+
+// The values at the places.
+fn read_values(text: &[u8], p: Places, release: u64) -> Label
+    ensures { λ r. ⌜ means (now (text .entry)) r ≡ labelFrom release (textsAt (now (text .entry)) p) ⌝ }
+{
+    if !texts_lawful(
+        elements::text_of(text, p.creator),
+        elements::text_of(text, p.time),
+        elements::text_of(text, p.uuid),
+    ) {
+        return Label::Refused(Refusal::Value);
+    }
+    let Letter::Value(location) = values::read_letter(elements::text_of(text, p.location)) else {
+        return Label::Refused(Refusal::Value);
+    };
+    let Letter::Value(index) = values::read_letter(elements::text_of(text, p.index_letter)) else {
+        return Label::Refused(Refusal::Value);
+    };
+    let Letter::Value(other) = values::read_letter(elements::text_of(text, p.data_letter)) else {
+        return Label::Refused(Refusal::Value);
+    };
+    if !letters_fit(location, index, other) {
+        return Label::Refused(Refusal::Value);
+    }
+    let Number::Value(block_size) = values::read_number(elements::text_of(text, p.block_size))
+    else {
+        return Label::Refused(Refusal::Value);
+    };
+    if !is_block_size(block_size) {
+        return Label::Refused(Refusal::Value);
+    }
+    let Boolean::Value(compression) = values::read_boolean(elements::text_of(text, p.compression))
+    else {
+        return Label::Refused(Refusal::Value);
+    };
+    Label::Says(Fields {
+        release,
+        creator: elements::text_at(text, p.creator),
+        time: elements::text_at(text, p.time),
+        uuid: elements::text_at(text, p.uuid),
+        location,
+        index_letter: index,
+        data_letter: other,
+        block_size,
+        compression,
+    })
+}
+
+// Whether the root at n has its name and its attribute.
+fn is_root(text: &[u8], n: usize) -> bool
+    ensures { λ r. ⌜ r ≡ (slices.same (headAt (now (text .entry)) n .name) (bytes "ltfslabel") && slices.same (headAt (now (text .entry)) n .key) (bytes "version")) ⌝ }
+{
+    if !elements::name_is(text, n, b"ltfslabel") {
+        return false;
+    }
+    slices::same(elements::key_of(text, n), b"version")
+}
+
+// The root at n.
+fn read_root(text: &[u8], n: usize) -> Label
+    ensures { λ r. ⌜ means (now (text .entry)) r ≡ rootOf (headAt (now (text .entry)) n) (childrenAt (now (text .entry)) n) ⌝ }
+{
+    if !is_root(text, n) {
+        return Label::Refused(Refusal::Structure);
+    }
+    let Version::Release(release) = values::read_version(elements::value_of(text, n)) else {
+        return Label::Refused(Refusal::Version);
+    };
+    let p = find_places(text, n);
+    if !p.ok {
+        return Label::Refused(Refusal::Structure);
+    }
+    read_values(text, p, release)
+}
+
+// Reads an LTFS label.
+pub fn read(text: &[u8]) -> Label
+    ensures { λ r. ⌜ means (now (text .entry)) r ≡ labelOf (now (text .entry)) ⌝ }
+{
+    if 4096 < text.len() {
+        return Label::Refused(Refusal::TooMany);
+    }
+    let Checked::Good = xml::check(text) else {
+        return Label::Refused(Refusal::Form);
+    };
+    match elements::next_child(text, 38) {
+        Child::Done => Label::Refused(Refusal::Structure),
+        Child::At(n, _) => read_root(text, n),
+    }
+}
