@@ -4,3 +4,6 @@ pub mod Steps
 pub mod Gathering
 pub mod RowTable
 pub mod Judging
+pub mod Counted
+pub mod Swept
+pub mod Differ

@@ -2,4 +2,5 @@ pub mod Elements
 pub mod Structure
 pub mod Entries
 pub mod Tests
+pub mod Different
 pub mod Sweep
