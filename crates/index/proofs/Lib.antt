@@ -1,0 +1,9 @@
+pub mod Found
+pub mod Below
+pub mod Steps
+pub mod Gathering
+pub mod RowTable
+pub mod Judging
+pub mod Counted
+pub mod Swept
+pub mod Differ

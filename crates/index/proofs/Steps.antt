@@ -1,0 +1,39 @@
+-- What one element means for the sweep of the row that it stands in.
+use mathlib.Core.Path.{_≡_, refl, ap, sym, _∙_}
+use mathlib.Core.Bool.{Bool, true, false, cond}
+use mathlib.Core.List.{List}
+use Prim.Native.Nat.{ℕ}
+use Rattle.xml.specs.Tree.{Forest, none}
+use Rattle.elements.specs.Reading.{rowAt, headAt, childrenAt, FirstOf}
+use Rattle.index_names.specs.Sorts.{holds, sort}
+use Rattle.index.specs.Elements.{numberOf, sortOf}
+use Rattle.index.specs.Tests.{Given}
+use Rattle.index.specs.Sweep.{All, fresh, marked, ended, entered, sweep}
+
+-- the elements in an element of sort s are swept, if it holds elements
+abbrev inside : Given → ℕ → Forest → All → All
+inside g s c a = cond (holds s) (sweep g s fresh c a) a
+
+module _ (g : Given) (kind : ℕ) (m : List ℕ) (a : All) where
+  pub row-over : (f : Forest) → f ≡ none → sweep g kind m f a ≡ ended kind m a
+  unfolding sweep
+  row-over f e = ap (λ (f : Forest). sweep g kind m f a) e
+
+  module _ {s : List ℕ} {i n j : ℕ} (first : FirstOf s i n j) where
+    first-step : sweep g kind m (rowAt s i) a
+        ≡ sweep g kind (marked (numberOf kind (headAt s n)) m) (rowAt s j)
+        (inside g (sortOf kind (headAt s n)) (childrenAt s n) (entered g (sortOf kind (headAt s n)) (headAt s n) (childrenAt s n) a))
+    unfolding sweep
+    first-step = ap (λ (f : Forest). sweep g kind m f a) (first .row)
+
+    -- as the code goes past it: its number and sort, what is seen then, and what is gathered behind its start tag
+    module _ (number srt : ℕ) (m′ : List ℕ) (b : All) (en : number ≡ numberOf kind (headAt s n)) (es : srt ≡ sort kind number)
+        (em : m′ ≡ marked number m) (eb : b ≡ entered g srt (headAt s n) (childrenAt s n) a) where
+      told : sweep g kind m (rowAt s i) a ≡ sweep g kind m′ (rowAt s j) (inside g srt (childrenAt s n) b)
+      told = first-step ∙ sym (rw (eb, es, em, en))
+
+      pub step-holds : (c : All) → holds srt ≡ true → c ≡ sweep g srt fresh (childrenAt s n) b → sweep g kind m (rowAt s i) a ≡ sweep g kind m′ (rowAt s j) c
+      step-holds c h e = told ∙ ap (λ (x : Bool). sweep g kind m′ (rowAt s j) (cond x (sweep g srt fresh (childrenAt s n) b) b)) h ∙ ap (sweep g kind m′ (rowAt s j)) (sym e)
+
+      pub step-other : holds srt ≡ false → sweep g kind m (rowAt s i) a ≡ sweep g kind m′ (rowAt s j) b
+      step-other h = told ∙ ap (λ (x : Bool). sweep g kind m′ (rowAt s j) (cond x (sweep g srt fresh (childrenAt s n) b) b)) h

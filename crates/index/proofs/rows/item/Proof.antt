@@ -1,0 +1,21 @@
+-- `item` meets its contract: 0 past the end.
+use mathlib.Core.Path.{_≡_, refl, ap, sym, _∙_, subst}
+use lib.ListN.{List·getD-eq-default}
+use borrow.Author.Needs.{needs}
+use Rattle.index.proofs.rows.item.Statement.{statement}
+use Rattle.index.proofs.rows.item.Tie as tie
+
+mul-result : tie.Need-mul-result
+mul-result c = search needs
+
+shared-slice-read-result : tie.Need-shared-slice-read-result
+shared-slice-read-result c = search needs
+
+returns : tie.Need-returns
+returns c = search needs
+
+returns-2 : tie.Need-returns-2
+returns-2 c = sym (List·getD-eq-default (c .before .args .table .now) 0 (c .if1 .left))
+
+pub item-spec : {M : Type 1} → statement M
+item-spec = tie.close (tie.spec mul-result shared-slice-read-result returns returns-2)

@@ -1,0 +1,92 @@
+-- `enter` meets its contract: part by part.
+use mathlib.Core.Path.{_≡_, refl, ap, sym, _∙_, subst}
+use mathlib.Core.Bool.{Bool, _&&_, cond}
+use Prim.Native.Nat.{ℕ}
+use mathlib.Core.List.{List}
+use lib.ListN.{set}
+use Rattle.index.specs.Sweep.{more}
+use Rattle.index.specs.Tests.{given, valued, own}
+use Rattle.index.specs.Entries.{uidOf}
+use Rattle.elements.specs.Reading.{headAt, childrenAt}
+use Rattle.index.proofs.Gathering.{entered-parts}
+use borrow.Author.Needs.{needs}
+use Rattle.index.proofs.walk.enter.Statement.{statement}
+use Rattle.index.proofs.walk.enter.Tie as tie
+
+is-entry-requires : tie.Need-is-entry-requires
+is-entry-requires c κs = search needs
+
+put-uid-requires : tie.Need-put-uid-requires
+put-uid-requires c κs = search needs
+
+fits-at-requires : tie.Need-fits-at-requires
+fits-at-requires c κs = search needs
+
+judge-requires : tie.Need-judge-requires
+judge-requires c κs = search needs
+
+text-of-requires : tie.Need-text-of-requires
+text-of-requires c κs = search needs
+
+both-requires : tie.Need-both-requires
+both-requires c κs = search needs
+
+both-requires-2 : tie.Need-both-requires-2
+both-requires-2 c κs = search needs
+
+is-valued-requires : tie.Need-is-valued-requires
+is-valued-requires c κs = search needs
+
+both-requires-3 : tie.Need-both-requires-3
+both-requires-3 c κs = search needs
+
+is-own-requires : tie.Need-is-own-requires
+is-own-requires c κs = search needs
+
+both-requires-4 : tie.Need-both-requires-4
+both-requires-4 c κs = search needs
+
+both-requires-5 : tie.Need-both-requires-5
+both-requires-5 c κs = search needs
+
+bump-if-requires : tie.Need-bump-if-requires
+bump-if-requires c κs = search needs
+
+bump-if-requires-2 : tie.Need-bump-if-requires-2
+bump-if-requires-2 c κs = search needs
+
+returns : tie.Need-returns
+returns c =
+    let a = c .before .before .before .before .before .before .before .before .before .before .before .before .before .before .before .before .before .before .args .a in
+    let n = c .before .before .before .before .before .before .before .before .before .before .before .before .before .before .before .before .before .before .args .n in
+    let s = c .before .before .before .before .before .before .before .before .before .before .before .before .before .before .before .before .before .before .args .text .now in
+    let q = c .before .before .before .before .before .before .before .before .before .before .before .before .before .before .before .before .before .before .args .sort in
+    entered-parts (given (c .before .before .before .before .before .before .before .before .before .before .before .before .before .before .before .before .before .before .args .uuid .now) (c .before .before .before .before .before .before .before .before .before .before .before .before .before .before .before .before .before .before .args .volume)) q (headAt s n) (childrenAt s n) a _ (c .before .before .before .before .before .before .before .before .before .before .before .before .before .before .before .before .before .before .args .uids .now) _
+    (c .before .before .before .before .before .before .before .before .both .ensures ∙ ap (λ (b : Bool). a .structure && b) (c .before .before .before .before .before .before .before .before .before .before .before .before .fits-at .ensures))
+    (c .before .before .before .before .before .before .before .both2 .ensures ∙ ap (λ (b : Bool). a .few && b) (c .before .before .before .before .before .before .before .before .before .before .judge .ensures .0))
+    (c .before .before .before .before .before .both3 .ensures ∙ ap (λ (b : Bool). a .values && b) (c .before .before .before .before .before .before .is-valued .ensures ∙ ap (valued q) (c .before .before .before .before .before .before .before .before .before .text-of .ensures)))
+    (c .before .before .before .both4 .ensures ∙ ap (λ (b : Bool). a .own && b) (c .before .before .before .before .is-own .ensures ∙ ap (own (given (c .before .before .before .before .before .before .before .before .before .before .before .before .before .before .before .before .before .before .args .uuid .now) (c .before .before .before .before .before .before .before .before .before .before .before .before .before .before .before .before .before .before .args .volume)) q) (c .before .before .before .before .before .before .before .before .before .text-of .ensures)))
+    (c .before .before .both5 .ensures ∙ ap (λ (b : Bool). a .lawful && b) (c .before .before .before .before .before .before .before .before .before .before .judge .ensures .1 (c .before .before .before .before .before .before .before .before .before .before .before .before .before .before .before .before .before .before .args .uuid .now)))
+    (c .before .bump-if .ensures ∙ ap (λ (b : Bool). cond b (more (a .entries)) (a .entries)) (c .before .before .before .before .before .before .before .before .before .before .before .before .before .before .before .is-entry .ensures))
+    (c .bump-if2 .ensures)
+    (c .before .before .before .before .before .before .before .before .before .before .before .before .before .put-uid .ensures ∙ ap (λ (b : Bool). cond b (set (c .before .before .before .before .before .before .before .before .before .before .before .before .before .before .before .before .before .before .args .uids .now) (a .entries) (uidOf (childrenAt s n))) (c .before .before .before .before .before .before .before .before .before .before .before .before .before .before .before .before .before .before .args .uids .now)) (c .before .before .before .before .before .before .before .before .before .before .before .before .before .before .before .is-entry .ensures))
+
+pub enter-spec : {M : Type 1} → statement M
+enter-spec =
+    tie.close
+    (tie.spec
+    is-entry-requires
+    put-uid-requires
+    fits-at-requires
+    judge-requires
+    text-of-requires
+    both-requires
+    both-requires-2
+    is-valued-requires
+    both-requires-3
+    is-own-requires
+    both-requires-4
+    both-requires-5
+    bump-if-requires
+    bump-if-requires-2
+    returns)

@@ -1,0 +1,17 @@
+-- `is_entry` meets its contract: the three tests.
+use borrow.Author.Tests.{eq-eqb, ne-eqb, lt-ltb, le-ltb, le-leb, lt-leb}
+use borrow.Author.Needs.{needs}
+use Rattle.index.proofs.walk.is_entry.Statement.{statement}
+use Rattle.index.proofs.walk.is_entry.Tie as tie
+
+returns : tie.Need-returns
+returns c = simp (eq-eqb _ _ (c .if1 .taken))
+
+returns-2 : tie.Need-returns-2
+returns-2 c = simp (ne-eqb _ _ (c .before .if1 .left), eq-eqb _ _ (c .if2 .taken))
+
+returns-3 : tie.Need-returns-3
+returns-3 c = simp (ne-eqb _ _ (c .before .if1 .left), ne-eqb _ _ (c .if2 .left))
+
+pub is-entry-spec : {M : Type 1} → statement M
+is-entry-spec = tie.close (tie.spec returns returns-2 returns-3)

@@ -1,0 +1,76 @@
+-- What one walk over the elements gathers, step by step as the code does it; proofs/ says what that means for the whole text.
+use mathlib.Core.Bool.{Bool, cond, _&&_, _||_}
+use mathlib.Core.List.{List}
+use Prim.Native.Nat.{ℕ, _+_}
+use lib.ListN.{getD, set, replicate}
+use lib.Dec.{eqb, ltb}
+use Rattle.xml.specs.Tree.{Head, Forest, none, node}
+use Rattle.index_names.specs.Sorts.{file, holds, must, repeats}
+use Rattle.index.specs.Elements.{numberOf, sortOf}
+use Rattle.index.specs.Structure.{fits, below, once}
+use Rattle.index.specs.Entries.{isEntry, uidOf}
+use Rattle.index.specs.Tests.{Given, valued, own, few, lawful}
+use Rattle.index.specs.declared.walk.Sums.{Sums}
+
+-- numbers and flags, and the fileuids
+pub record All : Type 0 where
+  pub sums : Sums
+  pub uids : List ℕ
+
+abbrev pub gathered : Sums → List ℕ → All
+gathered a u = record { sums = a; uids = u }
+
+-- one more, up to a limit that no lawful count reaches
+unfoldable pub more : ℕ → ℕ
+more n = cond (ltb n 5000) (n + 1) n
+
+-- how often each name was seen in a row
+abbrev pub fresh : List ℕ
+fresh = replicate 16 0
+
+unfoldable pub marked : ℕ → List ℕ → List ℕ
+marked j m = set m j (more (getD m j 0))
+
+-- a row in an element of that kind is over
+unfoldable pub done : ℕ → List ℕ → Bool
+done kind m = repeats kind || below 16 (λ j. once (must kind) j (getD m j 0))
+
+unfoldable pub endedSums : ℕ → List ℕ → Sums → Sums
+endedSums kind m a =
+    record {
+      structure = a .structure && done kind m;
+      few = a .few;
+      values = a .values;
+      own = a .own;
+      lawful = a .lawful;
+      entries = a .entries;
+      files = a .files;
+    }
+
+unfoldable pub ended : ℕ → List ℕ → All → All
+ended kind m a = record { sums = endedSums kind m (a .sums); uids = a .uids }
+
+-- the start tag of an element of sort s
+unfoldable pub entered : Given → ℕ → Head → Forest → All → All
+entered g s h c a =
+    record {
+      sums =
+          record {
+            structure = a .sums .structure && fits s h c;
+            few = a .sums .few && few s c;
+            values = a .sums .values && valued s (h .text);
+            own = a .sums .own && own g s (h .text);
+            lawful = a .sums .lawful && lawful g s c;
+            entries = cond (isEntry s) (more (a .sums .entries)) (a .sums .entries);
+            files = cond (eqb s file) (more (a .sums .files)) (a .sums .files);
+          };
+      uids = cond (isEntry s) (set (a .uids) (a .sums .entries) (uidOf c)) (a .uids);
+    }
+
+-- the rest of a row in an element of that kind, of which m is seen
+unfoldable pub sweep : Given → ℕ → List ℕ → Forest → All → All
+sweep g kind m none a = ended kind m a
+sweep g kind m (node h c r) a =
+    let s = sortOf kind h in
+    let b = entered g s h c a in
+    sweep g kind (marked (numberOf kind h) m) r (cond (holds s) (sweep g s fresh c b) b)

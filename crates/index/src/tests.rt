@@ -1,0 +1,225 @@
+// What each element is tested for by itself.
+use crate::rows;
+use digits::Number;
+use elements::Child;
+use index_names::BOOLEAN;
+use index_names::CREATOR;
+use index_names::FILE;
+use index_names::GENERATION;
+use index_names::LETTER;
+use index_names::NAME;
+use index_names::NUMBER;
+use index_names::ROOT_NAME;
+use index_names::ROOT_UID;
+use index_names::TIME;
+use index_names::UID;
+use index_names::UUID;
+use values::Boolean;
+use values::Letter;
+ghost use mathlib.Core.Path.{_≡_};
+ghost use mathlib.Core.Bool.{_||_};
+ghost use mathlib.Core.List.{List};
+ghost use Prim.Native.Nat.{ℕ, _+_, _*_, _≤_};
+ghost use lib.ListN.{length, take};
+ghost use Rattle.extents.specs.Rows as numbers;
+ghost use Rattle.extents.specs.Lawful as extents;
+ghost use lib.Dec.{eqb};
+ghost use lib.Seq.{sets};
+ghost use Rattle.values.specs.Values as is;
+ghost use Rattle.elements.specs.Reading.{rowAt, childrenAt};
+ghost use Rattle.index.specs.Elements.{textIn};
+ghost use Rattle.index.specs.Entries.{numberSaid};
+ghost use Rattle.index.specs.Tests.{isSome, valued, own, letterSaid, five, rowOf, rowsIn, few, lawful, RowsRead, given};
+
+// The label's letters, and the block size.
+pub struct Volume {
+    pub first: u8,
+    pub other: u8,
+    pub size: u64,
+}
+
+fn says_number(raw: &[u8]) -> bool
+    ensures { λ r. ⌜ r ≡ isSome (is.number (now (raw .entry))) ⌝ }
+{
+    match values::read_number(raw) {
+        Number::Value(_) => true,
+        Number::Nothing => false,
+    }
+}
+
+fn says_boolean(raw: &[u8]) -> bool
+    ensures { λ r. ⌜ r ≡ isSome (is.boolean (now (raw .entry))) ⌝ }
+{
+    match values::read_boolean(raw) {
+        Boolean::Value(_) => true,
+        Boolean::Nothing => false,
+    }
+}
+
+fn says_letter(raw: &[u8]) -> bool
+    ensures { λ r. ⌜ r ≡ isSome (is.letter (now (raw .entry))) ⌝ }
+{
+    match values::read_letter(raw) {
+        Letter::Value(_) => true,
+        Letter::Nothing => false,
+    }
+}
+
+// The letter that a text says, 0 where it says none.
+pub fn letter_said(raw: &[u8]) -> u8
+    ensures { λ r. ⌜ r ≡ letterSaid (now (raw .entry)) ⌝ }
+{
+    match values::read_letter(raw) {
+        Letter::Value(b) => b,
+        Letter::Nothing => 0,
+    }
+}
+
+// Whether the text of an element of a sort is a lawful value.
+pub fn is_valued(sort: usize, raw: &[u8]) -> bool
+    ensures { λ r. ⌜ r ≡ valued sort (now (raw .entry)) ⌝ }
+{
+    if sort == TIME {
+        return values::is_time(raw);
+    }
+    if sort == NUMBER {
+        return says_number(raw);
+    }
+    if sort == BOOLEAN {
+        return says_boolean(raw);
+    }
+    if sort == NAME {
+        return values::is_name(raw);
+    }
+    if sort == UID {
+        return 2 <= rows::number_said(raw);
+    }
+    if sort == LETTER {
+        return says_letter(raw);
+    }
+    if sort == CREATOR {
+        return values::is_creator(raw);
+    }
+    if sort == UUID {
+        return values::is_uuid(raw);
+    }
+    if sort == GENERATION {
+        return 1 <= rows::number_said(raw);
+    }
+    if sort == ROOT_NAME {
+        return values::is_root_name(raw);
+    }
+    if sort == ROOT_UID {
+        return rows::number_said(raw) == 1;
+    }
+    true
+}
+
+// Whether a letter is one of the volume's.
+fn is_own_letter(b: u8, volume: Volume) -> bool
+    ensures { λ r. ⌜ r ≡ (eqb b (volume .first) || eqb b (volume .other)) ⌝ }
+{
+    if b == volume.first {
+        return true;
+    }
+    b == volume.other
+}
+
+// Whether what the text of an element of a sort names is the volume's.
+pub fn is_own(uuid: &[u8], volume: Volume, sort: usize, raw: &[u8]) -> bool
+    ensures { λ r. ⌜ r ≡ own (given (now (uuid .entry)) volume) sort (now (raw .entry)) ⌝ }
+{
+    if sort == LETTER {
+        return is_own_letter(letter_said(raw), volume);
+    }
+    if sort == UUID {
+        return values::same_uuid(raw, uuid);
+    }
+    true
+}
+
+// The number that the first element of a name says, in the row at at.
+pub fn number_named(text: &[u8], at: usize, name: &[u8]) -> u64
+    ensures { λ r. ⌜ r ≡ numberSaid (textIn (now (name .entry)) (rowAt (now (text .entry)) at)) ⌝ }
+{
+    rows::number_said(rows::text_in(text, at, name))
+}
+
+// The five numbers of the extent whose row is at from, into out from at on.
+fn put_row(text: &[u8], from: usize, out: &mut [u64], at: usize)
+    requires { ⌜ at + 5 ≤ length (now out) ⌝ }
+    ensures { λ r. ⌜ now (out .exit) ≡ sets (now (out .entry)) at (five (rowOf (rowAt (now (text .entry)) from))) ⌝ }
+{
+    let letter = letter_said(rows::text_in(text, from, b"partition"));
+    rows::put(out, at, letter as u64);
+    rows::put(out, at + 1, number_named(text, from, b"startblock"));
+    rows::put(out, at + 2, number_named(text, from, b"byteoffset"));
+    rows::put(out, at + 3, number_named(text, from, b"bytecount"));
+    rows::put(out, at + 4, number_named(text, from, b"fileoffset"));
+}
+
+// The rows of the extents in the row at at, into out; 1,025 where there are more than 1,024.
+pub fn read_rows(text: &[u8], at: usize, out: &mut [u64]) -> usize
+    requires { ⌜ 5120 ≤ length (now out) ⌝ }
+    ensures { λ r. ⌜ RowsRead (rowsIn (rowAt (now (text .entry)) at)) (now (out .exit)) r ⌝ }
+{
+    let mut i = at;
+    let mut n: usize = 0;
+    loop {
+        match elements::next_child(text, i) {
+            Child::Done => {
+                return n;
+            }
+            Child::At(t, next) => {
+                if n == 1024 {
+                    return 1025;
+                }
+                put_row(text, elements::first_child(text, t), out, n * 5);
+                n += 1;
+                i = next;
+            }
+        }
+    }
+}
+
+// Whether a file has few extents, and lawful ones.
+pub struct Judged {
+    pub few: bool,
+    pub lawful: bool,
+}
+
+// Whether the first rows of a table, so many, are lawful.
+fn are_lawful(table: &[u64], count: usize, length: u64, size: u64) -> bool
+    requires { ⌜ count * 5 ≤ lib.ListN.length (now table) ⌝ }
+    ensures { λ r. ⌜ r ≡ extents.lawful length size (numbers.rowsOf (take (count * 5) (now (table .entry)))) ⌝ }
+{
+    let e = count * 5;
+    extents::lawful(&table[0..e], length, size)
+}
+
+// The extents of the element at n, of a sort, if it is a file; with out to read them into.
+pub fn judge(text: &[u8], out: &mut [u64; 5120], n: usize, sort: usize, volume: Volume) -> Judged
+    ensures { λ r. ⌜ (r .few ≡ few sort (childrenAt (now (text .entry)) n)) × ((u : List ℕ) → r .lawful ≡ lawful (given u volume) sort (childrenAt (now (text .entry)) n)) ⌝ }
+{
+    if sort != FILE {
+        return Judged {
+            few: true,
+            lawful: true,
+        };
+    }
+    let row = elements::first_child(text, n);
+    let from = rows::row_in(text, row, b"extentinfo");
+    let count = read_rows(text, from, out);
+    if 1024 < count {
+        return Judged {
+            few: false,
+            lawful: false,
+        };
+    }
+    let size = number_named(text, row, b"length");
+    let good = are_lawful(out, count, size, volume.size);
+    Judged {
+        few: true,
+        lawful: good,
+    }
+}

@@ -1,0 +1,280 @@
+// The walk over an index's elements.
+use crate::rows;
+use crate::tests;
+use crate::tests::Volume;
+use elements::Tag;
+use index_names::DIRECTORY;
+use index_names::EXTENT;
+use index_names::FILE;
+use index_names::INDEX;
+use index_names::ROOT;
+use index_names::SKIPPED;
+use index_names::UNKNOWN;
+ghost use mathlib.Core.Path.{_≡_};
+ghost use mathlib.Core.Bool.{cond, _&&_};
+ghost use Prim.Native.Nat.{_≤_, _<_};
+ghost use lib.ListN.{length, getD, set};
+ghost use Rattle.xml.specs.Form.{height};
+ghost use Rattle.elements.specs.Reading.{rowAt, headAt, childrenAt, Behind};
+ghost use Rattle.index_names.specs.Sorts.{holds, must};
+ghost use Rattle.index.specs.Elements.{numberOf, sortOf};
+ghost use Rattle.index.specs.Structure.{fits, below, once};
+ghost use Rattle.index.specs.Entries.{isEntry, uidOf};
+ghost use Rattle.index.specs.Tests.{given};
+ghost use Rattle.index.specs.Sweep.{gathered, more, fresh, marked, done, endedSums, entered, sweep};
+
+// What the walk gathers besides the fileuids: whether the structure is right so far, how many directories and files there are, how many
+// of them files.
+pub struct Sums {
+    pub structure: bool,
+    pub few: bool,
+    pub values: bool,
+    pub own: bool,
+    pub lawful: bool,
+    pub entries: u64,
+    pub files: u64,
+}
+
+// Where reading goes on, and what was gathered.
+pub struct Left {
+    pub at: usize,
+    pub sums: Sums,
+}
+
+fn bump(n: u64) -> u64
+    ensures { λ r. ⌜ r ≡ more n ⌝ }
+{
+    if n < 5000 {
+        return n + 1;
+    }
+    n
+}
+
+// The name of number j is seen in a row.
+fn mark(seen: &mut [u64; 16], j: usize)
+    ensures { λ r. ⌜ now (seen .exit) ≡ marked j (now (seen .entry)) ⌝ }
+{
+    let n = rows::item(seen, j);
+    rows::put(seen, j, bump(n));
+}
+
+// Whether a name of number j that was seen n times comes as often as it must.
+fn is_once(needed: usize, j: usize, n: u64) -> bool
+    ensures { λ r. ⌜ r ≡ once needed j n ⌝ }
+{
+    if j < needed {
+        return n == 1;
+    }
+    n <= 1
+}
+
+// Whether a row in an element of a kind is complete, by how often each name was seen.
+fn is_done(kind: usize, seen: &[u64; 16]) -> bool
+    ensures { λ r. ⌜ r ≡ done kind (now (seen .entry)) ⌝ }
+{
+    if index_names::may_repeat(kind) {
+        return true;
+    }
+    let needed = index_names::must_in(kind);
+    let mut j: usize = 16;
+    while 0 < j {
+        j -= 1;
+        if !is_once(needed, j, seen[j]) {
+            return false;
+        }
+    }
+    true
+}
+
+// The row is over.
+fn finish(kind: usize, seen: &[u64; 16], a: Sums) -> Sums
+    ensures { λ r. ⌜ r ≡ endedSums kind (now (seen .entry)) a ⌝ }
+{
+    if is_done(kind, seen) {
+        return a;
+    }
+    Sums {
+        structure: false,
+        few: a.few,
+        values: a.values,
+        own: a.own,
+        lawful: a.lawful,
+        entries: a.entries,
+        files: a.files,
+    }
+}
+
+// Whether elements of a sort hold elements.
+fn is_open(sort: usize) -> bool
+    ensures { λ r. ⌜ r ≡ holds sort ⌝ }
+{
+    if sort < INDEX {
+        return false;
+    }
+    sort <= EXTENT
+}
+
+// Whether the element at n may stand where it does, as one of a sort, and holds what it may.
+fn fits_at(text: &[u8], n: usize, sort: usize) -> bool
+    ensures { λ r. ⌜ r ≡ fits sort (headAt (now (text .entry)) n) (childrenAt (now (text .entry)) n) ⌝ }
+{
+    if sort == UNKNOWN {
+        return false;
+    }
+    if elements::key_of(text, n).len() != 0 {
+        return false;
+    }
+    if is_open(sort) {
+        if elements::has_children(text, n) {
+            return true;
+        }
+        return elements::is_blank(elements::text_of(text, n));
+    }
+    if sort == SKIPPED {
+        return true;
+    }
+    !elements::has_children(text, n)
+}
+
+fn is_entry(sort: usize) -> bool
+    ensures { λ r. ⌜ r ≡ isEntry sort ⌝ }
+{
+    if sort == ROOT {
+        return true;
+    }
+    if sort == DIRECTORY {
+        return true;
+    }
+    sort == FILE
+}
+
+// The fileuid of the entry at n.
+fn uid_at(text: &[u8], n: usize) -> u64
+    ensures { λ r. ⌜ r ≡ uidOf (childrenAt (now (text .entry)) n) ⌝ }
+{
+    rows::number_said(rows::text_in(text, elements::first_child(text, n), b"fileuid"))
+}
+
+// One more where it is one of those that are counted.
+fn bump_if(one: bool, n: u64) -> u64
+    ensures { λ r. ⌜ r ≡ cond one (more n) n ⌝ }
+{
+    if one {
+        return bump(n);
+    }
+    n
+}
+
+// The fileuid of the entry at n goes into the table; no other element has one there.
+fn put_uid(text: &[u8], uids: &mut [u64; 4096], n: usize, entry: bool, at: u64)
+    ensures { λ r. ⌜ now (uids .exit) ≡ cond entry (set (now (uids .entry)) at (uidOf (childrenAt (now (text .entry)) n))) (now (uids .entry)) ⌝ }
+{
+    if entry {
+        rows::put(uids, at as usize, uid_at(text, n));
+    }
+}
+
+// The start tag at n, of an element of a sort; rows is a table to read extents into.
+fn enter(
+    text: &[u8],
+    uuid: &[u8],
+    uids: &mut [u64; 4096],
+    rows: &mut [u64; 5120],
+    n: usize,
+    sort: usize,
+    volume: Volume,
+    a: Sums,
+) -> Sums
+    ensures { λ r. ⌜ gathered r (now (uids .exit)) ≡ entered (given (now (uuid .entry)) volume) sort (headAt (now (text .entry)) n) (childrenAt (now (text .entry)) n) (gathered a (now (uids .entry))) ⌝ }
+{
+    let entry = is_entry(sort);
+    let entries = a.entries;
+    put_uid(text, uids, n, entry, entries);
+    let good = fits_at(text, n, sort);
+    let judged = tests::judge(text, rows, n, sort, volume);
+    let raw = elements::text_of(text, n);
+    Sums {
+        structure: both(a.structure, good),
+        few: both(a.few, judged.few),
+        values: both(a.values, tests::is_valued(sort, raw)),
+        own: both(a.own, tests::is_own(uuid, volume, sort, raw)),
+        lawful: both(a.lawful, judged.lawful),
+        entries: bump_if(entry, entries),
+        files: bump_if(sort == FILE, a.files),
+    }
+}
+
+fn both(a: bool, b: bool) -> bool
+    ensures { λ r. ⌜ r ≡ (a && b) ⌝ }
+{
+    if a {
+        return b;
+    }
+    false
+}
+
+// The number of the element at n among the names of its row, in an element of a kind.
+fn number_at(text: &[u8], n: usize, kind: usize) -> usize
+    ensures { λ r. ⌜ r ≡ numberOf kind (headAt (now (text .entry)) n) ⌝ }
+{
+    index_names::number_in(kind, elements::name_of(text, n))
+}
+
+// The rest of the element of a kind that is open at at, with depth levels of nesting left.
+pub fn walk(
+    text: &[u8],
+    uuid: &[u8],
+    uids: &mut [u64; 4096],
+    rows: &mut [u64; 5120],
+    at: usize,
+    kind: usize,
+    depth: usize,
+    volume: Volume,
+    sums: Sums,
+) -> Left
+    requires { ⌜ (at ≤ length (now text)) × (height (rowAt (now text) at) ≤ depth) ⌝ }
+    ensures { λ r. ⌜ (gathered (r .sums) (now (uids .exit)) ≡ sweep (given (now (uuid .entry)) volume) kind fresh (rowAt (now (text .entry)) at) (gathered sums (now (uids .entry)))) × Behind (now (text .entry)) at (r .at) ⌝ }
+{
+    let mut i = at;
+    let mut a = sums;
+    let mut seen = [0u64; 16];
+    loop {
+        match elements::next_tag(text, i) {
+            Tag::End => {
+                return Left {
+                    at: text.len(),
+                    sums: finish(kind, &seen, a),
+                };
+            }
+            Tag::Close(n) => {
+                return Left {
+                    at: n,
+                    sums: finish(kind, &seen, a),
+                };
+            }
+            Tag::Open(n) => {
+                let j = number_at(text, n, kind);
+                let sort = index_names::sort_in(kind, j);
+                mark(&mut seen, j);
+                a = enter(text, uuid, uids, rows, n, sort, volume, a);
+                if is_open(sort) {
+                    let w = walk(text, uuid, uids, rows, n, sort, depth - 1, volume, a);
+                    a = w.sums;
+                    i = w.at;
+                } else {
+                    i = elements::leave(text, n);
+                }
+            }
+            Tag::Empty(n) => {
+                let j = number_at(text, n, kind);
+                let sort = index_names::sort_in(kind, j);
+                mark(&mut seen, j);
+                a = enter(text, uuid, uids, rows, n, sort, volume, a);
+                if is_open(sort) {
+                    a = finish(sort, &[0u64; 16], a);
+                }
+                i = n;
+            }
+        }
+    }
+}
