@@ -48,10 +48,12 @@ module _ (g : Given) where
       where
         s : ℕ
         s = sortOf kind h
+
         b : All
         b = entered g s h c a
+
         go : view (sweep g s fresh c b) ≡ foldl next (view b) (elements s c) → (o : Bool)
-          → view (cond o (sweep g s fresh c b) b) ≡ foldl next (next (view a) (element s h c)) (cond o (elements s c) [])
+            → view (cond o (sweep g s fresh c b) b) ≡ foldl next (next (view a) (element s h c)) (cond o (elements s c) [])
         go w true = w ∙ ap (λ (x : B). foldl next x (elements s c)) (one s h c a)
         go w false = one s h c a
 
@@ -86,7 +88,7 @@ module _ (g : Given) where
 
   -- the structure: the row is complete, and every element in it and below is right
   pub structure-law : (kind : ℕ) (f : Forest) (m : List ℕ) (a : All)
-    → sweep g kind m f a .sums .structure ≡ (a .sums .structure && (done kind (tally kind m f) && every rightly (elements kind f)))
+      → sweep g kind m f a .sums .structure ≡ (a .sums .structure && (done kind (tally kind m f) && every rightly (elements kind f)))
   unfolding sweep tally elements every ended endedSums rightly entered
   structure-law kind none m a = ap (λ (b : Bool). a .sums .structure && b) (sym (and-true (done kind m)))
   structure-law kind (node h c r) m a =
@@ -94,18 +96,24 @@ module _ (g : Given) where
     where
       s : ℕ
       s = sortOf kind h
+
       b : All
       b = entered g s h c a
+
       n : Bool
       n = a .sums .structure
+
       p : Bool
       p = fits s h c
+
       d : Bool
       d = done kind (tally kind (marked (numberOf kind h) m) r)
+
       t : Bool
       t = every rightly (elements kind r)
+
       go : sweep g s fresh c b .sums .structure ≡ ((n && p) && (done s (tally s fresh c) && every rightly (elements s c))) → (o : Bool) → holds s ≡ o
-        → (cond (holds s) (sweep g s fresh c b) b .sums .structure && (d && t))
+          → (cond (holds s) (sweep g s fresh c b) b .sums .structure && (d && t))
           ≡ (n && (d && ((p && (not (holds s) || complete s c)) && every rightly (cond (holds s) (elements s c) [] ++ elements kind r))))
       go w true q =
           ap (λ (x : Bool). cond x (sweep g s fresh c b) b .sums .structure && (d && t)) q
@@ -130,14 +138,14 @@ module _ (test : Element → Bool) where
   ticks (e ∷ l) n = go (test e) refl (ticks l (suc n)) (ticks l n)
     where
       go : (t : Bool) → test e ≡ t → foldl tick (sat (suc n)) l ≡ sat (suc n + many test l) → foldl tick (sat n) l ≡ sat (n + many test l)
-        → foldl tick (tick (sat n) e) l ≡ sat (n + many test (e ∷ l))
+          → foldl tick (tick (sat n) e) l ≡ sat (n + many test (e ∷ l))
       go true q i j = ap (λ (x : ℕ). foldl tick x l) (simp q (more-sat n)) ∙ i ∙ ap sat (simp q (omega arith))
       go false q i j = ap (λ (x : ℕ). foldl tick x l) (simp q) ∙ j ∙ simp q
 
   pub count-law : (g : Given) (view : All → ℕ)
-    → ((s : ℕ) (h : Head) (c : Forest) (a : All) → view (entered g s h c a) ≡ cond (test (element s h c)) (more (view a)) (view a))
-    → ((kind : ℕ) (m : List ℕ) (a : All) → view (ended kind m a) ≡ view a) → (kind : ℕ) (f : Forest) (m : List ℕ) (a : All) → view a ≡ 0
-    → view (sweep g kind m f a) ≡ sat (many test (elements kind f))
+      → ((s : ℕ) (h : Head) (c : Forest) (a : All) → view (entered g s h c a) ≡ cond (test (element s h c)) (more (view a)) (view a))
+      → ((kind : ℕ) (m : List ℕ) (a : All) → view (ended kind m a) ≡ view a) → (kind : ℕ) (f : Forest) (m : List ℕ) (a : All) → view a ≡ 0
+      → view (sweep g kind m f a) ≡ sat (many test (elements kind f))
   unfolding tick sat
   count-law g view one end kind f m a z =
       fold-law g view tick one end kind f m a ∙ ap (λ (x : ℕ). foldl tick x (elements kind f)) z ∙ ticks (elements kind f) 0
@@ -154,12 +162,14 @@ notes (e ∷ l) n t h = go (isEntry (e .sort)) refl (notes l (suc n) (set t n (u
   where
     u : List ℕ
     u = uidsOf l
+
     v : ℕ
     v = uidOf (e .kids)
+
     go : (b : Bool) → isEntry (e .sort) ≡ b
-      → (suc n + length u < 5000 → foldl note (suc n, set t n v) l ≡ (suc n + length u, sets (set t n v) (suc n) u))
-      → (n + length u < 5000 → foldl note (n, t) l ≡ (n + length u, sets t n u))
-      → foldl note (note (n, t) e) l ≡ (n + length (uidsOf (e ∷ l)), sets t n (uidsOf (e ∷ l)))
+        → (suc n + length u < 5000 → foldl note (suc n, set t n v) l ≡ (suc n + length u, sets (set t n v) (suc n) u))
+        → (n + length u < 5000 → foldl note (n, t) l ≡ (n + length u, sets t n u))
+        → foldl note (note (n, t) e) l ≡ (n + length (uidsOf (e ∷ l)), sets t n (uidsOf (e ∷ l)))
     go true q i j =
         let w : suc n + length u ≡ n + suc (length u) = omega arith in
         let k : n + suc (length u) < 5000 = simp q at h in
@@ -172,17 +182,17 @@ notes (e ∷ l) n t h = go (isEntry (e .sort)) refl (notes l (suc n) (set t n (u
         ∙ sym (ap (λ (b : Bool). (n + length (cond b (v ∷ u) u), sets t n (cond b (v ∷ u) u))) q)
 
 pub uids-law : (g : Given) (kind : ℕ) (f : Forest) (m : List ℕ) (a : All) → a .sums .entries ≡ 0 → length (uidsOf (elements kind f)) < 5000
-  → _≡_ {A = ℕ × List ℕ} (sweep g kind m f a .sums .entries, sweep g kind m f a .uids) (length (uidsOf (elements kind f)), sets (a .uids) 0 (uidsOf (elements kind f)))
+    → _≡_ {A = ℕ × List ℕ} (sweep g kind m f a .sums .entries, sweep g kind m f a .uids) (length (uidsOf (elements kind f)), sets (a .uids) 0 (uidsOf (elements kind f)))
 unfolding entered ended endedSums note
 uids-law g kind f m a z h =
     fold-law g (λ x. (x .sums .entries, x .uids)) note
-      (λ s e c x. go (isEntry s) s c x) (λ k m x. refl) kind f m a
+    (λ s e c x. go (isEntry s) s c x) (λ k m x. refl) kind f m a
     ∙ ap (λ (x : ℕ). foldl note (x, a .uids) (elements kind f)) z
     ∙ notes (elements kind f) 0 (a .uids) (rw zero-add h)
     ∙ ap (λ (x : ℕ). (x, sets (a .uids) 0 (uidsOf (elements kind f)))) (zero-add (length (uidsOf (elements kind f))))
   where
     go : (b : Bool) (s : ℕ) (c : Forest) (x : All)
-      → _≡_ {A = ℕ × List ℕ} (cond b (more (x .sums .entries)) (x .sums .entries), cond b (set (x .uids) (x .sums .entries) (uidOf c)) (x .uids))
+        → _≡_ {A = ℕ × List ℕ} (cond b (more (x .sums .entries)) (x .sums .entries), cond b (set (x .uids) (x .sums .entries) (uidOf c)) (x .uids))
         (cond b (more (x .sums .entries), set (x .uids) (x .sums .entries) (uidOf c)) (x .sums .entries, x .uids))
     go true s c x = refl
     go false s c x = refl

@@ -49,9 +49,11 @@ loop-again c =
     let D = drop (l .i) (take (a .n) s) in
     let x = getD s (l .i - 1) 0 in
     let b : drop (l .i - 1) (take (a .n) s) ≡ x ∷ D = step-back s (a .n) (l .i) (search needs) (search needs) (search needs) in
-    let lt : x < l .low = c .if1 .taken in
-    (search needs, ap different b ∙ new-first x D (not-member (l .low) x D lt (l .inv .2)) (l .inv .1),
-    subst (Above x) (sym b) (above-cons x D (le-refl x) (above-less (l .low) x D (le-of-lt lt) (l .inv .2))))
+    let lt : x < l .low = c .if1 .taken in (
+      search needs,
+      ap different b ∙ new-first x D (not-member (l .low) x D lt (l .inv .2)) (l .inv .1),
+      subst (Above x) (sym b) (above-cons x D (le-refl x) (above-less (l .low) x D (le-of-lt lt) (l .inv .2))),
+    )
 
 add-among : tie.Need-add-among Inv-loop μ-loop
 add-among c = search needs
