@@ -7,3 +7,5 @@ pub mod Judging
 pub mod Counted
 pub mod Swept
 pub mod Differ
+pub mod Surveying
+pub mod Answers

@@ -4,3 +4,4 @@ pub mod Entries
 pub mod Tests
 pub mod Different
 pub mod Sweep
+pub mod Index

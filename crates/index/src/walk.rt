@@ -204,7 +204,8 @@ fn enter(
     }
 }
 
-fn both(a: bool, b: bool) -> bool
+// Both.
+pub fn both(a: bool, b: bool) -> bool
     ensures { λ r. ⌜ r ≡ (a && b) ⌝ }
 {
     if a {

@@ -1,0 +1,51 @@
+-- `read_index` meets its contract: what the caller gives, the length, the form, then the root.
+use mathlib.Core.Path.{_≡_, refl, ap, sym, _∙_, subst}
+use borrow.Author.Tests.{eq-eqb, ne-eqb, lt-ltb, le-ltb, le-leb, lt-leb, not-true, not-false}
+use Rattle.xml.specs.Machine.{outcomeOf}
+use Rattle.index.specs.Tests.{given}
+use Rattle.index.specs.Index.{isGood}
+use Rattle.index.proofs.Answers.{index-14, index-15, index-4, index-read}
+use borrow.Author.Needs.{needs}
+use Rattle.index.proofs.read.read_index.Statement.{statement}
+use Rattle.index.proofs.read.read_index.Tie as tie
+
+is-caller-right-requires : tie.Need-is-caller-right-requires
+is-caller-right-requires c κs = search needs
+
+returns : tie.Need-returns
+returns c = index-14 (given (c .before .before .before .before .args .uuid .now) (c .before .before .before .before .args .volume)) (c .before .before .before .before .args .letter) (c .before .before .before .before .args .block .0) (c .before .before .before .before .args .text .now) (sym (c .before .is-caller-right .ensures) ∙ not-true _ (c .if1 .taken))
+
+returns-2 : tie.Need-returns-2
+returns-2 c = index-15 (given (c .before .before .before .before .before .args .uuid .now) (c .before .before .before .before .before .args .volume)) (c .before .before .before .before .before .args .letter) (c .before .before .before .before .before .args .block .0) (c .before .before .before .before .before .args .text .now) (sym (c .before .before .is-caller-right .ensures) ∙ not-false _ (c .before .if1 .left)) (lt-leb _ _ (c .if2 .taken))
+
+check-requires : tie.Need-check-requires
+check-requires c κs = search needs
+
+enum-told : tie.Need-enum-told
+enum-told c = search needs
+
+enum-told-2 : tie.Need-enum-told-2
+enum-told-2 c = search needs
+
+read-root-requires : tie.Need-read-root-requires
+read-root-requires c κs = sym (c .before .before .check .ensures) ∙ ap outcomeOf (c .enum-told2 .given .1)
+
+returns-3 : tie.Need-returns-3
+returns-3 c = index-4 (given (c .before .before .before .before .before .before .before .before .args .uuid .now) (c .before .before .before .before .before .before .before .before .args .volume)) (c .before .before .before .before .before .before .before .before .args .letter) (c .before .before .before .before .before .before .before .before .args .block .0) (c .before .before .before .before .before .before .before .before .args .text .now) (sym (c .before .before .before .before .before .is-caller-right .ensures) ∙ not-false _ (c .before .before .before .before .if1 .left)) (le-leb _ _ (c .before .before .before .if2 .left)) (ap isGood (sym (c .before .before .check .ensures) ∙ ap outcomeOf (c .enum-told .given .1)))
+
+returns-4 : tie.Need-returns-4
+returns-4 c = c .read-root .ensures ∙ index-read (given (c .before .before .before .before .before .before .before .before .before .args .uuid .now) (c .before .before .before .before .before .before .before .before .before .args .volume)) (c .before .before .before .before .before .before .before .before .before .args .letter) (c .before .before .before .before .before .before .before .before .before .args .block .0) (c .before .before .before .before .before .before .before .before .before .args .text .now) (sym (c .before .before .before .before .before .before .is-caller-right .ensures) ∙ not-false _ (c .before .before .before .before .before .if1 .left)) (le-leb _ _ (c .before .before .before .before .if2 .left)) (ap isGood (sym (c .before .before .before .check .ensures) ∙ ap outcomeOf (c .before .enum-told2 .given .1)))
+
+pub read-index-spec : {M : Type 1} → statement M
+read-index-spec =
+    tie.close
+    (tie.spec
+    is-caller-right-requires
+    returns
+    returns-2
+    check-requires
+    enum-told
+    enum-told-2
+    read-root-requires
+    returns-3
+    returns-4)

@@ -1,0 +1,218 @@
+-- An index's text (01, Index and Refusal numbers): what it is refused for, in the order of the classes, and what it says.
+use mathlib.Core.Path.{_≡_}
+use mathlib.Core.Bool.{Bool, true, false, cond, not, _&&_, _||_}
+use mathlib.Core.List.{List, [], _∷_}
+use mathlib.Core.Option.{Option, some, none}
+use Prim.Native.Nat.{ℕ, _-_}
+use lib.Dec.{eqb, leb}
+use lib.ListN.{length}
+use Rattle.refusals.specs.Refusals.{Answer, refused, answer, require, andThen}
+use Rattle.refusals.specs.declared.Refusal.the-variants.{Caller, TooMany, Form, Structure, Version, Value, Foreign, Extents, Location}
+use Rattle.slices.specs.Slices.{within, every, same}
+use Rattle.slices.specs.Words.{bytes}
+use Rattle.quantities.specs.Letters.{isLetter}
+use Rattle.xml.specs.Tree.{Head, Forest, none as noElement, node}
+use Rattle.xml.specs.Machine.{Outcome, good, broken, form}
+use Rattle.elements.specs.Reading.{rowAt, isRow}
+use Rattle.values.specs.Values as is
+use Rattle.extents.specs.Rows.{Row}
+use Rattle.index_names.specs.Sorts.{index, file}
+use Rattle.index.specs.Elements.{Element, elements, textIn, rowIn}
+use Rattle.index.specs.Structure.{complete, rightly}
+use Rattle.index.specs.Entries.{orZero, numberSaid, entriesOf, uidsOf, many}
+use Rattle.index.specs.Tests.{Given, isSome, valued, own, few, lawful, letterSaid, rowsOf, lengthOf}
+use Rattle.index.specs.Different.{different}
+use Rattle.index.specs.declared.walk.Sums.{Sums}
+use Rattle.index.specs.declared.read.Header.{Header}
+use Rattle.index.specs.declared.read.Read.{Read}
+use Rattle.index.specs.declared.read.Read.the-variants.{Found, Refused}
+
+-- a partition letter and a block number
+pub record Place : Type 0 where
+  pub letter : ℕ
+  pub block : ℕ
+
+-- a file: its length, its name as spelled, its rows
+pub record File : Type 0 where
+  pub length : ℕ
+  pub name : List ℕ
+  pub rows : List Row
+
+pub record Index : Type 0 where
+  pub release : ℕ
+  pub generation : ℕ
+  pub updatetime : List ℕ
+  pub location : Place
+  pub back : Option Place
+  pub allowpolicyupdate : Bool
+  pub highestfileuid : ℕ
+  pub directories : ℕ
+  pub files : List File
+
+-- what a location says
+abbrev pub placeIn : Forest → Place
+placeIn f = record { letter = letterSaid (textIn (bytes "partition") f); block = numberSaid (textIn (bytes "startblock") f) }
+
+abbrev pub locationIn : Forest → Place
+locationIn k = placeIn (rowIn (bytes "location") k)
+
+-- the back pointer, if there is one
+abbrev pub backIn : Forest → Option Place
+backIn k = cond (isRow (rowIn (bytes "previousgenerationlocation") k)) (some (placeIn (rowIn (bytes "previousgenerationlocation") k))) none
+
+abbrev pub fileOf : Forest → File
+fileOf c = record { length = lengthOf c; name = textIn (bytes "name") c; rows = rowsOf c }
+
+-- files in text order
+unfoldable pub filesOf : List Element → List File
+filesOf [] = []
+filesOf (e ∷ l) = cond (eqb (e .sort) file) (fileOf (e .kids) ∷ filesOf l) (filesOf l)
+
+abbrev pub fileCount : List Element → ℕ
+fileCount l = many (λ e. eqb (e .sort) file) l
+
+abbrev pub isTrue : Option Bool → Bool
+isTrue none = false
+isTrue (some b) = b
+
+-- what an index with that release and those children says
+abbrev pub said : ℕ → Forest → Index
+said release k =
+    record {
+      release = release;
+      generation = numberSaid (textIn (bytes "generationnumber") k);
+      updatetime = textIn (bytes "updatetime") k;
+      location = locationIn k;
+      back = backIn k;
+      allowpolicyupdate = isTrue (is.boolean (textIn (bytes "allowpolicyupdate") k));
+      highestfileuid = numberSaid (textIn (bytes "highestfileuid") k);
+      directories = entriesOf (elements index k) - fileCount (elements index k);
+      files = filesOf (elements index k);
+    }
+
+-- 5, of all but the root's own tag: the index's children, and every element below
+unfoldable pub structured : Forest → Bool
+structured k = complete index k && every rightly (elements index k)
+
+-- 15: at most 4,096 directories and files, at most 1,024 extents of a file
+unfoldable pub bounded : List Element → Bool
+bounded l = leb (entriesOf l) 4096 && every (λ e. few (e .sort) (e .kids)) l
+
+-- 6
+unfoldable pub allValued : List Element → Bool
+allValued l = every (λ e. valued (e .sort) (e .head .text)) l && different (uidsOf l)
+
+-- 8
+abbrev pub allOwn : Given → List Element → Bool
+allOwn g l = every (λ e. own g (e .sort) (e .head .text)) l
+
+-- 11
+abbrev pub allLawful : Given → List Element → Bool
+allLawful g l = every (λ e. lawful g (e .sort) (e .kids)) l
+
+-- 12: the index stands where it says
+abbrev pub standsAt : ℕ → ℕ → Place → Bool
+standsAt letter block p = eqb (p .letter) letter && eqb (p .block) block
+
+-- the classes behind the version, in their order
+unfoldable pub childrenRead : Given → ℕ → ℕ → ℕ → Forest → Answer Index
+childrenRead g letter block release k =
+    require (structured k) Structure
+    (require (bounded (elements index k)) TooMany
+    (require (allValued (elements index k)) Value
+    (require (allOwn g (elements index k)) Foreign
+    (require (allLawful g (elements index k)) Extents
+    (require (standsAt letter block (locationIn k)) Location
+    (answer (said release k)))))))
+
+-- 5 for the root's name and its one attribute, then 7 for its value, then the rest
+unfoldable pub rootRead : Given → ℕ → ℕ → Forest → Answer Index
+rootRead g letter block noElement = refused Structure
+rootRead g letter block (node h k r) =
+    require (same (h .name) (bytes "ltfsindex") && same (h .key) (bytes "version")) Structure
+    (require (isSome (is.version (h .value))) Version
+    (childrenRead g letter block (orZero (is.version (h .value))) k))
+
+-- 14: the caller's letters, block size, UUID and place
+unfoldable pub callerRight : Given → ℕ → Bool
+callerRight g letter =
+    isLetter (g .first) && isLetter (g .other) && not (eqb (g .first) (g .other)) && within 4096 1048576 (g .size) && is.isUuid (g .uuid)
+    && (eqb letter (g .first) || eqb letter (g .other))
+
+abbrev pub isGood : Outcome → Bool
+isGood good = true
+isGood (broken u) = false
+
+-- an index's text, at a partition letter and the number of its first block
+unfoldable pub indexOf : Given → ℕ → ℕ → List ℕ → Answer Index
+indexOf g letter block text =
+    require (callerRight g letter) Caller
+    (require (leb (length text) 1048576) TooMany
+    (require (isGood (form text)) Form
+    (rootRead g letter block (rowAt text 38))))
+
+-- what the survey of an index's children tells; of more than 4,096 entries or 1,024 extents only that
+pub record Surveyed (g : Given) (k : Forest) (sums : Sums) : Type 0 where
+  pub right : sums .structure ≡ structured k
+  pub small : sums .few ≡ bounded (elements index k)
+  pub values : sums .few ≡ true → sums .values ≡ allValued (elements index k)
+  pub owned : sums .few ≡ true → sums .own ≡ allOwn g (elements index k)
+  pub lawful : sums .few ≡ true → sums .lawful ≡ allLawful g (elements index k)
+  pub entries : sums .few ≡ true → sums .entries ≡ entriesOf (elements index k)
+  pub files : sums .few ≡ true → sums .files ≡ fileCount (elements index k)
+
+-- the header that a read hands out: all but the files, which are counted
+pub record Told : Type 0 where
+  pub release : ℕ
+  pub generation : ℕ
+  pub back : Option Place
+  pub allowpolicyupdate : Bool
+  pub highestfileuid : ℕ
+  pub directories : ℕ
+  pub files : ℕ
+
+abbrev pub told : Index → Told
+told x =
+    record {
+      release = x .release;
+      generation = x .generation;
+      back = x .back;
+      allowpolicyupdate = x .allowpolicyupdate;
+      highestfileuid = x .highestfileuid;
+      directories = x .directories;
+      files = length (x .files);
+    }
+
+abbrev pub toldBy : Answer Index → Answer Told
+toldBy a = andThen a (λ x. answer (told x))
+
+abbrev pub backOf : Header → Option Place
+backOf h = cond (h .back) (some (record { letter = h .letter; block = h .block .0 })) none
+
+-- what a read says
+abbrev pub saying : Read → Answer Told
+saying (Found h) =
+    answer
+    (record {
+      release = h .release;
+      generation = h .generation .0;
+      back = backOf h;
+      allowpolicyupdate = h .allow;
+      highestfileuid = h .highest;
+      directories = h .directories;
+      files = h .files;
+    })
+saying (Refused r) = refused r
+
+-- the header of an index with those children, of which so many are entries and so many of those files
+abbrev pub headed : ℕ → Forest → ℕ → ℕ → Told
+headed release k entries files =
+    record {
+      release = release;
+      generation = numberSaid (textIn (bytes "generationnumber") k);
+      back = backIn k;
+      allowpolicyupdate = isTrue (is.boolean (textIn (bytes "allowpolicyupdate") k));
+      highestfileuid = numberSaid (textIn (bytes "highestfileuid") k);
+      directories = entries - files;
+      files = files;
+    }

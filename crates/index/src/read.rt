@@ -1,0 +1,194 @@
+// Reading an index's text: the classes of refusals in their order, then its header.
+use crate::rows;
+use crate::survey;
+use crate::tests;
+use crate::tests::Volume;
+use elements::Child;
+use quantities::BlockNumber;
+use quantities::Generation;
+use refusals::Refusal;
+use values::Boolean;
+use values::Version;
+use xml::Checked;
+ghost use mathlib.Core.Path.{_≡_};
+ghost use Prim.Native.Nat.{_≤_};
+ghost use lib.ListN.{length};
+ghost use Rattle.values.specs.Values as is;
+ghost use Rattle.xml.specs.Form.{height};
+ghost use Rattle.xml.specs.Machine.{good, form};
+ghost use Rattle.elements.specs.Reading.{rowAt, isRow};
+ghost use Rattle.index.specs.Tests.{given};
+ghost use Rattle.refusals.specs.Refusals.{answer};
+ghost use Rattle.index.specs.declared.read.Read.the-variants.{Found};
+ghost use Rattle.index.specs.Index.{isTrue, placeIn, standsAt, callerRight, headed, childrenRead, rootRead, indexOf, toldBy, saying};
+
+// What an index says besides its files: the R of its version 2.0.R; its generation; its back pointer, if it has one; whether the policy may be
+// updated; the highest fileuid; how many directories, with the root, and files it has.
+pub struct Header {
+    pub release: u64,
+    pub generation: Generation,
+    pub back: bool,
+    pub letter: u8,
+    pub block: BlockNumber,
+    pub allow: bool,
+    pub highest: u64,
+    pub directories: u64,
+    pub files: u64,
+}
+
+pub enum Read {
+    Found(Header),
+    Refused(Refusal),
+}
+
+// Whether the caller's letters, block size, UUID and place are in their rules.
+fn is_caller_right(uuid: &[u8], volume: Volume, letter: u8) -> bool
+    ensures { λ r. ⌜ r ≡ callerRight (given (now (uuid .entry)) volume) letter ⌝ }
+{
+    if !quantities::is_letter(volume.first as u64) {
+        return false;
+    }
+    if !quantities::is_letter(volume.other as u64) {
+        return false;
+    }
+    if volume.first == volume.other {
+        return false;
+    }
+    if volume.size < 4096 {
+        return false;
+    }
+    if 1048576 < volume.size {
+        return false;
+    }
+    if !values::is_uuid(uuid) {
+        return false;
+    }
+    if letter == volume.first {
+        return true;
+    }
+    letter == volume.other
+}
+
+// Whether the location whose row is at at is that place.
+fn is_place(text: &[u8], at: usize, letter: u8, block: u64) -> bool
+    ensures { λ r. ⌜ r ≡ standsAt letter block (placeIn (rowAt (now (text .entry)) at)) ⌝ }
+{
+    if tests::letter_said(rows::text_in(text, at, b"partition")) != letter {
+        return false;
+    }
+    tests::number_named(text, at, b"startblock") == block
+}
+
+fn is_true(raw: &[u8]) -> bool
+    ensures { λ r. ⌜ r ≡ isTrue (is.boolean (now (raw .entry))) ⌝ }
+{
+    match values::read_boolean(raw) {
+        Boolean::Value(b) => b,
+        Boolean::Nothing => false,
+    }
+}
+
+// Whether a row has an element.
+fn has_row(text: &[u8], at: usize) -> bool
+    ensures { λ r. ⌜ r ≡ isRow (rowAt (now (text .entry)) at) ⌝ }
+{
+    match elements::next_child(text, at) {
+        Child::Done => false,
+        Child::At(_, _) => true,
+    }
+}
+
+// The header of the index whose children are the row at at.
+fn head_from(text: &[u8], at: usize, release: u64, entries: u64, files: u64) -> Header
+    requires { ⌜ files ≤ entries ⌝ }
+    ensures { λ r. ⌜ saying (Found r) ≡ answer (headed release (rowAt (now (text .entry)) at) entries files) ⌝ }
+{
+    let back = rows::row_in(text, at, b"previousgenerationlocation");
+    Header {
+        release,
+        generation: Generation(tests::number_named(text, at, b"generationnumber")),
+        back: has_row(text, back),
+        letter: tests::letter_said(rows::text_in(text, back, b"partition")),
+        block: BlockNumber(tests::number_named(text, back, b"startblock")),
+        allow: is_true(rows::text_in(text, at, b"allowpolicyupdate")),
+        highest: tests::number_named(text, at, b"highestfileuid"),
+        directories: entries - files,
+        files,
+    }
+}
+
+// The index whose children are the row at at.
+fn read_children(
+    text: &[u8],
+    uuid: &[u8],
+    at: usize,
+    volume: Volume,
+    release: u64,
+    letter: u8,
+    block: u64,
+) -> Read
+    requires { ⌜ (at ≤ length (now text)) × (height (rowAt (now text) at) ≤ 64) ⌝ }
+    ensures { λ r. ⌜ saying r ≡ toldBy (childrenRead (given (now (uuid .entry)) volume) letter block release (rowAt (now (text .entry)) at)) ⌝ }
+{
+    let s = survey::survey(text, uuid, at, volume);
+    if !s.structure {
+        return Read::Refused(Refusal::Structure);
+    }
+    if !s.few {
+        return Read::Refused(Refusal::TooMany);
+    }
+    if !s.values {
+        return Read::Refused(Refusal::Value);
+    }
+    if !s.own {
+        return Read::Refused(Refusal::Foreign);
+    }
+    if !s.lawful {
+        return Read::Refused(Refusal::Extents);
+    }
+    if !is_place(text, rows::row_in(text, at, b"location"), letter, block) {
+        return Read::Refused(Refusal::Location);
+    }
+    Read::Found(head_from(text, at, release, s.entries, s.files))
+}
+
+// The index whose text is in the XML form.
+fn read_root(text: &[u8], uuid: &[u8], volume: Volume, letter: u8, block: u64) -> Read
+    requires { ⌜ form (now text) ≡ good ⌝ }
+    ensures { λ r. ⌜ saying r ≡ toldBy (rootRead (given (now (uuid .entry)) volume) letter block (rowAt (now (text .entry)) 38)) ⌝ }
+{
+    match elements::next_child(text, 38) {
+        Child::Done => Read::Refused(Refusal::Structure),
+        Child::At(n, _) => {
+            if !elements::name_is(text, n, b"ltfsindex") {
+                return Read::Refused(Refusal::Structure);
+            }
+            if !slices::same(elements::key_of(text, n), b"version") {
+                return Read::Refused(Refusal::Structure);
+            }
+            match values::read_version(elements::value_of(text, n)) {
+                Version::Nothing => Read::Refused(Refusal::Version),
+                Version::Release(release) => {
+                    let at = elements::first_child(text, n);
+                    read_children(text, uuid, at, volume, release, letter, block)
+                }
+            }
+        }
+    }
+}
+
+// An index's text, of the volume with that UUID, letters and block size, at a partition letter and the number of its first block.
+pub fn read_index(text: &[u8], uuid: &[u8], volume: Volume, letter: u8, block: BlockNumber) -> Read
+    ensures { λ r. ⌜ saying r ≡ toldBy (indexOf (given (now (uuid .entry)) volume) letter (block .0) (now (text .entry))) ⌝ }
+{
+    if !is_caller_right(uuid, volume, letter) {
+        return Read::Refused(Refusal::Caller);
+    }
+    if 1048576 < text.len() {
+        return Read::Refused(Refusal::TooMany);
+    }
+    match xml::check(text) {
+        Checked::Broken(_) => Read::Refused(Refusal::Form),
+        Checked::Good => read_root(text, uuid, volume, letter, block.0),
+    }
+}
