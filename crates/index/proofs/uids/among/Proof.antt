@@ -1,3 +1,4 @@
+-- `among` meets its contract. Invariant: what is asked is whether x is among those from i on.
 use Rattle.index.proofs.Differ.{front-cons, front-out}
 use Rattle.index.specs.Different.{member, different}
 use mathlib.Core.List.{List, [], _∷_}
@@ -10,8 +11,6 @@ use borrow.Author.Tests.{eq-eqb, ne-eqb, lt-ltb, le-ltb, le-leb, lt-leb}
 use borrow.Author.Needs.{needs}
 use Rattle.index.proofs.uids.among.Statement.{statement}
 use Rattle.index.proofs.uids.among.Tie as tie
-use Rattle.index.proofs.uids.among.Reads as reads
-use Rattle.index.proofs.uids.among.Lts as lts
 
 abbrev Inv-loop : tie.InvT-loop
 Inv-loop t from n x i₀ i = member x (drop from (take n t)) ≡ member x (drop i (take n t))

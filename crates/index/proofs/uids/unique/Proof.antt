@@ -1,3 +1,4 @@
+-- `unique` meets its contract. Invariant: those from i on are all different, and none is below low, so one below low is new.
 use Rattle.index.proofs.Differ.{Above, above-less, not-member, different-drop, step-back, front-out, new-first, old-first, above-cons, above-none}
 use native.Mathlib.Nat.{le-refl, le-of-lt}
 use mathlib.Core.Path.{subst}
@@ -12,9 +13,6 @@ use borrow.Author.Tests.{eq-eqb, ne-eqb, lt-ltb, le-ltb, le-leb, lt-leb}
 use borrow.Author.Needs.{needs}
 use Rattle.index.proofs.uids.unique.Statement.{statement}
 use Rattle.index.proofs.uids.unique.Tie as tie
-use Rattle.index.proofs.uids.unique.Reads as reads
-use Rattle.index.proofs.uids.unique.Lts as lts
-use Rattle.index.proofs.uids.among.Reads as among-reads
 
 abbrev Inv-loop : tie.InvT-loop
 Inv-loop t n i₀ low₀ i low = (i ≤ n) × (different (drop i (take n t)) ≡ true) × Above low (drop i (take n t))
