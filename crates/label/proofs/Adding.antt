@@ -1,7 +1,7 @@
 -- Runs put together: a writer of a run at the end of another makes one run of both, and each front of a run that fits, fits.
-use mathlib.Core.Path.{_≡_, refl, ap₂, ap, _∙_, sym}
+use mathlib.Core.Path.{_≡_, refl, subst, ap₂, ap, _∙_, sym}
 use mathlib.Core.Bool.{Bool, true, false}
-use mathlib.Core.List.{List, [], _++_, append-nil}
+use mathlib.Core.List.{List, [], _++_, append-nil, append-assoc}
 use Prim.Native.Nat.{ℕ, _+_, _≤_}
 use native.Mathlib.Nat.{zero-add}
 use native.Mathlib.Omega.{arith}
@@ -71,3 +71,20 @@ module _ (given : Bool) (w b : List ℕ) where
           let z : To end ≡ Refused Caller = p .answers ∙ rw e in
           let y : _≡_ {A = ℕ} 0 1 = cc in
           absurd (omega arith)
+
+pub adds-as : {w w′ : List ℕ} (out : List ℕ) (at : ℕ) (after : List ℕ) (end : ℕ) → w ≡ w′ → Adds out at w after end → Adds out at w′ after end
+adds-as out at after end e a = subst (λ (x : List ℕ). Adds out at x after end) e a
+
+-- nothing is added
+pub adds-none : (out : List ℕ) (at : ℕ) → Adds out at [] out at
+adds-none out at b v h e z = (e ∙ ap (λ (x : List ℕ). written 0 x b) (sym (append-nil v)), z ∙ ap length (sym (append-nil v)))
+
+-- one piece, and then another
+pub adds-then : (out : List ℕ) (at : ℕ) (w middle : List ℕ) (to : ℕ) (x after : List ℕ) (end : ℕ)
+    → Adds out at w middle to → Adds middle to x after end → Adds out at (w ++ x) after end
+adds-then out at w middle to x after end p q b v h e z =
+    let a : v ++ (w ++ x) ≡ v ++ w ++ x = sym (append-assoc v w x) in
+    let k : length (v ++ w ++ x) ≤ length b = subst (λ (l : List ℕ). length l ≤ length b) a h in
+    let (r, s) = p b v (shorter (v ++ w) x k) e z in
+    let (t, u) = q b (v ++ w) k r s in
+    (t ∙ ap (λ (l : List ℕ). written 0 l b) (sym a), u ∙ ap length (sym a))

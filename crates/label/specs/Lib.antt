@@ -1,4 +1,5 @@
 pub mod Label
 pub mod Reading
+pub mod Text
 pub mod Writing
 pub mod Vol1

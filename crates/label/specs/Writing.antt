@@ -15,6 +15,10 @@ abbrev pub Adds : List ℕ → ℕ → List ℕ → List ℕ → ℕ → Type 0
 Adds before at w after end =
     (b v : List ℕ) → length (v ++ w) ≤ length b → before ≡ written 0 v b → at ≡ length v → (after ≡ written 0 (v ++ w) b) × (end ≡ length (v ++ w))
 
+-- w stands at the buffer's front, where there is room for it
+abbrev pub Composes : List ℕ → List ℕ → List ℕ → ℕ → Type 0
+Composes w before after end = length w ≤ length before → (after ≡ written 0 w before) × (end ≡ length w)
+
 -- a writer of the text w of given fields (01, Refusal numbers: 14, then 10): what it answers, and what the buffer holds after
 pub record Writes (given : Bool) (w before after : List ℕ) (answer : Written) : Type 0 where
   pub answers : answer ≡ cond given (placed 0 w before) (Refused Caller)

@@ -1,6 +1,7 @@
 // The labels of a partition (01, VOL1, LTFS label): read, written, and compared.
 mod reader;
 mod vol1;
+mod writer;
 mod writing;
 
 pub use reader::Fields;
@@ -10,3 +11,5 @@ pub use vol1::Vol1;
 pub use vol1::Vol1Read;
 pub use vol1::read_vol1;
 pub use vol1::write_vol1;
+pub use writer::Given;
+pub use writer::write;

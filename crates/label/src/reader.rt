@@ -90,7 +90,7 @@ fn find_places(text: &[u8], n: usize) -> Places
 }
 
 // Whether the letters are different, and the location is one of them.
-fn letters_fit(location: u8, index: u8, other: u8) -> bool
+pub(crate) fn letters_fit(location: u8, index: u8, other: u8) -> bool
     ensures { λ r. ⌜ r ≡ lettersFit location index other ⌝ }
 {
     if index == other {
@@ -102,7 +102,7 @@ fn letters_fit(location: u8, index: u8, other: u8) -> bool
     location == other
 }
 
-fn is_block_size(n: u64) -> bool
+pub(crate) fn is_block_size(n: u64) -> bool
     ensures { λ r. ⌜ r ≡ isBlockSize n ⌝ }
 {
     if n < 4096 {
