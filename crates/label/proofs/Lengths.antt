@@ -80,7 +80,7 @@ sum a b c d e = simp length-append
 pub text-length : (f : Label) → isLawful f ≡ true → length (textOf f) ≤ 4096
 unfolding textOf isLawful areNumbers
 text-length f e =
-    let t = and-left _ (areNumbers (f .location) (f .indexLetter) (f .dataLetter) (f .blockSize)) e in
+    let t : (isCreator (f .creator) && isTime (f .time) && isUuid (f .uuid)) ≡ true = and-left _ (areNumbers (f .location) (f .indexLetter) (f .dataLetter) (f .blockSize)) e in
     let n = and-right (isCreator (f .creator) && isTime (f .time) && isUuid (f .uuid)) _ e in
     let s : isBlockSize (f .blockSize) ≡ true
     = and-right (isLetter (f .location) && isLetter (f .indexLetter) && isLetter (f .dataLetter) && lettersFit (f .location) (f .indexLetter) (f .dataLetter)) _ n in

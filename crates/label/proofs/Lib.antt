@@ -6,3 +6,4 @@ pub mod Escaping
 pub mod Lengths
 pub mod Fields
 pub mod Sample
+pub mod Cut

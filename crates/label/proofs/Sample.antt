@@ -1,7 +1,6 @@
 -- The bench example of a label (01, Bench examples): a 4-byte creator that needs no escape, block size 524288, compression true.
 use mathlib.Core.Path.{_≡_, refl}
-use mathlib.Core.Bool.{true, cond}
-use mathlib.Core.List.{List}
+use mathlib.Core.Bool.{true}
 use lib.ListN.{length}
 use Rattle.slices.specs.Words.{bytes}
 use Rattle.digits.specs.Decimal.{short, shortIn}

@@ -3,3 +3,4 @@ pub mod Reading
 pub mod Text
 pub mod Writing
 pub mod Vol1
+pub mod Agreement

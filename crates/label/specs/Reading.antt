@@ -11,6 +11,7 @@ use Rattle.elements.specs.declared.heads.Span.{Span}
 use Rattle.xml.specs.Tree.{Forest}
 use Rattle.label.specs.Label.{Label, Texts, isShaped, textsIn}
 use Rattle.label.specs.declared.reader.Places.{Places}
+use Rattle.label.specs.declared.reader.Fields.{Fields}
 use Rattle.label.specs.declared.reader.Label.{Label as Answered}
 use Rattle.label.specs.declared.reader.Label.the-variants.{Says, Refused}
 
@@ -37,11 +38,10 @@ pub record Finds (s : List ℕ) (f : Forest) (p : Places) : Type 0 where
 abbrev pub part : List ℕ → Span → List ℕ
 part s w = take (w .len) (drop (w .from) s)
 
--- what an answer of the reader says of the text
-abbrev pub means : List ℕ → Answered → Answer Label
-means s (Refused r) = refused r
-means s (Says f) =
-    answer (record {
+-- the label that a reader's fields say of the text
+abbrev pub fieldsIn : List ℕ → Fields → Label
+fieldsIn s f =
+    record {
       release = f .release;
       creator = decoded (part s (f .creator));
       time = part s (f .time);
@@ -51,4 +51,9 @@ means s (Says f) =
       dataLetter = f .«data_letter»;
       blockSize = f .«block_size»;
       compression = f .compression;
-    })
+    }
+
+-- what an answer of the reader says of the text
+abbrev pub means : List ℕ → Answered → Answer Label
+means s (Refused r) = refused r
+means s (Says f) = answer (fieldsIn s f)

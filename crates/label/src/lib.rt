@@ -1,9 +1,11 @@
 // The labels of a partition (01, VOL1, LTFS label): read, written, and compared.
+mod agreement;
 mod reader;
 mod vol1;
 mod writer;
 mod writing;
 
+pub use agreement::labels_agree;
 pub use reader::Fields;
 pub use reader::Label;
 pub use reader::read;

@@ -1,0 +1,91 @@
+// Whether the labels of the two sides agree.
+use super::reader::Fields;
+use elements::Span;
+ghost use mathlib.Core.Path.{_≡_};
+ghost use mathlib.Core.List.{[]};
+ghost use Rattle.label.specs.Reading.{part, fieldsIn};
+ghost use Rattle.label.specs.Agreement.{sameBool, sameTexts, sameNumbers, ownLetters, agree};
+
+// The part of a text, cut off at the text's end.
+fn part_of(text: &[u8], w: Span) -> &[u8]
+    ensures { λ r. ⌜ now r ≡ part (now (text .entry)) w ⌝ }
+{
+    let from = w.from;
+    let len = w.len;
+    let end = text.len();
+    if end < from {
+        return &text[end..end];
+    }
+    if end - from < len {
+        return &text[from..end];
+    }
+    let to = from + len;
+    &text[from..to]
+}
+
+fn same_bool(a: bool, b: bool) -> bool
+    ensures { λ r. ⌜ r ≡ sameBool a b ⌝ }
+{
+    if a {
+        return b;
+    }
+    !b
+}
+
+// Whether the creators, the times and the UUIDs are the same.
+fn same_texts(s: &[u8], f: Fields, t: &[u8], g: Fields) -> bool
+    ensures { λ r. ⌜ r ≡ sameTexts (fieldsIn (now (s .entry)) f) (fieldsIn (now (t .entry)) g) ⌝ }
+{
+    if !elements::same_decoded(part_of(s, f.creator), part_of(t, g.creator)) {
+        return false;
+    }
+    if !slices::same(part_of(s, f.time), part_of(t, g.time)) {
+        return false;
+    }
+    values::same_uuid(part_of(s, f.uuid), part_of(t, g.uuid))
+}
+
+// Whether the numbers are the same.
+fn same_numbers(f: Fields, g: Fields) -> bool
+    ensures { λ r. ⌜ r ≡ sameNumbers (fieldsIn [] f) (fieldsIn [] g) ⌝ }
+{
+    if f.release != g.release {
+        return false;
+    }
+    if f.index_letter != g.index_letter {
+        return false;
+    }
+    if f.data_letter != g.data_letter {
+        return false;
+    }
+    if f.block_size != g.block_size {
+        return false;
+    }
+    same_bool(f.compression, g.compression)
+}
+
+// Whether the location of each side is its own letter.
+fn own_letters(f: Fields, g: Fields) -> bool
+    ensures { λ r. ⌜ r ≡ ownLetters (fieldsIn [] f) (fieldsIn [] g) ⌝ }
+{
+    if f.location != f.index_letter {
+        return false;
+    }
+    g.location == g.data_letter
+}
+
+// Whether the labels agree: VOL1 and label text of the index side, with what the text says, and the same of the data side.
+pub fn labels_agree(v: &[u8], s: &[u8], f: Fields, w: &[u8], t: &[u8], g: Fields) -> bool
+    ensures { λ r. ⌜ r ≡ agree (now (v .entry)) (fieldsIn (now (s .entry)) f) (now (w .entry)) (fieldsIn (now (t .entry)) g) ⌝ }
+{
+    if !slices::same(v, w) {
+        return false;
+    }
+    if !same_texts(s, f, t, g) {
+        return false;
+    }
+    if !same_numbers(f, g) {
+        return false;
+    }
+    own_letters(f, g)
+}
