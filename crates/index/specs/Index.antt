@@ -11,6 +11,7 @@ use Rattle.refusals.specs.declared.Refusal.the-variants.{Caller, TooMany, Form,
 use Rattle.slices.specs.Slices.{within, every, same}
 use Rattle.slices.specs.Words.{bytes}
 use Rattle.quantities.specs.Letters.{isLetter}
+use Rattle.quantities.specs.Places.{Place}
 use Rattle.xml.specs.Tree.{Head, Forest, none as noElement, node}
 use Rattle.xml.specs.Machine.{Outcome, good, broken, form}
 use Rattle.elements.specs.Reading.{rowAt, isRow}
@@ -26,11 +27,6 @@ use Rattle.index.specs.declared.walk.Sums.{Sums}
 use Rattle.index.specs.declared.read.Header.{Header}
 use Rattle.index.specs.declared.read.Read.{Read}
 use Rattle.index.specs.declared.read.Read.the-variants.{Found, Refused}
-
--- a partition letter and a block number
-pub record Place : Type 0 where
-  pub letter : ℕ
-  pub block : ℕ
 
 -- a file: its length, its name as spelled, its rows
 pub record File : Type 0 where

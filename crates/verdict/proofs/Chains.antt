@@ -9,9 +9,10 @@ use native.Mathlib.Omega.{arith}
 use lib.ListN.{length, take}
 use lib.Dec.{leb, eqb}
 use borrow.Author.Tests.{eqb-true, eq-eqb, ne-eqb}
+use Rattle.quantities.specs.Places.{Place}
 use Rattle.tape.specs.Tape.{Element}
 use Rattle.constructs.specs.Constructs.{Construct, Scan, scan, start, standing, dataLengths, dataLengthsFrom}
-use Rattle.verdict.specs.Verdict.{Place, Index, Volume, Break, numbered, orElse, unless, isNone, isAt, endsWith, readIndex, readData, follows, begins, chained, chainBreak, tied, badFileIn, badFile, verdict, Consistent}
+use Rattle.verdict.specs.Verdict.{Index, Volume, Break, numbered, orElse, unless, isNone, isAt, endsWith, readIndex, readData, follows, begins, chained, chainBreak, tied, badFileIn, badFile, verdict, Consistent}
 use Rattle.verdict.specs.Rescue.{Cut, blockOf, target, generationOf, through, chain, cutAt, fits, attempt, cutAmong, rescue}
 use Rattle.constructs.proofs.Suffixes.{Suffix, here, there, suffix-trans, suffix-length, nil-suffix}
 use Rattle.constructs.proofs.Fronts.{Below, below-first}

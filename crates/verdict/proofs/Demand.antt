@@ -11,7 +11,7 @@ use lib.ListN.{length, take}
 use lib.Seq.{length-take-le, take-length, take-take}
 use Rattle.tape.specs.Tape.{Element}
 use Rattle.constructs.specs.Constructs.{Construct, Scan, scan, start, standing, dataLengths, dataLengthsFrom}
-use Rattle.verdict.specs.Verdict.{Place, Index, Volume, Break, numbered, orElse, unless, isNone, isAt, endsWith, readIndex, readData, follows, begins, chained, chainBreak, tied, badFileIn, badFile, verdict, Consistent}
+use Rattle.verdict.specs.Verdict.{Index, Volume, Break, numbered, orElse, unless, isNone, isAt, endsWith, readIndex, readData, follows, begins, chained, chainBreak, tied, badFileIn, badFile, verdict, Consistent}
 use Rattle.verdict.specs.Rescue.{Cut, blockOf, target, generationOf, through, chain, cutAt, fits, attempt, cutAmong, rescue}
 use Rattle.verdict.specs.Demand.{Demand3, Leaves, LastGeneration, keeps}
 use Rattle.constructs.proofs.Suffixes.{Suffix, suffix-length}
@@ -123,7 +123,7 @@ module _ (labels : List Element → List Element → Option Volume) (v : Volume)
       (ap (λ (n : ℕ). take n d) q ∙ take-length d)
       (kept-leaves (a .indexKept) (a .dataKept) (answer v i d a h .0) .consistent)
 
-  pub demand3 : Demand3 labels v i d
+  pub demand3 : Demand3 labels v i d (rescue v i d)
   demand3 = record {
     sound = λ a h. kept-leaves (a .indexKept) (a .dataKept) (answer v i d a h .0);
     numbers = numbers;

@@ -8,7 +8,7 @@ use lib.ListN.{length, take}
 use Rattle.tape.specs.Tape.{Tape}
 use Rattle.constructs.specs.Constructs.{Construct, standing}
 use Rattle.verdict.specs.Verdict.{Index, Volume, Consistent, readIndex}
-use Rattle.verdict.specs.Rescue.{Cut, rescue}
+use Rattle.verdict.specs.Rescue.{Cut}
 
 module _ (labels : Tape → Tape → Option Volume) (v : Volume) (i d : Tape) where
   -- the index constructs that a place to stop keeps in the index partition
@@ -30,18 +30,19 @@ module _ (labels : Tape → Tape → Option Volume) (v : Volume) (i d : Tape) wh
     pub reads : readIndex v last ≡ some index
     pub is : g ≡ index .generation
 
-  pub record Demand3 : Type 0 where
+  -- what the rescue owes, if that is its answer: a cut, or none
+  pub record Demand3 (answered : Option Cut) : Type 0 where
     -- the answer is a pair that leaves a consistent volume
-    pub sound : (a : Cut) → rescue v i d ≡ some a → Leaves (a .indexKept) (a .dataKept)
+    pub sound : (a : Cut) → answered ≡ some a → Leaves (a .indexKept) (a .dataKept)
     -- its construct numbers are those of the last constructs kept
-    pub numbers : (a : Cut) → rescue v i d ≡ some a
+    pub numbers : (a : Cut) → answered ≡ some a
         → (keeps (a .indexKept) ≡ suc (a .indexConstruct)) × (length (standing (v .size) (take (a .dataKept) d)) ≡ suc (a .dataConstruct))
     -- its generation is that of the last index kept
-    pub generation : (a : Cut) → rescue v i d ≡ some a → LastGeneration (a .indexKept) (a .generation)
+    pub generation : (a : Cut) → answered ≡ some a → LastGeneration (a .indexKept) (a .generation)
     -- where it answers none there is no such pair
-    pub complete : rescue v i d ≡ none → (n m : ℕ) → Leaves n m → ⊥
+    pub complete : answered ≡ none → (n m : ℕ) → Leaves n m → ⊥
     -- every other pair keeps fewer index constructs
-    pub best : (a : Cut) → rescue v i d ≡ some a → (n m : ℕ) → Leaves n m
+    pub best : (a : Cut) → answered ≡ some a → (n m : ℕ) → Leaves n m
         → ((n ≡ a .indexKept) × (m ≡ a .dataKept)) ⊎ (keeps n < keeps (a .indexKept))
     -- the uncut volume is consistent exactly when the pair drops nothing
-    pub uncut : Consistent labels i d ↔ ((a : Cut) × (rescue v i d ≡ some a) × (a .indexKept ≡ length i) × (a .dataKept ≡ length d))
+    pub uncut : Consistent labels i d ↔ ((a : Cut) × (answered ≡ some a) × (a .indexKept ≡ length i) × (a .dataKept ≡ length d))

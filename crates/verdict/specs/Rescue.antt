@@ -6,9 +6,10 @@ use mathlib.Core.List.{List, [], _∷_}
 use Prim.Native.Nat.{ℕ}
 use lib.ListN.{length, take}
 use lib.Dec.{eqb}
+use Rattle.quantities.specs.Places.{Place}
 use Rattle.tape.specs.Tape.{Tape}
 use Rattle.constructs.specs.Constructs.{Construct, standing, dataLengths}
-use Rattle.verdict.specs.Verdict.{Place, Index, Volume, orElse, isNone, readIndex, readData, follows, chainBreak, badFileIn}
+use Rattle.verdict.specs.Verdict.{Index, Volume, orElse, isNone, readIndex, readData, follows, chainBreak, badFileIn}
 
 -- both construct numbers, both counts of kept elements, and the generation of the last index kept in the index partition
 pub record Cut : Type 0 where

@@ -8,15 +8,11 @@ use Prim.Native.Nat.{ℕ, suc, _-_}
 use lib.ListN.{length, take}
 use lib.Dec.{leb, eqb}
 use Rattle.slices.specs.Slices.{every}
+use Rattle.quantities.specs.Places.{Place}
 use Rattle.tape.specs.Tape.{Tape}
 use Rattle.extents.specs.Rows.{Row}
 use Rattle.extents.specs.Tape.{liesOnTape}
 use Rattle.constructs.specs.Constructs.{Construct, standing, dataLengths}
-
--- a place on the volume: a partition letter and an element's number
-pub record Place : Type 0 where
-  pub letter : ℕ
-  pub block : ℕ
 
 -- what the verdict asks of a sound index: its generation, its back pointer if it has one, and the extents of its files in text order
 pub record Index : Type 0 where
