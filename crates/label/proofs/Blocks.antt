@@ -14,9 +14,6 @@ use Rattle.slices.specs.Slices.{same}
 use Rattle.slices.specs.Words.{bytes}
 use Rattle.slices.proofs.Booleans.{and-left, and-right}
 use Rattle.slices.proofs.Equal.{same-refl}
-use Rattle.slices.specs.declared.Written.the-variants.{To}
-use Rattle.label.specs.Writing.{Writes}
-use Rattle.label.proofs.Adding.{was-written}
 use Rattle.label.specs.Vol1.{vol1, identifierIn, ownerIn, isPrinted, vol1Of, areFields}
 
 -- eight pieces, the second and the sixth given
@@ -92,7 +89,7 @@ module _ (i o : List ℕ) (ok : areFields i o ≡ true) where
   unfolding areFields
   given-owner = eqb-true _ _ (and-right (eqb (length i) 6) _ (and-left lengths (isPrinted i) (and-left (lengths && isPrinted i) (isPrinted o) ok)))
 
-  -- the round trip: a block written of given fields reads as them
+  -- a block of given fields reads as them
   pub vol1-reads : vol1Of (vol1 i o) ≡ answer (record { identifier = i; owner = o })
   unfolding areFields
   vol1-reads =
@@ -102,10 +99,3 @@ module _ (i o : List ℕ) (ok : areFields i o ≡ true) where
       (ap isPrinted a ∙ and-right lengths (isPrinted i) (and-left (lengths && isPrinted i) (isPrinted o) ok))
       (ap isPrinted b ∙ and-right (lengths && isPrinted i) (isPrinted o) ok))
       ∙ ap₂ (λ (x y : List ℕ). answer (record { identifier = x; owner = y })) a b
-
--- the round trip of the functions: what `write_vol1` stored, whatever the buffer held, reads as the fields that were given
-pub vol1-written : (i o before after : List ℕ) (end : ℕ) → Writes (areFields i o) (vol1 i o) before after (To end)
-    → (end ≡ 80) × (take end after ≡ vol1 i o) × (vol1Of (take end after) ≡ answer (record { identifier = i; owner = o }))
-vol1-written i o before after end p =
-    let (ok, n, e) = was-written (areFields i o) (vol1 i o) before after end p in
-    (n ∙ length-vol1 i o (given-identifier i o ok) (given-owner i o ok), e, ap vol1Of e ∙ vol1-reads i o ok)

@@ -6,10 +6,12 @@ use Prim.Native.Nat.{ℕ, _≤_}
 use native.Mathlib.Omega.{arith}
 use lib.ListN.{length, take, drop}
 use Rattle.slices.specs.Slices.{written}
+use Rattle.slices.proofs.Booleans.{and-left, and-right}
 use Rattle.slices.proofs.Writing.{part-written}
+use Rattle.quantities.specs.Letters.{isLetter}
 use Rattle.xml.specs.Machine.{form}
 use Rattle.values.specs.Values.{isCreator, isTime, isUuid}
-use Rattle.label.specs.Label.{Label, isFormed}
+use Rattle.label.specs.Label.{Label, lettersFit, isBlockSize, isFormed}
 use Rattle.label.specs.Text.{textOf, areNumbers, isLawful, isGiven}
 
 module _ (f : Label) where
@@ -34,6 +36,41 @@ module _ (f : Label) where
   pub given-formed : isLawful f ≡ true → isGiven f ≡ isFormed (form (textOf f))
   unfolding isGiven
   given-formed e = rw e
+
+-- each field in its rule
+pub record Rules (f : Label) : Type 0 where
+  pub creator : isCreator (f .creator) ≡ true
+  pub time : isTime (f .time) ≡ true
+  pub uuid : isUuid (f .uuid) ≡ true
+  pub location : isLetter (f .location) ≡ true
+  pub indexLetter : isLetter (f .indexLetter) ≡ true
+  pub dataLetter : isLetter (f .dataLetter) ≡ true
+  pub fit : lettersFit (f .location) (f .indexLetter) (f .dataLetter) ≡ true
+  pub blockSize : isBlockSize (f .blockSize) ≡ true
+
+first : {a b c d e : Bool} → (a && b && c && d && e) ≡ true → (a ≡ true) × (b ≡ true) × (c ≡ true) × (d ≡ true) × (e ≡ true)
+first {a} {b} {c} {d} {e} h =
+    let p = and-left (a && b && c && d) e h in
+    let q = and-left (a && b && c) d p in
+    let r = and-left (a && b) c q in
+    (and-left a b r, and-right a b r, and-right (a && b) c q, and-right (a && b && c) d p, and-right (a && b && c && d) e h)
+
+pub in-rules : (f : Label) → isLawful f ≡ true → Rules f
+unfolding isLawful areNumbers
+in-rules f h =
+    let t : texts f ≡ true = and-left (texts f) (numbers f) h in
+    let (l, i, d, g, b) = first (and-right (texts f) (numbers f) h) in
+    let u : (isCreator (f .creator) && isTime (f .time)) ≡ true = and-left (isCreator (f .creator) && isTime (f .time)) (isUuid (f .uuid)) t in
+    record {
+      creator = and-left (isCreator (f .creator)) (isTime (f .time)) u;
+      time = and-right (isCreator (f .creator)) (isTime (f .time)) u;
+      uuid = and-right (isCreator (f .creator) && isTime (f .time)) (isUuid (f .uuid)) t;
+      location = l;
+      indexLetter = i;
+      dataLetter = d;
+      fit = g;
+      blockSize = b;
+    }
 
 pub front-text : (w b after : List ℕ) (end : ℕ) → length w ≤ length b → after ≡ written 0 w b → end ≡ length w → take end after ≡ w
 front-text w b after end h e z =

@@ -1,6 +1,6 @@
 -- The text of a lawful label fits the label text's bound.
 use mathlib.Core.Path.{_≡_, refl, sym}
-use mathlib.Core.Bool.{Bool, true, false, cond, _&&_}
+use mathlib.Core.Bool.{Bool, true, false, cond}
 use mathlib.Core.List.{List, [], _∷_, _++_}
 use Prim.Native.Nat.{ℕ, _+_, _*_, _≤_}
 use native.Mathlib.Omega.{arith}
@@ -11,12 +11,12 @@ use Rattle.slices.specs.Slices.{every}
 use Rattle.slices.specs.Words.{bytes}
 use Rattle.slices.proofs.Booleans.{and-left, and-right}
 use Rattle.digits.proofs.Short.{length-short}
-use Rattle.quantities.specs.Letters.{isLetter}
 use Rattle.xml.specs.Bytes.{declaration}
 use Rattle.values.specs.Values.{isCreator, isTime, isUuid, inRanges, isPlain}
 use Rattle.values.proofs.Forms.{form-length}
-use Rattle.label.specs.Label.{Label, lettersFit, isBlockSize}
-use Rattle.label.specs.Text.{escape, escaped, word, texts, letters, numbers, opening, closing, textOf, areNumbers, isLawful}
+use Rattle.label.specs.Label.{Label}
+use Rattle.label.specs.Text.{escape, escaped, word, texts, letters, numbers, opening, closing, textOf, isLawful}
+use Rattle.label.proofs.Fields.{in-rules}
 
 escape-short : (b : ℕ) → length (escape b) ≤ 5
 unfolding escape bytes
@@ -50,13 +50,9 @@ creator-length : (s : List ℕ) → isCreator s ≡ true → length s ≤ 255
 unfolding isCreator
 creator-length s e = leb-true (length s) 255 (and-right (leb 1 (length s)) _ (and-left _ (every (isPlain true) s) e))
 
-texts-length : (c t u : List ℕ) → (isCreator c && isTime t && isUuid u) ≡ true → length (texts c t u) ≤ 1410
+texts-length : (c t u : List ℕ) → isCreator c ≡ true → isTime t ≡ true → isUuid u ≡ true → length (texts c t u) ≤ 1410
 unfolding texts bytes
-texts-length c t u e =
-    let p = creator-length c (and-left (isCreator c) (isTime t) (and-left (isCreator c && isTime t) (isUuid u) e)) in
-    let q = time-length t (and-right (isCreator c) (isTime t) (and-left (isCreator c && isTime t) (isUuid u) e)) in
-    let r = uuid-length u (and-right (isCreator c && isTime t) (isUuid u) e) in
-    simp length-append (omega (arith, escaped-short c))
+texts-length c t u p q r = simp length-append (omega (arith, creator-length c p, time-length t q, uuid-length u r, escaped-short c))
 
 letters-length : (l i d : ℕ) → length (letters l i d) ≤ 100
 unfolding letters bytes
@@ -78,17 +74,14 @@ sum : (a b c d e : List ℕ) → length (a ++ b ++ c ++ d ++ e) ≡ length a + l
 sum a b c d e = simp length-append
 
 pub text-length : (f : Label) → isLawful f ≡ true → length (textOf f) ≤ 4096
-unfolding textOf isLawful areNumbers
+unfolding textOf
 text-length f e =
-    let t : (isCreator (f .creator) && isTime (f .time) && isUuid (f .uuid)) ≡ true = and-left _ (areNumbers (f .location) (f .indexLetter) (f .dataLetter) (f .blockSize)) e in
-    let n = and-right (isCreator (f .creator) && isTime (f .time) && isUuid (f .uuid)) _ e in
-    let s : isBlockSize (f .blockSize) ≡ true
-    = and-right (isLetter (f .location) && isLetter (f .indexLetter) && isLetter (f .dataLetter) && lettersFit (f .location) (f .indexLetter) (f .dataLetter)) _ n in
-    let b : f .blockSize ≤ 1048576 = leb-true (f .blockSize) 1048576 (and-right (leb 4096 (f .blockSize)) _ s) in
+    let ok = in-rules f e in
+    let b : f .blockSize ≤ 1048576 = leb-true (f .blockSize) 1048576 (and-right (leb 4096 (f .blockSize)) _ (ok .blockSize)) in
     omega (
       arith,
       sum opening (texts (f .creator) (f .time) (f .uuid)) (letters (f .location) (f .indexLetter) (f .dataLetter)) (numbers (f .blockSize) (f .compression)) closing,
-      texts-length (f .creator) (f .time) (f .uuid) t,
+      texts-length (f .creator) (f .time) (f .uuid) (ok .creator) (ok .time) (ok .uuid),
       letters-length (f .location) (f .indexLetter) (f .dataLetter),
       numbers-length (f .blockSize) (f .compression) b,
       opening-length,

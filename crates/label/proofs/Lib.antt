@@ -7,3 +7,5 @@ pub mod Lengths
 pub mod Fields
 pub mod Sample
 pub mod Cut
+pub mod Elements
+pub mod RoundTrip

@@ -18,3 +18,4 @@ pub mod Trees
 pub mod Lawful
 pub mod Form
 pub mod Written
+pub mod Spelled
