@@ -1,0 +1,60 @@
+// Cases of VOL1 and of the LTFS label (01, VOL1, Values, LTFS label), read from files beside the program: vectors, and for each sentence texts that
+// keep it and texts that break it.
+mod labels;
+mod volumes;
+
+ghost use Prim.Native.Nat.{_≤_};
+
+fn one(kind: u64, fd: i32) -> bool {
+    match kind {
+        0 => labels::read_case(fd),
+        1 => labels::write_case(fd),
+        2 => labels::agreement_case(fd),
+        3 => volumes::read_case(fd),
+        _ => volumes::write_case(fd),
+    }
+}
+
+fn shown_good(good: bool, case: u64) -> u64
+    ensures { λ r. ⌜ r ≤ 1 ⌝ }
+{
+    if good {
+        return 1;
+    }
+    io::write_all(1, b"not as expected: case ");
+    io::print_decimal(1, case);
+    io::write_all(1, b"\n");
+    0
+}
+
+// The cases of one file.
+fn run(path: &[u8], kind: u64) {
+    let fd = os::open_read(path);
+    if fd < 0 {
+        os::fail(path);
+        return;
+    }
+    let cases = case_files::number(fd);
+    let mut good: u64 = 0;
+    let mut i: u64 = 0;
+    while i < cases {
+        good += shown_good(one(kind, fd), i);
+        i += 1;
+    }
+    libc::close(fd);
+    case_files::report(path, good, cases);
+}
+
+fn main() {
+    run(b"vol1_read", 3);
+    run(b"vol1_write", 4);
+    run(b"read_vectors", 0);
+    run(b"read_example", 0);
+    run(b"read_structure", 0);
+    run(b"read_form", 0);
+    run(b"read_version", 0);
+    run(b"read_values", 0);
+    run(b"read_order", 0);
+    run(b"write", 1);
+    run(b"agreement", 2);
+}
