@@ -5,7 +5,6 @@ pub mod Blocks
 pub mod Escaping
 pub mod Lengths
 pub mod Fields
-pub mod Sample
 pub mod Cut
 pub mod Elements
 pub mod RoundTrip

@@ -19,7 +19,11 @@ Adds before at w after end =
 abbrev pub Composes : List ℕ → List ℕ → List ℕ → ℕ → Type 0
 Composes w before after end = length w ≤ length before → (after ≡ written 0 w before) × (end ≡ length w)
 
--- a writer of the text w of given fields (01, Refusal numbers: 14, then 10): what it answers, and what the buffer holds after
+-- what a writer of the text w of given fields answers (01, Refusal numbers: 14, then 10)
+abbrev pub answered : Bool → List ℕ → List ℕ → Written
+answered given w before = cond given (placed 0 w before) (Refused Caller)
+
+-- a writer: what it answers, and what the buffer holds after
 pub record Writes (given : Bool) (w before after : List ℕ) (answer : Written) : Type 0 where
-  pub answers : answer ≡ cond given (placed 0 w before) (Refused Caller)
+  pub answers : answer ≡ answered given w before
   pub holds : after ≡ cond given (stored 0 w before) before

@@ -1,6 +1,8 @@
--- Every case of the table holds, by computation.
+-- Every case of the table holds, by computation but for those over every label.
 use mathlib.Core.Path.{_≡_, refl}
 use mathlib.Core.Bool.{true}
+use mathlib.Core.List.{List}
+use Prim.Native.Nat.{ℕ}
 use Rattle.slices.specs.Slices.{every}
 use Rattle.digits.specs.Runs.{value}
 use Rattle.digits.specs.Decimal.{number, isNumber, plain}
@@ -8,8 +10,10 @@ use Rattle.tape.specs.Tape.{list, entry}
 use Rattle.extents.specs.Rows.{rowsOf}
 use Rattle.extents.specs.Lawful.{lawful, rowLawful, apart}
 use Rattle.extents.specs.Map.{byteMap, placeOf}
+use Rattle.label.specs.Label.{Label}
 use Rattle.worked.specs.Cases.{cases}
+use Rattle.worked.proofs.Labels.{one, lengths, shorts}
 
-pub worked : every (λ b. b) cases ≡ true
+pub worked : (f : Label) (b : List ℕ) → every (λ b. b) (cases f b) ≡ true
 unfolding every cases number isNumber plain value list entry byteMap placeOf rowsOf lawful rowLawful apart
-worked = refl
+worked f b = rw (one, lengths f, shorts f b)

@@ -1,14 +1,21 @@
 -- Document 01's starred cases (01, Bench examples), each a test of the definitions: one table.
-use mathlib.Core.Bool.{Bool, true, false, _&&_}
+use mathlib.Core.Bool.{Bool, true, false, not, _&&_, _||_}
 use mathlib.Core.List.{List, [], _∷_}
 use mathlib.Core.Option.{Option, none, some}
 use Prim.Native.Nat.{ℕ}
 use lib.Dec.{eqb}
 use lib.ListN.{length, getElem?, replicate}
-use Rattle.refusals.specs.Refusals.{Answer, refused, answer, shownNumber}
+use Rattle.refusals.specs.Refusals.{Answer, refused, answer, numberOf, shownNumber}
+use Rattle.slices.specs.Slices.{same}
+use Rattle.slices.specs.Words.{bytes}
+use Rattle.slices.specs.declared.Written.{Written}
+use Rattle.slices.specs.declared.Written.the-variants.{To, Refused}
 use Rattle.digits.specs.Decimal.{number}
 use Rattle.extents.specs.Map.{Place, stored, unstored, byteMap}
 use Rattle.tape.specs.Tape.{Tape, Element, mark, block, list}
+use Rattle.label.specs.Label.{Label}
+use Rattle.label.specs.Text.{escaped, textOf, isGiven}
+use Rattle.label.specs.Writing.{answered}
 
 -- VOL1, mark, label, mark, mark, one index block, mark; the blocks' bytes don't matter here
 abbrev pub fresh : Tape
@@ -49,8 +56,39 @@ isRefused n a = eqb (shownNumber a) n
 abbrev pub rowOf : ℕ → ℕ → List ℕ → List ℕ
 rowOf p n rest = 98 ∷ 10 ∷ 0 ∷ n ∷ p ∷ rest
 
-unfoldable pub cases : List Bool
-cases =
+-- a label that may be written, with a 4-byte creator that needs no escape, block size 524288, compression true
+unfoldable pub isBench : Label → Bool
+isBench f = isGiven f && eqb (length (f .creator)) 4 && same (escaped (f .creator)) (f .creator) && eqb (f .blockSize) 524288 && f .compression
+
+-- one of them
+unfoldable pub sample : Label
+sample =
+    record {
+      release = 1;
+      creator = bytes "LTFS";
+      time = bytes "2010-02-01T18:35:47.866846222Z";
+      uuid = bytes "30a91a08-daae-48d1-ae75-69804e61d2ea";
+      location = 97;
+      indexLetter = 97;
+      dataLetter = 98;
+      blockSize = 524288;
+      compression = true;
+    }
+
+-- a writer's answer is the refusal of this number
+abbrev pub refuses : ℕ → Written → Bool
+refuses n (To end) = false
+refuses n (Refused r) = eqb (numberOf r) n
+
+abbrev pub benchLength : Label → Bool
+benchLength f = not (isBench f) || eqb (length (textOf f)) 378
+
+abbrev pub benchShort : Label → List ℕ → Bool
+benchShort f b = not (isBench f && eqb (length b) 377) || refuses 10 (answered (isGiven f) (textOf f) b)
+
+-- f is any label, b any buffer
+unfoldable pub cases : Label → List ℕ → List Bool
+cases f b =
     -- a fresh partition has 7 elements
     eqb (length fresh) 7
     -- its list has 19 bytes
@@ -63,6 +101,11 @@ cases =
     ∷ isNone (number (49 ∷ 56 ∷ 52 ∷ 52 ∷ 54 ∷ 55 ∷ 52 ∷ 52 ∷ 48 ∷ 55 ∷ 51 ∷ 55 ∷ 48 ∷ 57 ∷ 53 ∷ 53 ∷ 49 ∷ 54 ∷ 49 ∷ 54 ∷ []))
     -- nor does 007
     ∷ isNone (number (48 ∷ 48 ∷ 55 ∷ []))
+    -- a label such as the bench's, of which there is one, has 378 bytes
+    ∷ isBench sample
+    ∷ benchLength f
+    -- a buffer of 377 gives 10
+    ∷ benchShort f b
     -- position 3995 is block 10 byte 4095, 3996 is block 11 byte 0, 8000 is an unstored zero, 9000 is refused 2
     ∷ isStored 10 4095 (bytesAt 3995)
     ∷ isStored 11 0 (bytesAt 3996)
