@@ -29,23 +29,29 @@ impl Vol1 {
 
     pub const ACCESSIBILITY: [u8; 1] = [76];
 
+    // Spaces, at 11.
+    pub const RESERVED: [u8; 13] = [32; 13];
+
     pub const IMPLEMENTATION: [u8; 13] = [76, 84, 70, 83, 32, 32, 32, 32, 32, 32, 32, 32, 32];
 
     pub const OWNER_AT: usize = 37;
 
     pub const OWNER_END: usize = 51;
 
+    // Spaces, at 51.
+    pub const RESERVED_AFTER: [u8; 28] = [32; 28];
+
     pub const VERSION: [u8; 1] = [52];
 
-    // The label of an identifier and an owner; spaces stand between its fields.
+    // The label of an identifier and an owner.
     pub fn new(identifier: &[u8], owner: &[u8]) -> Self
         ensures { λ r. ⌜ (length (vol1 (now (identifier .entry)) (now (owner .entry))) ≡ 80 → r .block ≡ vol1 (now (identifier .entry)) (now (owner .entry))) ⌝ }
     {
         let label = Vol1::LABEL;
         let accessibility = Vol1::ACCESSIBILITY;
-        let reserved = [32u8; 13];
+        let reserved = Vol1::RESERVED;
         let implementation = Vol1::IMPLEMENTATION;
-        let rest = [32u8; 28];
+        let rest = Vol1::RESERVED_AFTER;
         let version = Vol1::VERSION;
         let mut block = [0u8; 80];
         let mut at = add(&mut block, 0, &label);
