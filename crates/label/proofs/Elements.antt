@@ -1,29 +1,21 @@
 -- The elements of a label's text, read off its bytes: the root with its seven children in order, each with the text that was written.
 use mathlib.Core.Path.{_≡_, refl, ap, _∙_}
-use mathlib.Core.Bool.{Bool, true, false}
+use mathlib.Core.Bool.{true}
 use mathlib.Core.List.{List, [], _∷_, _++_, append-assoc}
-use Prim.Native.Nat.{ℕ, _≤_}
-use native.Mathlib.Omega.{arith}
-use borrow.Author.Tests.{ne-eqb, leb-true}
-use lib.Dec.{leb}
+use Prim.Native.Nat.{ℕ}
 use lib.ListN.{drop}
 use Rattle.slices.specs.Slices.{every}
 use Rattle.slices.specs.Words.{bytes}
-use Rattle.slices.proofs.Booleans.{and-left, and-right}
-use Rattle.slices.proofs.Every.{every-weaker}
-use Rattle.quantities.specs.Letters.{isLetter as isPartition}
-use Rattle.digits.specs.Decimal.{isDigit, short}
-use Rattle.digits.proofs.Short.{digits-short}
+use Rattle.digits.specs.Decimal.{short}
 use Rattle.xml.specs.Bytes.{declaration, isNameByte, isLetter, isSpace}
 use Rattle.xml.specs.Tree.{Head, Forest, none, node, front, behind, isNot, notOpen, quoteAfter, past, quoted, headOf, top, pop, closed, opened, alone, put, forests}
 use Rattle.xml.specs.Grammar.{head}
 use Rattle.elements.specs.Reading.{rowAt}
-use Rattle.values.specs.Values.{isTime, isUuid, inRanges, fits}
-use Rattle.values.proofs.Forms.{form-lacks}
 use Rattle.label.specs.Label.{Label}
 use Rattle.label.specs.Text.{escaped, word, texts, letters, numbers, opening, closing, textOf}
 use Rattle.label.proofs.Escaping.{escaped-closed}
 use Rattle.label.proofs.Fields.{Rules}
+use Rattle.label.proofs.Plain.{plain-closed, letter-plain, word-plain, short-plain, time-plain, uuid-plain}
 use Rattle.xml.proofs.Spelled.{leaf, branch, end-tag}
 
 -- an element without an attribute
@@ -86,32 +78,7 @@ children f =
     (node (named (bytes "blocksize") (short (f .blockSize))) none
     (node (named (bytes "compression") (word (f .compression))) none none))))))
 
--- texts without `<`
-not-open : (b : ℕ) → (b ≡ 60 → ⊥) → notOpen b ≡ true
-unfolding isNot
-not-open b h = rw (ne-eqb b 60 h)
-
-letter-closed : (b : ℕ) → isPartition b ≡ true → every notOpen (b ∷ []) ≡ true
-unfolding every
-letter-closed b e = let h : 97 ≤ b = leb-true 97 b (and-left (leb 97 b) (leb b 122) e) in rw (not-open b (λ z. omega arith))
-
-word-closed : (c : Bool) → every notOpen (word c) ≡ true
-unfolding every isNot word bytes
-word-closed true = refl
-word-closed false = refl
-
-short-closed : (n : ℕ) → every notOpen (short n) ≡ true
-short-closed n = every-weaker isDigit notOpen (λ b e. let h : b ≤ 57 = leb-true b 57 (and-right (leb 48 b) (leb b 57) e) in not-open b (λ z. omega arith)) (short n) (digits-short n)
-
-time-closed : (s : List ℕ) → isTime s ≡ true → every notOpen s ≡ true
-unfolding isTime isNot every fits bytes
-time-closed s e = form-lacks 60 (bytes "####-##-##T##:##:##.#########Z") s refl (and-left _ (inRanges s) e)
-
-uuid-closed : (s : List ℕ) → isUuid s ≡ true → every notOpen s ≡ true
-unfolding isUuid isNot every fits bytes
-uuid-closed s e = form-lacks 60 (bytes "********-****-****-****-************") s refl e
-
-append-five : (a b c d e : List ℕ) → a ++ b ++ c ++ d ++ e ≡ a ++ (b ++ (c ++ (d ++ e)))
+pub append-five : (a b c d e : List ℕ) → a ++ b ++ c ++ d ++ e ≡ a ++ (b ++ (c ++ (d ++ e)))
 append-five a b c d e = simp append-assoc
 
 module _ (f : Label) (ok : Rules f) where
@@ -119,12 +86,12 @@ module _ (f : Label) (ok : Rules f) where
       ≡ children f ∷ []
   unfolding texts numbers alone opened closed top pop
   rest-read =
-      texts-read _ (escaped (f .creator)) (f .time) (f .uuid) (escaped-closed (f .creator)) (time-closed (f .time) (ok .time)) (uuid-closed (f .uuid) (ok .uuid))
+      texts-read _ (escaped (f .creator)) (f .time) (f .uuid) (escaped-closed (f .creator)) (plain-closed _ (time-plain (f .time) (ok .time))) (plain-closed _ (uuid-plain (f .uuid) (ok .uuid)))
       ∙ ap (λ (fs : List Forest). alone (named (bytes "creator") (escaped (f .creator))) (alone (named (bytes "formattime") (f .time)) (alone (named (bytes "volumeuuid") (f .uuid)) fs)))
-      (letters-read _ (f .location) (f .indexLetter) (f .dataLetter) (letter-closed _ (ok .location)) (letter-closed _ (ok .indexLetter)) (letter-closed _ (ok .dataLetter))
+      (letters-read _ (f .location) (f .indexLetter) (f .dataLetter) (plain-closed _ (letter-plain _ (ok .location))) (plain-closed _ (letter-plain _ (ok .indexLetter))) (plain-closed _ (letter-plain _ (ok .dataLetter)))
       ∙ ap (λ (fs : List Forest). opened (named (bytes "location") []) (alone (named (bytes "partition") (f .location ∷ [])) (closed
       (opened (named (bytes "partitions") []) (alone (named (bytes "index") (f .indexLetter ∷ [])) (alone (named (bytes "data") (f .dataLetter ∷ [])) (closed fs)))))))
-      (numbers-read closing (short (f .blockSize)) (word (f .compression)) (short-closed (f .blockSize)) (word-closed (f .compression))
+      (numbers-read closing (short (f .blockSize)) (word (f .compression)) (plain-closed _ (short-plain (f .blockSize))) (plain-closed _ (word-plain (f .compression)))
       ∙ ap (λ (fs : List Forest). alone (named (bytes "blocksize") (short (f .blockSize))) (alone (named (bytes "compression") (word (f .compression))) fs)) closing-read))
 
   -- behind the declaration the root stands, and nothing after it

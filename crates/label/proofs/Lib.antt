@@ -6,5 +6,7 @@ pub mod Escaping
 pub mod Lengths
 pub mod Fields
 pub mod Cut
+pub mod Plain
 pub mod Elements
 pub mod RoundTrip
+pub mod Creators

@@ -1,7 +1,7 @@
 -- A text by its form, along both: at each byte that is passed, at one that does not fit, at the end; a text in a form has the form's length, and
--- none of the bytes that fit nowhere in the form.
+-- passes each test that the form and all digits pass.
 use mathlib.Core.Path.{_≡_, refl, ap, _∙_, sym}
-use mathlib.Core.Bool.{Bool, true, false, not, false≢true}
+use mathlib.Core.Bool.{Bool, true, false, cond, false≢true}
 use mathlib.Core.List.{List, [], _∷_}
 use Prim.Native.Nat.{ℕ, suc, _+_, _<_, _≤_}
 use native.Mathlib.Numerals.{add-one}
@@ -11,6 +11,8 @@ use lib.ListN.{length, drop, getD, drop-of-length-le}
 use lib.Seq.{drop-cons}
 use Rattle.slices.specs.Slices.{every}
 use Rattle.slices.proofs.Booleans.{and-left, and-right, and-both}
+use Rattle.digits.specs.Decimal.{isDigit}
+use Rattle.digits.specs.Hex.{isHex}
 use Rattle.values.specs.Values.{fits, inForm}
 
 module _ (p s : List ℕ) (i : ℕ) where
@@ -40,22 +42,23 @@ form-differs p s h = go (inForm p s) (form-length p s)
     go true f = absurd (h (f refl))
     go false f = refl
 
--- the byte x fits nowhere in the form
-abbrev pub lacks : ℕ → List ℕ → Bool
-lacks x p = every (λ q. not (fits q x)) p
+-- a test that every digit passes, and every byte of the form, is passed by each byte of a text in the form
+module _ (test : ℕ → Bool) (digit : (b : ℕ) → isDigit b ≡ true → test b ≡ true) (hex : (b : ℕ) → isHex b ≡ true → test b ≡ true) where
+  fits-test : (q b : ℕ) → test q ≡ true → fits q b ≡ true → test b ≡ true
+  unfolding fits
+  fits-test q b h = go (eqb q 35) (eqb q 42)
+    where
+      go : (t u : Bool) → cond t (isDigit b) (cond u (isHex b) (eqb q b)) ≡ true → test b ≡ true
+      go true u e = digit b e
+      go false true e = hex b e
+      go false false e = ap test (sym (eqb-true q b e)) ∙ h
 
-pub form-lacks : (x : ℕ) (p s : List ℕ) → lacks x p ≡ true → inForm p s ≡ true → every (λ b. not (eqb b x)) s ≡ true
-unfolding inForm every
-form-lacks x [] [] h e = refl
-form-lacks x [] (b ∷ s) h e = absurd (false≢true e)
-form-lacks x (q ∷ p) [] h e = absurd (false≢true e)
-form-lacks x (q ∷ p) (b ∷ s) h e =
-    and-both (not (eqb b x)) (every (λ b. not (eqb b x)) s)
-    (go (eqb b x) refl)
-    (form-lacks x p s (and-right (not (fits q x)) (lacks x p) h) (and-right (fits q b) (inForm p s) e))
-  where
-    go : (t : Bool) → eqb b x ≡ t → not t ≡ true
-    go true z =
-        let y : fits q x ≡ true = ap (fits q) (sym (eqb-true b x z)) ∙ and-left (fits q b) (inForm p s) e in
-        sym (ap not y) ∙ and-left (not (fits q x)) (lacks x p) h
-    go false z = refl
+  pub form-every : (p s : List ℕ) → every test p ≡ true → inForm p s ≡ true → every test s ≡ true
+  unfolding inForm every
+  form-every [] [] h e = refl
+  form-every [] (b ∷ s) h e = absurd (false≢true e)
+  form-every (q ∷ p) [] h e = absurd (false≢true e)
+  form-every (q ∷ p) (b ∷ s) h e =
+      and-both (test b) (every test s)
+      (fits-test q b (and-left (test q) (every test p) h) (and-left (fits q b) (inForm p s) e))
+      (form-every p s (and-right (test q) (every test p) h) (and-right (fits q b) (inForm p s) e))
