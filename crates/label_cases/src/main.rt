@@ -1,6 +1,7 @@
 // Cases of VOL1 and of the LTFS label (01, VOL1, Values, LTFS label), read from files beside the program: vectors, and for each sentence texts that
-// keep it and texts that break it.
+// keep it and texts that break it; and of values and rows that no label reaches.
 mod labels;
+mod parts;
 mod volumes;
 
 ghost use Prim.Native.Nat.{_≤_};
@@ -11,7 +12,10 @@ fn one(kind: u64, fd: i32) -> bool {
         1 => labels::write_case(fd),
         2 => labels::agreement_case(fd),
         3 => volumes::read_case(fd),
-        _ => volumes::write_case(fd),
+        4 => volumes::write_case(fd),
+        5 => parts::name_case(fd),
+        6 => parts::number_case(fd),
+        _ => parts::row_case(fd),
     }
 }
 
@@ -57,4 +61,7 @@ fn main() {
     run(b"read_order", 0);
     run(b"write", 1);
     run(b"agreement", 2);
+    run(b"names", 5);
+    run(b"numbers", 6);
+    run(b"rows", 7);
 }
