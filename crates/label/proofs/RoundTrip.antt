@@ -25,14 +25,12 @@ use Rattle.elements.specs.Decoded.{decoded}
 use Rattle.children.specs.Rules.{isMark, rules, longer, placeOf, markOf}
 use Rattle.children.specs.Children.{holds, allKnown, pick, atMostOne, below, lawful, only, textOf as textOfFirst, childrenOf}
 use Rattle.values.specs.Values.{number, boolean, letter, version, isCreator, isTime, isUuid}
-use Rattle.label.specs.declared.reader.Label.{Label as Answered}
 use Rattle.label.specs.declared.writer.Given.{Given}
-use Rattle.label.specs.declared.vol1.Vol1Read.{Vol1Read}
-use Rattle.label.specs.Label.{Label, Texts, isShaped, textsIn, isBlockSize, isFormed, labelFrom, rootOf, labelOf}
+use Rattle.label.specs.Label.{Label, Texts, isShaped, textsIn, isFormed, labelFrom, labelOf}
 use Rattle.label.specs.Reading.{means}
 use Rattle.label.specs.Text.{escaped, word, textOf, labelOfGiven, isLawful, isGiven}
 use Rattle.label.specs.Writing.{Writes}
-use Rattle.label.specs.Vol1.{Fields, vol1, areFields, vol1Of, meansVol1}
+use Rattle.label.specs.Vol1.{vol1, areFields, vol1Of, meansVol1}
 use Rattle.label.proofs.Adding.{was-written}
 use Rattle.label.proofs.Blocks.{vol1-reads}
 use Rattle.label.proofs.Escaping.{decoded-escaped}

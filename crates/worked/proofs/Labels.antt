@@ -1,15 +1,14 @@
 -- The labels such as the bench's: one of them, the length of each, and what a buffer one byte short of it gives.
-use mathlib.Core.Path.{_≡_, refl, ap, _∙_, sym}
-use mathlib.Core.Bool.{Bool, true, false, not, _&&_, _||_}
+use mathlib.Core.Path.{_≡_, refl, ap}
+use mathlib.Core.Bool.{Bool, true, not, _&&_, _||_}
 use mathlib.Core.List.{List}
-use Prim.Native.Nat.{ℕ, _+_, _<_}
+use Prim.Native.Nat.{ℕ}
 use native.Mathlib.Omega.{arith}
-use borrow.Author.Tests.{eq-eqb, eqb-true, lt-leb}
+use borrow.Author.Tests.{eq-eqb, eqb-true}
 use lib.Dec.{eqb}
 use lib.ListN.{length}
 use Rattle.slices.specs.Slices.{every, same}
 use Rattle.slices.specs.Words.{bytes}
-use Rattle.slices.specs.Writers.{placed}
 use Rattle.slices.proofs.Booleans.{split, and-left, and-right}
 use Rattle.slices.proofs.Equal.{same-eq}
 use Rattle.slices.proofs.Writers.{placed-short}

@@ -1,6 +1,6 @@
 -- Elements that a writer puts together from names and texts without `<`, as they are read off the bytes. What follows them may be anything.
 use mathlib.Core.Path.{_≡_, refl, ap, _∙_}
-use mathlib.Core.Bool.{Bool, true, false}
+use mathlib.Core.Bool.{true, false}
 use mathlib.Core.List.{List, [], _∷_, _++_}
 use Prim.Native.Nat.{ℕ}
 use lib.Dec.{eqb}
@@ -8,7 +8,7 @@ use lib.ListN.{take, getD}
 use Rattle.slices.specs.Slices.{every}
 use Rattle.slices.proofs.Booleans.{and-left, and-right}
 use Rattle.xml.specs.Bytes.{isNameByte, isLetter, isSpace}
-use Rattle.xml.specs.Tree.{none, node, front, behind, isNot, notOpen, quoteAfter, past, quoted, headOf, top, pop, closed, opened, alone, put, forests}
+use Rattle.xml.specs.Tree.{front, behind, isNot, notOpen, quoteAfter, past, quoted, headOf, top, pop, closed, opened, alone, put, forests}
 use Rattle.xml.specs.Grammar.{head}
 use Rattle.xml.proofs.Classes.{name-not}
 
