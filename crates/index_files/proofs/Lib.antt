@@ -3,3 +3,4 @@ pub mod Meeting
 pub mod Names
 pub mod Accepted
 pub mod AllFiles
+pub mod Asking
