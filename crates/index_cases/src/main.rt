@@ -1,0 +1,327 @@
+// Cases of reading an index, of its files and of their rows, read from files beside the program.
+use index::Header;
+use index::Read;
+use index::Volume;
+use index_files::FileRead;
+use index_files::RowsRead;
+use quantities::BlockNumber;
+use slices::Written;
+ghost use mathlib.Core.Path.{_≡_};
+ghost use Prim.Native.Nat.{_≤_};
+ghost use lib.ListN.{length};
+ghost use Rattle.io.specs.Counts.{Counts};
+
+// A byte more than an index's text may have.
+fn text_room() -> [u8; 1048577]
+    ensures { λ r. ⌜ 1048577 ≡ length r ⌝ }
+{
+    [0u8; 1048577]
+}
+
+fn byte(fd: i32) -> u8 {
+    (case_files::number(fd) % 256) as u8
+}
+
+// The numbers of a list, at the front of out, where it has room for them.
+fn numbers(fd: i32, out: &mut [u64]) -> usize
+    ensures { λ r. ⌜ Counts r (now (out .exit)) ⌝ }
+{
+    let n = case_files::number(fd) as usize;
+    if out.len() < n {
+        return 0;
+    }
+    let mut i: usize = 0;
+    while i < n {
+        out[i] = case_files::number(fd);
+        i += 1;
+    }
+    n
+}
+
+fn same_numbers(a: &[u64], b: &[u64]) -> bool {
+    if a.len() != b.len() {
+        return false;
+    }
+    let mut i: usize = 0;
+    while i < a.len() {
+        if a[i] != b[i] {
+            return false;
+        }
+        i += 1;
+    }
+    true
+}
+
+fn flag(b: bool) -> u64 {
+    if b {
+        return 1;
+    }
+    0
+}
+
+// The nine numbers expected of a header.
+fn header_as(fd: i32, h: Header) -> bool {
+    let mut expected = [0u64; 9];
+    let n = numbers(fd, &mut expected);
+    let found = [
+        h.release,
+        h.generation.0,
+        flag(h.back),
+        h.letter as u64,
+        h.block.0,
+        flag(h.allow),
+        h.highest,
+        h.directories,
+        h.files,
+    ];
+    same_numbers(&found, &expected[..n])
+}
+
+fn read_as(fd: i32, read: Read, refusal: u64) -> bool {
+    match read {
+        Read::Refused(r) => refusals::number(r) == refusal,
+        Read::Found(h) => {
+            if refusal != 0 {
+                return false;
+            }
+            header_as(fd, h)
+        }
+    }
+}
+
+// A file's rows in a lent buffer: the refusal, the number of rows and the whole buffer expected.
+fn put_as(
+    text: &[u8],
+    uuid: &[u8],
+    volume: Volume,
+    letter: u8,
+    block: u64,
+    k: u64,
+    out: &mut [u64],
+    expected: &[u64],
+    refusal: u64,
+    count: u64,
+) -> bool {
+    let read = index_files::rows(text, uuid, volume, letter, BlockNumber(block), k, out);
+    if !count_as(read, refusal, count) {
+        return false;
+    }
+    same_numbers(out, expected)
+}
+
+// A lent buffer, and what is expected.
+fn rows_as(
+    fd: i32,
+    text: &[u8],
+    uuid: &[u8],
+    volume: Volume,
+    letter: u8,
+    block: u64,
+    k: u64,
+) -> bool {
+    let mut out = [0u64; 5200];
+    let n = numbers(fd, &mut out);
+    let refusal = case_files::number(fd);
+    let count = case_files::number(fd);
+    let mut expected = [0u64; 5200];
+    let e = numbers(fd, &mut expected);
+    put_as(
+        text,
+        uuid,
+        volume,
+        letter,
+        block,
+        k,
+        &mut out[..n],
+        &expected[..e],
+        refusal,
+        count,
+    )
+}
+
+fn count_as(read: RowsRead, refusal: u64, count: u64) -> bool {
+    match read {
+        RowsRead::Refused(r) => refusals::number(r) == refusal,
+        RowsRead::Count(n) => {
+            if refusal != 0 {
+                return false;
+            }
+            n == count
+        }
+    }
+}
+
+// Whether a name, as spelled at a place of the text, is the expected one.
+fn name_as(text: &[u8], from: usize, len: usize, expected: &[u8]) -> bool {
+    if text.len() < from {
+        return false;
+    }
+    if text.len() - from < len {
+        return false;
+    }
+    let end = from + len;
+    let mut name = [0u8; 2048];
+    match elements::decode(&text[from..end], &mut name, 0) {
+        Written::Refused(_) => false,
+        Written::To(n) => front_as(&name, n, expected),
+    }
+}
+
+fn front_as(name: &[u8], n: usize, expected: &[u8]) -> bool {
+    if name.len() < n {
+        return false;
+    }
+    let first: usize = 0;
+    slices::same(&name[first..n], expected)
+}
+
+// A file's number; the refusal, its length, its name and the number of its rows expected; then its rows in two lent buffers.
+fn file_as(fd: i32, text: &[u8], uuid: &[u8], volume: Volume, letter: u8, block: u64) -> bool {
+    let k = case_files::number(fd);
+    let refusal = case_files::number(fd);
+    let bytes = case_files::number(fd);
+    let mut name = [0u8; 2048];
+    let n = case_files::bytes(fd, &mut name);
+    let count = case_files::number(fd);
+    match index_files::file(text, uuid, volume, letter, BlockNumber(block), k) {
+        FileRead::Refused(r) => {
+            if refusals::number(r) != refusal {
+                return false;
+            }
+        }
+        FileRead::Found(h) => {
+            if refusal != 0 {
+                return false;
+            }
+            if h.length.0 != bytes {
+                return false;
+            }
+            if h.rows != count {
+                return false;
+            }
+            if !name_as(text, h.name.from, h.name.len, &name[..n]) {
+                return false;
+            }
+        }
+    }
+    if !rows_as(fd, text, uuid, volume, letter, block, k) {
+        return false;
+    }
+    rows_as(fd, text, uuid, volume, letter, block, k)
+}
+
+fn files_as(fd: i32, text: &[u8], uuid: &[u8], volume: Volume, letter: u8, block: u64) -> bool {
+    let files = case_files::number(fd);
+    let mut k: u64 = 0;
+    while k < files {
+        if !file_as(fd, text, uuid, volume, letter, block) {
+            return false;
+        }
+        k += 1;
+    }
+    true
+}
+
+// The length of a file, where one is expected.
+fn length_as(read: FileRead, refusal: u64, bytes: u64) -> bool {
+    match read {
+        FileRead::Found(h) => {
+            if refusal == 10 {
+                return true;
+            }
+            h.length.0 == bytes
+        }
+        FileRead::Refused(r) => refusals::number(r) == refusal,
+    }
+}
+
+// A text, the label's UUID, letters and block size, a place; then the header and files expected.
+fn one(kind: u64, fd: i32) -> bool {
+    let mut text = text_room();
+    let n = case_files::bytes(fd, &mut text);
+    let mut uuid = [0u8; 64];
+    let u = case_files::bytes(fd, &mut uuid);
+    let first = byte(fd);
+    let other = byte(fd);
+    let size = case_files::number(fd);
+    let volume = Volume { first, other, size };
+    let letter = byte(fd);
+    let block = case_files::number(fd);
+    if kind == 1 {
+        return rows_case(fd, &text[..n], &uuid[..u], volume, letter, block);
+    }
+    index_case(fd, &text[..n], &uuid[..u], volume, letter, block)
+}
+
+fn index_case(fd: i32, text: &[u8], uuid: &[u8], volume: Volume, letter: u8, block: u64) -> bool {
+    let refusal = case_files::number(fd);
+    let read = index::read_index(text, uuid, volume, letter, BlockNumber(block));
+    if !read_as(fd, read, refusal) {
+        return false;
+    }
+    files_as(fd, text, uuid, volume, letter, block)
+}
+
+// A file's number and the length expected, then its rows in a lent buffer.
+fn rows_case(fd: i32, text: &[u8], uuid: &[u8], volume: Volume, letter: u8, block: u64) -> bool {
+    let k = case_files::number(fd);
+    let refusal = case_files::number(fd);
+    let bytes = case_files::number(fd);
+    let read = index_files::file(text, uuid, volume, letter, BlockNumber(block), k);
+    if !length_as(read, refusal, bytes) {
+        return false;
+    }
+    rows_as(fd, text, uuid, volume, letter, block, k)
+}
+
+fn shown_good(good: bool, case: u64) -> u64
+    ensures { λ r. ⌜ r ≤ 1 ⌝ }
+{
+    if good {
+        return 1;
+    }
+    io::write_all(1, b"not as expected: case ");
+    io::print_decimal(1, case);
+    io::write_all(1, b"\n");
+    0
+}
+
+// The cases of one file.
+fn run(path: &[u8], kind: u64) {
+    let fd = os::open_read(path);
+    if fd < 0 {
+        os::fail(path);
+        return;
+    }
+    let cases = case_files::number(fd);
+    let mut good: u64 = 0;
+    let mut i: u64 = 0;
+    while i < cases {
+        good += shown_good(one(kind, fd), i);
+        i += 1;
+    }
+    libc::close(fd);
+    case_files::report(path, good, cases);
+}
+
+// A text too long is refused before its bytes are looked at.
+fn too_long() -> bool {
+    let text = text_room();
+    let volume = Volume {
+        first: 97,
+        other: 98,
+        size: 4096,
+    };
+    let uuid = b"30a91a08-daae-48d1-ae75-69804e61d2ea";
+    match index::read_index(&text, uuid, volume, 97, BlockNumber(6)) {
+        Read::Found(_) => false,
+        Read::Refused(r) => refusals::number(r) == 15,
+    }
+}
+
+fn main() {
+    run(b"index", 0);
+    run(b"rows", 1);
+    run(b"own", 0);
+    case_files::report(b"too long", shown_good(too_long(), 0), 1);
+}
