@@ -1,20 +1,35 @@
 -- What this crate's functions owe each other.
 use mathlib.Core.Path.{_≡_}
 use mathlib.Core.Bool.{Bool, true, false, cond, _&&_}
-use mathlib.Core.List.{List, [], _∷_}
+use mathlib.Core.List.{List, [], _∷_, _++_}
 use mathlib.Core.Option.{Option, none, some}
 use Prim.Native.Nat.{ℕ, _-_, _≤_, _<_}
 use lib.Dec.{leb, eqb}
 use lib.ListN.{length, getD, take, drop}
+use Rattle.refusals.specs.Refusals.{answer}
+use Rattle.slices.specs.Slices.{every}
 use Rattle.quantities.specs.Places.{Place}
+use Rattle.extents.specs.Rows.{Row}
+use Rattle.index.specs.Index as text
+use Rattle.index.specs.Index.{indexOf}
+use Rattle.index.specs.Tests.{Given}
+use Rattle.index.specs.declared.tests.Volume.{Volume as Letters}
 use Rattle.constructs.specs.Constructs.{Construct}
 use Rattle.constructs.specs.Tables.{placeIn}
+use Rattle.constructs.specs.Reach.{reaches, liesBy}
 use Rattle.constructs.specs.declared.Place.{Place as Spot}
 use Rattle.constructs.proofs.Suffixes.{Suffix}
-use Rattle.verdict.specs.Verdict.{Index, Volume, isAt, readData, chained, chainBreak}
-use Rattle.verdict.specs.Rescue.{generationOf, chain}
+use Rattle.verdict.specs.Verdict.{Index, Volume, isAt, firstFailing, readIndex, readData, chained, chainBreak}
+use Rattle.verdict.specs.Rescue.{Cut, generationOf, target, through, chain, attempt, cutAmong}
+use Rattle.verdict.specs.Partners.{beginnings}
 use Rattle.verdict.proofs.Orders.{firsts}
+use Rattle.volume.specs.Volume.{volumeWith, rowsOfEach}
 use Rattle.volume.specs.declared.sound.Brief.{Brief}
+use Rattle.volume.specs.declared.lost.Lost.{Lost}
+use Rattle.volume.specs.declared.lost.Lost.the-variants as lostIs
+use Rattle.volume.specs.declared.search.Kept.{Kept}
+use Rattle.volume.specs.declared.search.Tried.{Tried}
+use Rattle.volume.specs.declared.search.Tried.the-variants as triedIs
 use Rattle.volume.specs.declared.chains.Linked.{Linked}
 
 -- the bytes of a store that a spot names
@@ -80,3 +95,68 @@ pub record Chains (v : Volume) (ds : List Construct) (table : List ℕ) (k : ℕ
 
 abbrev pub ChainsOf : Volume → List ℕ → List ℕ → ℕ → ℕ → List ℕ → ℕ → Type 0
 ChainsOf v s table n room after k = (ds : List Construct) → Listed s table ds → length ds ≡ n → n ≤ room → Chains v ds after k
+
+-- the table with the number plus 1 of each of the first n constructs at its first block
+abbrev pub BeginsOf : List ℕ → ℕ → List ℕ → List ℕ → Type 0
+BeginsOf table n before after =
+    (s : List ℕ) (ds : List Construct) → Listed s table ds → n ≤ length ds → n < 4294967296 → after ≡ beginnings (firsts n ds) before
+
+-- an extent lies on so many elements of each partition, by tables of how far data blocks reach
+abbrev pub liesIn : Letters → List ℕ → ℕ → List ℕ → ℕ → Row → Bool
+liesIn w ri ki rd kd r =
+    cond (eqb (r .letter) (w .first)) (liesBy ri (w .size) ki (r .startblock) (r .byteoffset) (r .bytecount))
+    (cond (eqb (r .letter) (w .other)) (liesBy rd (w .size) kd (r .startblock) (r .byteoffset) (r .bytecount)) false)
+
+abbrev pub lostFile : Lost → Option ℕ
+lostFile (lostIs.File k) = some k
+lostFile lostIs.Nothing = none
+
+-- the lowest file of an index that reads with an extent that does not lie there
+abbrev pub Loses : List ℕ → Letters → List ℕ → ℕ → List ℕ → ℕ → Lost → Type 0
+Loses t w ri ki rd kd r =
+    (g : Given) (letter block : ℕ) (x : text.Index) → indexOf g letter block t ≡ answer x
+    → lostFile r ≡ firstFailing (every (liesIn w ri ki rd kd)) 0 (rowsOfEach (x .files))
+
+-- a table of how far data blocks reach, by the lengths of a partition's data blocks
+pub record ReachTable (B : ℕ) (lengths table : List ℕ) : Type 0 where
+  pub rest : List ℕ
+  pub holds : table ≡ reaches B lengths ++ rest
+
+-- what the tables hold before the search: cs and ds are the constructs of the index partition and of the data partition's chain, li and
+-- ld the lengths of their data blocks
+pub record Ready (v : Volume) (is ti : List ℕ) (td gens begins ri rd : List ℕ) (cs ds : List Construct) (li ld : List ℕ) : Type 0 where
+  pub ds-store : List ℕ
+  pub index : Listed is ti cs
+  pub chain : Listed ds-store td ds
+  pub whole : chainBreak v ds ≡ none
+  pub generations : Generations v gens ds
+  pub partners : (k : ℕ) → getD begins k 0 ≡ length (through k ds)
+  pub indexReach : ReachTable (v .size) li ri
+  pub dataReach : ReachTable (v .size) ld rd
+  pub indexFits : (c : Construct) (bs : List Construct) → Suffix (c ∷ bs) cs → c .upTo ≤ length li
+  pub dataFits : (d : Construct) (bs : List Construct) → Suffix (d ∷ bs) ds → d .upTo ≤ length ld
+
+abbrev pub cutIs : Kept → Cut
+cutIs k =
+    record {
+      indexConstruct = k .«index_construct»;
+      dataConstruct = k .«data_construct»;
+      indexKept = k .«index_kept»;
+      dataKept = k .«data_kept»;
+      generation = k .generation;
+    }
+
+abbrev pub triedCut : Tried → Option Cut
+triedCut (triedIs.Fits k) = some (cutIs k)
+triedCut triedIs.Fails = none
+
+abbrev pub Tries : Given → Letters → List ℕ → List ℕ → ℕ → List ℕ → List ℕ → List ℕ → List ℕ → List ℕ → Tried → Type 0
+Tries g w is ti k td gens begins ri rd r =
+    (cs ds : List Construct) (li ld : List ℕ) → Ready (volumeWith g) is ti td gens begins ri rd cs ds li ld
+    → (c : Construct) (bs : List Construct) → Suffix (c ∷ bs) cs → length bs ≡ k
+    → triedCut r ≡ attempt (volumeWith g) li ld c bs (through (target (readIndex (volumeWith g) c)) ds)
+
+abbrev pub Searches : Given → Letters → List ℕ → List ℕ → ℕ → List ℕ → List ℕ → List ℕ → List ℕ → List ℕ → Tried → Type 0
+Searches g w is ti n td gens begins ri rd r =
+    (cs ds : List Construct) (li ld : List ℕ) → Ready (volumeWith g) is ti td gens begins ri rd cs ds li ld
+    → length cs ≡ n → triedCut r ≡ cutAmong (volumeWith g) li ld ds cs
