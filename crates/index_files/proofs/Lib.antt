@@ -1,0 +1,5 @@
+pub mod Passing
+pub mod Meeting
+pub mod Names
+pub mod Accepted
+pub mod AllFiles

@@ -1,0 +1,10 @@
+// The files of an index's text and their rows (01, Index and Extents), one after the other, and by their numbers.
+mod extent_rows;
+mod files;
+
+pub use extent_rows::NextRow;
+pub use extent_rows::Row;
+pub use extent_rows::first_row;
+pub use extent_rows::next_row;
+pub use files::NextFile;
+pub use files::next_file;
