@@ -28,14 +28,14 @@ toldBack (refused r) = none
 toldBack (answer t) = t .back
 
 -- what a read answers tells whether the index is sound, its generation and its back pointer
-pub told-found : (a : Answer text.Index) (h : Header) → saying (Found h) ≡ text.toldBy a
+pub told-found : (a : Answer text.Index) (s : List ℕ) (h : Header) → saying s (Found h) ≡ text.toldBy a
     → some (record { generation = h .generation .0; back = backOf h }) ≡ told (soundly a)
-told-found (refused r) h e = let z : _≡_ {A = ℕ} 0 1 = cc in absurd (omega arith)
-told-found (answer x) h e = rw (ap toldGeneration e, ap toldBack e)
+told-found (refused r) s h e = let z : _≡_ {A = ℕ} 0 1 = cc in absurd (omega arith)
+told-found (answer x) s h e = rw (ap toldGeneration e, ap toldBack e)
 
-pub told-refused : (a : Answer text.Index) (r : Refusal) → saying (Refused r) ≡ text.toldBy a → none ≡ told (soundly a)
-told-refused (refused r) q e = refl
-told-refused (answer x) q e = let z : _≡_ {A = ℕ} 0 1 = cc in absurd (omega arith)
+pub told-refused : (a : Answer text.Index) (s : List ℕ) (r : Refusal) → saying s (Refused r) ≡ text.toldBy a → none ≡ told (soundly a)
+told-refused (refused r) s q e = refl
+told-refused (answer x) s q e = let z : _≡_ {A = ℕ} 0 1 = cc in absurd (omega arith)
 
 module _ (b : Brief) (letter first generation : ℕ) where
   pub joins-unsound : b .sound ≡ false → false ≡ joined (toldBy b) letter first generation

@@ -52,7 +52,7 @@ told-generation o b e f =
     sym z ∙ ap generationTold e ∙ generation-told o
 
 -- what joins a construct is sound
-joined-sound : (b : Brief) (letter first generation : ℕ) → joined (toldBy b) letter first generation ≡ true → b .sound ≡ true
+pub joined-sound : (b : Brief) (letter first generation : ℕ) → joined (toldBy b) letter first generation ≡ true → b .sound ≡ true
 joined-sound b letter first generation =
     split (λ k. b .sound ≡ k → joined (toldBy b) letter first generation ≡ true → b .sound ≡ true) (b .sound)
     (λ u e h. e)
@@ -73,7 +73,7 @@ module _ (v : Volume) where
   chained-sound c (p ∷ ps) h = follows-sound (readData v c) p (readData v p) h
 
   -- the last index of a chain without a break is sound
-  last-sound : (c : Construct) (cs : List Construct) → chainBreak v (c ∷ cs) ≡ none → (x : Index) × (readData v c ≡ some x)
+  pub last-sound : (c : Construct) (cs : List Construct) → chainBreak v (c ∷ cs) ≡ none → (x : Index) × (readData v c ≡ some x)
   unfolding chainBreak
   last-sound c cs h = chained-sound c cs (unless-none (chained v c cs) (length cs) (orElse-none (chainBreak v cs) _ h .1))
 
@@ -137,21 +137,12 @@ pub record ChainAt (v : Volume) (ds : List Construct) (table : List ℕ) (k befo
 abbrev pub ChainsAt : Volume → List ℕ → List ℕ → ℕ → ℕ → List ℕ → ℕ → ℕ → Type 0
 ChainsAt v s table n room gens k before = (ds : List Construct) → Listed s table ds → length ds ≡ n → n ≤ room → ChainAt v ds gens k before
 
-module _ (v : Volume) (ds : List Construct) where
-  firsts-none : firsts 0 ds ≡ []
+module _ (ds : List Construct) where
+  pub firsts-none : firsts 0 ds ≡ []
   firsts-none = let e : length ds - 0 ≡ length ds = omega arith in rw e (drop-length ds)
 
   pub firsts-length : (k : ℕ) → k ≤ length ds → length (firsts k ds) ≡ k
   firsts-length k h = length-drop (length ds - k) ds ∙ omega arith
-
-  chain-none : (gens : List ℕ) → ChainAt v ds gens 0 0
-  unfolding chainBreak
-  chain-none gens =
-      record {
-        whole = ap (chainBreak v) firsts-none;
-        last = ap (lastGeneration v) firsts-none;
-        generations = λ c cs h. absurd (nil-suffix (subst (λ (l : List Construct). Suffix (c ∷ cs) l) firsts-none h));
-      }
 
   -- construct k and those before it
   pub next-first : (k : ℕ) → k < length ds → (c : Construct) × (firsts (k + 1) ds ≡ c ∷ firsts k ds) × Suffix (c ∷ firsts k ds) ds
@@ -160,32 +151,42 @@ module _ (v : Volume) (ds : List Construct) where
       let e : k + 1 ≡ suc k = omega arith in
       (x .0, ap (λ (n : ℕ). firsts n ds) e ∙ x .1, subst (λ (l : List Construct). Suffix l ds) (x .1) (firsts-suffix (length ds - suc k) ds))
 
-  module _ (gens : List ℕ) (k before : ℕ) (w : ChainAt v ds gens k before) (h : k < length ds) (r : Linked) (l : Links v (next-first k h .0) (firsts k ds) r) where
+module _ (v : Volume) (ds : List Construct) where
+  chain-none : (gens : List ℕ) → ChainAt v ds gens 0 0
+  unfolding chainBreak
+  chain-none gens =
+      record {
+        whole = ap (chainBreak v) (firsts-none ds);
+        last = ap (lastGeneration v) (firsts-none ds);
+        generations = λ c cs h. absurd (nil-suffix (subst (λ (l : List Construct). Suffix (c ∷ cs) l) (firsts-none ds) h));
+      }
+
+  module _ (gens : List ℕ) (k before : ℕ) (w : ChainAt v ds gens k before) (h : k < length ds) (r : Linked) (l : Links v (next-first ds k h .0) (firsts k ds) r) where
     chain-more : k < length gens → r .ok ≡ true → ChainAt v ds (set gens k (r .generation)) (k + 1) (r .generation)
     chain-more room e =
-        let x = next-first k h in
-        let n = firsts-length k (omega arith) in
+        let x = next-first ds k h in
+        let n = firsts-length ds k (omega arith) in
         record {
           whole = ap (chainBreak v) (x .1) ∙ chain-grows v (x .0) (firsts k ds) (w .whole) (sym (l .chained) ∙ e);
           last = ap (lastGeneration v) (x .1) ∙ sym (l .generation e);
           generations = λ c cs s. go c cs (subst (λ (t : List Construct). Suffix (c ∷ cs) t) (x .1) s);
         }
       where
-        go : Generations v (set gens k (r .generation)) (next-first k h .0 ∷ firsts k ds)
+        go : Generations v (set gens k (r .generation)) (next-first ds k h .0 ∷ firsts k ds)
         go c cs (here q) =
-            let z : c ≡ next-first k h .0 = cc in
+            let z : c ≡ next-first ds k h .0 = cc in
             let y : cs ≡ firsts k ds = cc in
-            let n : length cs ≡ k = ap length y ∙ firsts-length k (omega arith) in
+            let n : length cs ≡ k = ap length y ∙ firsts-length ds k (omega arith) in
             rw (n, z) (getD-set-same gens k (r .generation) 0 room ∙ l .generation e)
         go c cs (there s) =
-            let n = firsts-length k (omega arith) in
+            let n = firsts-length ds k (omega arith) in
             let m = suffix-length s in
             getD-set-other gens k (length cs) (r .generation) 0 (λ q. omega arith) ∙ w .generations c cs s
 
     chain-over : r .ok ≡ false → Chains v ds gens k
     chain-over e =
-        let x = next-first k h in
-        let n = firsts-length k (omega arith) in
+        let x = next-first ds k h in
+        let n = firsts-length ds k (omega arith) in
         let f : chained v (x .0) (firsts k ds) ≡ false = sym (l .chained) ∙ e in
         record {
           few = omega arith;
@@ -213,11 +214,11 @@ module _ (v : Volume) (s table : List ℕ) (n room : ℕ) where
 
   module _ (gens : List ℕ) (k before : ℕ) (w : ChainsAt v s table n room gens k before) (h : k < n) (r : Linked) (l : LinksAt v s table k before r) where
     link-at : (ds : List Construct) (d : Listed s table ds) (e : length ds ≡ n) (f : n ≤ room) (i : k < length ds)
-        → Links v (next-first v ds k i .0) (firsts k ds) r
+        → Links v (next-first ds k i .0) (firsts k ds) r
     link-at ds d e f i =
-        let x = next-first v ds k i in
+        let x = next-first ds k i in
         let a = w ds d e f in
-        l ds d (x .0) (firsts k ds) (x .2) (firsts-length v ds k (omega arith)) (a .whole) (a .last)
+        l ds d (x .0) (firsts k ds) (x .2) (firsts-length ds k (omega arith)) (a .whole) (a .last)
 
     pub chains-more : length gens ≡ room → r .ok ≡ true → ChainsAt v s table n room (set gens k (r .generation)) (k + 1) (r .generation)
     chains-more g ok ds d e f =

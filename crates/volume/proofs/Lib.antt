@@ -1,2 +1,4 @@
 pub mod Briefs
 pub mod Chaining
+pub mod Searching
+pub mod Extents

@@ -35,8 +35,8 @@ pub fn read_brief(text: &[u8], uuid: &[u8], volume: Volume, letter: u8, block: u
             sound: true,
             generation: h.generation.0,
             back: h.back,
-            letter: h.letter,
-            block: h.block.0,
+            letter: h.back_letter,
+            block: h.back_block.0,
         },
     }
 }

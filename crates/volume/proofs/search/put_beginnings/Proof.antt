@@ -1,3 +1,10 @@
+-- `put_beginnings` meets its contract: construct after construct.
+use Rattle.volume.proofs.Searching.{BeginsAt, begins-start, begins-more, begins-end}
+use lib.ListN.{length, length-set}
+use native.Mathlib.Omega.{arith}
+use Prim.Native.Nat.{ℕ, _+_, _-_, _≤_}
+use mathlib.Core.List.{List}
+use mathlib.Core.Path.{_≡_, refl, sym, ap, subst, _∙_}
 use borrow.Author.Needs.{needs}
 use Rattle.volume.proofs.search.put_beginnings.Statement.{statement}
 use Rattle.volume.proofs.search.put_beginnings.Tie as tie
@@ -8,13 +15,13 @@ use Rattle.tables.proofs.put32.Reads as put32-reads
 use Rattle.volume.proofs.search.narrow.Reads as narrow-reads
 
 abbrev Inv-loop : tie.InvT-loop
-Inv-loop table n beginnings₀ k₀ beginnings k = ?
+Inv-loop table n beginnings₀ k₀ beginnings k = (k ≤ n) × (length beginnings ≡ length beginnings₀) × BeginsAt table n beginnings₀ beginnings k
 
 abbrev μ-loop : tie.MeasureT-loop
-μ-loop table n beginnings₀ k₀ beginnings k = ?
+μ-loop table n beginnings₀ k₀ beginnings k = n - k
 
 loop-holds : tie.Need-loop-holds Inv-loop μ-loop
-loop-holds c = search needs
+loop-holds c = (omega arith, refl, begins-start (c .before .args .table .now) (c .before .args .n) (c .before .args .beginnings .now))
 
 construct-requires : tie.Need-construct-requires Inv-loop μ-loop
 construct-requires c κs = search needs
@@ -32,16 +39,22 @@ add-k : tie.Need-add-k Inv-loop μ-loop
 add-k c = search needs
 
 loop-less : tie.Need-loop-less Inv-loop μ-loop
-loop-less c = search needs
+loop-less c = omega (arith, c .before .before .before .before .before .before .before .loop .inv .0, c .before .before .before .before .before .before .loop-test .taken)
 
 loop-again : tie.Need-loop-again Inv-loop μ-loop
-loop-again c = search needs
+loop-again c =
+    let p = c .before .before .put32 .ensures in (
+      omega (arith, c .before .before .before .before .before .before .loop-test .taken),
+      ap length p ∙ length-set (c .before .before .before .before .before .before .before .loop .beginnings) (c .before .before .before .before .before .construct .result .first) (c .before .before .before .narrow .result) ∙ c .before .before .before .before .before .before .before .loop .inv .1,
+      subst (λ (l : List ℕ). BeginsAt (c .before .before .before .before .before .before .before .before .before .args .table .now) (c .before .before .before .before .before .before .before .before .before .args .n) (c .before .before .before .before .before .before .before .before .before .args .beginnings .now) l (c .before .before .before .before .before .before .before .loop .k + 1)) (sym p)
+          (begins-more (c .before .before .before .before .before .before .before .before .before .args .table .now) (c .before .before .before .before .before .before .before .before .before .args .n) (c .before .before .before .before .before .before .before .before .before .args .beginnings .now) (c .before .before .before .before .before .before .before .loop .beginnings) (c .before .before .before .before .before .before .before .loop .k) (c .before .before .before .before .before .construct .result) (c .before .before .before .narrow .result) (c .before .before .before .before .before .before .before .loop .inv .2) (c .before .before .before .before .before .before .loop-test .taken) (c .before .before .before .before .before .construct .ensures) (c .before .before .before .narrow .ensures)),
+    )
 
 same-length : tie.Need-same-length Inv-loop μ-loop
-same-length c = search needs
+same-length c = c .before .loop .inv .1
 
 returns : tie.Need-returns Inv-loop μ-loop
-returns c = search needs
+returns c = begins-end (c .before .before .before .args .table .now) (c .before .before .before .args .n) (c .before .before .before .args .beginnings .now) (c .before .loop .beginnings) (c .before .loop .k) (c .before .loop .inv .2) (c .before .loop .inv .0) (c .loop-test .left)
 
 pub put-beginnings-spec : {M : Type 1} → statement M
 put-beginnings-spec =

@@ -27,7 +27,7 @@ cast-j : tie.Need-cast-j
 cast-j c = search needs
 
 returns : tie.Need-returns
-returns c = search needs
+returns c = ?
 
 sub-construct : tie.Need-sub-construct
 sub-construct c = search needs
@@ -45,7 +45,7 @@ joins-requires : tie.Need-joins-requires
 joins-requires c κs = search needs
 
 returns-2 : tie.Need-returns-2
-returns-2 c = search needs
+returns-2 c = ?
 
 first-lost-requires : tie.Need-first-lost-requires
 first-lost-requires c κs = search needs
@@ -60,10 +60,10 @@ sub-t26 : tie.Need-sub-t26
 sub-t26 c = search needs
 
 returns-3 : tie.Need-returns-3
-returns-3 c = search needs
+returns-3 c = ?
 
 returns-4 : tie.Need-returns-4
-returns-4 c = search needs
+returns-4 c = ?
 
 pub try-cut-spec : {M : Type 1} → statement M
 try-cut-spec =
