@@ -2,3 +2,4 @@ pub mod Briefs
 pub mod Chaining
 pub mod Searching
 pub mod Extents
+pub mod Trying
