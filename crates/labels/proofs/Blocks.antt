@@ -1,14 +1,13 @@
 -- A tape that is laid out: its elements 0 to 3, and its blocks 0 and 2 as parts of the store.
-use mathlib.Core.Path.{_≡_, refl, sym, _∙_, ap}
-use mathlib.Core.Bool.{Bool, true, false, cond, false≢true}
+use mathlib.Core.Path.{_≡_, refl, _∙_, ap}
+use mathlib.Core.Bool.{true, false, cond, false≢true}
 use mathlib.Core.List.{List, [], _∷_, _++_}
 use Prim.Native.Nat.{ℕ, _+_, _≤_}
 use native.Mathlib.Omega.{arith}
 use lib.ListN.{length, take, drop, length-append}
 use lib.Seq.{take-append-seam, drop-append-seam}
 use Rattle.slices.proofs.Booleans.{split}
-use Rattle.tape.specs.Tape.{Element, mark, block, Tape, store, content, Encodes}
-use Rattle.labels.specs.declared.Laid.{Laid}
+use Rattle.tape.specs.Tape.{mark, block, Tape, store, content, Encodes}
 use Rattle.labels.specs.declared.Laid.the-variants.{Blocks, Otherwise}
 use Rattle.labels.specs.Labels.{isLaid, bytesAt}
 use Rattle.labels.specs.Reading.{layoutOf}

@@ -1,23 +1,18 @@
 -- The elements 0 to 3 of a tape, step by step along its list; and the parts of the store that its first two blocks are.
 use mathlib.Core.Path.{_≡_, refl, sym, _∙_, ap, ap₂}
-use mathlib.Core.Bool.{Bool, true, false, _&&_, cond}
-use mathlib.Core.Option.{Option, none, some}
-use mathlib.Core.List.{List, [], _∷_, _++_}
-use Prim.Native.Nat.{ℕ, suc, _+_, _≤_}
+use mathlib.Core.Bool.{true, false}
+use mathlib.Core.List.{List, [], _∷_}
+use Prim.Native.Nat.{ℕ, _+_}
 use native.Mathlib.Omega.{arith}
-use lib.ListN.{length, take, drop, getElem?, length-append}
-use lib.Seq.{take-append-seam, drop-append-seam}
+use lib.ListN.{length, drop, getElem?}
 use Rattle.slices.proofs.Booleans.{and-left, and-right}
-use Rattle.tape.specs.Tape.{Element, mark, block, Tape, Cell, markCell, blockCell, list, store, content, lawful, isBlockLength, Encodes}
+use Rattle.tape.specs.Tape.{mark, block, Tape, markCell, blockCell, list, lawful, isBlockLength, Encodes}
 use Rattle.tape.specs.Reading.{entryAt}
-use Rattle.tape.specs.declared.Entry.{Entry}
 use Rattle.tape.specs.declared.Entry.the-variants.{Mark, Block, End}
 use Rattle.tape.proofs.Walking.{entry-here, entry-none, next-here}
-use Rattle.labels.specs.declared.Step.{Step}
 use Rattle.labels.specs.declared.Step.the-variants.{Past, Other}
-use Rattle.labels.specs.declared.Laid.{Laid}
 use Rattle.labels.specs.declared.Laid.the-variants.{Blocks, Otherwise}
-use Rattle.labels.specs.Labels.{isMark, isBlock, isLaid, bytesAt}
+use Rattle.labels.specs.Labels.{isMark, isBlock}
 use Rattle.labels.specs.Reading.{pastBlock, pastMark, layoutOf}
 
 -- a tape stands in a list from a place on

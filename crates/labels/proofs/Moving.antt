@@ -1,16 +1,13 @@
 -- A part of a part of a store is a part of the store.
-use mathlib.Core.Path.{_≡_, refl, sym, _∙_, ap}
+use mathlib.Core.Path.{_≡_, sym, _∙_, ap}
 use mathlib.Core.List.{List, [], _∷_}
-use Prim.Native.Nat.{ℕ, zero, suc, _+_, _-_, _<_, _≤_, min}
+use Prim.Native.Nat.{ℕ, zero, suc, _+_, _-_, _<_, _≤_}
 use native.Mathlib.Omega.{arith}
-use lib.ListN.{length, take, drop, length-take, length-drop, drop-of-length-le}
+use lib.ListN.{length, take, drop, length-take}
 use lib.Seq.{take-all, take-nil, take-take, drop-drop}
-use Rattle.refusals.specs.Refusals.{answer}
 use Rattle.elements.specs.declared.heads.Span.{Span}
-use Rattle.label.specs.Label.{Label}
-use Rattle.label.specs.Reading.{part, fieldsIn, means}
+use Rattle.label.specs.Reading.{fieldsIn}
 use Rattle.label.specs.declared.reader.Fields.{Fields}
-use Rattle.label.specs.declared.reader.Label.{Label as Answered}
 use Rattle.labels.specs.Reading.{Moves}
 
 drop-front : (i n : ℕ) (l : List ℕ) → drop i (take n l) ≡ take (n - i) (drop i l)

@@ -1,5 +1,5 @@
 -- The labels of two sides, check by check: what follows from each that fails, and what where none does.
-use mathlib.Core.Path.{_≡_, refl, sym, _∙_, ap}
+use mathlib.Core.Path.{_≡_, refl}
 use mathlib.Core.Bool.{Bool, true, false, _&&_}
 use mathlib.Core.List.{List}
 use Prim.Native.Nat.{ℕ, _+_, _-_}
@@ -8,14 +8,14 @@ use lib.Dec.{eqb}
 use lib.ListN.{length, take, drop}
 use Rattle.refusals.specs.declared.Refusal.{Refusal}
 use Rattle.refusals.specs.declared.Refusal.the-variants as is
-use Rattle.refusals.specs.Refusals.{Answer, refused, answer, require}
+use Rattle.refusals.specs.Refusals.{refused, answer, require}
 use Rattle.slices.specs.Slices.{same}
 use Rattle.tape.specs.Tape.{Tape}
 use Rattle.tape.specs.Answers.{tapeIn}
 use Rattle.label.specs.Label.{Label, labelOf}
 use Rattle.label.specs.Vol1.{Fields, vol1, vol1Of, identifierIn, ownerIn, isPrinted}
 use Rattle.label.specs.Agreement.{agree}
-use Rattle.labels.specs.Labels.{isLaid, bytesAt, labelsFrom, labelsOf, labelsIn}
+use Rattle.labels.specs.Labels.{isLaid, labelsFrom, labelsOf, labelsIn}
 use Rattle.labels.proofs.Blocks.{LaidOut}
 
 -- a test that refuses with one number refuses with that number
