@@ -30,7 +30,7 @@ unfolding scan
 scan-snoc B s [] e = refl
 scan-snoc B s (f ∷ t) e = scan-snoc B (step B s f) t e
 
-scan-at : (B : ℕ) (s : Scan) (t : Tape) → scan B s t .at ≡ s .at + length t
+pub scan-at : (B : ℕ) (s : Scan) (t : Tape) → scan B s t .at ≡ s .at + length t
 unfolding scan step
 scan-at B s [] = sym (add-zero (s .at))
 scan-at B s (e ∷ t) = scan-at B (step B s e) t ∙ omega arith

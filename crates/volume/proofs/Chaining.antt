@@ -101,14 +101,21 @@ module _ (v : Volume) where
           generation = λ h. told-generation (readData v c) b e (joined-sound b (v .dataLetter) first before (sym j ∙ h));
         }
 
--- what is read of construct k, by its place in the table
+-- what is read of a construct at its place in the store
+pub told-located : (g : Given) (s : List ℕ) (letter : ℕ) (p : Spot) (t : List ℕ) (b : Brief) → t ≡ textIn s p → toldBy b ≡ told (soundly (indexOf g letter (p .first) t))
+    → (c : Construct) → Located s p c → toldBy b ≡ told (volumeWith g .read letter (c .first) (c .text))
+told-located g s letter p t b f r c w =
+    r ∙ ap (λ (x : ℕ). told (soundly (indexOf g letter x t))) (w .first) ∙ ap (λ (x : List ℕ). told (soundly (indexOf g letter (c .first) x))) (f ∙ w .text)
+
+-- construct k lies at the place that the table has for it
+pub located-at : (s table : List ℕ) (k : ℕ) (p : Spot) (c : Construct) (cs : List Construct) → p ≡ placeIn table k → Located s (placeIn table (length cs)) c → length cs ≡ k → Located s p c
+located-at s table k p c cs e l n = subst (λ (x : Spot). Located s x c) (sym (e ∙ ap (placeIn table) (sym n))) l
+
 pub told-at : (g : Given) (s table : List ℕ) (letter k : ℕ) (p : Spot) (t : List ℕ) (b : Brief) → p ≡ placeIn table k → t ≡ textIn s p
     → toldBy b ≡ told (soundly (indexOf g letter (p .first) t))
     → (c : Construct) (cs : List Construct) → Located s (placeIn table (length cs)) c → length cs ≡ k
     → toldBy b ≡ told (volumeWith g .read letter (c .first) (c .text))
-told-at g s table letter k p t b e f r c cs l n =
-    let w : Located s p c = subst (λ (x : Spot). Located s x c) (sym (e ∙ ap (placeIn table) (sym n))) l in
-    r ∙ ap (λ (x : ℕ). told (soundly (indexOf g letter x t))) (w .first) ∙ ap (λ (x : List ℕ). told (soundly (indexOf g letter (c .first) x))) (f ∙ w .text)
+told-at g s table letter k p t b e f r c cs l n = told-located g s letter p t b f r c (located-at s table k p c cs e l n)
 
 module _ (v : Volume) (s table : List ℕ) (k before : ℕ) (b : Brief)
     (told-of : (c : Construct) (cs : List Construct) → Located s (placeIn table (length cs)) c → length cs ≡ k → toldBy b ≡ told (readData v c)) where

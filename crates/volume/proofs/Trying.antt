@@ -19,13 +19,13 @@ use Rattle.verdict.specs.Verdict.{Index, Volume, readIndex, badFileIn}
 use Rattle.verdict.specs.Rescue.{Cut, target, through, cutAt, attempt, cutAmong}
 use Rattle.verdict.proofs.Orders.{firsts, firsts-all, search-on, search-found}
 use Rattle.volume.specs.Volume.{soundly, volumeWith}
-use Rattle.volume.specs.Steps.{Told, told, toldBy, joined, textIn, Located, Listed, Ready, lostFile, Loses, cutIs, triedCut, Tries, Searches}
+use Rattle.volume.specs.Steps.{Told, told, toldBy, joined, textIn, Located, Listed, ReachTable, Ready, lostFile, Loses, cutIs, triedCut, Tries, Searches}
 use Rattle.volume.specs.declared.sound.Brief.{Brief}
 use Rattle.volume.specs.declared.lost.Lost.{Lost}
 use Rattle.volume.specs.declared.search.Kept.{Kept}
 use Rattle.volume.specs.declared.search.Tried.{Tried}
 use Rattle.volume.specs.declared.search.Tried.the-variants.{Fits, Fails}
-use Rattle.volume.proofs.Chaining.{told-at, next-first, firsts-none, firsts-length, joined-sound}
+use Rattle.volume.proofs.Chaining.{told-at, located-at, next-first, firsts-none, firsts-length, joined-sound}
 use Rattle.volume.proofs.Searching.{Partner, partner, try-nowhere, try-apart, try-lost, try-fits, try-cut}
 use Rattle.volume.proofs.Extents.{lost-same}
 
@@ -34,8 +34,22 @@ sound-answer : (a : Answer text.Index) (b : Brief) → toldBy b ≡ told (soundl
 sound-answer (refused r) b e f = let z : _≡_ {A = ℕ} 0 1 = cc (rw f at e) in absurd (omega arith)
 sound-answer (answer x) b e f = (x, refl)
 
-located-at : (s table : List ℕ) (k : ℕ) (p : Spot) (c : Construct) (cs : List Construct) → p ≡ placeIn table k → Located s (placeIn table (length cs)) c → length cs ≡ k → Located s p c
-located-at s table k p c cs e l n = subst (λ (x : Spot). Located s x c) (sym (e ∙ ap (placeIn table) (sym n))) l
+-- of an index that reads: by the tables and by the definition the same file is lost
+pub lost-located : (u : List ℕ) (w : Letters) (is ds : List ℕ) (li ld ri rd : List ℕ) (here there : Spot) (t : List ℕ) (b : Brief) (c d : Construct)
+    → t ≡ textIn is here → toldBy b ≡ told (soundly (indexOf (given u w) (w .first) (here .first) t)) → Located is here c → Located ds there d
+    → ReachTable (w .size) li ri → ReachTable (w .size) ld rd → c .upTo ≤ length li → d .upTo ≤ length ld
+    → (lost : Lost) → Loses t w ri (here .end) rd (there .end) lost → b .sound ≡ true
+    → badFileIn (volumeWith (given u w)) (readIndex (volumeWith (given u w)) c) (take (c .upTo) li) (take (d .upTo) ld) ≡ lostFile lost
+lost-located u w is ds li ld ri rd here there t b c d is-text reads p q hi hd fi fd lost l s =
+    let x = sound-answer (indexOf (given u w) (w .first) (here .first) t) b reads s in
+    let o : soundly (indexOf (given u w) (w .first) (here .first) t) ≡ readIndex (volumeWith (given u w)) c
+    = ap (λ (y : ℕ). soundly (indexOf (given u w) (w .first) y t)) (p .first) ∙ ap (λ (y : List ℕ). soundly (indexOf (given u w) (w .first) (c .first) y)) (is-text ∙ p .text) in
+    let z = lost-same (given u w) w li ld ri rd (here .end) (there .end) (w .first) (here .first) t (x .0) hi hd
+    (subst (λ (y : ℕ). y ≤ length li) (sym (p .end)) fi) (subst (λ (y : ℕ). y ≤ length ld) (sym (q .end)) fd) refl refl refl (x .1) in
+    sym (l (given u w) (w .first) (here .first) (x .0) (x .1) ∙ z
+    ∙ ap (λ (y : Option Index). badFileIn (volumeWith (given u w)) y (take (here .end) li) (take (there .end) ld)) o
+    ∙ ap (λ (y : ℕ). badFileIn (volumeWith (given u w)) (readIndex (volumeWith (given u w)) c) (take y li) (take (there .end) ld)) (p .end)
+    ∙ ap (λ (y : ℕ). badFileIn (volumeWith (given u w)) (readIndex (volumeWith (given u w)) c) (take (c .upTo) li) (take y ld)) (q .end))
 
 module _ (u : List ℕ) (w : Letters) (is ti : List ℕ) (k : ℕ) (td gens begins ri rd : List ℕ) (here : Spot) (t : List ℕ) (b : Brief)
     (at-here : here ≡ placeIn ti k) (is-text : t ≡ textIn is here) (reads : toldBy b ≡ told (soundly (indexOf (given u w) (w .first) (here .first) t))) where
@@ -59,23 +73,12 @@ module _ (u : List ℕ) (w : Letters) (is ti : List ℕ) (k : ℕ) (td gens begi
         located-there : Located (r .ds-store) there (there-is .one)
         located-there = subst (λ (x : Spot). Located (r .ds-store) x (there-is .one)) (sym at-there) (there-is .placed)
 
-        -- by the tables and by the definition the same file is lost
         lost-here : (lost : Lost) → Loses t w ri (here .end) rd (there .end) lost → b .sound ≡ true
             → badFileIn v (readIndex v c) (take (c .upTo) li) (take (there-is .one .upTo) ld) ≡ lostFile lost
         unfolding v
-        lost-here lost l s =
-            let x = sound-answer (indexOf (given u w) (w .first) (here .first) t) b reads s in
-            let p = located-here in
-            let q = located-there in
-            let o : soundly (indexOf (given u w) (w .first) (here .first) t) ≡ readIndex (volumeWith (given u w)) c
-            = ap (λ (y : ℕ). soundly (indexOf (given u w) (w .first) y t)) (p .first) ∙ ap (λ (y : List ℕ). soundly (indexOf (given u w) (w .first) (c .first) y)) (is-text ∙ p .text) in
-            let z = lost-same (given u w) w li ld ri rd (here .end) (there .end) (w .first) (here .first) t (x .0) (r .indexReach) (r .dataReach)
-            (subst (λ (y : ℕ). y ≤ length li) (sym (p .end)) (r .indexFits c bs suf))
-            (subst (λ (y : ℕ). y ≤ length ld) (sym (q .end)) (r .dataFits (there-is .one) (there-is .before) (there-is .inside))) refl refl refl (x .1) in
-            sym (l (given u w) (w .first) (here .first) (x .0) (x .1) ∙ z
-            ∙ ap (λ (y : Option Index). badFileIn (volumeWith (given u w)) y (take (here .end) li) (take (there .end) ld)) o
-            ∙ ap (λ (y : ℕ). badFileIn (volumeWith (given u w)) (readIndex (volumeWith (given u w)) c) (take y li) (take (there .end) ld)) (p .end)
-            ∙ ap (λ (y : ℕ). badFileIn (volumeWith (given u w)) (readIndex (volumeWith (given u w)) c) (take (c .upTo) li) (take y ld)) (q .end))
+        lost-here =
+            lost-located u w is (r .ds-store) li ld ri rd here there t b c (there-is .one) is-text reads located-here located-there (r .indexReach) (r .dataReach)
+            (r .indexFits c bs suf) (r .dataFits (there-is .one) (there-is .before) (there-is .inside))
 
   pub tries-nowhere : getD begins (b .block) 0 ≡ 0 → Tries (given u w) w is ti k td gens begins ri rd Fails
   unfolding v

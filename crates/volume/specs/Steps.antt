@@ -14,17 +14,20 @@ use Rattle.index.specs.Index as text
 use Rattle.index.specs.Index.{indexOf}
 use Rattle.index.specs.Tests.{Given}
 use Rattle.index.specs.declared.tests.Volume.{Volume as Letters}
-use Rattle.constructs.specs.Constructs.{Construct}
+use Rattle.tape.specs.Tape.{Tape, Encodes}
+use Rattle.constructs.specs.Constructs.{Construct, standing, dataLengths}
 use Rattle.constructs.specs.Tables.{placeIn}
 use Rattle.constructs.specs.Reach.{reaches, liesBy}
 use Rattle.constructs.specs.declared.Place.{Place as Spot}
 use Rattle.constructs.proofs.Suffixes.{Suffix}
-use Rattle.verdict.specs.Verdict.{Index, Volume, isAt, firstFailing, readIndex, readData, chained, chainBreak}
-use Rattle.verdict.specs.Rescue.{Cut, generationOf, target, through, chain, attempt, cutAmong}
+use Rattle.verdict.specs.Verdict.{Index, Volume, Break, orElse, unless, numbered, follows, badFileIn, verdict, isAt, endsWith, firstFailing, readIndex, readData, chained, chainBreak}
+use Rattle.verdict.specs.Rescue.{Cut, generationOf, target, through, chain, attempt, cutAmong, rescue}
 use Rattle.verdict.specs.Partners.{beginnings}
 use Rattle.verdict.proofs.Orders.{firsts}
 use Rattle.volume.specs.Volume.{volumeWith, rowsOfEach}
 use Rattle.volume.specs.declared.sound.Brief.{Brief}
+use Rattle.volume.specs.declared.judge.Judgement.{Judgement}
+use Rattle.volume.specs.declared.judge.Judgement.the-variants as judgementIs
 use Rattle.volume.specs.declared.lost.Lost.{Lost}
 use Rattle.volume.specs.declared.lost.Lost.the-variants as lostIs
 use Rattle.volume.specs.declared.search.Kept.{Kept}
@@ -160,3 +163,44 @@ abbrev pub Searches : Given → Letters → List ℕ → List ℕ → ℕ → Li
 Searches g w is ti n td gens begins ri rd r =
     (cs ds : List Construct) (li ld : List ℕ) → Ready (volumeWith g) is ti td gens begins ri rd cs ds li ld
     → length cs ≡ n → triedCut r ≡ cutAmong (volumeWith g) li ld ds cs
+
+-- the standing constructs of a partition, counted and in a table
+abbrev pub ListsOf : ℕ → List ℕ → List ℕ → List ℕ → List ℕ → ℕ → Type 0
+ListsOf B l s before after n =
+    (t : Tape) → Encodes l s t → length before ≡ 87380 → (n ≡ length (standing B t)) × Listed s after (standing B t)
+
+-- how far data blocks reach, in a table, and the number of elements
+abbrev pub ReachesOf : ℕ → List ℕ → List ℕ → List ℕ → List ℕ → ℕ → Type 0
+ReachesOf B l s before after n =
+    (t : Tape) → Encodes l s t → length before ≡ 65536 → (n ≡ length t) × ReachTable B (dataLengths t) after
+
+-- a table's last construct of n ends with the last of so many elements
+abbrev pub EndsAt : List ℕ → ℕ → ℕ → Bool → Type 0
+EndsAt table n count r =
+    (s : List ℕ) (t : Tape) (ds : List Construct) → Listed s table ds → n ≡ length ds → count ≡ length t → r ≡ endsWith t ds
+
+-- the cut, and the verdict, of the volume with that UUID and those letters
+abbrev pub Cuts : Given → List ℕ → List ℕ → List ℕ → List ℕ → Tried → Type 0
+Cuts g il is dl ds r = (i d : Tape) → Encodes il is i → Encodes dl ds d → triedCut r ≡ rescue (volumeWith g) i d
+
+-- a break, or none
+abbrev pub breakOf : Judgement → Option Break
+breakOf judgementIs.Sound = none
+breakOf (judgementIs.Broken which number) = some (record { which = which; number = number })
+
+-- the breaks 4 and 5 of the last constructs of both partitions
+abbrev pub lastBreak : Volume → ℕ → Construct → Construct → List ℕ → List ℕ → Option Break
+lastBreak v k c d li ld =
+    orElse (unless (follows v (readIndex v c) d (readData v d)) (record { which = 4; number = k })) (numbered 5 (badFileIn v (readIndex v c) li ld))
+
+-- whether they hold, of construct k of the index partition and construct j of the data partition
+abbrev pub JudgesLast : Given → List ℕ → List ℕ → ℕ → List ℕ → ℕ → ℕ → List ℕ → List ℕ → Judgement → Type 0
+JudgesLast g is ti k td j generation ri rd r =
+    (ds : List ℕ) (c d : Construct) (li ld : List ℕ) → Located is (placeIn ti k) c → Located ds (placeIn td j) d
+    → (y : Index) → readData (volumeWith g) d ≡ some y → generation ≡ y .generation
+    → ReachTable (g .size) li ri → ReachTable (g .size) ld rd → c .upTo ≡ length li → d .upTo ≡ length ld
+    → breakOf r ≡ lastBreak (volumeWith g) k c d li ld
+
+-- the verdict on the volume with that UUID and those letters
+abbrev pub Judges : Given → List ℕ → List ℕ → List ℕ → List ℕ → Judgement → Type 0
+Judges g il is dl ds r = (i d : Tape) → Encodes il is i → Encodes dl ds d → breakOf r ≡ verdict (volumeWith g) i d

@@ -60,7 +60,8 @@ pub fn joins(b: Brief, letter: u8, first: u64, generation: u64) -> bool
     generation <= b.generation
 }
 
-fn between(from: usize, to: usize) -> usize
+// How far it is from one place to a later one.
+pub fn between(from: usize, to: usize) -> usize
     ensures { λ r. ⌜ r ≡ to - from ⌝ }
 {
     if to < from {
