@@ -1,0 +1,5 @@
+pub mod Elements
+pub mod Blocks
+pub mod Moving
+pub mod Sides
+pub mod Fronts
