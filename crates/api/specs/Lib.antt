@@ -1,0 +1,4 @@
+pub mod Outputs
+pub mod Partitions
+pub mod Labels
+pub mod Files

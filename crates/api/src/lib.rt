@@ -1,0 +1,4 @@
+// The functions that C calls. Each answers a refusal's number, or 0, and writes numbers to its outputs, zeros where refused.
+pub mod files;
+pub mod labelling;
+pub mod partitions;
