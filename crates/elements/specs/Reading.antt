@@ -10,6 +10,7 @@ use Rattle.elements.specs.declared.tags.Tag.{Tag}
 use Rattle.elements.specs.declared.tags.Tag.the-variants.{End, Close, Open, Empty}
 use Rattle.elements.specs.declared.tags.Child.{Child}
 use Rattle.elements.specs.declared.tags.Child.the-variants.{Done, At}
+use Rattle.elements.specs.declared.heads.Span.{Span}
 
 -- what is left to read at i: of the element that is open there, of the one around it, and so on
 abbrev pub leftAt : List ℕ → ℕ → List Forest
@@ -99,3 +100,7 @@ pub record ChildrenFrom (s : List ℕ) (n j : ℕ) : Type 0 where
 pub record Spans (s : List ℕ) (i n : ℕ) (w : List ℕ) : Type 0 where
   pub part : take n (drop i s) ≡ w
   pub inside : i + n ≤ length s
+
+-- that part of it
+abbrev pub partAt : List ℕ → Span → List ℕ
+partAt s w = take (w .len) (drop (w .from) s)

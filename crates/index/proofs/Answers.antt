@@ -20,7 +20,7 @@ use Rattle.index_names.specs.Sorts.{index, file}
 use Rattle.index.specs.Elements.{Element, elements, textIn, rowIn}
 use Rattle.index.specs.Entries.{orZero, numberSaid, many, entriesOf}
 use Rattle.index.specs.Tests.{Given, isSome, letterSaid}
-use Rattle.index.specs.Index.{Told, isTrue, said, told, toldBy, headed, structured, bounded, allValued, allOwn, allLawful, standsAt, locationIn, filesOf, fileOf, fileCount, childrenRead, rootRead, callerRight, indexOf, isGood}
+use Rattle.index.specs.Index.{Told, isTrue, said, told, toldBy, headed, structured, bounded, allValued, allOwn, allLawful, standsAt, placeIn, locationIn, filesOf, fileOf, fileCount, childrenRead, rootRead, callerRight, indexOf, isGood}
 
 pub caller-last : (g : Given) (letter : ℕ) → isLetter (g .first) ≡ true → isLetter (g .other) ≡ true → eqb (g .first) (g .other) ≡ false
     → leb 4096 (g .size) ≡ true → leb (g .size) 1048576 ≡ true → is.isUuid (g .uuid) ≡ true
@@ -82,6 +82,8 @@ headed-told release k entries files e f =
         record {
           release = release;
           generation = told (said release k) .generation;
+          updatetime = told (said release k) .updatetime;
+          location = told (said release k) .location;
           back = told (said release k) .back;
           allowpolicyupdate = told (said release k) .allowpolicyupdate;
           highestfileuid = told (said release k) .highestfileuid;
@@ -135,10 +137,10 @@ module _ (g : Given) (letter block : ℕ) (text : List ℕ) where
       unfolding indexOf
       index-read c = sym (rw (a, b, c))
 
-pub headed-parts : (release : ℕ) (k : Forest) (entries files generation highest directories letter block : ℕ) (back allow : Bool)
-    → generation ≡ numberSaid (textIn (bytes "generationnumber") k) → back ≡ isRow (rowIn (bytes "previousgenerationlocation") k)
-    → letter ≡ letterSaid (textIn (bytes "partition") (rowIn (bytes "previousgenerationlocation") k))
-    → block ≡ numberSaid (textIn (bytes "startblock") (rowIn (bytes "previousgenerationlocation") k))
+pub headed-parts : (release : ℕ) (k : Forest) (entries files generation highest directories : ℕ) (time : List ℕ) (letter block letter₂ block₂ : ℕ) (back allow : Bool)
+    → generation ≡ numberSaid (textIn (bytes "generationnumber") k) → time ≡ textIn (bytes "updatetime") k → letter ≡ locationIn k .letter → block ≡ locationIn k .block
+    → back ≡ isRow (rowIn (bytes "previousgenerationlocation") k)
+    → letter₂ ≡ placeIn (rowIn (bytes "previousgenerationlocation") k) .letter → block₂ ≡ placeIn (rowIn (bytes "previousgenerationlocation") k) .block
     → allow ≡ isTrue (is.boolean (textIn (bytes "allowpolicyupdate") k)) → highest ≡ numberSaid (textIn (bytes "highestfileuid") k)
     → directories ≡ entries - files
     → _≡_ {A = Answer Told}
@@ -146,11 +148,13 @@ pub headed-parts : (release : ℕ) (k : Forest) (entries files generation highes
     (record {
       release = release;
       generation = generation;
-      back = cond back (some (record { letter = letter; block = block })) none;
+      updatetime = time;
+      location = record { letter = letter; block = block };
+      back = cond back (some (record { letter = letter₂; block = block₂ })) none;
       allowpolicyupdate = allow;
       highestfileuid = highest;
       directories = directories;
       files = files;
     }))
     (answer (headed release k entries files))
-headed-parts release k entries files generation highest directories letter block back allow a b c d e f g = rw (a, b, c, d, e, f, g)
+headed-parts release k entries files generation highest directories time letter block letter₂ block₂ back allow a b c d e f g h i j = rw (a, b, c, d, e, f, g, h, i, j)

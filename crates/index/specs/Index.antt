@@ -12,9 +12,10 @@ use Rattle.slices.specs.Slices.{within, every, same}
 use Rattle.slices.specs.Words.{bytes}
 use Rattle.quantities.specs.Letters.{isLetter}
 use Rattle.quantities.specs.Places.{Place}
+use Rattle.quantities.specs.declared.BlockNumber.{BlockNumber}
 use Rattle.xml.specs.Tree.{Head, Forest, none as noElement, node}
 use Rattle.xml.specs.Machine.{Outcome, good, broken, form}
-use Rattle.elements.specs.Reading.{rowAt, isRow}
+use Rattle.elements.specs.Reading.{rowAt, isRow, partAt}
 use Rattle.values.specs.Values as is
 use Rattle.extents.specs.Rows.{Row}
 use Rattle.index_names.specs.Sorts.{index, file}
@@ -161,6 +162,8 @@ pub record Surveyed (g : Given) (k : Forest) (sums : Sums) : Type 0 where
 pub record Told : Type 0 where
   pub release : ℕ
   pub generation : ℕ
+  pub updatetime : List ℕ
+  pub location : Place
   pub back : Option Place
   pub allowpolicyupdate : Bool
   pub highestfileuid : ℕ
@@ -172,6 +175,8 @@ told x =
     record {
       release = x .release;
       generation = x .generation;
+      updatetime = x .updatetime;
+      location = x .location;
       back = x .back;
       allowpolicyupdate = x .allowpolicyupdate;
       highestfileuid = x .highestfileuid;
@@ -182,23 +187,28 @@ told x =
 abbrev pub toldBy : Answer Index → Answer Told
 toldBy a = andThen a (λ x. answer (told x))
 
-abbrev pub backOf : Header → Option Place
-backOf h = cond (h .back) (some (record { letter = h .letter; block = h .block .0 })) none
+abbrev pub placeOf : ℕ → BlockNumber → Place
+placeOf l b = record { letter = l; block = b .0 }
 
--- what a read says
-abbrev pub saying : Read → Answer Told
-saying (Found h) =
+abbrev pub backOf : Header → Option Place
+backOf h = cond (h .back) (some (placeOf (h .«back_letter») (h .«back_block»))) none
+
+-- what a read says of a text
+abbrev pub saying : List ℕ → Read → Answer Told
+saying s (Found h) =
     answer
     (record {
       release = h .release;
       generation = h .generation .0;
+      updatetime = partAt s (h .time);
+      location = placeOf (h .letter) (h .block);
       back = backOf h;
       allowpolicyupdate = h .allow;
       highestfileuid = h .highest;
       directories = h .directories;
       files = h .files;
     })
-saying (Refused r) = refused r
+saying s (Refused r) = refused r
 
 -- the header of an index with those children, of which so many are entries and so many of those files
 abbrev pub headed : ℕ → Forest → ℕ → ℕ → Told
@@ -206,6 +216,8 @@ headed release k entries files =
     record {
       release = release;
       generation = numberSaid (textIn (bytes "generationnumber") k);
+      updatetime = textIn (bytes "updatetime") k;
+      location = locationIn k;
       back = backIn k;
       allowpolicyupdate = isTrue (is.boolean (textIn (bytes "allowpolicyupdate") k));
       highestfileuid = numberSaid (textIn (bytes "highestfileuid") k);

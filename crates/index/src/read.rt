@@ -4,6 +4,7 @@ use crate::survey;
 use crate::tests;
 use crate::tests::Volume;
 use elements::Child;
+use elements::Span;
 use quantities::BlockNumber;
 use quantities::Generation;
 use refusals::Refusal;
@@ -22,14 +23,17 @@ ghost use Rattle.refusals.specs.Refusals.{answer};
 ghost use Rattle.index.specs.declared.read.Read.the-variants.{Found};
 ghost use Rattle.index.specs.Index.{isTrue, placeIn, standsAt, callerRight, headed, childrenRead, rootRead, indexOf, toldBy, saying};
 
-// What an index says besides its files: the R of its version 2.0.R; its generation; its back pointer, if it has one; whether the policy may be
-// updated; the highest fileuid; how many directories, with the root, and files it has.
+// What an index says besides its files: the R of its version 2.0.R; its generation; where the update time stands in its text; its location;
+// its back pointer, if it has one; whether the policy may be updated; the highest fileuid; how many directories, with the root, and files it has.
 pub struct Header {
     pub release: u64,
     pub generation: Generation,
-    pub back: bool,
+    pub time: Span,
     pub letter: u8,
     pub block: BlockNumber,
+    pub back: bool,
+    pub back_letter: u8,
+    pub back_block: BlockNumber,
     pub allow: bool,
     pub highest: u64,
     pub directories: u64,
@@ -69,14 +73,29 @@ fn is_caller_right(uuid: &[u8], volume: Volume, letter: u8) -> bool
     letter == volume.other
 }
 
+// The letter that the location whose row is at at says.
+fn letter_named(text: &[u8], at: usize) -> u8
+    ensures { λ r. ⌜ r ≡ placeIn (rowAt (now (text .entry)) at) .letter ⌝ }
+{
+    tests::letter_said(rows::text_in(text, at, b"partition"))
+}
+
+// The block that it says.
+fn block_named(text: &[u8], at: usize) -> BlockNumber
+    ensures { λ r. ⌜ r .0 ≡ placeIn (rowAt (now (text .entry)) at) .block ⌝ }
+{
+    BlockNumber(tests::number_named(text, at, b"startblock"))
+}
+
 // Whether the location whose row is at at is that place.
 fn is_place(text: &[u8], at: usize, letter: u8, block: u64) -> bool
     ensures { λ r. ⌜ r ≡ standsAt letter block (placeIn (rowAt (now (text .entry)) at)) ⌝ }
 {
-    if tests::letter_said(rows::text_in(text, at, b"partition")) != letter {
+    if letter_named(text, at) != letter {
         return false;
     }
-    tests::number_named(text, at, b"startblock") == block
+    let b = block_named(text, at);
+    b.0 == block
 }
 
 fn is_true(raw: &[u8]) -> bool
@@ -101,15 +120,19 @@ fn has_row(text: &[u8], at: usize) -> bool
 // The header of the index whose children are the row at at.
 fn head_from(text: &[u8], at: usize, release: u64, entries: u64, files: u64) -> Header
     requires { ⌜ files ≤ entries ⌝ }
-    ensures { λ r. ⌜ saying (Found r) ≡ answer (headed release (rowAt (now (text .entry)) at) entries files) ⌝ }
+    ensures { λ r. ⌜ saying (now (text .entry)) (Found r) ≡ answer (headed release (rowAt (now (text .entry)) at) entries files) ⌝ }
 {
+    let here = rows::row_in(text, at, b"location");
     let back = rows::row_in(text, at, b"previousgenerationlocation");
     Header {
         release,
         generation: Generation(tests::number_named(text, at, b"generationnumber")),
+        time: rows::span_in(text, at, b"updatetime"),
+        letter: letter_named(text, here),
+        block: block_named(text, here),
         back: has_row(text, back),
-        letter: tests::letter_said(rows::text_in(text, back, b"partition")),
-        block: BlockNumber(tests::number_named(text, back, b"startblock")),
+        back_letter: letter_named(text, back),
+        back_block: block_named(text, back),
         allow: is_true(rows::text_in(text, at, b"allowpolicyupdate")),
         highest: tests::number_named(text, at, b"highestfileuid"),
         directories: entries - files,
@@ -128,7 +151,7 @@ fn read_children(
     block: u64,
 ) -> Read
     requires { ⌜ (at ≤ length (now text)) × (height (rowAt (now text) at) ≤ 64) ⌝ }
-    ensures { λ r. ⌜ saying r ≡ toldBy (childrenRead (given (now (uuid .entry)) volume) letter block release (rowAt (now (text .entry)) at)) ⌝ }
+    ensures { λ r. ⌜ saying (now (text .entry)) r ≡ toldBy (childrenRead (given (now (uuid .entry)) volume) letter block release (rowAt (now (text .entry)) at)) ⌝ }
 {
     let s = survey::survey(text, uuid, at, volume);
     if !s.structure {
@@ -155,7 +178,7 @@ fn read_children(
 // The index whose text is in the XML form.
 fn read_root(text: &[u8], uuid: &[u8], volume: Volume, letter: u8, block: u64) -> Read
     requires { ⌜ form (now text) ≡ good ⌝ }
-    ensures { λ r. ⌜ saying r ≡ toldBy (rootRead (given (now (uuid .entry)) volume) letter block (rowAt (now (text .entry)) 38)) ⌝ }
+    ensures { λ r. ⌜ saying (now (text .entry)) r ≡ toldBy (rootRead (given (now (uuid .entry)) volume) letter block (rowAt (now (text .entry)) 38)) ⌝ }
 {
     match elements::next_child(text, 38) {
         Child::Done => Read::Refused(Refusal::Structure),
@@ -179,7 +202,7 @@ fn read_root(text: &[u8], uuid: &[u8], volume: Volume, letter: u8, block: u64) -
 
 // An index's text, of the volume with that UUID, letters and block size, at a partition letter and the number of its first block.
 pub fn read_index(text: &[u8], uuid: &[u8], volume: Volume, letter: u8, block: BlockNumber) -> Read
-    ensures { λ r. ⌜ saying r ≡ toldBy (indexOf (given (now (uuid .entry)) volume) letter (block .0) (now (text .entry))) ⌝ }
+    ensures { λ r. ⌜ saying (now (text .entry)) r ≡ toldBy (indexOf (given (now (uuid .entry)) volume) letter (block .0) (now (text .entry))) ⌝ }
 {
     if !is_caller_right(uuid, volume, letter) {
         return Read::Refused(Refusal::Caller);

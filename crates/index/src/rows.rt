@@ -1,31 +1,42 @@
 // What stands in a row of elements, found by name.
 use digits::Number;
 use elements::Child;
+use elements::Span;
 ghost use mathlib.Core.Path.{_≡_};
 ghost use Prim.Native.Nat.{_≤_};
 ghost use lib.ListN.{length, getD, set};
-ghost use Rattle.elements.specs.Reading.{rowAt};
+ghost use Rattle.elements.specs.Reading.{rowAt, Spans};
 ghost use Rattle.index.specs.Elements.{textIn, rowIn};
 ghost use Rattle.index.specs.Entries.{numberSaid};
 
-// The text of the first element of a name in the row at at.
-pub fn text_in<'a>(text: &'a [u8], at: usize, name: &[u8]) -> &'a [u8]
-    ensures { λ r. ⌜ now r ≡ textIn (now (name .entry)) (rowAt (now (text .entry)) at) ⌝ }
+// Where the text of the first element of a name in the row at at stands.
+pub fn span_in(text: &[u8], at: usize, name: &[u8]) -> Span
+    ensures { λ r. ⌜ Spans (now (text .entry)) (r .from) (r .len) (textIn (now (name .entry)) (rowAt (now (text .entry)) at)) ⌝ }
 {
     let mut i = at;
     loop {
         match elements::next_child(text, i) {
             Child::Done => {
-                return &text[0..0];
+                return Span { from: 0, len: 0 };
             }
             Child::At(n, next) => {
                 if elements::name_is(text, n, name) {
-                    return elements::text_of(text, n);
+                    return elements::text_at(text, n);
                 }
                 i = next;
             }
         }
     }
+}
+
+// That text.
+pub fn text_in<'a>(text: &'a [u8], at: usize, name: &[u8]) -> &'a [u8]
+    ensures { λ r. ⌜ now r ≡ textIn (now (name .entry)) (rowAt (now (text .entry)) at) ⌝ }
+{
+    let s = span_in(text, at, name);
+    let a = s.from;
+    let e = a + s.len;
+    &text[a..e]
 }
 
 // Where the row of the first element of a name in the row at at begins.

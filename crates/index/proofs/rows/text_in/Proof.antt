@@ -1,101 +1,36 @@
--- `text_in` meets its contract. Invariant: what is asked for is what the rest of the row has.
-use mathlib.Core.Path.{_≡_, refl, ap, sym, _∙_, subst}
-use Prim.Native.Nat.{ℕ, _+_, _-_, _≤_, _<_}
+-- `text_in` meets its contract: the part that the span names.
+use mathlib.Core.Path.{_≡_, ap, _∙_}
+use mathlib.Core.List.{List}
+use Prim.Native.Nat.{ℕ, _+_, _-_, _≤_}
 use native.Mathlib.Omega.{arith}
-use lib.ListN.{length}
-use Rattle.elements.specs.Reading.{rowAt, NextChild}
-use Rattle.elements.proofs.Rows.{row-past}
-use Rattle.elements.specs.declared.tags.Child.the-variants.{Done, At}
-use Rattle.index.specs.Elements.{textIn}
-use Rattle.index.proofs.Found.{text-none, text-here, text-next}
+use lib.ListN.{take, drop}
 use borrow.Author.Needs.{needs}
 use Rattle.index.proofs.rows.text_in.Statement.{statement}
 use Rattle.index.proofs.rows.text_in.Tie as tie
 
-abbrev Inv-loop : tie.InvT-loop
-Inv-loop text at name i₀ i = textIn name (rowAt text at) ≡ textIn name (rowAt text i)
+span-in-requires : tie.Need-span-in-requires
+span-in-requires c κs = search needs
 
-abbrev μ-loop : tie.MeasureT-loop
-μ-loop text at name i₀ i = length text - i
+add-e : tie.Need-add-e
+add-e c = omega (arith, c .before .span-in .ensures .inside)
 
-loop-holds : tie.Need-loop-holds Inv-loop μ-loop
-loop-holds c = refl
-
-next-child-requires : tie.Need-next-child-requires Inv-loop μ-loop
-next-child-requires c κs = search needs
-
-enum-told : tie.Need-enum-told Inv-loop μ-loop
-enum-told c = search needs
-
-sub-result : tie.Need-sub-result Inv-loop μ-loop
+sub-result : tie.Need-sub-result
 sub-result c = search needs
 
-part-result-start : tie.Need-part-result-start Inv-loop μ-loop
+part-result-start : tie.Need-part-result-start
 part-result-start c = search needs
 
-part-result-end : tie.Need-part-result-end Inv-loop μ-loop
-part-result-end c = search needs
+part-result-end : tie.Need-part-result-end
+part-result-end c = omega (arith, c .before .span-in .ensures .inside)
 
-returns : tie.Need-returns Inv-loop μ-loop
+returns : tie.Need-returns
 returns c =
-    let s = c .before .before .before .before .before .before .before .args .text .now in
-    let w = c .before .before .before .before .before .before .before .args .name .now in
-    let l = c .before .before .before .before .loop in
-    let e : NextChild s (l .i) Done = subst (NextChild s (l .i)) (c .before .enum-told .given .1) (c .before .before .before .next-child .ensures) in
-    sym (l .inv ∙ text-none w s (l .i) e)
-
-enum-known-n : tie.Need-enum-known-n Inv-loop μ-loop
-enum-known-n c = search needs
-
-name-is-requires : tie.Need-name-is-requires Inv-loop μ-loop
-name-is-requires c κs = search needs
-
-text-of-requires : tie.Need-text-of-requires Inv-loop μ-loop
-text-of-requires c κs = search needs
-
-returns-2 : tie.Need-returns-2 Inv-loop μ-loop
-returns-2 c =
-    let s = c .before .before .before .before .before .before .before .before .before .before .args .text .now in
-    let w = c .before .before .before .before .before .before .before .before .before .before .args .name .now in
-    let l = c .before .before .before .before .before .before .before .loop in
-    let g = c .before .before .before .before .n .given in
-    let f : NextChild s (l .i) (At (g .0 .0) (g .0 .1 .0)) = subst (NextChild s (l .i)) (g .1) (c .before .before .before .before .before .before .next-child .ensures) in
-    c .text-of .ensures ∙ sym (l .inv ∙ text-here w s (l .i) f (sym (c .before .before .name-is .ensures) ∙ c .before .if1 .taken))
-
-loop-less : tie.Need-loop-less Inv-loop μ-loop
-loop-less c =
-    let s = c .before .before .before .before .before .before .before .before .before .args .text .now in
-    let w = c .before .before .before .before .before .before .before .before .before .args .name .now in
-    let l = c .before .before .before .before .before .before .loop in
-    let g = c .before .before .before .n .given in
-    let f : NextChild s (l .i) (At (g .0 .0) (g .0 .1 .0)) = subst (NextChild s (l .i)) (g .1) (c .before .before .before .before .before .next-child .ensures) in
-    omega (arith, f .place)
-
-loop-again : tie.Need-loop-again Inv-loop μ-loop
-loop-again c =
-    let s = c .before .before .before .before .before .before .before .before .before .args .text .now in
-    let w = c .before .before .before .before .before .before .before .before .before .args .name .now in
-    let l = c .before .before .before .before .before .before .loop in
-    let g = c .before .before .before .n .given in
-    let f : NextChild s (l .i) (At (g .0 .0) (g .0 .1 .0)) = subst (NextChild s (l .i)) (g .1) (c .before .before .before .before .before .next-child .ensures) in
-    l .inv ∙ text-next w s (l .i) f (sym (c .before .name-is .ensures) ∙ c .if1 .left)
+    let s = c .before .before .before .before .before .args .text .now in
+    let r = c .before .before .span-in .result in
+    let z : r .from + r .len - r .from ≡ r .len = omega arith in
+    ap (λ (n : ℕ). take n (drop (r .from) s)) z ∙ c .before .before .span-in .ensures .part
 
 pub text-in-spec : {M : Type 1} → statement M
 text-in-spec =
     tie.close
-    (tie.spec
-    Inv-loop
-    μ-loop
-    loop-holds
-    next-child-requires
-    enum-told
-    sub-result
-    part-result-start
-    part-result-end
-    returns
-    enum-known-n
-    name-is-requires
-    text-of-requires
-    returns-2
-    loop-less
-    loop-again)
+    (tie.spec span-in-requires add-e sub-result part-result-start part-result-end returns)
