@@ -9,4 +9,8 @@ mod walk;
 pub use read::Header;
 pub use read::Read;
 pub use read::read_index;
+pub use rows::number_said;
+pub use rows::row_in;
+pub use rows::text_in;
 pub use tests::Volume;
+pub use tests::letter_said;

@@ -1,0 +1,98 @@
+-- What holds of a text that is read as an index without refusal: it is in the XML form, its root and its structure are right, and what it
+-- says is what its children say.
+use mathlib.Core.Path.{_≡_, refl, ap, sym, _∙_}
+use mathlib.Core.Bool.{Bool, true, false, _&&_, false≢true}
+use mathlib.Core.List.{List}
+use Prim.Native.Nat.{ℕ}
+use native.Mathlib.Omega.{arith}
+use lib.Dec.{leb}
+use lib.ListN.{length}
+use Rattle.refusals.specs.Refusals.{Answer, answer, require}
+use Rattle.refusals.specs.declared.Refusal.{Refusal}
+use Rattle.refusals.specs.declared.Refusal.the-variants.{Caller, TooMany, Form, Structure, Version, Value, Foreign, Extents, Location}
+use Rattle.slices.specs.Slices.{every, same}
+use Rattle.slices.specs.Words.{bytes}
+use Rattle.slices.proofs.Booleans.{and-left, and-right}
+use Rattle.xml.specs.Tree.{Head, Forest, none, node}
+use Rattle.xml.specs.Form.{Reads}
+use Rattle.xml.specs.Machine.{Outcome, good, broken, form}
+use Rattle.xml.proofs.Form.{form-reads}
+use Rattle.elements.specs.Reading.{rowAt}
+use Rattle.elements.proofs.Roots.{root-row}
+use Rattle.values.specs.Values as is
+use Rattle.index_names.specs.Sorts.{index}
+use Rattle.index.specs.Elements.{elements}
+use Rattle.index.specs.Structure.{complete, rightly}
+use Rattle.index.specs.Entries.{orZero}
+use Rattle.index.specs.Tests.{Given, isSome}
+use Rattle.index.specs.Index.{Index, said, structured, bounded, allValued, allOwn, allLawful, standsAt, locationIn, childrenRead, rootRead, callerRight, isGood, indexOf}
+
+pub record Accepted (text : List ℕ) (x : Index) : Type 0 where
+  pub head : Head
+  pub kids : Forest
+  pub release : ℕ
+  pub reads : Reads text head kids
+  pub name : same (head .name) (bytes "ltfsindex") ≡ true
+  pub right : every rightly (elements index kids) ≡ true
+  pub says : x ≡ said release kids
+
+module _ {A : Type 0} (r : Refusal) (next : Answer A) (x : A) where
+  -- a check was passed, where an answer was given
+  passed : (b : Bool) → require b r next ≡ answer x → (b ≡ true) × (next ≡ answer x)
+  passed true e = (refl, e)
+  passed false e = let z : _≡_ {A = ℕ} 0 1 = cc in absurd (omega arith)
+
+is-good : (o : Outcome) → isGood o ≡ true → o ≡ good
+is-good good e = refl
+is-good (broken u) e = absurd (false≢true e)
+
+module _ (g : Given) (letter block : ℕ) (x : Index) where
+  children-accepted : (release : ℕ) (k : Forest) → childrenRead g letter block release k ≡ answer x → (structured k ≡ true) × (x ≡ said release k)
+  unfolding childrenRead
+  children-accepted release k e =
+      let l = elements index k in
+      let a6 : Answer Index = answer (said release k) in
+      let a5 = require (standsAt letter block (locationIn k)) Location a6 in
+      let a4 = require (allLawful g l) Extents a5 in
+      let a3 = require (allOwn g l) Foreign a4 in
+      let a2 = require (allValued l) Value a3 in
+      let a1 = require (bounded l) TooMany a2 in
+      let p0 = passed Structure a1 x (structured k) e in
+      let p1 = passed TooMany a2 x (bounded l) (p0 .1) in
+      let p2 = passed Value a3 x (allValued l) (p1 .1) in
+      let p3 = passed Foreign a4 x (allOwn g l) (p2 .1) in
+      let p4 = passed Extents a5 x (allLawful g l) (p3 .1) in
+      let p5 = passed Location a6 x (standsAt letter block (locationIn k)) (p4 .1) in
+      let z : answer (said release k) ≡ answer x = p5 .1 in
+      (p0 .0, same-answer z)
+    where
+      same-answer : {y : Index} → answer y ≡ answer x → x ≡ y
+      same-answer e = cc
+
+  root-accepted : (text : List ℕ) (h : Head) (k : Forest) → Reads text h k → rootRead g letter block (node h k none) ≡ answer x → Accepted text x
+  unfolding rootRead structured
+  root-accepted text h k form e =
+      let n = orZero (is.version (h .value)) in
+      let p0 = passed Structure (require (isSome (is.version (h .value))) Version (childrenRead g letter block n k)) x (same (h .name) (bytes "ltfsindex") && same (h .key) (bytes "version")) e in
+      let p1 = passed Version (childrenRead g letter block n k) x (isSome (is.version (h .value))) (p0 .1) in
+      let p2 = children-accepted n k (p1 .1) in
+      record {
+        head = h;
+        kids = k;
+        release = n;
+        reads = form;
+        name = and-left (same (h .name) (bytes "ltfsindex")) (same (h .key) (bytes "version")) (p0 .0);
+        right = and-right (complete index k) (every rightly (elements index k)) (p2 .0);
+        says = p2 .1;
+      }
+
+pub accepted : (g : Given) (letter block : ℕ) (text : List ℕ) (x : Index) → indexOf g letter block text ≡ answer x → Accepted text x
+unfolding indexOf
+accepted g letter block text x e =
+    let a2 = rootRead g letter block (rowAt text 38) in
+    let a1 = require (isGood (form text)) Form a2 in
+    let p0 = passed Caller (require (leb (length text) 1048576) TooMany a1) x (callerRight g letter) e in
+    let p1 = passed TooMany a1 x (leb (length text) 1048576) (p0 .1) in
+    let p2 = passed Form a2 x (isGood (form text)) (p1 .1) in
+    let (h, k, r) = form-reads text (is-good (form text) (p2 .0)) in
+    root-accepted g letter block x text h k r (ap (rootRead g letter block) (sym (root-row r)) ∙ p2 .1)

@@ -1,0 +1,6 @@
+pub mod Passing
+pub mod Meeting
+pub mod Names
+pub mod Accepted
+pub mod AllFiles
+pub mod Asking

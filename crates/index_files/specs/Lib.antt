@@ -1,0 +1,4 @@
+pub mod Files
+pub mod Rows
+pub mod Met
+pub mod Asked

@@ -1,0 +1,226 @@
+// A file asked for by its number, and its rows.
+use crate::extent_rows;
+use crate::extent_rows::NextRow;
+use crate::extent_rows::Row;
+use crate::files;
+use crate::files::NextFile;
+use elements::Child;
+use elements::Span;
+use index::Read;
+use index::Volume;
+use quantities::BlockNumber;
+use quantities::ByteCount;
+use refusals::Refusal;
+ghost use mathlib.Core.Path.{_≡_};
+ghost use Prim.Native.Nat.{_+_, _*_, _≤_, _<_};
+ghost use lib.ListN.{length, set};
+ghost use Rattle.refusals.specs.Refusals.{andThen};
+ghost use Rattle.slices.specs.Slices.{written};
+ghost use Rattle.elements.specs.Reading.{leftAt, rowAt, childrenAt, Spans};
+ghost use Rattle.index.specs.Elements.{textIn};
+ghost use Rattle.index.specs.Tests.{given, five, rowsIn};
+ghost use Rattle.index.specs.Index.{indexOf};
+ghost use Rattle.index_files.specs.Files.{filesLeft};
+ghost use Rattle.index_files.specs.Rows.{rowIs};
+ghost use Rattle.index_files.specs.Asked.{nth, fileIn, childrenFound, fileFound, HeadOf, ReadsFile, numbersOf, fitting, PutsRows};
+
+// The place of a file's tag.
+enum Located {
+    At(usize),
+    Refused(Refusal),
+}
+
+// What a file says: its length, where its name stands in the text, as spelled, and how many rows it has.
+pub struct FileHead {
+    pub length: ByteCount,
+    pub name: Span,
+    pub rows: u64,
+}
+
+pub enum FileRead {
+    Found(FileHead),
+    Refused(Refusal),
+}
+
+// How many rows were written.
+pub enum RowsRead {
+    Count(u64),
+    Refused(Refusal),
+}
+
+// The k-th file of a text.
+fn find(text: &[u8], k: u64) -> Located
+    ensures { λ r. ⌜ childrenFound (now (text .entry)) r ≡ nth k (filesLeft (leftAt (now (text .entry)) 38)) ⌝ }
+{
+    let mut i: usize = 38;
+    let mut left = k;
+    loop {
+        match files::next_file(text, i) {
+            NextFile::Done => {
+                return Located::Refused(Refusal::Missing);
+            }
+            NextFile::File(n, next) => {
+                if left == 0 {
+                    return Located::At(n);
+                }
+                left -= 1;
+                i = next;
+            }
+        }
+    }
+}
+
+// The k-th file of an index, once its text is read.
+fn locate(
+    text: &[u8],
+    uuid: &[u8],
+    volume: Volume,
+    letter: u8,
+    block: BlockNumber,
+    k: u64,
+) -> Located
+    ensures { λ r. ⌜ fileFound (now (text .entry)) r ≡ fileIn k (indexOf (given (now (uuid .entry)) volume) letter (block .0) (now (text .entry))) ⌝ }
+{
+    match index::read_index(text, uuid, volume, letter, block) {
+        Read::Refused(r) => Located::Refused(r),
+        Read::Found(_) => find(text, k),
+    }
+}
+
+// Where the text of the first element of a name stands, in the row at at.
+fn span_in(text: &[u8], at: usize, name: &[u8]) -> Span
+    ensures { λ r. ⌜ Spans (now (text .entry)) (r .from) (r .len) (textIn (now (name .entry)) (rowAt (now (text .entry)) at)) ⌝ }
+{
+    let mut i = at;
+    loop {
+        match elements::next_child(text, i) {
+            Child::Done => {
+                return Span { from: 0, len: 0 };
+            }
+            Child::At(n, next) => {
+                if elements::name_is(text, n, name) {
+                    return elements::text_at(text, n);
+                }
+                i = next;
+            }
+        }
+    }
+}
+
+// How many rows there are from at on.
+fn count_rows(text: &[u8], at: usize) -> u64
+    ensures { λ r. ⌜ r ≡ length (rowsIn (rowAt (now (text .entry)) at)) ⌝ }
+{
+    let mut i = at;
+    let mut n: u64 = 0;
+    loop {
+        match elements::next_child(text, i) {
+            Child::Done => {
+                return n;
+            }
+            Child::At(_, next) => {
+                n += 1;
+                i = next;
+            }
+        }
+    }
+}
+
+// What the file whose tag is at n says.
+fn head_at(text: &[u8], n: usize) -> FileHead
+    ensures { λ r. ⌜ HeadOf (now (text .entry)) (childrenAt (now (text .entry)) n) r ⌝ }
+{
+    let at = elements::first_child(text, n);
+    FileHead {
+        length: ByteCount(index::number_said(index::text_in(text, at, b"length"))),
+        name: span_in(text, at, b"name"),
+        rows: count_rows(text, extent_rows::first_row(text, n)),
+    }
+}
+
+// The k-th file of an index's text; the other parameters are those of reading it.
+pub fn file(
+    text: &[u8],
+    uuid: &[u8],
+    volume: Volume,
+    letter: u8,
+    block: BlockNumber,
+    k: u64,
+) -> FileRead
+    ensures { λ r. ⌜ ReadsFile (now (text .entry)) (fileIn k (indexOf (given (now (uuid .entry)) volume) letter (block .0) (now (text .entry)))) r ⌝ }
+{
+    match locate(text, uuid, volume, letter, block, k) {
+        Located::Refused(r) => FileRead::Refused(r),
+        Located::At(n) => FileRead::Found(head_at(text, n)),
+    }
+}
+
+fn store(out: &mut [u64], at: usize, v: u64)
+    requires { ⌜ at < length (now out) ⌝ }
+    ensures { λ r. ⌜ now (out .exit) ≡ set (now (out .entry)) at v ⌝ }
+{
+    out[at] = v;
+}
+
+// The five numbers of a row, into out from at on.
+fn put_row(out: &mut [u64], at: usize, row: Row)
+    requires { ⌜ at + 5 ≤ length (now out) ⌝ }
+    ensures { λ r. ⌜ now (out .exit) ≡ written at (five (rowIs row)) (now (out .entry)) ⌝ }
+{
+    store(out, at, row.letter);
+    store(out, at + 1, row.startblock.0);
+    store(out, at + 2, row.byteoffset.0);
+    store(out, at + 3, row.bytecount.0);
+    store(out, at + 4, row.fileoffset.0);
+}
+
+// The rows from at on, into the front of out.
+fn write_rows(text: &[u8], at: usize, out: &mut [u64])
+    requires { ⌜ length (rowsIn (rowAt (now text) at)) * 5 ≤ length (now out) ⌝ }
+    ensures { λ r. ⌜ now (out .exit) ≡ written 0 (numbersOf (rowsIn (rowAt (now (text .entry)) at))) (now (out .entry)) ⌝ }
+{
+    let mut i = at;
+    let mut k: usize = 0;
+    loop {
+        match extent_rows::next_row(text, i) {
+            NextRow::Done => {
+                return;
+            }
+            NextRow::Found(row, next) => {
+                put_row(out, k, row);
+                k += 5;
+                i = next;
+            }
+        }
+    }
+}
+
+// The rows from at on, into the front of out if it has room for all of them.
+fn put_rows(text: &[u8], at: usize, out: &mut [u64]) -> RowsRead
+    ensures { λ r. ⌜ PutsRows (fitting (length (now (out .entry))) (rowsIn (rowAt (now (text .entry)) at))) (now (out .entry)) (now (out .exit)) r ⌝ }
+{
+    let n = count_rows(text, at);
+    if ((out.len() / 5) as u64) < n {
+        return RowsRead::Refused(Refusal::Short);
+    }
+    write_rows(text, at, out);
+    RowsRead::Count(n)
+}
+
+// The rows of the k-th file of an index's text, five numbers each, into the front of out; the other parameters are those of reading it.
+pub fn rows(
+    text: &[u8],
+    uuid: &[u8],
+    volume: Volume,
+    letter: u8,
+    block: BlockNumber,
+    k: u64,
+    out: &mut [u64],
+) -> RowsRead
+    ensures { λ r. ⌜ PutsRows (andThen (fileIn k (indexOf (given (now (uuid .entry)) volume) letter (block .0) (now (text .entry)))) (λ f. fitting (length (now (out .entry))) (f .rows))) (now (out .entry)) (now (out .exit)) r ⌝ }
+{
+    match locate(text, uuid, volume, letter, block, k) {
+        Located::Refused(r) => RowsRead::Refused(r),
+        Located::At(n) => put_rows(text, extent_rows::first_row(text, n), out),
+    }
+}
