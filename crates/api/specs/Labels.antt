@@ -2,15 +2,15 @@
 use mathlib.Core.Path.{_≡_}
 use mathlib.Core.Bool.{Bool, _&&_}
 use mathlib.Core.List.{List, [], _∷_}
-use Prim.Native.Nat.{ℕ, _+_}
+use Prim.Native.Nat.{ℕ}
 use lib.Dec.{leb, eqb}
-use lib.ListN.{take, drop, getD}
+use lib.ListN.{getD}
 use Rattle.elements.specs.Decoded.{decoded}
 use Rattle.label.specs.Vol1.{Fields}
 use Rattle.label.specs.Label.{Label}
 use Rattle.label.specs.Text.{isGiven, labelOfGiven}
 use Rattle.label.specs.declared.reader.Fields.{Fields as Read}
-use Rattle.api.specs.Outputs.{bit}
+use Rattle.api.specs.Outputs.{bit, partTold}
 
 -- the places and lengths of VOL1's identifier and owner
 abbrev pub vol1Places : Fields → List ℕ
@@ -23,17 +23,13 @@ labelNumbers f =
     f .release ∷ f .creator .from ∷ f .creator .len ∷ f .time .from ∷ f .time .len ∷ f .uuid .from ∷ f .uuid .len
     ∷ f .location ∷ f .«index_letter» ∷ f .«data_letter» ∷ f .«block_size» ∷ bit (f .compression) ∷ []
 
--- the part of a text whose place and length are numbers k and k + 1 of the outputs
-abbrev pub partAt : List ℕ → List ℕ → ℕ → List ℕ
-partAt s out k = take (getD out (k + 1) 0) (drop (getD out k 0) s)
-
 -- twelve numbers say what a label says: the R of its version; the places of its creator, as spelled, its time and its UUID in s, each with its
 -- length; its location, the index letter, the data letter, the block size, and the compression
 pub record SaysLabel (s : List ℕ) (f : Label) (out : List ℕ) : Type 0 where
   pub release : getD out 0 0 ≡ f .release
-  pub creator : decoded (partAt s out 1) ≡ f .creator
-  pub time : partAt s out 3 ≡ f .time
-  pub uuid : partAt s out 5 ≡ f .uuid
+  pub creator : decoded (partTold s out 1) ≡ f .creator
+  pub time : partTold s out 3 ≡ f .time
+  pub uuid : partTold s out 5 ≡ f .uuid
   pub location : getD out 7 0 ≡ f .location
   pub indexLetter : getD out 8 0 ≡ f .indexLetter
   pub dataLetter : getD out 9 0 ≡ f .dataLetter

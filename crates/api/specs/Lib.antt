@@ -2,3 +2,4 @@ pub mod Outputs
 pub mod Partitions
 pub mod Labels
 pub mod Files
+pub mod Indexes

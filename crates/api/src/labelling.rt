@@ -1,4 +1,5 @@
 // Labels: read, written, and the labels of a volume.
+use crate::numbers::flag;
 use label::Fields;
 use label::Given;
 use label::Label;
@@ -11,14 +12,8 @@ ghost use Rattle.label.specs.Vol1.{vol1Of, areFields, vol1};
 ghost use Rattle.label.specs.Label.{labelOf};
 ghost use Rattle.label.specs.Text.{textOf};
 ghost use Rattle.labels.specs.Labels.{labelsIn};
-ghost use Rattle.api.specs.Outputs.{Shown, Told, WritesOut, bit};
+ghost use Rattle.api.specs.Outputs.{Shown, Told, WritesOut};
 ghost use Rattle.api.specs.Labels.{vol1Places, labelNumbers, SaysLabel, givenLabel, isWritable};
-
-fn flag(b: bool) -> u64
-    ensures { λ r. ⌜ r ≡ bit b ⌝ }
-{
-    if b { 1 } else { 0 }
-}
 
 fn in_numbers(f: Fields) -> [u64; 12]
     ensures { λ r. ⌜ r ≡ labelNumbers f ⌝ }
