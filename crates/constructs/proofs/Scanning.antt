@@ -30,7 +30,7 @@ unfolding scan
 scan-snoc B s [] e = refl
 scan-snoc B s (f ∷ t) e = scan-snoc B (step B s f) t e
 
-scan-at : (B : ℕ) (s : Scan) (t : Tape) → scan B s t .at ≡ s .at + length t
+pub scan-at : (B : ℕ) (s : Scan) (t : Tape) → scan B s t .at ≡ s .at + length t
 unfolding scan step
 scan-at B s [] = sym (add-zero (s .at))
 scan-at B s (e ∷ t) = scan-at B (step B s e) t ∙ omega arith
@@ -132,7 +132,7 @@ abbrev RoomIn : ℕ → Run → List Construct → Type 0
 RoomIn n (labels k) cs = (length cs ≡ 0) × (n + k ≡ 3)
 RoomIn n dataRun cs = length cs * 3 + 4 ≤ n
 RoomIn n (indexRun f x short) cs = (length cs * 3 + 5 ≤ f) × (f ≤ n)
-RoomIn n defect cs = Unit {0}
+RoomIn n defect cs = length cs * 3 + 4 ≤ n
 
 room-past : (n k : ℕ) (cs : List Construct) → length cs ≡ 0 → n + k ≡ 3 → RoomIn (suc n) (pastLabel k) cs
 unfolding pastLabel
@@ -143,19 +143,29 @@ room-step : (B n : ℕ) (r : Run) (cs : List Construct) (e : Element) → RoomIn
 unfolding runAfter closedBy
 room-step B n (labels k) cs e w = room-past n k cs (w .0) (w .1)
 room-step B n dataRun cs mark w = (omega arith, omega arith)
-room-step B n dataRun cs (block x) w = split (λ b. RoomIn (suc n) (cond b defect dataRun) cs) (ltb B (length x)) (λ e. tt) (λ e. omega arith)
+room-step B n dataRun cs (block x) w = split (λ b. RoomIn (suc n) (cond b defect dataRun) cs) (ltb B (length x)) (λ e. omega arith) (λ e. omega arith)
 room-step B n (indexRun f x short) cs mark w =
     split (λ b. eqb f n ≡ b → RoomIn (suc n) (cond b defect dataRun) (cond b cs (record { first = f; upTo = suc n; text = x } ∷ cs))) (eqb f n)
-    (λ e q. tt) (λ e q. let u : f ≡ n → ⊥ = eqb-false f n q in omega arith) refl
+    (λ e q. omega arith) (λ e q. let u : f ≡ n → ⊥ = eqb-false f n q in omega arith) refl
 room-step B n (indexRun f y short) cs (block x) w =
-    split (λ b. RoomIn (suc n) (cond b defect (cond (ltb B (length x)) defect (indexRun f (y ++ x) (ltb (length x) B)))) cs) short (λ e. tt)
-    (λ e. split (λ b. RoomIn (suc n) (cond b defect (indexRun f (y ++ x) (ltb (length x) B))) cs) (ltb B (length x)) (λ u. tt) (λ u. (w .0, omega arith)))
-room-step B n defect cs e w = tt
+    split (λ b. RoomIn (suc n) (cond b defect (cond (ltb B (length x)) defect (indexRun f (y ++ x) (ltb (length x) B)))) cs) short (λ e. omega arith)
+    (λ e. split (λ b. RoomIn (suc n) (cond b defect (indexRun f (y ++ x) (ltb (length x) B))) cs) (ltb B (length x)) (λ u. omega arith) (λ u. (w .0, omega arith)))
+room-step B n defect cs e w = omega arith
 
 room-scan : (B : ℕ) (s : Scan) (t : Tape) → RoomIn (s .at) (s .run) (s .done) → RoomIn (scan B s t .at) (scan B s t .run) (scan B s t .done)
 unfolding scan step
 room-scan B s [] w = w
 room-scan B s (e ∷ t) w = room-scan B (step B s e) t (room-step B (s .at) (s .run) (s .done) e w)
+
+pub standing-few : (B : ℕ) (t : Tape) → length (standing B t) * 3 ≤ length t
+unfolding standing
+standing-few B t = go (scan B start t .run) (room-scan B start t (refl, refl))
+  where
+    go : (r : Run) → RoomIn (scan B start t .at) r (standing B t) → length (standing B t) * 3 ≤ length t
+    go (labels k) w = omega (arith, w .0)
+    go dataRun w = omega (arith, scan-at B start t)
+    go (indexRun f x short) w = omega (arith, scan-at B start t)
+    go defect w = omega (arith, scan-at B start t)
 
 pub bytes-within : (t : Tape) (n : ℕ) → bytesBefore t n ≤ length (store t)
 bytes-within t n =

@@ -1,5 +1,5 @@
--- What holds of a text that is read as an index without refusal: it is in the XML form, its root and its structure are right, and what it
--- says is what its children say.
+-- What holds of a text that is read as an index without refusal: it is in the XML form, its root and its structure are right, its
+-- extents are lawful, and what it says is what its children say.
 use mathlib.Core.Path.{_≡_, refl, ap, sym, _∙_}
 use mathlib.Core.Bool.{Bool, true, false, _&&_, false≢true}
 use mathlib.Core.List.{List}
@@ -27,13 +27,15 @@ use Rattle.index.specs.Entries.{orZero}
 use Rattle.index.specs.Tests.{Given, isSome}
 use Rattle.index.specs.Index.{Index, said, structured, bounded, allValued, allOwn, allLawful, standsAt, locationIn, childrenRead, rootRead, callerRight, isGood, indexOf}
 
-pub record Accepted (text : List ℕ) (x : Index) : Type 0 where
+pub record Accepted (g : Given) (letter : ℕ) (text : List ℕ) (x : Index) : Type 0 where
+  pub caller : callerRight g letter ≡ true
   pub head : Head
   pub kids : Forest
   pub release : ℕ
   pub reads : Reads text head kids
   pub name : same (head .name) (bytes "ltfsindex") ≡ true
   pub right : every rightly (elements index kids) ≡ true
+  pub lawful : allLawful g (elements index kids) ≡ true
   pub says : x ≡ said release kids
 
 module _ {A : Type 0} (r : Refusal) (next : Answer A) (x : A) where
@@ -47,7 +49,7 @@ is-good good e = refl
 is-good (broken u) e = absurd (false≢true e)
 
 module _ (g : Given) (letter block : ℕ) (x : Index) where
-  children-accepted : (release : ℕ) (k : Forest) → childrenRead g letter block release k ≡ answer x → (structured k ≡ true) × (x ≡ said release k)
+  children-accepted : (release : ℕ) (k : Forest) → childrenRead g letter block release k ≡ answer x → (structured k ≡ true) × (allLawful g (elements index k) ≡ true) × (x ≡ said release k)
   unfolding childrenRead
   children-accepted release k e =
       let l = elements index k in
@@ -64,29 +66,31 @@ module _ (g : Given) (letter block : ℕ) (x : Index) where
       let p4 = passed Extents a5 x (allLawful g l) (p3 .1) in
       let p5 = passed Location a6 x (standsAt letter block (locationIn k)) (p4 .1) in
       let z : answer (said release k) ≡ answer x = p5 .1 in
-      (p0 .0, same-answer z)
+      (p0 .0, p4 .0, same-answer z)
     where
       same-answer : {y : Index} → answer y ≡ answer x → x ≡ y
       same-answer e = cc
 
-  root-accepted : (text : List ℕ) (h : Head) (k : Forest) → Reads text h k → rootRead g letter block (node h k none) ≡ answer x → Accepted text x
+  root-accepted : (text : List ℕ) (h : Head) (k : Forest) → callerRight g letter ≡ true → Reads text h k → rootRead g letter block (node h k none) ≡ answer x → Accepted g letter text x
   unfolding rootRead structured
-  root-accepted text h k form e =
+  root-accepted text h k right form e =
       let n = orZero (is.version (h .value)) in
       let p0 = passed Structure (require (isSome (is.version (h .value))) Version (childrenRead g letter block n k)) x (same (h .name) (bytes "ltfsindex") && same (h .key) (bytes "version")) e in
       let p1 = passed Version (childrenRead g letter block n k) x (isSome (is.version (h .value))) (p0 .1) in
       let p2 = children-accepted n k (p1 .1) in
       record {
+        caller = right;
         head = h;
         kids = k;
         release = n;
         reads = form;
         name = and-left (same (h .name) (bytes "ltfsindex")) (same (h .key) (bytes "version")) (p0 .0);
         right = and-right (complete index k) (every rightly (elements index k)) (p2 .0);
-        says = p2 .1;
+        lawful = p2 .1;
+        says = p2 .2;
       }
 
-pub accepted : (g : Given) (letter block : ℕ) (text : List ℕ) (x : Index) → indexOf g letter block text ≡ answer x → Accepted text x
+pub accepted : (g : Given) (letter block : ℕ) (text : List ℕ) (x : Index) → indexOf g letter block text ≡ answer x → Accepted g letter text x
 unfolding indexOf
 accepted g letter block text x e =
     let a2 = rootRead g letter block (rowAt text 38) in
@@ -95,4 +99,4 @@ accepted g letter block text x e =
     let p1 = passed TooMany a1 x (leb (length text) 1048576) (p0 .1) in
     let p2 = passed Form a2 x (isGood (form text)) (p1 .1) in
     let (h, k, r) = form-reads text (is-good (form text) (p2 .0)) in
-    root-accepted g letter block x text h k r (ap (rootRead g letter block) (sym (root-row r)) ∙ p2 .1)
+    root-accepted g letter block x text h k (p0 .0) r (ap (rootRead g letter block) (sym (root-row r)) ∙ p2 .1)

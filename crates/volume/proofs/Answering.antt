@@ -1,0 +1,167 @@
+-- The rescue and the verdict, from what the tables hold, from the labels, and on the bytes handed in.
+use mathlib.Core.Path.{_≡_, refl, sym, ap, subst, _∙_}
+use mathlib.Core.Bool.{Bool, true, false, cond}
+use mathlib.Core.List.{List, [], _∷_, _++_}
+use mathlib.Core.Option.{Option, none, some}
+use Prim.Native.Nat.{ℕ, zero, suc, _+_, _-_, _*_, _≤_, _<_}
+use native.Mathlib.Omega.{arith}
+use native.Mathlib.Decide.{decLe}
+use lib.ListN.{length, getD, take, drop, replicate, length-replicate, List·getD-eq-default}
+use Rattle.refusals.specs.declared.Refusal.{Refusal}
+use Rattle.refusals.specs.declared.Refusal.the-variants.{NoCut}
+use Rattle.refusals.specs.Refusals.{Answer, refused, answer, andThen}
+use Rattle.tape.specs.Tape.{Tape, Encodes}
+use Rattle.tape.specs.Answers.{tapeIn}
+use Rattle.tape.proofs.Encoding.{Bytes, encodes-read}
+use Rattle.constructs.specs.Constructs.{Construct, start, standing, dataLengths}
+use Rattle.constructs.proofs.Suffixes.{Suffix, suffix-trans}
+use Rattle.constructs.proofs.Scanning.{scan-at, standing-few}
+use Rattle.constructs.proofs.Fronts.{Below, standing-at, standing-below, below-suffix}
+use Rattle.constructs.proofs.Lengths.{length-lengths}
+use Rattle.label.specs.Label.{Label}
+use Rattle.labels.specs.Labels.{labelsOf, labelsIn}
+use Rattle.labels.proofs.Fronts.{labels-front}
+use Rattle.index.specs.Tests.{Given}
+use Rattle.index.specs.declared.tests.Volume.{Volume as Letters}
+use Rattle.verdict.specs.Verdict.{Volume, Break, verdict}
+use Rattle.verdict.specs.Rescue.{Cut, through, chain, cutAmong, rescue}
+use Rattle.verdict.specs.Partners.{beginnings}
+use Rattle.verdict.specs.Demand.{Demand3}
+use Rattle.verdict.proofs.Demand.{demand3}
+use Rattle.verdict.proofs.Orders.{firsts, firsts-suffix}
+use Rattle.verdict.proofs.Partners.{begins-at, length-beginnings}
+use Rattle.volume.specs.Volume.{volumeWith, givenBy, agreed, labels, onVolume, orNoCut, rescueIn, verdictIn}
+use Rattle.volume.specs.Steps.{Listed, Generations, Chains, ChainsOf, ReachTable, Ready, BeginsOf, Searches, ListsOf, ReachesOf, triedCut, cutIs, Cuts}
+use Rattle.volume.specs.Answers.{rescued, cutOf, Rescues}
+use Rattle.volume.specs.declared.search.Tried.{Tried}
+use Rattle.volume.specs.declared.answers.Rescue.{Rescue}
+use Rattle.volume.specs.declared.answers.Rescue.the-variants as rescueIs
+use Rattle.volume.proofs.Partitions.{tape-read, through-past, listed-suffix}
+
+scan-length : (B : ℕ) (t : Tape) → Below (length t) (standing B t)
+scan-length B t = subst (λ (n : ℕ). Below n (standing B t)) (scan-at B start t ∙ omega arith) (standing-below B t)
+
+module _ (g : Given) (il is dl ds : List ℕ) (i d : Tape) (ei : Encodes il is i) (ed : Encodes dl ds d) where
+  abbrev v : Volume
+  v = volumeWith g
+
+  module _ (ti td ri rd gens begins : List ℕ) (n m k : ℕ)
+      (ht : (n ≡ length (standing (g .size) i)) × Listed is ti (standing (g .size) i))
+      (hd : (m ≡ length (standing (g .size) d)) × Listed ds td (standing (g .size) d))
+      (hri : ReachTable (g .size) (dataLengths i) ri) (hrd : ReachTable (g .size) (dataLengths d) rd)
+      (hc : Chains v (standing (g .size) d) gens k)
+      (hb : begins ≡ beginnings (firsts k (standing (g .size) d)) (replicate 65536 0)) where
+    front : Suffix (firsts k (standing (g .size) d)) (standing (g .size) d)
+    front = firsts-suffix (length (standing (g .size) d) - k) (standing (g .size) d)
+
+    partners : (q : ℕ) → getD begins q 0 ≡ length (through q (firsts k (standing (g .size) d)))
+    partners q = ap (λ (x : List ℕ). getD x q 0) hb ∙ go (decLe 65536 q)
+      where
+        go : Dec (65536 ≤ q) → getD (beginnings (firsts k (standing (g .size) d)) (replicate 65536 0)) q 0 ≡ length (through q (firsts k (standing (g .size) d)))
+        go (yes h) =
+            let w : length (beginnings (firsts k (standing (g .size) d)) (replicate 65536 0)) ≡ 65536
+            = length-beginnings (firsts k (standing (g .size) d)) (replicate 65536 0) ∙ length-replicate {A = ℕ} 65536 0 in
+            List·getD-eq-default (beginnings (firsts k (standing (g .size) d)) (replicate 65536 0)) 0 (omega arith)
+            ∙ sym (ap length (through-past (length d) q (firsts k (standing (g .size) d)) (below-suffix (length d) front (scan-length (g .size) d)) (omega (arith, ed .elements))))
+        go (no h) = begins-at (firsts k (standing (g .size) d)) 65536 q (omega arith)
+
+    fits : (t : Tape) (c : Construct) (bs : List Construct) → Suffix (c ∷ bs) (standing (g .size) t) → c .upTo ≤ length (dataLengths t)
+    fits t c bs suf = omega (arith, standing-at (g .size) t c bs suf .0, length-lengths 4 true t)
+
+    ready : Ready v is ti td gens begins ri rd (standing (g .size) i) (firsts k (standing (g .size) d)) (dataLengths i) (dataLengths d)
+    ready =
+        record {
+          ds-store = ds;
+          index = ht .1;
+          chain = listed-suffix ds td (firsts k (standing (g .size) d)) (standing (g .size) d) front (hd .1);
+          whole = hc .whole;
+          generations = hc .generations;
+          partners = partners;
+          indexReach = hri;
+          dataReach = hrd;
+          indexFits = fits i;
+          dataFits = λ c bs suf. fits d c bs (suffix-trans suf front);
+        }
+
+    -- the search over those tables finds the rescue's cut
+    found : (r : Tried) → triedCut r ≡ cutAmong v (dataLengths i) (dataLengths d) (firsts k (standing (g .size) d)) (standing (g .size) i) → triedCut r ≡ rescue v i d
+    unfolding rescue
+    found r e = e ∙ ap (λ (x : List Construct). cutAmong (volumeWith g) (dataLengths i) (dataLengths d) x (standing (g .size) i)) (sym (hc .longest))
+
+    pub cuts : (w : Letters) (r : Tried) → Searches g w is ti n td gens begins ri rd r → triedCut r ≡ rescue v i d
+    cuts w r e = found r (e (standing (g .size) i) (firsts k (standing (g .size) d)) (dataLengths i) (dataLengths d) ready (sym (ht .0)))
+
+-- the same from what the functions promise that fill the tables
+pub cuts-by : (g : Given) (w : Letters) (il is dl ds ti td ri rd gens begins : List ℕ) (n m k x y : ℕ) (r : Tried)
+    → ListsOf (g .size) il is (replicate 87380 0) ti n → ListsOf (g .size) dl ds (replicate 87380 0) td m
+    → ReachesOf (g .size) il is (replicate 65536 0) ri x → ReachesOf (g .size) dl ds (replicate 65536 0) rd y
+    → ChainsOf (volumeWith g) ds td m (length {A = ℕ} (replicate 21845 0)) gens k → BeginsOf td k (replicate 65536 0) begins
+    → Searches g w is ti n td gens begins ri rd r → Cuts g il is dl ds r
+cuts-by g w il is dl ds ti td ri rd gens begins n m k x y r lt ld lri lrd lc lb ls i d ei ed =
+    let a = lt i ei (length-replicate {A = ℕ} 87380 0) in
+    let b = ld d ed (length-replicate {A = ℕ} 87380 0) in
+    let few : length (standing (g .size) d) ≤ 21845 = omega (arith, standing-few (g .size) d, ed .elements) in
+    let room : length {A = ℕ} (replicate 21845 0) ≡ 21845 = length-replicate {A = ℕ} 21845 0 in
+    let c = lc (standing (g .size) d) (b .1) (sym (b .0)) (omega (arith, few, room, b .0)) in
+    cuts g il is dl ds i d ei ed ti td ri rd gens begins n m k a b (lri i ei (length-replicate {A = ℕ} 65536 0) .1) (lrd d ed (length-replicate {A = ℕ} 65536 0) .1) c
+    (lb ds (standing (g .size) d) (b .1) (c .few) (omega (arith, few, c .few))) w r ls
+
+module _ {A : Type 0} (ask : Volume → Tape → Tape → Answer A) (il is dl ds : List ℕ) where
+  -- where the labels are refused, so is the question
+  pub ask-refused : (r : Refusal) → refused r ≡ labelsIn il is dl ds → refused r ≡ onVolume ask il is dl ds
+  unfolding labelsIn
+  ask-refused r = go (tapeIn il is) (tapeIn dl ds)
+    where
+      last : (i d : Tape) (a : Answer Label) → refused r ≡ a → refused r ≡ andThen a (λ f. ask (volumeWith (givenBy f)) i d)
+      last i d (refused q) e = let z : r ≡ q = cc in rw z
+      last i d (answer f) e = let z : _≡_ {A = ℕ} 0 1 = cc in absurd (omega arith)
+
+      go : (a b : Answer Tape) → refused r ≡ andThen a (λ i. andThen b (λ d. labelsOf i d))
+          → refused r ≡ andThen a (λ i. andThen b (λ d. andThen (labelsOf i d) (λ f. ask (volumeWith (givenBy f)) i d)))
+      go (refused q) b e = let z : r ≡ q = cc in rw z
+      go (answer i) (refused q) e = let z : r ≡ q = cc in rw z
+      go (answer i) (answer d) e = last i d (labelsOf i d) e
+
+  -- where they are read, both lists are well formed
+  pub record Labelled (f : Label) : Type 0 where
+    pub index : Tape
+    pub other : Tape
+    pub indexRead : tapeIn il is ≡ answer index
+    pub otherRead : tapeIn dl ds ≡ answer other
+    pub says : labelsOf index other ≡ answer f
+
+  pub labelled : (f : Label) → answer f ≡ labelsIn il is dl ds → Labelled f
+  unfolding labelsIn
+  labelled f = go (tapeIn il is) (tapeIn dl ds) refl refl
+    where
+      go : (a b : Answer Tape) → tapeIn il is ≡ a → tapeIn dl ds ≡ b → answer f ≡ andThen a (λ i. andThen b (λ d. labelsOf i d)) → Labelled f
+      go (refused q) b x y e = let z : _≡_ {A = ℕ} 0 1 = cc in absurd (omega arith)
+      go (answer i) (refused q) x y e = let z : _≡_ {A = ℕ} 0 1 = cc in absurd (omega arith)
+      go (answer i) (answer d) x y e = record { index = i; other = d; indexRead = x; otherRead = y; says = sym e }
+
+  pub ask-labelled : (f : Label) (l : Labelled f) → onVolume ask il is dl ds ≡ ask (volumeWith (givenBy f)) (l .index) (l .other)
+  ask-labelled f l = rw (l .indexRead, l .otherRead, l .says)
+
+-- an answer that is the definition's keeps demand 3
+cut-of : (r : Rescue) (o : Option Cut) → rescued r ≡ orNoCut o → cutOf r ≡ o
+cut-of (rescueIs.Cut k) none e = let z : _≡_ {A = ℕ} 0 1 = cc in absurd (omega arith)
+cut-of (rescueIs.Cut k) (some a) e = let z : cutIs k ≡ a = cc in ap some z
+cut-of (rescueIs.Refused q) none e = refl
+cut-of (rescueIs.Refused q) (some a) e = let z : _≡_ {A = ℕ} 0 1 = cc in absurd (omega arith)
+
+agreed-label : (a : Answer Label) (v : Volume) → agreed a ≡ some v → (f : Label) × (a ≡ answer f) × (volumeWith (givenBy f) ≡ v)
+agreed-label (refused r) v e = let z : _≡_ {A = ℕ} 0 1 = cc in absurd (omega arith)
+agreed-label (answer f) v e = (f, refl, let z : volumeWith (givenBy f) ≡ v = cc in z)
+
+module _ (il is dl ds : List ℕ) where
+  pub rescues : (r : Rescue) → rescued r ≡ rescueIn il is dl ds → Rescues il is dl ds r
+  rescues r e = record { answers = e; demand = demand }
+    where
+      demand : (i d : Tape) → Encodes il is i → Encodes dl ds d → (v : Volume) → labels i d ≡ some v → Demand3 labels v i d (cutOf r)
+      demand i d ei ed v a =
+          let x = agreed-label (labelsOf i d) v a in
+          let l : Labelled {A = Cut} (λ w i d. orNoCut (rescue w i d)) il is dl ds (x .0)
+          = record { index = i; other = d; indexRead = tape-read ei; otherRead = tape-read ed; says = x .1 } in
+          let q : rescued r ≡ orNoCut (rescue v i d)
+          = e ∙ ask-labelled (λ w i d. orNoCut (rescue w i d)) il is dl ds (x .0) l ∙ ap (λ (w : Volume). orNoCut (rescue w i d)) (x .2) in
+          subst (Demand3 labels v i d) (sym (cut-of r (rescue v i d) q)) (demand3 labels v i d (ap agreed (labels-front i d) ∙ a))

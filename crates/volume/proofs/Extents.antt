@@ -1,0 +1,163 @@
+-- The extents of an index that reads lie on what is kept where the tables say so.
+use mathlib.Core.Path.{_≡_, refl, sym, ap, subst, _∙_}
+use mathlib.Core.Bool.{Bool, true, false, cond, not, _&&_, _||_}
+use mathlib.Core.List.{List, [], _∷_, _++_, map}
+use mathlib.Core.Option.{Option, none, some}
+use Prim.Native.Nat.{ℕ, suc, _+_, _≤_}
+use native.Mathlib.Omega.{arith}
+use borrow.Author.Tests.{leb-true, eq-eqb, ne-eqb}
+use lib.Dec.{leb, ltb, eqb}
+use lib.ListN.{length, take}
+use Rattle.refusals.specs.Refusals.{Answer, refused, answer}
+use Rattle.slices.specs.Slices.{within, every}
+use Rattle.slices.proofs.Booleans.{split, and-left, and-right}
+use Rattle.quantities.specs.Letters.{isLetter}
+use Rattle.values.specs.Values.{isUuid}
+use Rattle.extents.specs.Rows.{Row}
+use Rattle.extents.specs.Lawful.{rowLawful, lawful, eachLawful, apart, end, lastBlock}
+use Rattle.extents.specs.Tape.{liesOnTape}
+use Rattle.constructs.specs.Reach.{reaches, liesBy}
+use Rattle.constructs.proofs.Lying.{lies-by}
+use Rattle.index_names.specs.Sorts.{index, file}
+use Rattle.index.specs.Elements.{Element, elements}
+use Rattle.index.specs.Tests as tests
+use Rattle.index.specs.Tests.{Given, lengthOf, rowsOf, given}
+use Rattle.index.specs.Index as text
+use Rattle.index.specs.Index.{File, fileOf, filesOf, indexOf, allLawful, callerRight}
+use Rattle.index.specs.declared.tests.Volume.{Volume as Letters}
+use Rattle.elements.specs.Reading.{leftAt}
+use Rattle.xml.specs.Tree.{Forest}
+use Rattle.index_files.specs.Files.{filesLeft}
+use Rattle.index_files.proofs.AllFiles.{files-left}
+use Rattle.index_files.proofs.Accepted.{Accepted, accepted}
+use Rattle.verdict.specs.Verdict.{Index, Volume, orElse, unless, firstFailing, lies, badFileIn}
+use Rattle.volume.specs.Volume.{rowsOfEach, asked, soundly, volumeWith}
+use Rattle.volume.specs.Steps.{ReachTable, liesIn, lostFile, Loses}
+use Rattle.volume.specs.declared.lost.Lost.{Lost}
+
+-- each file's extents are lawful for its length and blocks of size B
+abbrev AllLawful : ℕ → List File → Type 0
+AllLawful B [] = Unit {0}
+AllLawful B (f ∷ fs) = (lawful (f .length) B (f .rows) ≡ true) × AllLawful B fs
+
+files-lawful : (g : Given) (l : List Element) → allLawful g l ≡ true → AllLawful (g .size) (filesOf l)
+unfolding filesOf every tests.lawful
+files-lawful g [] e = tt
+files-lawful g (x ∷ l) e =
+    let a = and-left (tests.lawful g (x .sort) (x .kids)) (allLawful g l) e in
+    let b = files-lawful g l (and-right (tests.lawful g (x .sort) (x .kids)) (allLawful g l) e) in
+    split (λ t. eqb (x .sort) file ≡ t → AllLawful (g .size) (cond t (fileOf (x .kids) ∷ filesOf l) (filesOf l))) (eqb (x .sort) file)
+    (λ u q. (and-right (leb (length (rowsOf (x .kids))) 1024) (lawful (lengthOf (x .kids)) (g .size) (rowsOf (x .kids))) (rw q at a), b))
+    (λ u q. b) refl
+
+-- a lawful row has a byte
+row-byte : (L B : ℕ) (r : Row) → rowLawful L B r ≡ true → 1 ≤ r .byteoffset + r .bytecount
+unfolding rowLawful
+row-byte L B r e =
+    let r₃ : Bool = leb 1 (r .bytecount) && ltb (r .byteoffset) B && leb (end r) L in
+    let b = and-left r₃ (leb (lastBlock B r) 18446744073709551615) e in
+    let c = and-left (leb 1 (r .bytecount) && ltb (r .byteoffset) B) (leb (end r) L) b in
+    let a : 1 ≤ r .bytecount = leb-true 1 (r .bytecount) (and-left (leb 1 (r .bytecount)) (ltb (r .byteoffset) B) c) in
+    omega arith
+
+module _ (g : Given) (w : Letters) (li ld ri rd : List ℕ) (ki kd : ℕ) (i : ReachTable (g .size) li ri) (d : ReachTable (g .size) ld rd)
+    (hi : ki ≤ length li) (hd : kd ≤ length ld) (hB : 1 ≤ g .size)
+    (first : w .first ≡ g .first) (other : w .other ≡ g .other) (size : w .size ≡ g .size) where
+  lies-same : (r : Row) → 1 ≤ r .byteoffset + r .bytecount → liesIn w ri ki rd kd r ≡ lies (volumeWith g) (take ki li) (take kd ld) r
+  unfolding lies
+  lies-same r h =
+      rw (first, other, size, lies-by ri li (i .rest) (g .size) ki r (i .holds) hi hB h, lies-by rd ld (d .rest) (g .size) kd r (d .holds) hd hB h)
+
+  every-same : (L B : ℕ) (rows : List Row) → every (rowLawful L B) rows ≡ true
+      → every (liesIn w ri ki rd kd) rows ≡ every (lies (volumeWith g) (take ki li) (take kd ld)) rows
+  unfolding every
+  every-same L B [] e = refl
+  every-same L B (r ∷ rows) e =
+      let a = row-byte L B r (and-left (rowLawful L B r) (every (rowLawful L B) rows) e) in
+      rw (lies-same r a, every-same L B rows (and-right (rowLawful L B r) (every (rowLawful L B) rows) e))
+
+  failing-same : (k : ℕ) (fs : List File) → AllLawful (g .size) fs
+      → firstFailing (every (liesIn w ri ki rd kd)) k (rowsOfEach fs) ≡ firstFailing (every (lies (volumeWith g) (take ki li) (take kd ld))) k (rowsOfEach fs)
+  unfolding firstFailing rowsOfEach lawful
+  failing-same k [] h = refl
+  failing-same k (f ∷ fs) h =
+      let a = every-same (f .length) (g .size) (f .rows) (and-left (eachLawful (f .length) (g .size) (f .rows)) (apart (f .rows)) (h .0)) in
+      rw (a, failing-same (suc k) fs (h .1))
+
+-- the caller's block size is at least 1
+size-one : (g : Given) (letter : ℕ) → callerRight g letter ≡ true → 1 ≤ g .size
+unfolding callerRight
+size-one g letter e =
+    let r₃ : Bool = isLetter (g .first) && isLetter (g .other) && not (eqb (g .first) (g .other)) in
+    let r₄ : Bool = r₃ && within 4096 1048576 (g .size) in
+    let a = and-left (r₄ && isUuid (g .uuid)) (eqb letter (g .first) || eqb letter (g .other)) e in
+    let b = and-left r₄ (isUuid (g .uuid)) a in
+    let d = and-right r₃ (within 4096 1048576 (g .size)) b in
+    let f : 4096 ≤ g .size = leb-true 4096 (g .size) (and-left (leb 4096 (g .size)) (leb (g .size) 1048576) d) in
+    omega arith
+
+-- of an index that reads: the lowest file by the tables is the lowest by the definition
+pub lost-same : (g : Given) (w : Letters) (li ld ri rd : List ℕ) (ki kd letter block : ℕ) (t : List ℕ) (x : text.Index)
+    → ReachTable (g .size) li ri → ReachTable (g .size) ld rd → ki ≤ length li → kd ≤ length ld
+    → w .first ≡ g .first → w .other ≡ g .other → w .size ≡ g .size
+    → indexOf g letter block t ≡ answer x
+    → firstFailing (every (liesIn w ri ki rd kd)) 0 (rowsOfEach (x .files)) ≡ badFileIn (volumeWith g) (soundly (indexOf g letter block t)) (take ki li) (take kd ld)
+lost-same g w li ld ri rd ki kd letter block t x i d hi hd a b c e =
+    let r = accepted g letter block t x e in
+    let y : x .files ≡ filesOf (elements index (r .kids)) = ap (λ (z : text.Index). z .files) (r .says) in
+    let l : AllLawful (g .size) (x .files) = subst (AllLawful (g .size)) (sym y) (files-lawful g (elements index (r .kids)) (r .lawful)) in
+    failing-same g w li ld ri rd ki kd i d hi hd (size-one g letter (r .caller)) a b c 0 (x .files) l
+    ∙ ap (λ (z : Answer text.Index). badFileIn (volumeWith g) (soundly z) (take ki li) (take kd ld)) (sym e)
+
+-- a row by its letter
+module _ (w : Letters) (ri : List ℕ) (ki : ℕ) (rd : List ℕ) (kd : ℕ) (r : Row) where
+  pub row-first : (b : Bool) → r .letter ≡ w .first → b ≡ liesBy ri (w .size) ki (r .startblock) (r .byteoffset) (r .bytecount) → b ≡ liesIn w ri ki rd kd r
+  row-first b e h = rw (eq-eqb _ _ e) h
+
+  pub row-other : (b : Bool) → (r .letter ≡ w .first → ⊥) → r .letter ≡ w .other → b ≡ liesBy rd (w .size) kd (r .startblock) (r .byteoffset) (r .bytecount)
+      → b ≡ liesIn w ri ki rd kd r
+  row-other b n e h = rw (ne-eqb _ _ n, eq-eqb _ _ e) h
+
+  pub row-neither : (r .letter ≡ w .first → ⊥) → (r .letter ≡ w .other → ⊥) → false ≡ liesIn w ri ki rd kd r
+  row-neither n m = rw (ne-eqb _ _ n, ne-eqb _ _ m)
+
+-- rows one after the other
+module _ (P : Row → Bool) (all : Bool) (l : List Row) (h : all ≡ every P l) where
+  pub every-end : l ≡ [] → true ≡ all
+  unfolding every
+  every-end e = sym (h ∙ ap (every P) e)
+
+  pub every-stop : (x : Row) (m : List Row) → l ≡ x ∷ m → P x ≡ false → false ≡ all
+  unfolding every
+  every-stop x m e f = sym (h ∙ ap (every P) e ∙ rw f)
+
+  pub every-on : (x : Row) (m : List Row) → l ≡ x ∷ m → P x ≡ true → all ≡ every P m
+  unfolding every
+  every-on x m e f = h ∙ ap (every P) e ∙ rw f
+
+-- files one after the other
+module _ (Q : List Row → Bool) (all : Option ℕ) (k : ℕ) (l : List Forest) (h : all ≡ firstFailing Q k (map rowsOf l)) where
+  pub lost-end : l ≡ [] → none ≡ all
+  unfolding firstFailing
+  lost-end e = sym (h ∙ ap (λ (x : List Forest). firstFailing Q k (map rowsOf x)) e)
+
+  pub lost-stop : (c : Forest) (m : List Forest) → l ≡ c ∷ m → Q (rowsOf c) ≡ false → some k ≡ all
+  unfolding firstFailing
+  lost-stop c m e f = sym (h ∙ ap (λ (x : List Forest). firstFailing Q k (map rowsOf x)) e ∙ rw f)
+
+  pub lost-on : (c : Forest) (m : List Forest) → l ≡ c ∷ m → Q (rowsOf c) ≡ true → all ≡ firstFailing Q (k + 1) (map rowsOf m)
+  unfolding firstFailing
+  lost-on c m e f =
+      let z : suc k ≡ k + 1 = omega arith in
+      h ∙ ap (λ (x : List Forest). firstFailing Q k (map rowsOf x)) e ∙ rw f (ap (λ (n : ℕ). firstFailing Q n (map rowsOf m)) z)
+
+rows-of-files : (l : List Forest) → rowsOfEach (map fileOf l) ≡ map rowsOf l
+unfolding rowsOfEach
+rows-of-files [] = refl
+rows-of-files (c ∷ l) = ap (λ (x : List (List Row)). rowsOf c ∷ x) (rows-of-files l)
+
+-- the files that are read along the text are those of the index
+pub loses : (t : List ℕ) (w : Letters) (ri : List ℕ) (ki : ℕ) (rd : List ℕ) (kd : ℕ) (r : Lost)
+    → lostFile r ≡ firstFailing (every (liesIn w ri ki rd kd)) 0 (map rowsOf (filesLeft (leftAt t 38))) → Loses t w ri ki rd kd r
+loses t w ri ki rd kd r h g letter block x e =
+    h ∙ ap (firstFailing (every (liesIn w ri ki rd kd)) 0) (sym (rows-of-files (filesLeft (leftAt t 38))) ∙ ap rowsOfEach (files-left g letter block t x e))

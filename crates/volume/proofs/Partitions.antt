@@ -1,0 +1,124 @@
+-- What the tables of a partition hold.
+use mathlib.Core.Path.{_≡_, refl, sym, ap, subst, _∙_}
+use mathlib.Core.Logic.{_⊎_, inl, inr}
+use mathlib.Core.Bool.{Bool, true, false, cond}
+use mathlib.Core.List.{List, [], _∷_, _++_}
+use mathlib.Core.Option.{Option, none, some}
+use Prim.Native.Nat.{ℕ, zero, suc, _+_, _-_, _*_, _≤_, _<_}
+use native.Mathlib.Omega.{arith}
+use native.Mathlib.Decide.{decLe}
+use borrow.Author.Tests.{lt-leb, le-leb, ne-eqb}
+use lib.Dec.{leb, eqb}
+use lib.ListN.{length, getD, take, drop, replicate, length-replicate, List·getD-eq-default}
+use Rattle.refusals.specs.declared.Refusal.{Refusal}
+use Rattle.refusals.specs.declared.Refusal.the-variants.{Short}
+use Rattle.refusals.specs.Refusals.{Answer, refused, answer, require, andThen}
+use Rattle.tape.specs.Tape.{Tape, Encodes, store}
+use Rattle.tape.specs.Answers.{tapeIn, orRefused, counted}
+use Rattle.tape.specs.declared.Checked.{Checked}
+use Rattle.tape.proofs.Encoding.{read-encoded}
+use Rattle.constructs.specs.Constructs.{Construct, standing, dataLengths}
+use Rattle.constructs.specs.Tables.{bytesBefore, entry, entries, placeIn, Scans, scannedCount, tableAfter}
+use Rattle.constructs.specs.Reach.{reaches, Reaches, reachAfter}
+use Rattle.constructs.specs.declared.Place.{Place as Spot}
+use Rattle.constructs.specs.declared.Scanned.{Scanned}
+use Rattle.constructs.proofs.Suffixes.{Suffix, here, there, suffix-length, suffix-trans, nil-suffix}
+use Rattle.constructs.proofs.Scanning.{standing-few, length-entries}
+use Rattle.constructs.proofs.Texts.{table-at, text-at, texts-standing}
+use Rattle.constructs.proofs.Fronts.{Below, below-first}
+use Rattle.verdict.specs.Verdict.{endsWith}
+use Rattle.verdict.specs.Rescue.{through}
+use Rattle.volume.specs.Steps.{Located, Listed, ReachTable, ListsOf, ReachesOf, EndsAt}
+
+same-answer : {A : Type 0} (a b : A) → answer a ≡ answer b → a ≡ b
+same-answer a b e = cc
+
+-- a list and a store that encode a tape are read as it
+pub tape-read : {l s : List ℕ} {t : Tape} → Encodes l s t → tapeIn l s ≡ answer t
+tape-read e = ap orRefused (read-encoded e)
+
+module _ (B : ℕ) (l s : List ℕ) (t : Tape) (e : Encodes l s t) where
+  few : length (standing B t) ≤ 21845
+  few = omega (arith, standing-few B t, e .elements)
+
+  -- a construct's four numbers
+  spot-of : (T : List ℕ) → length T ≡ 87380 → (c : Construct) (cs : List Construct) → Suffix (c ∷ cs) (standing B t)
+      → placeIn (tableAfter B T (answer t)) (length cs)
+      ≡ record { first = c .first; end = c .upTo; from = bytesBefore t (c .first); to = bytesBefore t (c .upTo - 1) }
+  spot-of T n c cs suf =
+      let k : length cs < 21845 = omega (arith, suffix-length suf, few) in
+      let at = table-at t T (omega (arith, few)) suf in
+      let z : length cs * 4 ≡ length cs * 4 + 0 = omega arith in
+      let a : getD (tableAfter B T (answer t)) (length cs * 4) 0 ≡ c .first = ap (λ (x : ℕ). getD (tableAfter B T (answer t)) x 0) z ∙ at 0 (omega arith) in
+      rw (lt-leb 21845 (length cs) k, a, at 1 (omega arith), at 2 (omega arith), at 3 (omega arith))
+
+  listed : (T : List ℕ) → length T ≡ 87380 → Listed s (tableAfter B T (answer t)) (standing B t)
+  listed T n c cs suf =
+      let p = spot-of T n c cs suf in
+      let x : c .text ≡ take (bytesBefore t (c .upTo - 1) - bytesBefore t (c .first)) (drop (bytesBefore t (c .first)) (store t)) = text-at t suf (texts-standing B t) in
+      subst (λ (q : Spot). Located s q c) (sym p)
+      (record { first = refl; end = refl; text = ap (λ (y : List ℕ). take (bytesBefore t (c .upTo - 1) - bytesBefore t (c .first)) (drop (bytesBefore t (c .first)) y)) (e .stores) ∙ sym x })
+
+-- a scan for constructs that answers n
+pub lists-of : (B : ℕ) (l s before after : List ℕ) (r : Scanned) (n : ℕ) → Scans B l s before after r → scannedCount r ≡ answer n → ListsOf B l s before after n
+lists-of B l s before after r n w q t e room =
+    let a = tape-read e in
+    let b : answer n ≡ andThen (tapeIn l s) (λ u. answer (length (standing B u))) = sym q ∙ w .answers in
+    let f : after ≡ tableAfter B before (answer t) = w .holds ∙ ap (tableAfter B before) a in (
+      same-answer n (length (standing B t)) (b ∙ ap (λ (x : Answer Tape). andThen x (λ u. answer (length (standing B u)))) a),
+      subst (λ (x : List ℕ). Listed s x (standing B t)) (sym f) (listed B l s t e before room),
+    )
+
+-- a scan that is refused, of lists that are well formed, is none
+pub lists-refused : (B : ℕ) (l s before after : List ℕ) (r : Scanned) (n : ℕ) (q : Refusal) → Scans B l s before after r → scannedCount r ≡ refused q → ListsOf B l s before after n
+lists-refused B l s before after r n q w h t e room =
+    let a = tape-read e in
+    let b : refused q ≡ answer (length (standing B t)) = sym h ∙ w .answers ∙ ap (λ (x : Answer Tape). andThen x (λ u. answer (length (standing B u)))) a in
+    let z : _≡_ {A = ℕ} 0 1 = cc in
+    absurd (omega arith)
+
+abbrev reachCount : List ℕ → Answer Tape → Answer ℕ
+reachCount before x = andThen x (λ u. require (leb (length u) (length before)) Short (answer (length u)))
+
+module _ (B : ℕ) (l s before after : List ℕ) (r : Checked) (w : Reaches B l s before after r) where
+  reach-fits : (t : Tape) → Encodes l s t → length before ≡ 65536 → counted r ≡ answer (length t)
+  reach-fits t e room =
+      let h : leb (length t) (length before) ≡ true = le-leb (length t) (length before) (omega (arith, e .elements)) in
+      w .answers ∙ ap (reachCount before) (tape-read e) ∙ rw h
+
+  pub reaches-of : (n : ℕ) → counted r ≡ answer n → ReachesOf B l s before after n
+  reaches-of n q t e room =
+      let h : leb (length t) (length before) ≡ true = le-leb (length t) (length before) (omega (arith, e .elements)) in
+      let f : after ≡ reaches B (dataLengths t) ++ drop (length t) before = w .holds ∙ ap (reachAfter B before) (tape-read e) ∙ rw h in
+      (same-answer n (length t) (sym q ∙ reach-fits t e room), record { rest = drop (length t) before; holds = f })
+
+  pub reaches-refused : (n : ℕ) (x : Refusal) → counted r ≡ refused x → ReachesOf B l s before after n
+  reaches-refused n x q t e room =
+      let b : refused x ≡ answer (length t) = sym q ∙ reach-fits t e room in
+      let z : _≡_ {A = ℕ} 0 1 = cc in
+      absurd (omega arith)
+
+-- whether the last construct of a table ends with the last element
+pub ends-none : (table : List ℕ) (n count : ℕ) → n ≡ 0 → EndsAt table n count false
+ends-none table n count z s t [] l e f = refl
+ends-none table n count z s t (c ∷ cs) l e f = absurd (omega arith)
+
+pub ends-last : (table : List ℕ) (n count : ℕ) (p : Spot) (b : Bool) → (n ≡ 0 → ⊥) → p ≡ placeIn table (n - 1) → b ≡ eqb (p .end) count → EndsAt table n count b
+ends-last table n count p b z at q s t [] l e f = absurd (z e)
+ends-last table n count p b z at q s t (c ∷ cs) l e f =
+    let m : n - 1 ≡ length cs = omega arith in
+    let w = l c cs (here refl) in
+    let h : p .end ≡ c .upTo = ap (λ (x : Spot). x .end) (at ∙ ap (placeIn table) m) ∙ w .end in
+    q ∙ ap (λ (x : ℕ). eqb x count) h ∙ ap (eqb (c .upTo)) f
+
+-- no construct of a partition begins past its end
+pub through-past : (n k : ℕ) (ds : List Construct) → Below n ds → n ≤ k → through k ds ≡ []
+unfolding through
+through-past n k [] w h = refl
+through-past n k (d ∷ ds) w h =
+    let f : d .first < n = below-first {ds = d ∷ ds} w (here refl) in
+    rw (ne-eqb (d .first) k (λ q. omega arith)) (through-past (d .first) k ds (w .2) (omega arith))
+
+-- a table of some constructs is one of the first of them
+pub listed-suffix : (s table : List ℕ) (cs ds : List Construct) → Suffix cs ds → Listed s table ds → Listed s table cs
+listed-suffix s table cs ds h l c bs suf = l c bs (suffix-trans suf h)

@@ -1,0 +1,175 @@
+-- The table of beginnings, the construct that an index points at, and the search from the last index construct back.
+use mathlib.Core.Path.{_≡_, refl, sym, ap, subst, _∙_}
+use mathlib.Core.Logic.{_⊎_, inl, inr}
+use mathlib.Core.Bool.{Bool, true, false, cond, not, _&&_}
+use mathlib.Core.List.{List, [], _∷_}
+use mathlib.Core.Option.{Option, none, some}
+use Prim.Native.Nat.{ℕ, zero, suc, _+_, _-_, _≤_, _<_}
+use native.Mathlib.Omega.{arith}
+use lib.Dec.{leb, eqb}
+use lib.ListN.{length, getD, set, drop, take, length-drop}
+use Rattle.slices.specs.Slices.{every}
+use Rattle.slices.proofs.Booleans.{split}
+use Rattle.quantities.specs.Places.{Place}
+use Rattle.constructs.specs.Constructs.{Construct}
+use Rattle.constructs.specs.Tables.{placeIn}
+use Rattle.constructs.specs.declared.Place.{Place as Spot}
+use Rattle.constructs.proofs.Suffixes.{Suffix, here, there, suffix-trans}
+use Rattle.verdict.specs.Verdict.{Index, Volume, orElse, isNone, firstFailing, readIndex, readData, follows, chainBreak, badFileIn}
+use Rattle.verdict.specs.Rescue.{Cut, blockOf, target, generationOf, through, cutAt, attempt, cutAmong}
+use Rattle.verdict.specs.Partners.{beginnings}
+use Rattle.verdict.proofs.Chains.{through-suffix, good-suffix}
+use Rattle.verdict.proofs.Orders.{firsts, firsts-all, search-on, search-found}
+use Rattle.index.specs.Tests.{Given}
+use Rattle.volume.specs.Volume.{volumeWith}
+use Rattle.volume.specs.Steps.{Told, told, toldBy, backTold, joined, Located, Listed, Generations, Ready, BeginsOf, cutIs}
+use Rattle.volume.specs.declared.sound.Brief.{Brief}
+use Rattle.volume.specs.declared.search.Kept.{Kept}
+use Rattle.volume.proofs.Briefs.{joined-follows}
+use Rattle.volume.proofs.Chaining.{next-first, firsts-none, firsts-length, last-sound, told-generation, joined-sound}
+
+-- the table has the first k constructs
+abbrev pub BeginsAt : List ℕ → ℕ → List ℕ → List ℕ → ℕ → Type 0
+BeginsAt table n before after k =
+    (s : List ℕ) (ds : List Construct) → Listed s table ds → n ≤ length ds → n < 4294967296 → after ≡ beginnings (firsts k ds) before
+
+module _ (table : List ℕ) (n : ℕ) (before : List ℕ) where
+  pub begins-start : BeginsAt table n before before 0
+  unfolding beginnings
+  begins-start s ds l h b = sym (ap (λ (x : List Construct). beginnings x before) (firsts-none ds))
+
+  pub begins-more : (after : List ℕ) (k : ℕ) (p : Spot) (m : ℕ) → BeginsAt table n before after k → k < n → p ≡ placeIn table k → (k + 1 < 4294967296 → m ≡ k + 1)
+      → BeginsAt table n before (set after (p .first) m) (k + 1)
+  unfolding beginnings
+  begins-more after k p m w i e q s ds l h b =
+      let x = next-first ds k (omega arith) in
+      let z : length (firsts k ds) ≡ k = firsts-length ds k (omega arith) in
+      let c = l (x .0) (firsts k ds) (x .2) in
+      let f : p .first ≡ x .0 .first = ap (λ (y : Spot). y .first) (e ∙ ap (placeIn table) (sym z)) ∙ c .first in
+      let r : m ≡ suc (length (firsts k ds)) = q (omega arith) ∙ omega arith in
+      ap (λ (y : List ℕ). set y (p .first) m) (w s ds l h b) ∙ rw (f, r) (sym (ap (λ (y : List Construct). beginnings y before) (x .1)))
+
+  pub begins-end : (after : List ℕ) (k : ℕ) → BeginsAt table n before after k → k ≤ n → n ≤ k → BeginsOf table n before after
+  begins-end after k w a b s ds l h i = let q : k ≡ n = omega arith in w s ds l h i ∙ ap (λ (m : ℕ). beginnings (firsts m ds) before) q
+
+-- an index without a back pointer follows nothing
+alone-follows : (v : Volume) (x : Index) (d : Construct) (p : Option Index) → x .back ≡ none → follows v (some x) d p ≡ false
+unfolding follows
+alone-follows v x d none e = refl
+alone-follows v x d (some y) e = rw e
+
+abbrev backIn : Option Told → Option Place
+backIn none = none
+backIn (some t) = t .back
+
+back-told : (b : Brief) (x : Index) → toldBy b ≡ told (some x) → backTold b ≡ x .back
+back-told b x e =
+    split (λ k. b .sound ≡ k → backTold b ≡ x .back) (b .sound)
+    (λ u f. let z : backIn (toldBy b) ≡ backTold b = rw f in sym z ∙ ap backIn e)
+    (λ u f. let z : _≡_ {A = ℕ} 0 1 = cc (rw f at e) in absurd (omega arith)) refl
+
+-- an index follows nothing, or the block that it points at is the one that is told
+block-told : (v : Volume) (o : Option Index) (b : Brief) → toldBy b ≡ told o → ((d : Construct) (p : Option Index) → follows v o d p ≡ false) ⊎ (target o ≡ b .block)
+unfolding follows
+block-told v none b e = inl (λ d p. refl)
+block-told v (some x) b e =
+    split (λ k. b .back ≡ k → ((d : Construct) (p : Option Index) → follows v (some x) d p ≡ false) ⊎ (target (some x) ≡ b .block)) (b .back)
+    (λ u f. let z : blockOf (backTold b) ≡ b .block = rw f in inr (ap blockOf (sym (back-told b x e)) ∙ z))
+    (λ u f. let z : backTold b ≡ none = rw f in inl (λ d p. alone-follows v x d p (sym (back-told b x e) ∙ z))) refl
+
+no-length : {A : Type 0} (l : List A) → length l ≡ 0 → l ≡ []
+no-length [] e = refl
+no-length (x ∷ l) e = absurd (omega arith)
+
+-- the construct of the chain that begins at a block
+pub record Partner (v : Volume) (ds : List Construct) (gens s td : List ℕ) (q j : ℕ) : Type 0 where
+  pub one : Construct
+  pub before : List Construct
+  pub is : through q ds ≡ one ∷ before
+  pub inside : Suffix (one ∷ before) ds
+  pub number : length before ≡ j - 1
+  pub placed : Located s (placeIn td (j - 1)) one
+  pub index : Index
+  pub reads : readData v one ≡ some index
+  pub generation : getD gens (j - 1) 0 ≡ index .generation
+
+pub partner : (v : Volume) (ds : List Construct) (gens s td : List ℕ) (q j : ℕ) → Listed s td ds → chainBreak v ds ≡ none → Generations v gens ds
+    → length (through q ds) ≡ j → (j ≡ 0 → ⊥) → Partner v ds gens s td q j
+partner v ds gens s td q j l whole g e z = go (through q ds) refl (through-suffix q ds)
+  where
+    found : (d : Construct) (bs : List Construct) → through q ds ≡ d ∷ bs → Suffix (d ∷ bs) ds → Partner v ds gens s td q j
+    found d bs is suf =
+        let n : length bs ≡ j - 1 = omega (arith, e, ap length is) in
+        let y = last-sound v d bs (good-suffix v suf whole) in
+        record {
+          one = d;
+          before = bs;
+          is = is;
+          inside = suf;
+          number = n;
+          placed = subst (λ (k : ℕ). Located s (placeIn td k) d) n (l d bs suf);
+          index = y .0;
+          reads = y .1;
+          generation = ap (λ (k : ℕ). getD gens k 0) (sym n) ∙ g d bs suf ∙ ap generationOf (y .1);
+        }
+
+    go : (t : List Construct) → through q ds ≡ t → Suffix (through q ds) ds ⊎ (through q ds ≡ []) → Partner v ds gens s td q j
+    go t is (inr h) = absurd (z (sym e ∙ ap length h))
+    go [] is (inl h) = absurd (z (sym e ∙ ap length is))
+    go (d ∷ bs) is (inl h) = found d bs is (subst (λ (x : List Construct). Suffix x ds) is h)
+
+module _ (v : Volume) (li ld : List ℕ) (c : Construct) (bs : List Construct) where
+  attempt-not : (l : List Construct) → ((d : Construct) (p : Option Index) → follows v (readIndex v c) d p ≡ false) → attempt v li ld c bs l ≡ none
+  attempt-not [] h = refl
+  attempt-not (d ∷ ds) h = rw (h d (readData v d))
+
+  module _ (ds : List Construct) (b : Brief) (e : toldBy b ≡ told (readIndex v c)) where
+    -- no construct of the chain begins where it points
+    pub try-nowhere : length (through (b .block) ds) ≡ 0 → attempt v li ld c bs (through (target (readIndex v c)) ds) ≡ none
+    try-nowhere z = go (block-told v (readIndex v c) b e)
+      where
+        go : ((d : Construct) (p : Option Index) → follows v (readIndex v c) d p ≡ false) ⊎ (target (readIndex v c) ≡ b .block)
+            → attempt v li ld c bs (through (target (readIndex v c)) ds) ≡ none
+        go (inl h) = attempt-not (through (target (readIndex v c)) ds) h
+        go (inr q) = ap (λ (k : ℕ). attempt v li ld c bs (through k ds)) q ∙ ap (attempt v li ld c bs) (no-length (through (b .block) ds) z)
+
+    module _ (gens s td : List ℕ) (j : ℕ) (p : Partner v ds gens s td (b .block) j) (at generation : ℕ) (f : at ≡ p .one .first) (g : generation ≡ p .index .generation) where
+      follows-by : joined (toldBy b) (v .dataLetter) at generation ≡ follows v (readIndex v c) (p .one) (readData v (p .one))
+      follows-by = rw (e, f, g) (joined-follows v (readIndex v c) (p .one) (readData v (p .one)) (p .index) (p .reads))
+
+      through-target : target (readIndex v c) ≡ b .block → through (target (readIndex v c)) ds ≡ p .one ∷ p .before
+      through-target q = ap (λ (k : ℕ). through k ds) q ∙ p .is
+
+      -- it does not follow the one that does
+      pub try-apart : joined (toldBy b) (v .dataLetter) at generation ≡ false → attempt v li ld c bs (through (target (readIndex v c)) ds) ≡ none
+      try-apart n = go (block-told v (readIndex v c) b e)
+        where
+          go : ((d : Construct) (p : Option Index) → follows v (readIndex v c) d p ≡ false) ⊎ (target (readIndex v c) ≡ b .block)
+              → attempt v li ld c bs (through (target (readIndex v c)) ds) ≡ none
+          go (inl h) = attempt-not (through (target (readIndex v c)) ds) h
+          go (inr q) = ap (attempt v li ld c bs) (through-target q) ∙ rw (sym follows-by ∙ n)
+
+      module _ (n : joined (toldBy b) (v .dataLetter) at generation ≡ true) where
+        found-there : through (target (readIndex v c)) ds ≡ p .one ∷ p .before
+        found-there = go (block-told v (readIndex v c) b e)
+          where
+            go : ((d : Construct) (p : Option Index) → follows v (readIndex v c) d p ≡ false) ⊎ (target (readIndex v c) ≡ b .block)
+                → through (target (readIndex v c)) ds ≡ p .one ∷ p .before
+            go (inl h) = let z : _≡_ {A = Bool} true false = sym n ∙ follows-by ∙ h (p .one) (readData v (p .one)) in let y : _≡_ {A = ℕ} 0 1 = cc in absurd (omega arith)
+            go (inr q) = through-target q
+
+        -- it does, and an extent lies past what is kept
+        pub try-lost : (k : ℕ) → badFileIn v (readIndex v c) (take (c .upTo) li) (take (p .one .upTo) ld) ≡ some k
+            → attempt v li ld c bs (through (target (readIndex v c)) ds) ≡ none
+        try-lost k h = ap (attempt v li ld c bs) found-there ∙ rw (sym follows-by ∙ n, h)
+
+        -- and all extents lie on it
+        pub try-fits : badFileIn v (readIndex v c) (take (c .upTo) li) (take (p .one .upTo) ld) ≡ none
+            → attempt v li ld c bs (through (target (readIndex v c)) ds) ≡ some (cutAt v c bs (p .one) (p .before))
+        try-fits h = ap (attempt v li ld c bs) found-there ∙ rw (sym follows-by ∙ n, h)
+
+        pub try-cut : (k : Kept) → k .«index_construct» ≡ length bs → k .«data_construct» ≡ j - 1 → k .«index_kept» ≡ c .upTo → k .«data_kept» ≡ p .one .upTo
+            → k .generation ≡ b .generation → cutIs k ≡ cutAt v c bs (p .one) (p .before)
+        try-cut k a₁ a₂ a₃ a₄ a₅ =
+            let x : b .generation ≡ generationOf (readIndex v c) = told-generation (readIndex v c) b e (joined-sound b (v .dataLetter) at generation n) in
+            rw (a₁, a₂, a₃, a₄, a₅, x, p .number)

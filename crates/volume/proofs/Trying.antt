@@ -1,0 +1,151 @@
+-- One index construct tried, and the search over them, by what the tables hold.
+use mathlib.Core.Path.{_≡_, refl, sym, ap, subst, _∙_}
+use mathlib.Core.Bool.{Bool, true, false}
+use mathlib.Core.List.{List, [], _∷_}
+use mathlib.Core.Option.{Option, none, some}
+use Prim.Native.Nat.{ℕ, zero, suc, _+_, _-_, _≤_, _<_}
+use native.Mathlib.Omega.{arith}
+use lib.ListN.{length, getD, take}
+use Rattle.refusals.specs.Refusals.{Answer, refused, answer}
+use Rattle.constructs.specs.Constructs.{Construct}
+use Rattle.constructs.specs.Tables.{placeIn}
+use Rattle.constructs.specs.declared.Place.{Place as Spot}
+use Rattle.constructs.proofs.Suffixes.{Suffix}
+use Rattle.index.specs.Index as text
+use Rattle.index.specs.Index.{indexOf}
+use Rattle.index.specs.Tests.{Given, given}
+use Rattle.index.specs.declared.tests.Volume.{Volume as Letters}
+use Rattle.verdict.specs.Verdict.{Index, Volume, readIndex, badFileIn}
+use Rattle.verdict.specs.Rescue.{Cut, target, through, cutAt, attempt, cutAmong}
+use Rattle.verdict.proofs.Orders.{firsts, firsts-all, search-on, search-found}
+use Rattle.volume.specs.Volume.{soundly, volumeWith}
+use Rattle.volume.specs.Steps.{Told, told, toldBy, joined, textIn, Located, Listed, ReachTable, Ready, lostFile, Loses, cutIs, triedCut, Tries, Searches}
+use Rattle.volume.specs.declared.sound.Brief.{Brief}
+use Rattle.volume.specs.declared.lost.Lost.{Lost}
+use Rattle.volume.specs.declared.search.Kept.{Kept}
+use Rattle.volume.specs.declared.search.Tried.{Tried}
+use Rattle.volume.specs.declared.search.Tried.the-variants.{Fits, Fails}
+use Rattle.volume.proofs.Chaining.{told-at, located-at, next-first, firsts-none, firsts-length, joined-sound}
+use Rattle.volume.proofs.Searching.{Partner, partner, try-nowhere, try-apart, try-lost, try-fits, try-cut}
+use Rattle.volume.proofs.Extents.{lost-same}
+
+-- an index of which something is told reads
+sound-answer : (a : Answer text.Index) (b : Brief) → toldBy b ≡ told (soundly a) → b .sound ≡ true → (x : text.Index) × (a ≡ answer x)
+sound-answer (refused r) b e f = let z : _≡_ {A = ℕ} 0 1 = cc (rw f at e) in absurd (omega arith)
+sound-answer (answer x) b e f = (x, refl)
+
+-- of an index that reads: by the tables and by the definition the same file is lost
+pub lost-located : (u : List ℕ) (w : Letters) (is ds : List ℕ) (li ld ri rd : List ℕ) (here there : Spot) (t : List ℕ) (b : Brief) (c d : Construct)
+    → t ≡ textIn is here → toldBy b ≡ told (soundly (indexOf (given u w) (w .first) (here .first) t)) → Located is here c → Located ds there d
+    → ReachTable (w .size) li ri → ReachTable (w .size) ld rd → c .upTo ≤ length li → d .upTo ≤ length ld
+    → (lost : Lost) → Loses t w ri (here .end) rd (there .end) lost → b .sound ≡ true
+    → badFileIn (volumeWith (given u w)) (readIndex (volumeWith (given u w)) c) (take (c .upTo) li) (take (d .upTo) ld) ≡ lostFile lost
+lost-located u w is ds li ld ri rd here there t b c d is-text reads p q hi hd fi fd lost l s =
+    let x = sound-answer (indexOf (given u w) (w .first) (here .first) t) b reads s in
+    let o : soundly (indexOf (given u w) (w .first) (here .first) t) ≡ readIndex (volumeWith (given u w)) c
+    = ap (λ (y : ℕ). soundly (indexOf (given u w) (w .first) y t)) (p .first) ∙ ap (λ (y : List ℕ). soundly (indexOf (given u w) (w .first) (c .first) y)) (is-text ∙ p .text) in
+    let z = lost-same (given u w) w li ld ri rd (here .end) (there .end) (w .first) (here .first) t (x .0) hi hd
+    (subst (λ (y : ℕ). y ≤ length li) (sym (p .end)) fi) (subst (λ (y : ℕ). y ≤ length ld) (sym (q .end)) fd) refl refl refl (x .1) in
+    sym (l (given u w) (w .first) (here .first) (x .0) (x .1) ∙ z
+    ∙ ap (λ (y : Option Index). badFileIn (volumeWith (given u w)) y (take (here .end) li) (take (there .end) ld)) o
+    ∙ ap (λ (y : ℕ). badFileIn (volumeWith (given u w)) (readIndex (volumeWith (given u w)) c) (take y li) (take (there .end) ld)) (p .end)
+    ∙ ap (λ (y : ℕ). badFileIn (volumeWith (given u w)) (readIndex (volumeWith (given u w)) c) (take (c .upTo) li) (take y ld)) (q .end))
+
+module _ (u : List ℕ) (w : Letters) (is ti : List ℕ) (k : ℕ) (td gens begins ri rd : List ℕ) (here : Spot) (t : List ℕ) (b : Brief)
+    (at-here : here ≡ placeIn ti k) (is-text : t ≡ textIn is here) (reads : toldBy b ≡ told (soundly (indexOf (given u w) (w .first) (here .first) t))) where
+  v : Volume
+  v = volumeWith (given u w)
+
+  module _ (cs ds : List Construct) (li ld : List ℕ) (r : Ready v is ti td gens begins ri rd cs ds li ld) (c : Construct) (bs : List Construct)
+      (suf : Suffix (c ∷ bs) cs) (n : length bs ≡ k) where
+    told-here : toldBy b ≡ told (readIndex v c)
+    unfolding v
+    told-here = told-at (given u w) is ti (w .first) k here t b at-here is-text reads c bs (r .index c bs suf) n
+
+    located-here : Located is here c
+    located-here = located-at is ti k here c bs at-here (r .index c bs suf) n
+
+    module _ (j : ℕ) (at-begin : getD begins (b .block) 0 ≡ j) (some-one : j ≡ 0 → ⊥) where
+      there-is : Partner v ds gens (r .ds-store) td (b .block) j
+      there-is = partner v ds gens (r .ds-store) td (b .block) j (r .chain) (r .whole) (r .generations) (sym (r .partners (b .block)) ∙ at-begin) some-one
+
+      module _ (there : Spot) (at-there : there ≡ placeIn td (j - 1)) where
+        located-there : Located (r .ds-store) there (there-is .one)
+        located-there = subst (λ (x : Spot). Located (r .ds-store) x (there-is .one)) (sym at-there) (there-is .placed)
+
+        lost-here : (lost : Lost) → Loses t w ri (here .end) rd (there .end) lost → b .sound ≡ true
+            → badFileIn v (readIndex v c) (take (c .upTo) li) (take (there-is .one .upTo) ld) ≡ lostFile lost
+        unfolding v
+        lost-here =
+            lost-located u w is (r .ds-store) li ld ri rd here there t b c (there-is .one) is-text reads located-here located-there (r .indexReach) (r .dataReach)
+            (r .indexFits c bs suf) (r .dataFits (there-is .one) (there-is .before) (there-is .inside))
+
+  pub tries-nowhere : getD begins (b .block) 0 ≡ 0 → Tries (given u w) w is ti k td gens begins ri rd Fails
+  unfolding v
+  tries-nowhere z cs ds li ld r c bs suf n =
+      sym (try-nowhere (volumeWith (given u w)) li ld c bs ds b (told-here cs ds li ld r c bs suf n) (sym (r .partners (b .block)) ∙ z))
+
+  module _ (j : ℕ) (at-begin : getD begins (b .block) 0 ≡ j) (some-one : j ≡ 0 → ⊥) (there : Spot) (at-there : there ≡ placeIn td (j - 1))
+      (generation : ℕ) (is-generation : generation ≡ getD gens (j - 1) 0) where
+    pub tries-apart : joined (toldBy b) (w .other) (there .first) generation ≡ false → Tries (given u w) w is ti k td gens begins ri rd Fails
+    unfolding v
+    tries-apart f cs ds li ld r c bs suf n =
+        let p = there-is cs ds li ld r c bs suf n j at-begin some-one in
+        sym (try-apart (volumeWith (given u w)) li ld c bs ds b (told-here cs ds li ld r c bs suf n) gens (r .ds-store) td j p (there .first) generation
+        (located-there cs ds li ld r c bs suf n j at-begin some-one there at-there .first) (is-generation ∙ p .generation) f)
+
+    module _ (f : joined (toldBy b) (w .other) (there .first) generation ≡ true) (lost : Lost) (l : Loses t w ri (here .end) rd (there .end) lost) where
+      pub tries-lost : (m : ℕ) → lostFile lost ≡ some m → Tries (given u w) w is ti k td gens begins ri rd Fails
+      unfolding v
+      tries-lost m e cs ds li ld r c bs suf n =
+          let p = there-is cs ds li ld r c bs suf n j at-begin some-one in
+          let s = joined-sound b (w .other) (there .first) generation f in
+          sym (try-lost (volumeWith (given u w)) li ld c bs ds b (told-here cs ds li ld r c bs suf n) gens (r .ds-store) td j p (there .first) generation
+          (located-there cs ds li ld r c bs suf n j at-begin some-one there at-there .first) (is-generation ∙ p .generation) f m
+          (lost-here cs ds li ld r c bs suf n j at-begin some-one there at-there lost l s ∙ e))
+
+      pub tries-fits : lostFile lost ≡ none → (a : Kept) → a .«index_construct» ≡ k → a .«data_construct» ≡ j - 1 → a .«index_kept» ≡ here .end
+          → a .«data_kept» ≡ there .end → a .generation ≡ b .generation → Tries (given u w) w is ti k td gens begins ri rd (Fits a)
+      unfolding v
+      tries-fits e a a₁ a₂ a₃ a₄ a₅ cs ds li ld r c bs suf n =
+          let p = there-is cs ds li ld r c bs suf n j at-begin some-one in
+          let q = located-there cs ds li ld r c bs suf n j at-begin some-one there at-there in
+          let h = located-here cs ds li ld r c bs suf n in
+          let s = joined-sound b (w .other) (there .first) generation f in
+          ap some (try-cut (volumeWith (given u w)) li ld c bs ds b (told-here cs ds li ld r c bs suf n) gens (r .ds-store) td j p (there .first) generation
+          (q .first) (is-generation ∙ p .generation) f a (a₁ ∙ sym n) a₂ (a₃ ∙ h .end) (a₄ ∙ q .end) a₅)
+          ∙ sym (try-fits (volumeWith (given u w)) li ld c bs ds b (told-here cs ds li ld r c bs suf n) gens (r .ds-store) td j p (there .first) generation
+          (q .first) (is-generation ∙ p .generation) f
+          (lost-here cs ds li ld r c bs suf n j at-begin some-one there at-there lost l s ∙ e))
+
+-- the constructs from k on are no cut
+abbrev pub SearchesAt : Given → List ℕ → List ℕ → ℕ → List ℕ → List ℕ → List ℕ → List ℕ → List ℕ → ℕ → Type 0
+SearchesAt g is ti n td gens begins ri rd k =
+    (cs ds : List Construct) (li ld : List ℕ) → Ready (volumeWith g) is ti td gens begins ri rd cs ds li ld
+    → length cs ≡ n → cutAmong (volumeWith g) li ld ds cs ≡ cutAmong (volumeWith g) li ld ds (firsts k cs)
+
+module _ (g : Given) (w : Letters) (is ti : List ℕ) (n : ℕ) (td gens begins ri rd : List ℕ) where
+  pub searches-start : SearchesAt g is ti n td gens begins ri rd n
+  searches-start cs ds li ld r e =
+      ap (cutAmong (volumeWith g) li ld ds) (sym (ap (λ (m : ℕ). firsts m cs) (sym e) ∙ firsts-all cs))
+
+  module _ (k : ℕ) (s : SearchesAt g is ti n td gens begins ri rd k) (pos : 0 < k) (le : k ≤ n) where
+    pub searches-on : Tries g w is ti (k - 1) td gens begins ri rd Fails → SearchesAt g is ti n td gens begins ri rd (k - 1)
+    searches-on t cs ds li ld r e =
+        let x = next-first cs (k - 1) (omega arith) in
+        let z : k - 1 + 1 ≡ k = omega arith in
+        s cs ds li ld r e ∙ ap (λ (m : ℕ). cutAmong (volumeWith g) li ld ds (firsts m cs)) (sym z) ∙ ap (cutAmong (volumeWith g) li ld ds) (x .1)
+        ∙ search-on (volumeWith g) li ld ds (x .0) (firsts (k - 1) cs) (sym (t cs ds li ld r (x .0) (firsts (k - 1) cs) (x .2) (firsts-length cs (k - 1) (omega arith))))
+
+    pub searches-found : (a : Kept) → Tries g w is ti (k - 1) td gens begins ri rd (Fits a) → Searches g w is ti n td gens begins ri rd (Fits a)
+    searches-found a t cs ds li ld r e =
+        let x = next-first cs (k - 1) (omega arith) in
+        let z : k - 1 + 1 ≡ k = omega arith in
+        sym (s cs ds li ld r e ∙ ap (λ (m : ℕ). cutAmong (volumeWith g) li ld ds (firsts m cs)) (sym z) ∙ ap (cutAmong (volumeWith g) li ld ds) (x .1)
+        ∙ search-found (volumeWith g) li ld ds (x .0) (firsts (k - 1) cs) (cutIs a) (sym (t cs ds li ld r (x .0) (firsts (k - 1) cs) (x .2) (firsts-length cs (k - 1) (omega arith)))))
+
+  pub searches-end : (k : ℕ) → SearchesAt g is ti n td gens begins ri rd k → k ≤ 0 → Searches g w is ti n td gens begins ri rd Fails
+  unfolding cutAmong
+  searches-end k s z cs ds li ld r e =
+      let q : k ≡ 0 = omega arith in
+      sym (s cs ds li ld r e ∙ ap (λ (m : ℕ). cutAmong (volumeWith g) li ld ds (firsts m cs)) q ∙ ap (cutAmong (volumeWith g) li ld ds) (firsts-none cs))

@@ -1,0 +1,98 @@
+-- The verdict, break by break.
+use mathlib.Core.Path.{_≡_, refl, sym, ap, subst, _∙_}
+use mathlib.Core.Bool.{Bool, true, false}
+use mathlib.Core.List.{List, [], _∷_}
+use mathlib.Core.Option.{Option, none, some}
+use Prim.Native.Nat.{ℕ, suc, _-_, _≤_, _<_}
+use native.Mathlib.Omega.{arith}
+use borrow.Author.Tests.{eqb-true}
+use lib.ListN.{length, getD, take}
+use lib.Seq.{take-length}
+use Rattle.tape.specs.Tape.{Tape, Encodes}
+use Rattle.constructs.specs.Constructs.{Construct, standing, dataLengths}
+use Rattle.constructs.specs.Tables.{placeIn}
+use Rattle.constructs.specs.declared.Place.{Place as Spot}
+use Rattle.constructs.proofs.Suffixes.{Suffix, here}
+use Rattle.constructs.proofs.Lengths.{length-lengths}
+use Rattle.index.specs.Index.{indexOf}
+use Rattle.index.specs.Tests.{Given, given}
+use Rattle.index.specs.declared.tests.Volume.{Volume as Letters}
+use Rattle.verdict.specs.Verdict.{Index, Volume, Break, orElse, unless, numbered, endsWith, readIndex, readData, follows, chainBreak, tied, badFileIn, badFile, verdict}
+use Rattle.verdict.specs.Rescue.{generationOf}
+use Rattle.verdict.proofs.Orders.{firsts, firsts-all}
+use Rattle.volume.specs.Volume.{soundly, volumeWith}
+use Rattle.volume.specs.Steps.{told, toldBy, joined, textIn, Located, Listed, Chains, ReachTable, lostFile, Loses, breakOf, lastBreak, JudgesLast}
+use Rattle.volume.specs.declared.sound.Brief.{Brief}
+use Rattle.volume.specs.declared.lost.Lost.{Lost}
+use Rattle.volume.specs.declared.judge.Judgement.{Judgement}
+use Rattle.volume.specs.declared.judge.Judgement.the-variants as judgementIs
+use Rattle.volume.proofs.Briefs.{joined-follows}
+use Rattle.volume.proofs.Chaining.{told-located, joined-sound, last-sound}
+use Rattle.volume.proofs.Trying.{lost-located}
+
+module _ (u : List ℕ) (w : Letters) (is ti : List ℕ) (k : ℕ) (td : List ℕ) (j generation : ℕ) (ri rd : List ℕ) (here there : Spot) (t : List ℕ) (b : Brief)
+    (at-here : here ≡ placeIn ti k) (is-text : t ≡ textIn is here) (reads : toldBy b ≡ told (soundly (indexOf (given u w) (w .first) (here .first) t)))
+    (at-there : there ≡ placeIn td j) where
+  abbrev v : Volume
+  v = volumeWith (given u w)
+
+  module _ (ds : List ℕ) (c d : Construct) (lc : Located is (placeIn ti k) c) (ld : Located ds (placeIn td j) d) (y : Index) (r : readData v d ≡ some y)
+      (g : generation ≡ y .generation) where
+    located-here : Located is here c
+    located-here = subst (λ (x : Spot). Located is x c) (sym at-here) lc
+
+    located-there : Located ds there d
+    located-there = subst (λ (x : Spot). Located ds x d) (sym at-there) ld
+
+    follows-by : joined (toldBy b) (w .other) (there .first) generation ≡ follows v (readIndex v c) d (readData v d)
+    follows-by =
+        rw (told-located (given u w) is (w .first) here t b is-text reads c located-here, located-there .first, g)
+        (joined-follows v (readIndex v c) d (readData v d) y r)
+
+  -- the index partition's last index does not follow the data partition's last
+  pub judges-apart : joined (toldBy b) (w .other) (there .first) generation ≡ false → JudgesLast (given u w) is ti k td j generation ri rd (judgementIs.Broken 4 k)
+  judges-apart f ds c d li ld lc lcd y r g hi hd ei ed = rw (sym (follows-by ds c d lc lcd y r g) ∙ f)
+
+  -- it does; then the lowest file with an extent that is lost
+  module _ (f : joined (toldBy b) (w .other) (there .first) generation ≡ true) (lost : Lost) (l : Loses t w ri (here .end) rd (there .end) lost) where
+    pub judges-lost : (a : Judgement) → breakOf a ≡ numbered 5 (lostFile lost) → JudgesLast (given u w) is ti k td j generation ri rd a
+    judges-lost a e ds c d li ld lc lcd y r g hi hd ei ed =
+        let s = joined-sound b (w .other) (there .first) generation f in
+        let x = lost-located u w is ds li ld ri rd here there t b c d is-text reads (located-here ds c d lc lcd y r g) (located-there ds c d lc lcd y r g) hi hd
+        (omega arith) (omega arith) lost l s in
+        let p : take (c .upTo) li ≡ li = ap (λ (n : ℕ). take n li) ei ∙ take-length li in
+        let q : take (d .upTo) ld ≡ ld = ap (λ (n : ℕ). take n ld) ed ∙ take-length ld in
+        e ∙ ap (numbered 5) (sym x) ∙ rw (p, q, sym (follows-by ds c d lc lcd y r g) ∙ f)
+
+module _ (v : Volume) (i d : Tape) where
+  cs : List Construct
+  cs = standing (v .size) i
+
+  es : List Construct
+  es = standing (v .size) d
+
+  pub verdict-1 : endsWith i (standing (v .size) i) ≡ false → some (record { which = 1; number = 0 }) ≡ verdict v i d
+  unfolding verdict
+  verdict-1 a = rw a
+
+  pub verdict-2 : endsWith i (standing (v .size) i) ≡ true → endsWith d (standing (v .size) d) ≡ false → some (record { which = 2; number = 0 }) ≡ verdict v i d
+  unfolding verdict
+  verdict-2 a b = rw (a, b)
+
+  pub verdict-3 : (k : ℕ) → endsWith i (standing (v .size) i) ≡ true → endsWith d (standing (v .size) d) ≡ true → chainBreak v (standing (v .size) d) ≡ some k
+      → some (record { which = 3; number = k }) ≡ verdict v i d
+  unfolding verdict
+  verdict-3 k a b e = rw (a, b, e)
+
+  verdict-last : (c : Construct) (bs : List Construct) (e : Construct) (fs : List Construct) → endsWith i (standing (v .size) i) ≡ true → endsWith d (standing (v .size) d) ≡ true
+      → chainBreak v (standing (v .size) d) ≡ none → standing (v .size) i ≡ c ∷ bs → standing (v .size) d ≡ e ∷ fs
+      → lastBreak v (length bs) c e (dataLengths i) (dataLengths d) ≡ verdict v i d
+  unfolding verdict
+  verdict-last c bs e fs a b n p q =
+      let m : suc (length bs) - 1 ≡ length bs = omega arith in
+      rw (a, b, n, p, q, m)
+
+  -- both partitions end with a standing construct
+  pub ends-some : (t : Tape) (ds : List Construct) → endsWith t ds ≡ true → (c : Construct) × (bs : List Construct) × (ds ≡ c ∷ bs) × (c .upTo ≡ length t)
+  ends-some t [] e = let z : _≡_ {A = ℕ} 0 1 = cc in absurd (omega arith)
+  ends-some t (c ∷ bs) e = (c, bs, refl, eqb-true (c .upTo) (length t) e)

@@ -1,0 +1,29 @@
+-- `read_brief` meets its contract: a refusal is no sound index.
+use Rattle.volume.proofs.Briefs.{told-found, told-refused}
+use Rattle.index.specs.Tests.{given}
+use Rattle.index.specs.Index.{indexOf, saying}
+use mathlib.Core.Path.{ap, sym, _∙_}
+use borrow.Author.Needs.{needs}
+use Rattle.volume.proofs.sound.read_brief.Statement.{statement}
+use Rattle.volume.proofs.sound.read_brief.Tie as tie
+use Rattle.volume.proofs.sound.read_brief.Reads as reads
+use Rattle.volume.proofs.sound.read_brief.Lts as lts
+use Rattle.index.proofs.read_index.Reads as read-index-reads
+
+read-index-requires : tie.Need-read-index-requires
+read-index-requires c κs = search needs
+
+enum-told : tie.Need-enum-told
+enum-told c = search needs
+
+enum-known-h : tie.Need-enum-known-h
+enum-known-h c = search needs
+
+returns : tie.Need-returns
+returns c = told-refused (indexOf (given (c .before .before .before .before .before .args .uuid .now) (c .before .before .before .before .before .args .volume)) (c .before .before .before .before .before .args .letter) (c .before .before .before .before .before .args .block) (c .before .before .before .before .before .args .text .now)) (c .before .before .before .before .before .args .text .now) (c .enum-told .given .0 .0) (ap (saying (c .before .before .before .before .before .args .text .now)) (sym (c .enum-told .given .1)) ∙ c .before .before .read-index .ensures)
+
+returns-2 : tie.Need-returns-2
+returns-2 c = told-found (indexOf (given (c .before .before .before .before .before .before .args .uuid .now) (c .before .before .before .before .before .before .args .volume)) (c .before .before .before .before .before .before .args .letter) (c .before .before .before .before .before .before .args .block) (c .before .before .before .before .before .before .args .text .now)) (c .before .before .before .before .before .before .args .text .now) (c .before .h .given .0 .0) (ap (saying (c .before .before .before .before .before .before .args .text .now)) (sym (c .before .h .given .1)) ∙ c .before .before .before .read-index .ensures)
+
+pub read-brief-spec : {M : Type 1} → statement M
+read-brief-spec = tie.close (tie.spec read-index-requires enum-told enum-known-h returns returns-2)

@@ -1,0 +1,101 @@
+// The verdict on a volume and the rescue's cut, from the lists and stores of its two partitions.
+use crate::chains;
+use crate::filling;
+use crate::search;
+use crate::search::Kept;
+use crate::search::Tried;
+use index::Volume;
+use label::Fields;
+use label::Label;
+use refusals::Refusal;
+ghost use mathlib.Core.Path.{_≡_};
+ghost use Rattle.index.specs.Tests.{given};
+ghost use Rattle.volume.specs.Steps.{Cuts};
+ghost use Rattle.volume.specs.Answers.{Rescues};
+
+pub enum Verdict {
+    Consistent,
+    // Which of the five breaks, and its number.
+    Break(u64, u64),
+    Refused(Refusal),
+}
+
+pub enum Rescue {
+    Cut(Kept),
+    Refused(Refusal),
+}
+
+// The cut of the volume with that UUID and those letters, of two lists that are well formed.
+fn rescue_with(
+    index_list: &[u8],
+    index_store: &[u8],
+    data_list: &[u8],
+    data_store: &[u8],
+    uuid: &[u8],
+    volume: Volume,
+) -> Tried
+    ensures { λ r. ⌜ Cuts (given (now (uuid .entry)) volume) (now («index_list» .entry)) (now («index_store» .entry)) (now («data_list» .entry)) (now («data_store» .entry)) r ⌝ }
+{
+    let mut index_table = [0u32; 87380];
+    let n = filling::list_constructs(index_list, index_store, volume.size, &mut index_table);
+    let mut data_table = [0u32; 87380];
+    let m = filling::list_constructs(data_list, data_store, volume.size, &mut data_table);
+    let mut index_reach = [0u32; 65536];
+    filling::fill_reach(index_list, index_store, volume.size, &mut index_reach);
+    let mut data_reach = [0u32; 65536];
+    filling::fill_reach(data_list, data_store, volume.size, &mut data_reach);
+    let mut generations = [0u64; 21845];
+    let k = chains::chain(data_store, uuid, volume, &data_table, m, &mut generations);
+    let mut beginnings = [0u32; 65536];
+    search::put_beginnings(&data_table, k, &mut beginnings);
+    search::search(
+        index_store,
+        uuid,
+        volume,
+        &index_table,
+        n,
+        &data_table,
+        &generations,
+        &beginnings,
+        &index_reach,
+        &data_reach,
+    )
+}
+
+fn letters_of(f: Fields) -> Volume
+    ensures { λ r. ⌜ r ≡ record { first = f .«index_letter»; other = f .«data_letter»; size = f .«block_size» } ⌝ }
+{
+    Volume {
+        first: f.index_letter,
+        other: f.data_letter,
+        size: f.block_size,
+    }
+}
+
+// The cut that keeps most index constructs in the index partition and leaves a consistent volume.
+pub fn find_cut(
+    index_list: &[u8],
+    index_store: &[u8],
+    data_list: &[u8],
+    data_store: &[u8],
+) -> Rescue
+    ensures { λ r. ⌜ Rescues (now («index_list» .entry)) (now («index_store» .entry)) (now («data_list» .entry)) (now («data_store» .entry)) r ⌝ }
+{
+    match labels::check(index_list, index_store, data_list, data_store) {
+        Label::Refused(r) => Rescue::Refused(r),
+        Label::Says(f) => {
+            let uuid = tables::part(index_store, f.uuid.from, f.uuid.len);
+            match rescue_with(
+                index_list,
+                index_store,
+                data_list,
+                data_store,
+                uuid,
+                letters_of(f),
+            ) {
+                Tried::Fits(cut) => Rescue::Cut(cut),
+                Tried::Fails => Rescue::Refused(Refusal::NoCut),
+            }
+        }
+    }
+}

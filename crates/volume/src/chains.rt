@@ -1,0 +1,72 @@
+// The data partition's chain of indexes, from its first construct on.
+use crate::sound;
+use index::Volume;
+ghost use mathlib.Core.Path.{_≡_};
+ghost use lib.ListN.{length};
+ghost use Rattle.index.specs.Tests.{given};
+ghost use Rattle.volume.specs.Volume.{volumeWith};
+ghost use Rattle.volume.specs.Steps.{LinksAt, ChainsOf};
+
+// Whether a construct is sound and follows the one before it, or begins the chain; and its generation.
+pub struct Linked {
+    pub ok: bool,
+    pub generation: u64,
+}
+
+// Construct k of the data partition, behind one with that generation.
+fn link(
+    store: &[u8],
+    uuid: &[u8],
+    volume: Volume,
+    table: &[u32; 87380],
+    k: usize,
+    before: u64,
+) -> Linked
+    ensures { λ r. ⌜ LinksAt (volumeWith (given (now (uuid .entry)) volume)) (now (store .entry)) (now (table .entry)) k before r ⌝ }
+{
+    let here = constructs::construct(table, k);
+    let text = sound::text_at(store, here);
+    let b = sound::read_brief(text, uuid, volume, volume.other, here.first as u64);
+    if k == 0 {
+        if !b.sound {
+            return Linked {
+                ok: false,
+                generation: 0,
+            };
+        }
+        return Linked {
+            ok: !b.back,
+            generation: b.generation,
+        };
+    }
+    let last = constructs::construct(table, k - 1);
+    Linked {
+        ok: sound::joins(b, volume.other, last.first as u64, before),
+        generation: b.generation,
+    }
+}
+
+// How many constructs of the data partition, from the first on, are a chain without a break; their generations go into a table.
+pub fn chain(
+    store: &[u8],
+    uuid: &[u8],
+    volume: Volume,
+    table: &[u32; 87380],
+    n: usize,
+    generations: &mut [u64],
+) -> usize
+    ensures { λ r. ⌜ ChainsOf (volumeWith (given (now (uuid .entry)) volume)) (now (store .entry)) (now (table .entry)) n (length (now (generations .entry))) (now (generations .exit)) r ⌝ }
+{
+    let mut k: usize = 0;
+    let mut last: u64 = 0;
+    while k < n {
+        let next = link(store, uuid, volume, table, k, last);
+        if !next.ok {
+            return k;
+        }
+        tables::put(generations, k, next.generation);
+        last = next.generation;
+        k += 1;
+    }
+    n
+}

@@ -1,0 +1,35 @@
+// The tables of a partition: its standing constructs, and how far data blocks reach.
+use constructs::Scanned;
+use tape::Checked;
+ghost use Rattle.volume.specs.Steps.{ListsOf, ReachesOf, EndsAt};
+
+// Puts the standing constructs of a partition into the table; their number.
+pub fn list_constructs(list: &[u8], store: &[u8], size: u64, table: &mut [u32; 87380]) -> usize
+    ensures { λ r. ⌜ ListsOf size (now (list .entry)) (now (store .entry)) (now (table .entry)) (now (table .exit)) r ⌝ }
+{
+    match constructs::scan(list, store, size as usize, table) {
+        Scanned::Constructs(n) => n,
+        Scanned::Refused(_) => 0,
+    }
+}
+
+// Puts into the table how far data blocks reach from each element on; the number of elements.
+pub fn fill_reach(list: &[u8], store: &[u8], size: u64, table: &mut [u32]) -> usize
+    ensures { λ r. ⌜ ReachesOf size (now (list .entry)) (now (store .entry)) (now (table .entry)) (now (table .exit)) r ⌝ }
+{
+    match constructs::reach::reach(list, store, size as usize, table) {
+        Checked::Elements(n) => n,
+        Checked::Refused(_) => 0,
+    }
+}
+
+// Whether a partition of so many elements ends with the last of n constructs.
+pub fn ends(table: &[u32; 87380], n: usize, count: usize) -> bool
+    ensures { λ r. ⌜ EndsAt (now (table .entry)) n count r ⌝ }
+{
+    if n == 0 {
+        return false;
+    }
+    let last = constructs::construct(table, n - 1);
+    last.end == count
+}

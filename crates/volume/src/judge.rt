@@ -1,0 +1,96 @@
+// The five breaks, in their order.
+use crate::chains;
+use crate::filling;
+use crate::lost;
+use crate::lost::Lost;
+use crate::sound;
+use index::Volume;
+ghost use mathlib.Core.Path.{_≡_};
+ghost use Rattle.index.specs.Tests.{given};
+ghost use Rattle.volume.specs.Steps.{JudgesLast, Judges};
+
+// No break, or which of the five, and its number.
+pub enum Judgement {
+    Sound,
+    Broken(u64, u64),
+}
+
+// Breaks 4 and 5, of construct k of the index partition and construct j of the data partition, which has an index of that generation.
+fn judge_last(
+    store: &[u8],
+    uuid: &[u8],
+    volume: Volume,
+    index_table: &[u32; 87380],
+    k: usize,
+    data_table: &[u32; 87380],
+    j: usize,
+    generation: u64,
+    index_reach: &[u32],
+    data_reach: &[u32],
+) -> Judgement
+    ensures { λ r. ⌜ JudgesLast (given (now (uuid .entry)) volume) (now (store .entry)) (now («index_table» .entry)) k (now («data_table» .entry)) j generation (now («index_reach» .entry)) (now («data_reach» .entry)) r ⌝ }
+{
+    let here = constructs::construct(index_table, k);
+    let text = sound::text_at(store, here);
+    let b = sound::read_brief(text, uuid, volume, volume.first, here.first as u64);
+    let there = constructs::construct(data_table, j);
+    if !sound::joins(b, volume.other, there.first as u64, generation) {
+        return Judgement::Broken(4, k as u64);
+    }
+    match lost::first_lost(
+        text,
+        volume,
+        index_reach,
+        here.end as u64,
+        data_reach,
+        there.end as u64,
+    ) {
+        Lost::File(f) => Judgement::Broken(5, f),
+        Lost::Nothing => Judgement::Sound,
+    }
+}
+
+// The verdict on the volume with that UUID and those letters, of two lists that are well formed.
+pub fn judge(
+    index_list: &[u8],
+    index_store: &[u8],
+    data_list: &[u8],
+    data_store: &[u8],
+    uuid: &[u8],
+    volume: Volume,
+) -> Judgement
+    ensures { λ r. ⌜ Judges (given (now (uuid .entry)) volume) (now («index_list» .entry)) (now («index_store» .entry)) (now («data_list» .entry)) (now («data_store» .entry)) r ⌝ }
+{
+    let mut index_table = [0u32; 87380];
+    let n = filling::list_constructs(index_list, index_store, volume.size, &mut index_table);
+    let mut data_table = [0u32; 87380];
+    let m = filling::list_constructs(data_list, data_store, volume.size, &mut data_table);
+    let mut index_reach = [0u32; 65536];
+    let index_count = filling::fill_reach(index_list, index_store, volume.size, &mut index_reach);
+    if !filling::ends(&index_table, n, index_count) {
+        return Judgement::Broken(1, 0);
+    }
+    let mut data_reach = [0u32; 65536];
+    let data_count = filling::fill_reach(data_list, data_store, volume.size, &mut data_reach);
+    if !filling::ends(&data_table, m, data_count) {
+        return Judgement::Broken(2, 0);
+    }
+    let mut generations = [0u64; 21845];
+    let k = chains::chain(data_store, uuid, volume, &data_table, m, &mut generations);
+    if k < m {
+        return Judgement::Broken(3, k as u64);
+    }
+    let last = sound::between(1, m);
+    judge_last(
+        index_store,
+        uuid,
+        volume,
+        &index_table,
+        sound::between(1, n),
+        &data_table,
+        last,
+        tables::item(&generations, last),
+        &index_reach,
+        &data_reach,
+    )
+}

@@ -1,0 +1,13 @@
+// A volume of two partitions: its verdict, and the rescue's cut (01, Constructs, verdict and cut).
+mod answers;
+mod chains;
+mod filling;
+mod judge;
+mod lost;
+mod search;
+mod sound;
+
+pub use answers::Rescue;
+pub use answers::Verdict;
+pub use answers::find_cut;
+pub use search::Kept;

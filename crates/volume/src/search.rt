@@ -1,0 +1,130 @@
+// The search for the rescue's cut, from the index partition's last construct back.
+use crate::lost;
+use crate::lost::Lost;
+use crate::sound;
+use index::Volume;
+ghost use mathlib.Core.Path.{_≡_};
+ghost use Prim.Native.Nat.{_<_};
+ghost use Rattle.index.specs.Tests.{given};
+ghost use Rattle.volume.specs.Volume.{volumeWith};
+ghost use Rattle.volume.specs.Steps.{BeginsOf, Tries, Searches};
+
+// A cut: both construct numbers, both counts of kept elements, and the generation of the last index kept in the index partition.
+pub struct Kept {
+    pub index_construct: u64,
+    pub data_construct: u64,
+    pub index_kept: u64,
+    pub data_kept: u64,
+    pub generation: u64,
+}
+
+pub enum Tried {
+    Fits(Kept),
+    Fails,
+}
+
+fn narrow(n: usize) -> u32
+    ensures { λ r. ⌜ (n < 4294967296 → r ≡ n) ⌝ }
+{
+    if n < 4294967296 {
+        return n as u32;
+    }
+    0
+}
+
+// Puts at the first block of each of the first n constructs its number plus 1.
+pub fn put_beginnings(table: &[u32; 87380], n: usize, beginnings: &mut [u32])
+    ensures { λ r. ⌜ BeginsOf (now (table .entry)) n (now (beginnings .entry)) (now (beginnings .exit)) ⌝ }
+{
+    let mut k: usize = 0;
+    while k < n {
+        let here = constructs::construct(table, k);
+        tables::put32(beginnings, here.first, narrow(k + 1));
+        k += 1;
+    }
+}
+
+// The cut after construct k of the index partition and the construct of the chain that its index points at.
+fn try_cut(
+    store: &[u8],
+    uuid: &[u8],
+    volume: Volume,
+    index_table: &[u32; 87380],
+    k: usize,
+    data_table: &[u32; 87380],
+    generations: &[u64],
+    beginnings: &[u32],
+    index_reach: &[u32],
+    data_reach: &[u32],
+) -> Tried
+    ensures { λ r. ⌜ Tries (given (now (uuid .entry)) volume) volume (now (store .entry)) (now («index_table» .entry)) k (now («data_table» .entry)) (now (generations .entry)) (now (beginnings .entry)) (now («index_reach» .entry)) (now («data_reach» .entry)) r ⌝ }
+{
+    let here = constructs::construct(index_table, k);
+    let text = sound::text_at(store, here);
+    let b = sound::read_brief(text, uuid, volume, volume.first, here.first as u64);
+    let j = tables::item32(beginnings, b.block as usize) as usize;
+    if j == 0 {
+        return Tried::Fails;
+    }
+    let there = constructs::construct(data_table, j - 1);
+    let generation = tables::item(generations, j - 1);
+    if !sound::joins(b, volume.other, there.first as u64, generation) {
+        return Tried::Fails;
+    }
+    match lost::first_lost(
+        text,
+        volume,
+        index_reach,
+        here.end as u64,
+        data_reach,
+        there.end as u64,
+    ) {
+        Lost::File(_) => Tried::Fails,
+        Lost::Nothing => Tried::Fits(Kept {
+            index_construct: k as u64,
+            data_construct: (j - 1) as u64,
+            index_kept: here.end as u64,
+            data_kept: there.end as u64,
+            generation: b.generation,
+        }),
+    }
+}
+
+// The first cut that fits, from construct n - 1 of the index partition back.
+pub fn search(
+    store: &[u8],
+    uuid: &[u8],
+    volume: Volume,
+    index_table: &[u32; 87380],
+    n: usize,
+    data_table: &[u32; 87380],
+    generations: &[u64],
+    beginnings: &[u32],
+    index_reach: &[u32],
+    data_reach: &[u32],
+) -> Tried
+    ensures { λ r. ⌜ Searches (given (now (uuid .entry)) volume) volume (now (store .entry)) (now («index_table» .entry)) n (now («data_table» .entry)) (now (generations .entry)) (now (beginnings .entry)) (now («index_reach» .entry)) (now («data_reach» .entry)) r ⌝ }
+{
+    let mut k = n;
+    while 0 < k {
+        k -= 1;
+        match try_cut(
+            store,
+            uuid,
+            volume,
+            index_table,
+            k,
+            data_table,
+            generations,
+            beginnings,
+            index_reach,
+            data_reach,
+        ) {
+            Tried::Fits(cut) => {
+                return Tried::Fits(cut);
+            }
+            Tried::Fails => {}
+        }
+    }
+    Tried::Fails
+}
