@@ -4,4 +4,5 @@ pub mod Rows
 pub mod Parts
 pub mod Meanings
 pub mod Roots
+pub mod Plain
 pub mod Entities

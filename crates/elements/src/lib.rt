@@ -2,6 +2,7 @@
 // lie anywhere, and each answer is what the definitions read off the bytes there.
 mod heads;
 mod scan;
+mod starts;
 mod tags;
 mod texts;
 
@@ -15,6 +16,12 @@ pub use heads::name_of;
 pub use heads::text_at;
 pub use heads::text_of;
 pub use heads::value_of;
+pub use starts::Item;
+pub use starts::Next;
+pub use starts::Start;
+pub use starts::next_item;
+pub use starts::next_start;
+pub use starts::part;
 pub use tags::Child;
 pub use tags::Tag;
 pub use tags::leave;

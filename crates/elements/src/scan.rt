@@ -124,11 +124,20 @@ pub struct TagEnd {
     pub at: usize,
 }
 
-// The end of the tag at n.
+// The end of the tag at n; most have a name alone.
 pub fn tag_end(text: &[u8], n: usize) -> TagEnd
     requires { ⌜ n ≤ length (now text) ⌝ }
     ensures { λ r. ⌜ (past 0 0 (drop n (now (text .entry))) ≡ record { empty = r .empty; rest = drop (r .at) (now (text .entry)) }) × (n ≤ r .at) × (r .at ≤ length (now (text .entry))) ⌝ }
 {
+    let e = name_end(text, n);
+    if e < text.len() {
+        if text[e] == 62 {
+            return TagEnd {
+                empty: false,
+                at: e + 1,
+            };
+        }
+    }
     let mut i = n;
     let mut q: u8 = 0;
     let mut last: u8 = 0;

@@ -24,13 +24,13 @@ find-requires c κs = search needs
 returns : tie.Need-returns
 returns c =
     let g = given (c .before .before .before .before .before .before .args .uuid .now) (c .before .before .before .before .before .before .args .volume) in
-    file-refused g (c .before .before .before .before .before .before .args .letter) (c .before .before .before .before .before .before .args .block .0) (c .before .before .before .before .before .before .args .text .now) (c .before .before .before .before .before .before .args .k) (c .before .r .given .0 .0) (ap saying (sym (c .before .r .given .1)) ∙ c .before .before .before .read-index .ensures)
+    file-refused g (c .before .before .before .before .before .before .args .letter) (c .before .before .before .before .before .before .args .block .0) (c .before .before .before .before .before .before .args .text .now) (c .before .before .before .before .before .before .args .k) (c .before .r .given .0 .0) (ap (saying (c .before .before .before .before .before .before .args .text .now)) (sym (c .before .r .given .1)) ∙ c .before .before .before .read-index .ensures)
 
 returns-2 : tie.Need-returns-2
 returns-2 c =
     let g = given (c .before .before .before .before .before .before .args .uuid .now) (c .before .before .before .before .before .before .args .volume) in
     ap (λ (a : Answer Forest). andThen a (λ c. answer (fileOf c))) (c .find .ensures)
-    ∙ file-found g (c .before .before .before .before .before .before .args .letter) (c .before .before .before .before .before .before .args .block .0) (c .before .before .before .before .before .before .args .text .now) (c .before .before .before .before .before .before .args .k) _ (ap saying (sym (c .before .enum-told .given .1)) ∙ c .before .before .before .read-index .ensures)
+    ∙ file-found g (c .before .before .before .before .before .before .args .letter) (c .before .before .before .before .before .before .args .block .0) (c .before .before .before .before .before .before .args .text .now) (c .before .before .before .before .before .before .args .k) _ (ap (saying (c .before .before .before .before .before .before .args .text .now)) (sym (c .before .enum-told .given .1)) ∙ c .before .before .before .read-index .ensures)
 
 pub locate-spec : {M : Type 1} → statement M
 locate-spec =

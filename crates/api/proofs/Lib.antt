@@ -1,0 +1,5 @@
+pub mod Showing
+pub mod Mapped
+pub mod Saying
+pub mod Writing
+pub mod Headers

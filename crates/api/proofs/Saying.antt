@@ -1,0 +1,22 @@
+-- A label in numbers says what was read.
+use mathlib.Core.Path.{_≡_, refl, subst, sym}
+use mathlib.Core.List.{List}
+use Prim.Native.Nat.{ℕ}
+use Rattle.label.specs.Reading.{fieldsIn}
+use Rattle.label.specs.declared.reader.Fields.{Fields}
+use Rattle.api.specs.Labels.{SaysLabel, labelNumbers}
+
+pub says-label : (s : List ℕ) (f : Fields) {out : List ℕ} → out ≡ labelNumbers f → SaysLabel s (fieldsIn s f) out
+says-label s f e =
+    subst (λ (out : List ℕ). SaysLabel s (fieldsIn s f) out) (sym e)
+    record {
+      release = refl;
+      creator = refl;
+      time = refl;
+      uuid = refl;
+      location = refl;
+      indexLetter = refl;
+      dataLetter = refl;
+      blockSize = refl;
+      compression = refl;
+    }

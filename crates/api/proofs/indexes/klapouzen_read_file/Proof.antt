@@ -1,0 +1,31 @@
+-- `klapouzen_read_file` meets its contract: what the reader answers, in numbers.
+use mathlib.Core.Path.{sym, _∙_, ap}
+use Rattle.index_files.specs.Asked.{fileSaid, shown}
+use Rattle.api.proofs.Showing.{not-told}
+use Rattle.api.proofs.Mapped.{mapped-refused}
+use Rattle.api.proofs.Headers.{says-file}
+use borrow.Author.Needs.{needs}
+use Rattle.api.proofs.indexes.klapouzen_read_file.Statement.{statement}
+use Rattle.api.proofs.indexes.klapouzen_read_file.Tie as tie
+
+file-requires : tie.Need-file-requires
+file-requires c κs = search needs
+
+enum-known-h : tie.Need-enum-known-h
+enum-known-h c = search needs
+
+enum-known-r : tie.Need-enum-known-r
+enum-known-r c = search needs
+
+number-requires : tie.Need-number-requires
+number-requires c κs = search needs
+
+returns : tie.Need-returns
+returns c = says-file (c .before .before .before .before .before .before .before .args .text .now) _ (c .before .before .h .given .0 .0) (ap (fileSaid (c .before .before .before .before .before .before .before .args .text .now)) (sym (c .before .before .h .given .1)) ∙ c .before .before .before .before .file .ensures .says)
+
+returns-2 : tie.Need-returns-2
+returns-2 c = not-told (c .before .before .before .r .given .0 .0) (mapped-refused shown _ _ (ap (fileSaid (c .before .before .before .before .before .before .before .before .args .text .now)) (sym (c .before .before .before .r .given .1)) ∙ c .before .before .before .before .before .file .ensures .says)) (c .number .ensures)
+
+pub klapouzen-read-file-spec : {M : Type 1} → statement M
+klapouzen-read-file-spec =
+    tie.close (tie.spec file-requires enum-known-h enum-known-r number-requires returns returns-2)

@@ -1,0 +1,57 @@
+-- What is shown of an index: its header, a file, a file's rows.
+use mathlib.Core.Path.{_≡_}
+use mathlib.Core.Bool.{cond}
+use mathlib.Core.List.{List, [], _∷_}
+use mathlib.Core.Option.{Option, none, some}
+use Prim.Native.Nat.{ℕ}
+use lib.ListN.{length, take, drop, getD}
+use Rattle.refusals.specs.Refusals.{Answer, andThen}
+use Rattle.quantities.specs.Places.{Place}
+use Rattle.extents.specs.Rows.{Row}
+use Rattle.index.specs.Index.{Index, File, indexOf}
+use Rattle.index.specs.declared.read.Header.{Header}
+use Rattle.index_files.specs.Asked.{fitting}
+use Rattle.api.specs.Outputs.{bit, partTold}
+
+-- the index that a text is: of the volume with that UUID, those letters and that block size, at a partition letter and a block number
+abbrev pub indexIn : List ℕ → List ℕ → ℕ → ℕ → ℕ → ℕ → ℕ → Answer Index
+indexIn s uuid index other size letter block = indexOf (record { uuid = uuid; first = index; other = other; size = size }) letter block s
+
+-- whether there is a back pointer, its letter, its block
+abbrev pub backNumbers : Option Place → List ℕ
+backNumbers none = 0 ∷ 0 ∷ 0 ∷ []
+backNumbers (some p) = 1 ∷ p .letter ∷ p .block ∷ []
+
+-- thirteen numbers say what an index says: the R of its version, its generation, the place of its update time in s and its length, its location's
+-- letter and block, its back pointer, the policy's boolean, the highest file UID, and how many directories and files it has
+pub record SaysIndex (s : List ℕ) (x : Index) (out : List ℕ) : Type 0 where
+  pub release : getD out 0 0 ≡ x .release
+  pub generation : getD out 1 0 ≡ x .generation
+  pub updatetime : partTold s out 2 ≡ x .updatetime
+  pub letter : getD out 4 0 ≡ x .location .letter
+  pub block : getD out 5 0 ≡ x .location .block
+  pub back : take 3 (drop 6 out) ≡ backNumbers (x .back)
+  pub allowpolicyupdate : getD out 9 0 ≡ bit (x .allowpolicyupdate)
+  pub highestfileuid : getD out 10 0 ≡ x .highestfileuid
+  pub directories : getD out 11 0 ≡ x .directories
+  pub files : getD out 12 0 ≡ length (x .files)
+
+-- a header that a reader read, in those numbers
+abbrev pub headerNumbers : Header → List ℕ
+headerNumbers h =
+    h .release ∷ h .generation .0 ∷ h .time .from ∷ h .time .len ∷ h .letter ∷ h .block .0
+    ∷ bit (h .back) ∷ cond (h .back) (h .«back_letter») 0 ∷ cond (h .back) (h .«back_block» .0) 0
+    ∷ bit (h .allow) ∷ h .highest ∷ h .directories ∷ h .files ∷ []
+
+-- four numbers say what a file says: its length, the place of its name, as spelled, in s and its length, and how many rows it has
+pub record SaysFile (s : List ℕ) (f : File) (out : List ℕ) : Type 0 where
+  pub length : getD out 0 0 ≡ f .length
+  pub name : partTold s out 1 ≡ f .name
+  pub rows : getD out 3 0 ≡ lib.ListN.length (f .rows)
+
+-- the rows of a file, where a buffer of so many numbers has room for them
+abbrev pub rowsFor : ℕ → Answer File → Answer (List Row)
+rowsFor room a = andThen a (λ f. fitting room (f .rows))
+
+abbrev pub rowCount : List Row → List ℕ
+rowCount l = length l ∷ []

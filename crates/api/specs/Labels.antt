@@ -1,0 +1,47 @@
+-- What is shown of labels.
+use mathlib.Core.Path.{_≡_}
+use mathlib.Core.Bool.{Bool, _&&_}
+use mathlib.Core.List.{List, [], _∷_}
+use Prim.Native.Nat.{ℕ}
+use lib.Dec.{leb, eqb}
+use lib.ListN.{getD}
+use Rattle.elements.specs.Decoded.{decoded}
+use Rattle.label.specs.Vol1.{Fields}
+use Rattle.label.specs.Label.{Label}
+use Rattle.label.specs.Text.{isGiven, labelOfGiven}
+use Rattle.label.specs.declared.reader.Fields.{Fields as Read}
+use Rattle.api.specs.Outputs.{bit, partTold}
+
+-- the places and lengths of VOL1's identifier and owner
+abbrev pub vol1Places : Fields → List ℕ
+vol1Places f = 4 ∷ 6 ∷ 37 ∷ 14 ∷ []
+
+-- a label that a reader read, in numbers: the R of its version; where its creator, its time and its UUID stand, each with its length; its
+-- location, the index letter, the data letter, the block size, and the compression
+abbrev pub labelNumbers : Read → List ℕ
+labelNumbers f =
+    f .release ∷ f .creator .from ∷ f .creator .len ∷ f .time .from ∷ f .time .len ∷ f .uuid .from ∷ f .uuid .len
+    ∷ f .location ∷ f .«index_letter» ∷ f .«data_letter» ∷ f .«block_size» ∷ bit (f .compression) ∷ []
+
+-- twelve numbers say what a label says: the R of its version; the places of its creator, as spelled, its time and its UUID in s, each with its
+-- length; its location, the index letter, the data letter, the block size, and the compression
+pub record SaysLabel (s : List ℕ) (f : Label) (out : List ℕ) : Type 0 where
+  pub release : getD out 0 0 ≡ f .release
+  pub creator : decoded (partTold s out 1) ≡ f .creator
+  pub time : partTold s out 3 ≡ f .time
+  pub uuid : partTold s out 5 ≡ f .uuid
+  pub location : getD out 7 0 ≡ f .location
+  pub indexLetter : getD out 8 0 ≡ f .indexLetter
+  pub dataLetter : getD out 9 0 ≡ f .dataLetter
+  pub blockSize : getD out 10 0 ≡ f .blockSize
+  pub compression : getD out 11 0 ≡ bit (f .compression)
+
+-- the label that a caller gives, its compression as a number
+abbrev pub givenLabel : List ℕ → List ℕ → List ℕ → ℕ → ℕ → ℕ → ℕ → ℕ → Label
+givenLabel creator time uuid location index other size compression =
+    labelOfGiven creator time uuid
+    (record { location = location; «index_letter» = index; «data_letter» = other; «block_size» = size; compression = eqb compression 1 })
+
+-- 14: the compression is 0 or 1, and the label may be written
+abbrev pub isWritable : ℕ → Label → Bool
+isWritable compression f = leb compression 1 && isGiven f

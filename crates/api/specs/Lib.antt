@@ -1,0 +1,5 @@
+pub mod Outputs
+pub mod Partitions
+pub mod Labels
+pub mod Files
+pub mod Indexes

@@ -1,0 +1,24 @@
+-- What is shown of a partition's elements: fronts that are kept, the place of a block.
+use mathlib.Core.Bool.{not}
+use mathlib.Core.List.{List, [], _∷_}
+use Prim.Native.Nat.{ℕ}
+use Rattle.refusals.specs.Refusals.{Answer, answer, andThen}
+use Rattle.tape.specs.Answers.{tapeIn, Lengths, lengths, keeping, Place}
+use Rattle.constructs.specs.Constructs.{standing}
+use Rattle.api.specs.Outputs.{bit}
+use lib.ListN.{length}
+
+-- how many bytes of the list and of the store n elements keep
+abbrev pub keptOf : ℕ → List ℕ → List ℕ → Answer Lengths
+keptOf n l s = andThen (keeping n l s) (λ f. answer (lengths f))
+
+abbrev pub fronts : Lengths → List ℕ
+fronts f = f .list ∷ f .store ∷ []
+
+-- the side, 0 for the index side and 1 for the data side; where the block begins in that side's store, and its length
+abbrev pub place : Place → List ℕ
+place p = bit (not (p .onIndex)) ∷ p .from ∷ p .size ∷ []
+
+-- how many constructs stand
+abbrev pub standingCount : ℕ → List ℕ → List ℕ → Answer ℕ
+standingCount B l s = andThen (tapeIn l s) (λ t. answer (length (standing B t)))

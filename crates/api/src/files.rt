@@ -1,0 +1,52 @@
+// Texts, and the bytes of files.
+use extents::ByteAt;
+use refusals::Refusal;
+use xml::Checked;
+ghost use mathlib.Core.Path.{_≡_};
+ghost use Rattle.refusals.specs.Refusals.{answer, shownNumber};
+ghost use Rattle.xml.specs.Machine.{requireForm};
+ghost use Rattle.extents.specs.Map.{byteMap};
+ghost use Rattle.api.specs.Outputs.{Shown};
+ghost use Rattle.api.specs.Files.{bytePlace};
+
+// Whether a text is in the XML form.
+#[no_mangle]
+pub extern "C" fn klapouzen_check_form(text: &[u8]) -> u64
+    ensures { λ r. ⌜ r ≡ shownNumber (requireForm (now (text .entry)) (answer (now (text .entry)))) ⌝ }
+{
+    match xml::check(text) {
+        Checked::Good => 0,
+        Checked::Broken(_) => refusals::number(Refusal::Form),
+    }
+}
+
+// Where the byte at a position of a file is.
+#[no_mangle]
+pub extern "C" fn klapouzen_byte_at(
+    rows: &[u64],
+    length: u64,
+    block_size: u64,
+    position: u64,
+    out: &mut [u64; 4],
+) -> u64
+    ensures { λ r. ⌜ Shown 4 bytePlace (byteMap (now (rows .entry)) length «block_size» position) r (now (out .exit)) ⌝ }
+{
+    match extents::byte_at(rows, length, block_size, position) {
+        ByteAt::Stored {
+            letter,
+            block,
+            byte,
+        } => {
+            *out = [1, letter as u64, block.0, byte.0];
+            0
+        }
+        ByteAt::Unstored => {
+            *out = [0; 4];
+            0
+        }
+        ByteAt::Refused(r) => {
+            *out = [0; 4];
+            refusals::number(r)
+        }
+    }
+}

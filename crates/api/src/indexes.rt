@@ -1,0 +1,131 @@
+// Indexes: an index's text read, a file of it, and a file's rows.
+use crate::numbers::flag;
+use crate::numbers::present;
+use index::Header;
+use index::Read;
+use index::Volume;
+use index_files::FileRead;
+use index_files::RowsRead;
+use quantities::BlockNumber;
+ghost use mathlib.Core.Path.{_≡_};
+ghost use lib.ListN.{length};
+ghost use Rattle.index_files.specs.Asked.{fileIn, rowsStored};
+ghost use Rattle.api.specs.Outputs.{Shown, Told, one};
+ghost use Rattle.api.specs.Indexes.{indexIn, headerNumbers, SaysIndex, SaysFile, rowsFor, rowCount};
+
+fn in_numbers(h: Header) -> [u64; 13]
+    ensures { λ r. ⌜ r ≡ headerNumbers h ⌝ }
+{
+    [
+        h.release,
+        h.generation.0,
+        h.time.from as u64,
+        h.time.len as u64,
+        h.letter as u64,
+        h.block.0,
+        flag(h.back),
+        present(h.back, h.back_letter as u64),
+        present(h.back, h.back_block.0),
+        flag(h.allow),
+        h.highest,
+        h.directories,
+        h.files,
+    ]
+}
+
+// Reads an index's text, of the volume with that UUID, those letters and that block size, at a partition letter and the number of its first
+// block.
+#[no_mangle]
+pub extern "C" fn klapouzen_read_index(
+    text: &[u8],
+    uuid: &[u8],
+    index_letter: u8,
+    data_letter: u8,
+    block_size: u64,
+    letter: u8,
+    block: u64,
+    out: &mut [u64; 13],
+) -> u64
+    ensures { λ r. ⌜ Told 13 (SaysIndex (now (text .entry))) (indexIn (now (text .entry)) (now (uuid .entry)) «index_letter» «data_letter» «block_size» letter block) r (now (out .exit)) ⌝ }
+{
+    let volume = Volume {
+        first: index_letter,
+        other: data_letter,
+        size: block_size,
+    };
+    match index::read_index(text, uuid, volume, letter, BlockNumber(block)) {
+        Read::Found(h) => {
+            *out = in_numbers(h);
+            0
+        }
+        Read::Refused(r) => {
+            *out = [0; 13];
+            refusals::number(r)
+        }
+    }
+}
+
+// A file of an index's text, by its number; the other parameters are those of reading it.
+#[no_mangle]
+pub extern "C" fn klapouzen_read_file(
+    text: &[u8],
+    uuid: &[u8],
+    index_letter: u8,
+    data_letter: u8,
+    block_size: u64,
+    letter: u8,
+    block: u64,
+    file: u64,
+    out: &mut [u64; 4],
+) -> u64
+    ensures { λ r. ⌜ Told 4 (SaysFile (now (text .entry))) (fileIn file (indexIn (now (text .entry)) (now (uuid .entry)) «index_letter» «data_letter» «block_size» letter block)) r (now (out .exit)) ⌝ }
+{
+    let volume = Volume {
+        first: index_letter,
+        other: data_letter,
+        size: block_size,
+    };
+    match index_files::file(text, uuid, volume, letter, BlockNumber(block), file) {
+        FileRead::Found(h) => {
+            *out = [h.length.0, h.name.from as u64, h.name.len as u64, h.rows];
+            0
+        }
+        FileRead::Refused(r) => {
+            *out = [0; 4];
+            refusals::number(r)
+        }
+    }
+}
+
+// The rows of a file of an index's text, five numbers each, into the front of rows.
+#[no_mangle]
+pub extern "C" fn klapouzen_read_rows(
+    text: &[u8],
+    uuid: &[u8],
+    index_letter: u8,
+    data_letter: u8,
+    block_size: u64,
+    letter: u8,
+    block: u64,
+    file: u64,
+    rows: &mut [u64],
+    count: &mut u64,
+) -> u64
+    ensures { λ r. ⌜ Shown 1 rowCount (rowsFor (length (now (rows .entry))) (fileIn file (indexIn (now (text .entry)) (now (uuid .entry)) «index_letter» «data_letter» «block_size» letter block))) r (one (now (count .exit))) × (now (rows .exit) ≡ rowsStored (now (rows .entry)) (rowsFor (length (now (rows .entry))) (fileIn file (indexIn (now (text .entry)) (now (uuid .entry)) «index_letter» «data_letter» «block_size» letter block)))) ⌝ }
+{
+    let volume = Volume {
+        first: index_letter,
+        other: data_letter,
+        size: block_size,
+    };
+    match index_files::rows(text, uuid, volume, letter, BlockNumber(block), file, rows) {
+        RowsRead::Count(n) => {
+            *count = n;
+            0
+        }
+        RowsRead::Refused(r) => {
+            *count = 0;
+            refusals::number(r)
+        }
+    }
+}

@@ -1,0 +1,158 @@
+// Labels: read, written, and the labels of a volume.
+use crate::numbers::flag;
+use label::Fields;
+use label::Given;
+use label::Label;
+use label::Vol1;
+use label::Vol1Read;
+use refusals::Refusal;
+use slices::Written;
+ghost use mathlib.Core.Path.{_≡_};
+ghost use Rattle.label.specs.Vol1.{vol1Of, areFields, vol1};
+ghost use Rattle.label.specs.Label.{labelOf};
+ghost use Rattle.label.specs.Text.{textOf};
+ghost use Rattle.labels.specs.Labels.{labelsIn};
+ghost use Rattle.api.specs.Outputs.{Shown, Told, WritesOut};
+ghost use Rattle.api.specs.Labels.{vol1Places, labelNumbers, SaysLabel, givenLabel, isWritable};
+
+fn in_numbers(f: Fields) -> [u64; 12]
+    ensures { λ r. ⌜ r ≡ labelNumbers f ⌝ }
+{
+    [
+        f.release,
+        f.creator.from as u64,
+        f.creator.len as u64,
+        f.time.from as u64,
+        f.time.len as u64,
+        f.uuid.from as u64,
+        f.uuid.len as u64,
+        f.location as u64,
+        f.index_letter as u64,
+        f.data_letter as u64,
+        f.block_size,
+        flag(f.compression),
+    ]
+}
+
+// Whether a block is a VOL1 label, and where its identifier and its owner stand.
+#[no_mangle]
+pub extern "C" fn klapouzen_read_vol1(block: &[u8], out: &mut [u64; 4]) -> u64
+    ensures { λ r. ⌜ Shown 4 vol1Places (vol1Of (now (block .entry))) r (now (out .exit)) ⌝ }
+{
+    match label::read_vol1(block) {
+        Vol1Read::Good => {
+            *out = [
+                Vol1::IDENTIFIER_AT as u64,
+                (Vol1::IDENTIFIER_END - Vol1::IDENTIFIER_AT) as u64,
+                Vol1::OWNER_AT as u64,
+                (Vol1::OWNER_END - Vol1::OWNER_AT) as u64,
+            ];
+            0
+        }
+        Vol1Read::Refused(r) => {
+            *out = [0; 4];
+            refusals::number(r)
+        }
+    }
+}
+
+// Writes a VOL1 label to the front of out.
+#[no_mangle]
+pub extern "C" fn klapouzen_write_vol1(
+    out: &mut [u8],
+    identifier: &[u8],
+    owner: &[u8],
+    length: &mut u64,
+) -> u64
+    ensures { λ r. ⌜ WritesOut (areFields (now (identifier .entry)) (now (owner .entry))) (vol1 (now (identifier .entry)) (now (owner .entry))) (now (out .entry)) (now (out .exit)) r (now (length .exit)) ⌝ }
+{
+    match label::write_vol1(out, identifier, owner) {
+        Written::To(n) => {
+            *length = n as u64;
+            0
+        }
+        Written::Refused(r) => {
+            *length = 0;
+            refusals::number(r)
+        }
+    }
+}
+
+// Reads an LTFS label.
+#[no_mangle]
+pub extern "C" fn klapouzen_read_label(text: &[u8], out: &mut [u64; 12]) -> u64
+    ensures { λ r. ⌜ Told 12 (SaysLabel (now (text .entry))) (labelOf (now (text .entry))) r (now (out .exit)) ⌝ }
+{
+    match label::read(text) {
+        Label::Says(f) => {
+            *out = in_numbers(f);
+            0
+        }
+        Label::Refused(r) => {
+            *out = [0; 12];
+            refusals::number(r)
+        }
+    }
+}
+
+// Writes an LTFS label to the front of out.
+#[no_mangle]
+pub extern "C" fn klapouzen_write_label(
+    out: &mut [u8],
+    creator: &[u8],
+    time: &[u8],
+    uuid: &[u8],
+    location: u8,
+    index_letter: u8,
+    data_letter: u8,
+    block_size: u64,
+    compression: u64,
+    length: &mut u64,
+) -> u64
+    ensures { λ r. ⌜ WritesOut (isWritable compression (givenLabel (now (creator .entry)) (now (time .entry)) (now (uuid .entry)) location «index_letter» «data_letter» «block_size» compression)) (textOf (givenLabel (now (creator .entry)) (now (time .entry)) (now (uuid .entry)) location «index_letter» «data_letter» «block_size» compression)) (now (out .entry)) (now (out .exit)) r (now (length .exit)) ⌝ }
+{
+    if 1 < compression {
+        *length = 0;
+        return refusals::number(Refusal::Caller);
+    }
+    let given = Given {
+        location,
+        index_letter,
+        data_letter,
+        block_size,
+        compression: compression == 1,
+    };
+    match label::write(out, creator, time, uuid, given) {
+        Written::To(n) => {
+            *length = n as u64;
+            0
+        }
+        Written::Refused(r) => {
+            *length = 0;
+            refusals::number(r)
+        }
+    }
+}
+
+// The labels of a volume: what the index side's label says, its places being in the index store.
+#[no_mangle]
+pub extern "C" fn klapouzen_check_labels(
+    index_list: &[u8],
+    index_store: &[u8],
+    data_list: &[u8],
+    data_store: &[u8],
+    out: &mut [u64; 12],
+) -> u64
+    ensures { λ r. ⌜ Told 12 (SaysLabel (now («index_store» .entry))) (labelsIn (now («index_list» .entry)) (now («index_store» .entry)) (now («data_list» .entry)) (now («data_store» .entry))) r (now (out .exit)) ⌝ }
+{
+    match labels::check(index_list, index_store, data_list, data_store) {
+        Label::Says(f) => {
+            *out = in_numbers(f);
+            0
+        }
+        Label::Refused(r) => {
+            *out = [0; 12];
+            refusals::number(r)
+        }
+    }
+}

@@ -1,0 +1,203 @@
+// Start tags, each looked at once with what follows it up to the next tag.
+use crate::heads;
+use crate::heads::Span;
+use crate::scan;
+use crate::tags;
+ghost use mathlib.Core.Path.{_≡_};
+ghost use Prim.Native.Nat.{_<_, _≤_};
+ghost use lib.ListN.{length, getD};
+ghost use Rattle.xml.specs.Bytes.{isNameByte};
+ghost use Rattle.xml.specs.Scans.{Past};
+ghost use Rattle.elements.specs.Reading.{partAt};
+ghost use Rattle.elements.specs.Starts.{Opening, NextStart, NextItem};
+
+// An element as its start tag shows it: the tag's place; its name; whether it has no attribute; whether its tag is an empty-element tag; its
+// text; whether it has no children, and if so where its row goes on.
+pub struct Start {
+    pub at: usize,
+    pub name: Span,
+    pub plain: bool,
+    pub empty: bool,
+    pub text: Span,
+    pub leaf: bool,
+    pub next: usize,
+}
+
+// The end of the text, an end tag with the place behind its `<`, or an element.
+pub enum Next {
+    End,
+    Close(usize),
+    Opens(Start),
+}
+
+// The next element of a row, and where the row goes on.
+pub enum Item {
+    Done,
+    At(Start, usize),
+}
+
+// That part of a text, as far as it lies there.
+pub fn part(text: &[u8], span: Span) -> &[u8]
+    ensures { λ r. ⌜ now r ≡ partAt (now (text .entry)) span ⌝ }
+{
+    let a = scan::inside(text, span.from);
+    let n = span.len;
+    if text.len() - a < n {
+        return &text[a..];
+    }
+    let e = a + n;
+    &text[a..e]
+}
+
+// The byte at i, 0 past the end.
+fn byte(text: &[u8], i: usize) -> u8
+    ensures { λ r. ⌜ r ≡ getD (now (text .entry)) i 0 ⌝ }
+{
+    if i < text.len() {
+        return text[i];
+    }
+    0
+}
+
+// The element whose tag is at n, where `>` follows its name, which ends at e.
+fn plain_start(text: &[u8], n: usize, e: usize) -> Start
+    requires { ⌜ Past isNameByte (now text) n e × (e < length (now text)) × (getD (now text) e 0 ≡ 62) ⌝ }
+    ensures { λ r. ⌜ Opening (now (text .entry)) n r ⌝ }
+{
+    let from = e + 1;
+    let end = scan::find(text, from, 60);
+    if text.len() <= end {
+        return Start {
+            at: n,
+            name: Span {
+                from: n,
+                len: e - n,
+            },
+            plain: true,
+            empty: false,
+            text: Span {
+                from,
+                len: end - from,
+            },
+            leaf: true,
+            next: text.len(),
+        };
+    }
+    let next = end + 1;
+    Start {
+        at: n,
+        name: Span {
+            from: n,
+            len: e - n,
+        },
+        plain: true,
+        empty: false,
+        text: Span {
+            from,
+            len: end - from,
+        },
+        leaf: byte(text, next) == 47,
+        next,
+    }
+}
+
+// The element whose tag is at n, of any form; its name ends at e.
+fn other_start(text: &[u8], n: usize, e: usize) -> Start
+    requires { ⌜ Past isNameByte (now text) n e ⌝ }
+    ensures { λ r. ⌜ Opening (now (text .entry)) n r ⌝ }
+{
+    let tag = scan::tag_end(text, n);
+    let plain = heads::key_of(text, n).len() == 0;
+    let said = heads::text_at(text, n);
+    let leaf = !heads::has_children(text, n);
+    if tag.empty {
+        return Start {
+            at: n,
+            name: Span {
+                from: n,
+                len: e - n,
+            },
+            plain,
+            empty: true,
+            text: said,
+            leaf,
+            next: n,
+        };
+    }
+    if leaf {
+        return Start {
+            at: n,
+            name: Span {
+                from: n,
+                len: e - n,
+            },
+            plain,
+            empty: false,
+            text: said,
+            leaf: true,
+            next: tags::leave(text, n),
+        };
+    }
+    Start {
+        at: n,
+        name: Span {
+            from: n,
+            len: e - n,
+        },
+        plain,
+        empty: false,
+        text: said,
+        leaf: false,
+        next: n,
+    }
+}
+
+// The element whose tag is at n.
+fn start_at(text: &[u8], n: usize) -> Start
+    requires { ⌜ n ≤ length (now text) ⌝ }
+    ensures { λ r. ⌜ Opening (now (text .entry)) n r ⌝ }
+{
+    let e = scan::name_end(text, n);
+    if e < text.len() {
+        if text[e] == 62 {
+            return plain_start(text, n, e);
+        }
+    }
+    other_start(text, n, e)
+}
+
+// What comes next from at on.
+pub fn next_start(text: &[u8], at: usize) -> Next
+    ensures { λ r. ⌜ NextStart (now (text .entry)) at r ⌝ }
+{
+    if text.len() <= at {
+        return Next::End;
+    }
+    let j = scan::find(text, at, 60);
+    if text.len() <= j {
+        return Next::End;
+    }
+    let n = j + 1;
+    if byte(text, n) == 47 {
+        return Next::Close(n);
+    }
+    Next::Opens(start_at(text, n))
+}
+
+// The next element of the row at at.
+pub fn next_item(text: &[u8], at: usize) -> Item
+    ensures { λ r. ⌜ NextItem (now (text .entry)) at r ⌝ }
+{
+    match next_start(text, at) {
+        Next::End => Item::Done,
+        Next::Close(_) => Item::Done,
+        Next::Opens(s) => {
+            let next = s.next;
+            if s.leaf {
+                return Item::At(s, next);
+            }
+            let j = tags::leave(text, s.at);
+            Item::At(s, j)
+        }
+    }
+}
