@@ -5,4 +5,5 @@ pub mod Parts
 pub mod Meanings
 pub mod Roots
 pub mod Plain
+pub mod Finding
 pub mod Entities

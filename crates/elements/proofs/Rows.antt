@@ -67,6 +67,14 @@ module _ {s : List ℕ} {i : ℕ} where
     unfolding childrenAt
     children-empty t = rw (t .kind)
 
+    -- the row begins with the element at n
+    pub node-open : NextTag s i (Open n) → rowAt s i ≡ node (headAt s n) (childrenAt s n) (top (aroundAt s n))
+    unfolding top opened
+    node-open t = ap top (t .left) ∙ ap (λ (k : Forest). node (headAt s n) k (top (aroundAt s n))) (sym (children-open t))
+
+    pub node-empty : NextTag s i (Empty n) → rowAt s i ≡ node (headAt s n) (childrenAt s n) (rowAt s n)
+    node-empty t = row-empty t ∙ ap (λ (k : Forest). node (headAt s n) k (rowAt s n)) (sym (children-empty t))
+
     -- the element at n is the first of the row at i
     pub first-open : {j : ℕ} → NextTag s i (Open n) → Behind s n j → FirstOf s i n j
     first-open {j} t l =
@@ -80,7 +88,7 @@ module _ {s : List ℕ} {i : ℕ} where
     pub first-empty : NextTag s i (Empty n) → FirstOf s i n n
     first-empty t =
         record {
-          row = row-empty t ∙ ap (λ (k : Forest). node (headAt s n) k (rowAt s n)) (sym (children-empty t));
+          row = node-empty t;
           around = around-empty t;
           place = t .place;
           after = (omega arith, t .place .1);

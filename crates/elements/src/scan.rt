@@ -16,8 +16,8 @@ pub fn inside(text: &[u8], at: usize) -> usize
     at
 }
 
-// The first b from at on, or the end.
-pub fn find(text: &[u8], at: usize, b: u8) -> usize
+// The first b from at on, or the end, byte by byte.
+fn find_one(text: &[u8], at: usize, b: u8) -> usize
     requires { ⌜ at ≤ length (now text) ⌝ }
     ensures { λ r. ⌜ Past (isNot b) (now (text .entry)) at r ⌝ }
 {
@@ -29,6 +29,30 @@ pub fn find(text: &[u8], at: usize, b: u8) -> usize
         i += 1;
     }
     i
+}
+
+// The first b from at on, or the end; four bytes at a turn.
+pub fn find(text: &[u8], at: usize, b: u8) -> usize
+    requires { ⌜ at ≤ length (now text) ⌝ }
+    ensures { λ r. ⌜ Past (isNot b) (now (text .entry)) at r ⌝ }
+{
+    let mut i = at;
+    while 4 <= text.len() - i {
+        if text[i] == b {
+            return i;
+        }
+        if text[i + 1] == b {
+            return i + 1;
+        }
+        if text[i + 2] == b {
+            return i + 2;
+        }
+        if text[i + 3] == b {
+            return i + 3;
+        }
+        i += 4;
+    }
+    find_one(text, i, b)
 }
 
 // A letter, a digit, `_`, `-` or `.`.

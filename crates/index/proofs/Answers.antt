@@ -20,7 +20,7 @@ use Rattle.index_names.specs.Sorts.{index, file}
 use Rattle.index.specs.Elements.{Element, elements, textIn, rowIn}
 use Rattle.index.specs.Entries.{orZero, numberSaid, many, entriesOf}
 use Rattle.index.specs.Tests.{Given, isSome, letterSaid}
-use Rattle.index.specs.Index.{Told, isTrue, said, told, toldBy, headed, structured, bounded, allValued, allOwn, allLawful, standsAt, placeIn, locationIn, filesOf, fileOf, fileCount, childrenRead, rootRead, callerRight, indexOf, isGood}
+use Rattle.index.specs.Index.{Told, isTrue, said, told, toldBy, headed, structured, bounded, allValued, allOwn, allLawful, standsAt, placeIn, locationIn, filesOf, fileOf, fileCount, childrenRead, tagRead, rootRead, callerRight, indexOf, isGood}
 
 pub caller-last : (g : Given) (letter : ℕ) → isLetter (g .first) ≡ true → isLetter (g .other) ≡ true → eqb (g .first) (g .other) ≡ false
     → leb 4096 (g .size) ≡ true → leb (g .size) 1048576 ≡ true → is.isUuid (g .uuid) ≡ true
@@ -96,27 +96,28 @@ module _ (g : Given) (letter block : ℕ) (f : Forest) where
   unfolding rootRead
   root-none e = sym (ap (λ (f : Forest). toldBy (rootRead g letter block f)) e)
 
-  module _ (h : Head) (k r : Forest) (e : f ≡ node h k r) where
-    at-root : toldBy (rootRead g letter block f) ≡ toldBy (rootRead g letter block (node h k r))
-    at-root = ap (λ (f : Forest). toldBy (rootRead g letter block f)) e
+  pub root-tag : (h : Head) (k r : Forest) → f ≡ node h k r → toldBy (tagRead g letter block h k) ≡ toldBy (rootRead g letter block f)
+  unfolding rootRead
+  root-tag h k r e = sym (ap (λ (f : Forest). toldBy (rootRead g letter block f)) e)
 
-    pub root-name : same (h .name) (bytes "ltfsindex") ≡ false → refused Structure ≡ toldBy (rootRead g letter block f)
-    unfolding rootRead
-    root-name a = sym (at-root ∙ rw a)
+module _ (g : Given) (letter block : ℕ) (h : Head) (k : Forest) where
+  pub root-name : same (h .name) (bytes "ltfsindex") ≡ false → refused Structure ≡ toldBy (tagRead g letter block h k)
+  unfolding tagRead
+  root-name a = sym (rw a)
 
-    module _ (a : same (h .name) (bytes "ltfsindex") ≡ true) where
-      pub root-key : same (h .key) (bytes "version") ≡ false → refused Structure ≡ toldBy (rootRead g letter block f)
-      unfolding rootRead
-      root-key b = sym (at-root ∙ rw (a, b))
+  module _ (a : same (h .name) (bytes "ltfsindex") ≡ true) where
+    pub root-key : same (h .key) (bytes "version") ≡ false → refused Structure ≡ toldBy (tagRead g letter block h k)
+    unfolding tagRead
+    root-key b = sym (rw (a, b))
 
-      module _ (b : same (h .key) (bytes "version") ≡ true) where
-        pub root-version : is.version (h .value) ≡ none → refused Version ≡ toldBy (rootRead g letter block f)
-        unfolding rootRead
-        root-version c = sym (at-root ∙ rw (a, b, c))
+    module _ (b : same (h .key) (bytes "version") ≡ true) where
+      pub root-version : is.version (h .value) ≡ none → refused Version ≡ toldBy (tagRead g letter block h k)
+      unfolding tagRead
+      root-version c = sym (rw (a, b, c))
 
-        pub root-read : (release : ℕ) → is.version (h .value) ≡ some release → toldBy (childrenRead g letter block release k) ≡ toldBy (rootRead g letter block f)
-        unfolding rootRead
-        root-read release c = sym (at-root ∙ rw (a, b, c))
+      pub root-read : (release : ℕ) → is.version (h .value) ≡ some release → toldBy (childrenRead g letter block release k) ≡ toldBy (tagRead g letter block h k)
+      unfolding tagRead
+      root-read release c = sym (rw (a, b, c))
 
 module _ (g : Given) (letter block : ℕ) (text : List ℕ) where
   pub index-14 : callerRight g letter ≡ false → refused Caller ≡ toldBy (indexOf g letter block text)

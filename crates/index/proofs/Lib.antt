@@ -9,3 +9,4 @@ pub mod Swept
 pub mod Differ
 pub mod Surveying
 pub mod Answers
+pub mod Shapes

@@ -123,12 +123,15 @@ childrenRead g letter block release k =
     (answer (said release k)))))))
 
 -- 5 for the root's name and its one attribute, then 7 for its value, then the rest
-unfoldable pub rootRead : Given → ℕ → ℕ → Forest → Answer Index
-rootRead g letter block noElement = refused Structure
-rootRead g letter block (node h k r) =
+unfoldable pub tagRead : Given → ℕ → ℕ → Head → Forest → Answer Index
+tagRead g letter block h k =
     require (same (h .name) (bytes "ltfsindex") && same (h .key) (bytes "version")) Structure
     (require (isSome (is.version (h .value))) Version
     (childrenRead g letter block (orZero (is.version (h .value))) k))
+
+unfoldable pub rootRead : Given → ℕ → ℕ → Forest → Answer Index
+rootRead g letter block noElement = refused Structure
+rootRead g letter block (node h k r) = tagRead g letter block h k
 
 -- 14: the caller's letters, block size, UUID and place
 unfoldable pub callerRight : Given → ℕ → Bool

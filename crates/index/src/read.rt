@@ -3,8 +3,8 @@ use crate::rows;
 use crate::survey;
 use crate::tests;
 use crate::tests::Volume;
-use elements::Child;
 use elements::Span;
+use elements::Tag;
 use quantities::BlockNumber;
 use quantities::Generation;
 use refusals::Refusal;
@@ -17,11 +17,11 @@ ghost use lib.ListN.{length};
 ghost use Rattle.values.specs.Values as is;
 ghost use Rattle.xml.specs.Form.{height};
 ghost use Rattle.xml.specs.Machine.{good, form};
-ghost use Rattle.elements.specs.Reading.{rowAt, isRow};
+ghost use Rattle.elements.specs.Reading.{rowAt, headAt, childrenAt, isRow};
 ghost use Rattle.index.specs.Tests.{given};
 ghost use Rattle.refusals.specs.Refusals.{answer};
 ghost use Rattle.index.specs.declared.read.Read.the-variants.{Found};
-ghost use Rattle.index.specs.Index.{isTrue, placeIn, standsAt, callerRight, headed, childrenRead, rootRead, indexOf, toldBy, saying};
+ghost use Rattle.index.specs.Index.{isTrue, placeIn, standsAt, callerRight, headed, childrenRead, tagRead, rootRead, indexOf, toldBy, saying};
 
 // What an index says besides its files: the R of its version 2.0.R; its generation; where the update time stands in its text; its location;
 // its back pointer, if it has one; whether the policy may be updated; the highest fileuid; how many directories, with the root, and files it has.
@@ -111,9 +111,11 @@ fn is_true(raw: &[u8]) -> bool
 fn has_row(text: &[u8], at: usize) -> bool
     ensures { λ r. ⌜ r ≡ isRow (rowAt (now (text .entry)) at) ⌝ }
 {
-    match elements::next_child(text, at) {
-        Child::Done => false,
-        Child::At(_, _) => true,
+    match elements::next_tag(text, at) {
+        Tag::End => false,
+        Tag::Close(_) => false,
+        Tag::Open(_) => true,
+        Tag::Empty(_) => true,
     }
 }
 
@@ -175,28 +177,36 @@ fn read_children(
     Read::Found(head_from(text, at, release, s.entries, s.files))
 }
 
+// The index whose root's tag is at n.
+fn read_tag(text: &[u8], uuid: &[u8], n: usize, volume: Volume, letter: u8, block: u64) -> Read
+    requires { ⌜ height (childrenAt (now text) n) ≤ 64 ⌝ }
+    ensures { λ r. ⌜ saying (now (text .entry)) r ≡ toldBy (tagRead (given (now (uuid .entry)) volume) letter block (headAt (now (text .entry)) n) (childrenAt (now (text .entry)) n)) ⌝ }
+{
+    if !elements::name_is(text, n, b"ltfsindex") {
+        return Read::Refused(Refusal::Structure);
+    }
+    if !slices::same(elements::key_of(text, n), b"version") {
+        return Read::Refused(Refusal::Structure);
+    }
+    match values::read_version(elements::value_of(text, n)) {
+        Version::Nothing => Read::Refused(Refusal::Version),
+        Version::Release(release) => {
+            let at = elements::first_child(text, n);
+            read_children(text, uuid, at, volume, release, letter, block)
+        }
+    }
+}
+
 // The index whose text is in the XML form.
 fn read_root(text: &[u8], uuid: &[u8], volume: Volume, letter: u8, block: u64) -> Read
     requires { ⌜ form (now text) ≡ good ⌝ }
     ensures { λ r. ⌜ saying (now (text .entry)) r ≡ toldBy (rootRead (given (now (uuid .entry)) volume) letter block (rowAt (now (text .entry)) 38)) ⌝ }
 {
-    match elements::next_child(text, 38) {
-        Child::Done => Read::Refused(Refusal::Structure),
-        Child::At(n, _) => {
-            if !elements::name_is(text, n, b"ltfsindex") {
-                return Read::Refused(Refusal::Structure);
-            }
-            if !slices::same(elements::key_of(text, n), b"version") {
-                return Read::Refused(Refusal::Structure);
-            }
-            match values::read_version(elements::value_of(text, n)) {
-                Version::Nothing => Read::Refused(Refusal::Version),
-                Version::Release(release) => {
-                    let at = elements::first_child(text, n);
-                    read_children(text, uuid, at, volume, release, letter, block)
-                }
-            }
-        }
+    match elements::next_tag(text, 38) {
+        Tag::End => Read::Refused(Refusal::Structure),
+        Tag::Close(_) => Read::Refused(Refusal::Structure),
+        Tag::Empty(n) => read_tag(text, uuid, n, volume, letter, block),
+        Tag::Open(n) => read_tag(text, uuid, n, volume, letter, block),
     }
 }
 

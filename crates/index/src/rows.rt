@@ -1,11 +1,12 @@
 // What stands in a row of elements, found by name.
 use digits::Number;
-use elements::Child;
+use elements::Item;
 use elements::Span;
+use elements::Start;
 ghost use mathlib.Core.Path.{_≡_};
-ghost use Prim.Native.Nat.{_≤_};
-ghost use lib.ListN.{length, getD, set};
-ghost use Rattle.elements.specs.Reading.{rowAt, Spans};
+ghost use lib.ListN.{getD, set};
+ghost use Rattle.elements.specs.Reading.{rowAt, childrenAt, Spans};
+ghost use Rattle.elements.specs.Starts.{Shape};
 ghost use Rattle.index.specs.Elements.{textIn, rowIn};
 ghost use Rattle.index.specs.Entries.{numberSaid};
 
@@ -15,13 +16,13 @@ pub fn span_in(text: &[u8], at: usize, name: &[u8]) -> Span
 {
     let mut i = at;
     loop {
-        match elements::next_child(text, i) {
-            Child::Done => {
+        match elements::next_item(text, i) {
+            Item::Done => {
                 return Span { from: 0, len: 0 };
             }
-            Child::At(n, next) => {
-                if elements::name_is(text, n, name) {
-                    return elements::text_at(text, n);
+            Item::At(h, next) => {
+                if slices::same(elements::part(text, h.name), name) {
+                    return h.text;
                 }
                 i = next;
             }
@@ -33,25 +34,33 @@ pub fn span_in(text: &[u8], at: usize, name: &[u8]) -> Span
 pub fn text_in<'a>(text: &'a [u8], at: usize, name: &[u8]) -> &'a [u8]
     ensures { λ r. ⌜ now r ≡ textIn (now (name .entry)) (rowAt (now (text .entry)) at) ⌝ }
 {
-    let s = span_in(text, at, name);
-    let a = s.from;
-    let e = a + s.len;
-    &text[a..e]
+    elements::part(text, span_in(text, at, name))
+}
+
+// Where the row of an element's children begins.
+pub fn children_row(text: &[u8], h: Start) -> usize
+    requires { ⌜ Shape (now text) h ⌝ }
+    ensures { λ r. ⌜ rowAt (now (text .entry)) r ≡ childrenAt (now (text .entry)) (h .at) ⌝ }
+{
+    if h.empty {
+        return text.len();
+    }
+    h.at
 }
 
 // Where the row of the first element of a name in the row at at begins.
 pub fn row_in(text: &[u8], at: usize, name: &[u8]) -> usize
-    ensures { λ r. ⌜ (rowAt (now (text .entry)) r ≡ rowIn (now (name .entry)) (rowAt (now (text .entry)) at)) × (r ≤ length (now (text .entry))) ⌝ }
+    ensures { λ r. ⌜ rowAt (now (text .entry)) r ≡ rowIn (now (name .entry)) (rowAt (now (text .entry)) at) ⌝ }
 {
     let mut i = at;
     loop {
-        match elements::next_child(text, i) {
-            Child::Done => {
+        match elements::next_item(text, i) {
+            Item::Done => {
                 return text.len();
             }
-            Child::At(n, next) => {
-                if elements::name_is(text, n, name) {
-                    return elements::first_child(text, n);
+            Item::At(h, next) => {
+                if slices::same(elements::part(text, h.name), name) {
+                    return children_row(text, h);
                 }
                 i = next;
             }

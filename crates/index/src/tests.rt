@@ -1,7 +1,7 @@
 // What each element is tested for by itself.
 use crate::rows;
 use digits::Number;
-use elements::Child;
+use elements::Item;
 use index_names::BOOLEAN;
 use index_names::CREATOR;
 use index_names::FILE;
@@ -26,7 +26,7 @@ ghost use Rattle.extents.specs.Lawful as extents;
 ghost use lib.Dec.{eqb};
 ghost use lib.Seq.{sets};
 ghost use Rattle.values.specs.Values as is;
-ghost use Rattle.elements.specs.Reading.{rowAt, childrenAt};
+ghost use Rattle.elements.specs.Reading.{rowAt};
 ghost use Rattle.index.specs.Elements.{textIn};
 ghost use Rattle.index.specs.Entries.{numberSaid};
 ghost use Rattle.index.specs.Tests.{isSome, valued, own, letterSaid, five, rowOf, rowsIn, few, lawful, RowsRead, given};
@@ -166,15 +166,15 @@ pub fn read_rows(text: &[u8], at: usize, out: &mut [u64]) -> usize
     let mut i = at;
     let mut n: usize = 0;
     loop {
-        match elements::next_child(text, i) {
-            Child::Done => {
+        match elements::next_item(text, i) {
+            Item::Done => {
                 return n;
             }
-            Child::At(t, next) => {
+            Item::At(h, next) => {
                 if n == 1024 {
                     return 1025;
                 }
-                put_row(text, elements::first_child(text, t), out, n * 5);
+                put_row(text, rows::children_row(text, h), out, n * 5);
                 n += 1;
                 i = next;
             }
@@ -197,9 +197,9 @@ fn are_lawful(table: &[u64], count: usize, length: u64, size: u64) -> bool
     extents::lawful(&table[0..e], length, size)
 }
 
-// The extents of the element at n, of a sort, if it is a file; with out to read them into.
-pub fn judge(text: &[u8], out: &mut [u64; 5120], n: usize, sort: usize, volume: Volume) -> Judged
-    ensures { λ r. ⌜ (r .few ≡ few sort (childrenAt (now (text .entry)) n)) × ((u : List ℕ) → r .lawful ≡ lawful (given u volume) sort (childrenAt (now (text .entry)) n)) ⌝ }
+// The extents of an element of a sort with the row of children at row, if it is a file; with out to read them into.
+pub fn judge(text: &[u8], out: &mut [u64; 5120], row: usize, sort: usize, volume: Volume) -> Judged
+    ensures { λ r. ⌜ (r .few ≡ few sort (rowAt (now (text .entry)) row)) × ((u : List ℕ) → r .lawful ≡ lawful (given u volume) sort (rowAt (now (text .entry)) row)) ⌝ }
 {
     if sort != FILE {
         return Judged {
@@ -207,7 +207,6 @@ pub fn judge(text: &[u8], out: &mut [u64; 5120], n: usize, sort: usize, volume: 
             lawful: true,
         };
     }
-    let row = elements::first_child(text, n);
     let from = rows::row_in(text, row, b"extentinfo");
     let count = read_rows(text, from, out);
     if 1024 < count {

@@ -2,7 +2,8 @@
 use crate::rows;
 use crate::tests;
 use crate::tests::Volume;
-use elements::Tag;
+use elements::Next;
+use elements::Start;
 use index_names::DIRECTORY;
 use index_names::EXTENT;
 use index_names::FILE;
@@ -16,6 +17,7 @@ ghost use Prim.Native.Nat.{_≤_, _<_};
 ghost use lib.ListN.{length, getD, set};
 ghost use Rattle.xml.specs.Form.{height};
 ghost use Rattle.elements.specs.Reading.{rowAt, headAt, childrenAt, Behind};
+ghost use Rattle.elements.specs.Starts.{Shape};
 ghost use Rattle.index_names.specs.Sorts.{holds, must};
 ghost use Rattle.index.specs.Elements.{numberOf, sortOf};
 ghost use Rattle.index.specs.Structure.{fits, below, once};
@@ -114,26 +116,27 @@ fn is_open(sort: usize) -> bool
     sort <= EXTENT
 }
 
-// Whether the element at n may stand where it does, as one of a sort, and holds what it may.
-fn fits_at(text: &[u8], n: usize, sort: usize) -> bool
-    ensures { λ r. ⌜ r ≡ fits sort (headAt (now (text .entry)) n) (childrenAt (now (text .entry)) n) ⌝ }
+// Whether an element may stand where it does, as one of a sort, and holds what it may.
+fn fits_at(text: &[u8], h: Start, sort: usize) -> bool
+    requires { ⌜ Shape (now text) h ⌝ }
+    ensures { λ r. ⌜ r ≡ fits sort (headAt (now (text .entry)) (h .at)) (childrenAt (now (text .entry)) (h .at)) ⌝ }
 {
     if sort == UNKNOWN {
         return false;
     }
-    if elements::key_of(text, n).len() != 0 {
+    if !h.plain {
         return false;
     }
     if is_open(sort) {
-        if elements::has_children(text, n) {
+        if !h.leaf {
             return true;
         }
-        return elements::is_blank(elements::text_of(text, n));
+        return elements::is_blank(elements::part(text, h.text));
     }
     if sort == SKIPPED {
         return true;
     }
-    !elements::has_children(text, n)
+    h.leaf
 }
 
 fn is_entry(sort: usize) -> bool
@@ -148,13 +151,6 @@ fn is_entry(sort: usize) -> bool
     sort == FILE
 }
 
-// The fileuid of the entry at n.
-fn uid_at(text: &[u8], n: usize) -> u64
-    ensures { λ r. ⌜ r ≡ uidOf (childrenAt (now (text .entry)) n) ⌝ }
-{
-    rows::number_said(rows::text_in(text, elements::first_child(text, n), b"fileuid"))
-}
-
 // One more where it is one of those that are counted.
 fn bump_if(one: bool, n: u64) -> u64
     ensures { λ r. ⌜ r ≡ cond one (more n) n ⌝ }
@@ -165,34 +161,40 @@ fn bump_if(one: bool, n: u64) -> u64
     n
 }
 
-// The fileuid of the entry at n goes into the table; no other element has one there.
-fn put_uid(text: &[u8], uids: &mut [u64; 4096], n: usize, entry: bool, at: u64)
-    ensures { λ r. ⌜ now (uids .exit) ≡ cond entry (set (now (uids .entry)) at (uidOf (childrenAt (now (text .entry)) n))) (now (uids .entry)) ⌝ }
+// The fileuid of the entry whose children are the row at row goes into the table; no other element has one there.
+fn put_uid(text: &[u8], uids: &mut [u64; 4096], row: usize, entry: bool, at: u64)
+    ensures { λ r. ⌜ now (uids .exit) ≡ cond entry (set (now (uids .entry)) at (uidOf (rowAt (now (text .entry)) row))) (now (uids .entry)) ⌝ }
 {
     if entry {
-        rows::put(uids, at as usize, uid_at(text, n));
+        rows::put(
+            uids,
+            at as usize,
+            tests::number_named(text, row, b"fileuid"),
+        );
     }
 }
 
-// The start tag at n, of an element of a sort; rows is a table to read extents into.
+// The start tag of an element of a sort; rows is a table to read extents into.
 fn enter(
     text: &[u8],
     uuid: &[u8],
     uids: &mut [u64; 4096],
     rows: &mut [u64; 5120],
-    n: usize,
+    h: Start,
     sort: usize,
     volume: Volume,
     a: Sums,
 ) -> Sums
-    ensures { λ r. ⌜ gathered r (now (uids .exit)) ≡ entered (given (now (uuid .entry)) volume) sort (headAt (now (text .entry)) n) (childrenAt (now (text .entry)) n) (gathered a (now (uids .entry))) ⌝ }
+    requires { ⌜ Shape (now text) h ⌝ }
+    ensures { λ r. ⌜ gathered r (now (uids .exit)) ≡ entered (given (now (uuid .entry)) volume) sort (headAt (now (text .entry)) (h .at)) (childrenAt (now (text .entry)) (h .at)) (gathered a (now (uids .entry))) ⌝ }
 {
     let entry = is_entry(sort);
     let entries = a.entries;
-    put_uid(text, uids, n, entry, entries);
-    let good = fits_at(text, n, sort);
-    let judged = tests::judge(text, rows, n, sort, volume);
-    let raw = elements::text_of(text, n);
+    let row = rows::children_row(text, h);
+    put_uid(text, uids, row, entry, entries);
+    let good = fits_at(text, h, sort);
+    let judged = tests::judge(text, rows, row, sort, volume);
+    let raw = elements::part(text, h.text);
     Sums {
         structure: both(a.structure, good),
         few: both(a.few, judged.few),
@@ -214,11 +216,12 @@ pub fn both(a: bool, b: bool) -> bool
     false
 }
 
-// The number of the element at n among the names of its row, in an element of a kind.
-fn number_at(text: &[u8], n: usize, kind: usize) -> usize
-    ensures { λ r. ⌜ r ≡ numberOf kind (headAt (now (text .entry)) n) ⌝ }
+// The number of an element among the names of its row, in an element of a kind.
+fn number_at(text: &[u8], h: Start, kind: usize) -> usize
+    requires { ⌜ Shape (now text) h ⌝ }
+    ensures { λ r. ⌜ r ≡ numberOf kind (headAt (now (text .entry)) (h .at)) ⌝ }
 {
-    index_names::number_in(kind, elements::name_of(text, n))
+    index_names::number_in(kind, elements::part(text, h.name))
 }
 
 // The rest of the element of a kind that is open at at, with depth levels of nesting left.
@@ -240,41 +243,40 @@ pub fn walk(
     let mut a = sums;
     let mut seen = [0u64; 16];
     loop {
-        match elements::next_tag(text, i) {
-            Tag::End => {
+        match elements::next_start(text, i) {
+            Next::End => {
                 return Left {
                     at: text.len(),
                     sums: finish(kind, &seen, a),
                 };
             }
-            Tag::Close(n) => {
+            Next::Close(n) => {
                 return Left {
                     at: n,
                     sums: finish(kind, &seen, a),
                 };
             }
-            Tag::Open(n) => {
-                let j = number_at(text, n, kind);
+            Next::Opens(h) => {
+                let j = number_at(text, h, kind);
                 let sort = index_names::sort_in(kind, j);
                 mark(&mut seen, j);
-                a = enter(text, uuid, uids, rows, n, sort, volume, a);
+                a = enter(text, uuid, uids, rows, h, sort, volume, a);
                 if is_open(sort) {
-                    let w = walk(text, uuid, uids, rows, n, sort, depth - 1, volume, a);
-                    a = w.sums;
-                    i = w.at;
+                    if h.empty {
+                        a = finish(sort, &[0u64; 16], a);
+                        i = h.at;
+                    } else {
+                        let w = walk(text, uuid, uids, rows, h.at, sort, depth - 1, volume, a);
+                        a = w.sums;
+                        i = w.at;
+                    }
                 } else {
-                    i = elements::leave(text, n);
+                    if h.leaf {
+                        i = h.next;
+                    } else {
+                        i = elements::leave(text, h.at);
+                    }
                 }
-            }
-            Tag::Empty(n) => {
-                let j = number_at(text, n, kind);
-                let sort = index_names::sort_in(kind, j);
-                mark(&mut seen, j);
-                a = enter(text, uuid, uids, rows, n, sort, volume, a);
-                if is_open(sort) {
-                    a = finish(sort, &[0u64; 16], a);
-                }
-                i = n;
             }
         }
     }

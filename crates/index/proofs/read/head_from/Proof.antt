@@ -12,6 +12,16 @@ use Rattle.index.proofs.Answers.{headed-parts}
 use borrow.Author.Needs.{needs}
 use Rattle.index.proofs.read.head_from.Statement.{statement}
 use Rattle.index.proofs.read.head_from.Tie as tie
+use Rattle.index.proofs.read.head_from.Reads as reads
+use Rattle.index.proofs.read.head_from.Lts as lts
+use Rattle.index.proofs.read.block_named.Reads as block-named-reads
+use Rattle.index.proofs.read.has_row.Reads as has-row-reads
+use Rattle.index.proofs.read.is_true.Reads as is-true-reads
+use Rattle.index.proofs.read.letter_named.Reads as letter-named-reads
+use Rattle.index.proofs.rows.row_in.Reads as row-in-reads
+use Rattle.index.proofs.rows.span_in.Reads as span-in-reads
+use Rattle.index.proofs.rows.text_in.Reads as text-in-reads
+use Rattle.index.proofs.tests.number_named.Reads as number-named-reads
 
 slice-aggregate-row-in : tie.Need-slice-aggregate-row-in
 slice-aggregate-row-in c = search needs
@@ -75,9 +85,9 @@ unfolding bytes
 returns c =
     headed-parts (c .before .before .before .before .before .before .before .before .before .before .before .before .before .before .before .before .before .before .before .args .release) (rowAt (c .before .before .before .before .before .before .before .before .before .before .before .before .before .before .before .before .before .before .before .args .text .now) (c .before .before .before .before .before .before .before .before .before .before .before .before .before .before .before .before .before .before .before .args .at)) (c .before .before .before .before .before .before .before .before .before .before .before .before .before .before .before .before .before .before .before .args .entries) (c .before .before .before .before .before .before .before .before .before .before .before .before .before .before .before .before .before .before .before .args .files) (c .before .before .before .before .before .before .before .before .before .before .before .before .number-named .result) (c .number-named2 .result) _ _ (c .before .before .before .before .before .before .before .before .before .letter-named .result) (c .before .before .before .before .before .before .before .before .block-named .result .0) (c .before .before .before .before .before .before .letter-named2 .result) (c .before .before .before .before .before .block-named2 .result .0) (c .before .before .before .before .before .before .before .has-row .result) (c .before .before .is-true .result)
     (c .before .before .before .before .before .before .before .before .before .before .before .before .number-named .ensures) (c .before .before .before .before .before .before .before .before .before .before .span-in .ensures .part)
-    (c .before .before .before .before .before .before .before .before .before .letter-named .ensures ∙ ap (λ (f : Forest). placeIn f .letter) (c .before .before .before .before .before .before .before .before .before .before .before .before .before .before .before .before .row-in .ensures .0)) (c .before .before .before .before .before .before .before .before .block-named .ensures ∙ ap (λ (f : Forest). placeIn f .block) (c .before .before .before .before .before .before .before .before .before .before .before .before .before .before .before .before .row-in .ensures .0))
-    (c .before .before .before .before .before .before .before .has-row .ensures ∙ ap isRow (c .before .before .before .before .before .before .before .before .before .before .before .before .before .before .row-in2 .ensures .0))
-    (c .before .before .before .before .before .before .letter-named2 .ensures ∙ ap (λ (f : Forest). placeIn f .letter) (c .before .before .before .before .before .before .before .before .before .before .before .before .before .before .row-in2 .ensures .0)) (c .before .before .before .before .before .block-named2 .ensures ∙ ap (λ (f : Forest). placeIn f .block) (c .before .before .before .before .before .before .before .before .before .before .before .before .before .before .row-in2 .ensures .0))
+    (c .before .before .before .before .before .before .before .before .before .letter-named .ensures ∙ ap (λ (f : Forest). placeIn f .letter) (c .before .before .before .before .before .before .before .before .before .before .before .before .before .before .before .before .row-in .ensures)) (c .before .before .before .before .before .before .before .before .block-named .ensures ∙ ap (λ (f : Forest). placeIn f .block) (c .before .before .before .before .before .before .before .before .before .before .before .before .before .before .before .before .row-in .ensures))
+    (c .before .before .before .before .before .before .before .has-row .ensures ∙ ap isRow (c .before .before .before .before .before .before .before .before .before .before .before .before .before .before .row-in2 .ensures))
+    (c .before .before .before .before .before .before .letter-named2 .ensures ∙ ap (λ (f : Forest). placeIn f .letter) (c .before .before .before .before .before .before .before .before .before .before .before .before .before .before .row-in2 .ensures)) (c .before .before .before .before .before .block-named2 .ensures ∙ ap (λ (f : Forest). placeIn f .block) (c .before .before .before .before .before .before .before .before .before .before .before .before .before .before .row-in2 .ensures))
     (c .before .before .is-true .ensures ∙ ap (λ (t : List ℕ). isTrue (is.boolean t)) (c .before .before .before .text-in .ensures)) (c .number-named2 .ensures) refl
 
 pub head-from-spec : {M : Type 1} → statement M

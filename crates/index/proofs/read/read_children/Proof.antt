@@ -45,7 +45,7 @@ is-place-requires c κs = search needs
 
 returns-6 : tie.Need-returns-6
 unfolding bytes
-returns-6 c = children-12 (given (c .before .before .before .before .before .before .before .before .before .before .before .before .before .before .before .before .before .args .uuid .now) (c .before .before .before .before .before .before .before .before .before .before .before .before .before .before .before .before .before .args .volume)) (c .before .before .before .before .before .before .before .before .before .before .before .before .before .before .before .before .before .args .letter) (c .before .before .before .before .before .before .before .before .before .before .before .before .before .before .before .before .before .args .block) (c .before .before .before .before .before .before .before .before .before .before .before .before .before .before .before .before .before .args .release) (rowAt (c .before .before .before .before .before .before .before .before .before .before .before .before .before .before .before .before .before .args .text .now) (c .before .before .before .before .before .before .before .before .before .before .before .before .before .before .before .before .before .args .at)) (sym (c .before .before .before .before .before .before .before .before .before .before .before .before .before .before .survey .ensures .right) ∙ not-false _ (c .before .before .before .before .before .before .before .before .before .before .before .before .if1 .left)) (sym (c .before .before .before .before .before .before .before .before .before .before .before .before .before .before .survey .ensures .small) ∙ not-false _ (c .before .before .before .before .before .before .before .before .before .before .if2 .left)) (sym (c .before .before .before .before .before .before .before .before .before .before .before .before .before .before .survey .ensures .values (not-false _ (c .before .before .before .before .before .before .before .before .before .before .if2 .left))) ∙ not-false _ (c .before .before .before .before .before .before .before .before .if3 .left)) (sym (c .before .before .before .before .before .before .before .before .before .before .before .before .before .before .survey .ensures .owned (not-false _ (c .before .before .before .before .before .before .before .before .before .before .if2 .left))) ∙ not-false _ (c .before .before .before .before .before .before .if4 .left)) (sym (c .before .before .before .before .before .before .before .before .before .before .before .before .before .before .survey .ensures .lawful (not-false _ (c .before .before .before .before .before .before .before .before .before .before .if2 .left))) ∙ not-false _ (c .before .before .before .before .if5 .left)) (ap (λ (f : Forest). standsAt (c .before .before .before .before .before .before .before .before .before .before .before .before .before .before .before .before .before .args .letter) (c .before .before .before .before .before .before .before .before .before .before .before .before .before .before .before .before .before .args .block) (placeIn f)) (sym (c .before .before .row-in .ensures .0)) ∙ sym (c .before .is-place .ensures) ∙ not-true _ (c .if6 .taken))
+returns-6 c = children-12 (given (c .before .before .before .before .before .before .before .before .before .before .before .before .before .before .before .before .before .args .uuid .now) (c .before .before .before .before .before .before .before .before .before .before .before .before .before .before .before .before .before .args .volume)) (c .before .before .before .before .before .before .before .before .before .before .before .before .before .before .before .before .before .args .letter) (c .before .before .before .before .before .before .before .before .before .before .before .before .before .before .before .before .before .args .block) (c .before .before .before .before .before .before .before .before .before .before .before .before .before .before .before .before .before .args .release) (rowAt (c .before .before .before .before .before .before .before .before .before .before .before .before .before .before .before .before .before .args .text .now) (c .before .before .before .before .before .before .before .before .before .before .before .before .before .before .before .before .before .args .at)) (sym (c .before .before .before .before .before .before .before .before .before .before .before .before .before .before .survey .ensures .right) ∙ not-false _ (c .before .before .before .before .before .before .before .before .before .before .before .before .if1 .left)) (sym (c .before .before .before .before .before .before .before .before .before .before .before .before .before .before .survey .ensures .small) ∙ not-false _ (c .before .before .before .before .before .before .before .before .before .before .if2 .left)) (sym (c .before .before .before .before .before .before .before .before .before .before .before .before .before .before .survey .ensures .values (not-false _ (c .before .before .before .before .before .before .before .before .before .before .if2 .left))) ∙ not-false _ (c .before .before .before .before .before .before .before .before .if3 .left)) (sym (c .before .before .before .before .before .before .before .before .before .before .before .before .before .before .survey .ensures .owned (not-false _ (c .before .before .before .before .before .before .before .before .before .before .if2 .left))) ∙ not-false _ (c .before .before .before .before .before .before .if4 .left)) (sym (c .before .before .before .before .before .before .before .before .before .before .before .before .before .before .survey .ensures .lawful (not-false _ (c .before .before .before .before .before .before .before .before .before .before .if2 .left))) ∙ not-false _ (c .before .before .before .before .if5 .left)) (ap (λ (f : Forest). standsAt (c .before .before .before .before .before .before .before .before .before .before .before .before .before .before .before .before .before .args .letter) (c .before .before .before .before .before .before .before .before .before .before .before .before .before .before .before .before .before .args .block) (placeIn f)) (sym (c .before .before .row-in .ensures)) ∙ sym (c .before .is-place .ensures) ∙ not-true _ (c .if6 .taken))
 
 head-from-requires : tie.Need-head-from-requires
 head-from-requires c κs =
@@ -59,7 +59,7 @@ returns-7 c =
     let e = c .before .before .before .before .before .before .before .before .before .before .before .before .before .before .before .survey .ensures .entries (not-false _ (c .before .before .before .before .before .before .before .before .before .before .before .if2 .left)) in
     let f = c .before .before .before .before .before .before .before .before .before .before .before .before .before .before .before .survey .ensures .files (not-false _ (c .before .before .before .before .before .before .before .before .before .before .before .if2 .left)) in
     c .head-from .ensures ∙ ap answer (headed-told (c .before .before .before .before .before .before .before .before .before .before .before .before .before .before .before .before .before .before .args .release) (rowAt (c .before .before .before .before .before .before .before .before .before .before .before .before .before .before .before .before .before .before .args .text .now) (c .before .before .before .before .before .before .before .before .before .before .before .before .before .before .before .before .before .before .args .at)) (c .before .before .before .before .before .before .before .before .before .before .before .before .before .before .before .survey .result .entries) (c .before .before .before .before .before .before .before .before .before .before .before .before .before .before .before .survey .result .files) e f)
-    ∙ children-read (given (c .before .before .before .before .before .before .before .before .before .before .before .before .before .before .before .before .before .before .args .uuid .now) (c .before .before .before .before .before .before .before .before .before .before .before .before .before .before .before .before .before .before .args .volume)) (c .before .before .before .before .before .before .before .before .before .before .before .before .before .before .before .before .before .before .args .letter) (c .before .before .before .before .before .before .before .before .before .before .before .before .before .before .before .before .before .before .args .block) (c .before .before .before .before .before .before .before .before .before .before .before .before .before .before .before .before .before .before .args .release) (rowAt (c .before .before .before .before .before .before .before .before .before .before .before .before .before .before .before .before .before .before .args .text .now) (c .before .before .before .before .before .before .before .before .before .before .before .before .before .before .before .before .before .before .args .at)) (sym (c .before .before .before .before .before .before .before .before .before .before .before .before .before .before .before .survey .ensures .right) ∙ not-false _ (c .before .before .before .before .before .before .before .before .before .before .before .before .before .if1 .left)) (sym (c .before .before .before .before .before .before .before .before .before .before .before .before .before .before .before .survey .ensures .small) ∙ not-false _ (c .before .before .before .before .before .before .before .before .before .before .before .if2 .left)) (sym (c .before .before .before .before .before .before .before .before .before .before .before .before .before .before .before .survey .ensures .values (not-false _ (c .before .before .before .before .before .before .before .before .before .before .before .if2 .left))) ∙ not-false _ (c .before .before .before .before .before .before .before .before .before .if3 .left)) (sym (c .before .before .before .before .before .before .before .before .before .before .before .before .before .before .before .survey .ensures .owned (not-false _ (c .before .before .before .before .before .before .before .before .before .before .before .if2 .left))) ∙ not-false _ (c .before .before .before .before .before .before .before .if4 .left)) (sym (c .before .before .before .before .before .before .before .before .before .before .before .before .before .before .before .survey .ensures .lawful (not-false _ (c .before .before .before .before .before .before .before .before .before .before .before .if2 .left))) ∙ not-false _ (c .before .before .before .before .before .if5 .left)) (ap (λ (f : Forest). standsAt (c .before .before .before .before .before .before .before .before .before .before .before .before .before .before .before .before .before .before .args .letter) (c .before .before .before .before .before .before .before .before .before .before .before .before .before .before .before .before .before .before .args .block) (placeIn f)) (sym (c .before .before .before .row-in .ensures .0)) ∙ sym (c .before .before .is-place .ensures) ∙ not-false _ (c .before .if6 .left))
+    ∙ children-read (given (c .before .before .before .before .before .before .before .before .before .before .before .before .before .before .before .before .before .before .args .uuid .now) (c .before .before .before .before .before .before .before .before .before .before .before .before .before .before .before .before .before .before .args .volume)) (c .before .before .before .before .before .before .before .before .before .before .before .before .before .before .before .before .before .before .args .letter) (c .before .before .before .before .before .before .before .before .before .before .before .before .before .before .before .before .before .before .args .block) (c .before .before .before .before .before .before .before .before .before .before .before .before .before .before .before .before .before .before .args .release) (rowAt (c .before .before .before .before .before .before .before .before .before .before .before .before .before .before .before .before .before .before .args .text .now) (c .before .before .before .before .before .before .before .before .before .before .before .before .before .before .before .before .before .before .args .at)) (sym (c .before .before .before .before .before .before .before .before .before .before .before .before .before .before .before .survey .ensures .right) ∙ not-false _ (c .before .before .before .before .before .before .before .before .before .before .before .before .before .if1 .left)) (sym (c .before .before .before .before .before .before .before .before .before .before .before .before .before .before .before .survey .ensures .small) ∙ not-false _ (c .before .before .before .before .before .before .before .before .before .before .before .if2 .left)) (sym (c .before .before .before .before .before .before .before .before .before .before .before .before .before .before .before .survey .ensures .values (not-false _ (c .before .before .before .before .before .before .before .before .before .before .before .if2 .left))) ∙ not-false _ (c .before .before .before .before .before .before .before .before .before .if3 .left)) (sym (c .before .before .before .before .before .before .before .before .before .before .before .before .before .before .before .survey .ensures .owned (not-false _ (c .before .before .before .before .before .before .before .before .before .before .before .if2 .left))) ∙ not-false _ (c .before .before .before .before .before .before .before .if4 .left)) (sym (c .before .before .before .before .before .before .before .before .before .before .before .before .before .before .before .survey .ensures .lawful (not-false _ (c .before .before .before .before .before .before .before .before .before .before .before .if2 .left))) ∙ not-false _ (c .before .before .before .before .before .if5 .left)) (ap (λ (f : Forest). standsAt (c .before .before .before .before .before .before .before .before .before .before .before .before .before .before .before .before .before .before .args .letter) (c .before .before .before .before .before .before .before .before .before .before .before .before .before .before .before .before .before .before .args .block) (placeIn f)) (sym (c .before .before .before .row-in .ensures)) ∙ sym (c .before .before .is-place .ensures) ∙ not-false _ (c .before .if6 .left))
 
 pub read-children-spec : {M : Type 1} → statement M
 read-children-spec =

@@ -1,138 +1,90 @@
--- `read_root` meets its contract: the root by its tag, then its children, which are nested less deep.
-use mathlib.Core.Path.{_≡_, refl, ap, sym, _∙_, subst}
+-- `read_root` meets its contract: the root by its tag; its children are nested less deep than a text may be.
+use mathlib.Core.Path.{_≡_, subst, _∙_}
+use Prim.Native.Nat.{ℕ, _≤_, _<_}
 use native.Mathlib.Omega.{arith}
-use borrow.Author.Tests.{eq-eqb, ne-eqb, lt-ltb, le-ltb, le-leb, lt-leb, not-true, not-false}
-use Prim.Native.Nat.{ℕ, suc, _+_, _-_, _*_, _≤_, _<_}
-use mathlib.Core.List.{List}
-use Rattle.slices.specs.Slices.{same}
-use Rattle.slices.specs.Words.{bytes}
 use Rattle.xml.specs.Form.{height}
 use Rattle.xml.proofs.Form.{form-reads}
-use Rattle.xml.specs.Tree.{Forest}
-use Rattle.elements.specs.Reading.{rowAt, headAt, childrenAt, NextChild}
-use Rattle.elements.specs.declared.tags.Child.the-variants.{Done, At}
-use Rattle.elements.proofs.Roots.{root-height, height-first}
-use Rattle.values.specs.Values as is
+use Rattle.elements.specs.Reading.{rowAt, headAt, childrenAt, NextTag}
+use Rattle.elements.specs.declared.tags.Tag.the-variants.{End, Close, Open, Empty}
+use Rattle.elements.proofs.Roots.{root-height, height-children}
+use Rattle.elements.proofs.Rows.{row-end, row-close, node-open, node-empty}
 use Rattle.index.specs.Tests.{given}
-use Rattle.index.specs.Index.{toldBy, childrenRead}
-use Rattle.index.proofs.Answers.{root-none, root-name, root-key, root-version, root-read}
+use Rattle.index.proofs.Answers.{root-none, root-tag}
 use borrow.Author.Needs.{needs}
 use Rattle.index.proofs.read.read_root.Statement.{statement}
 use Rattle.index.proofs.read.read_root.Tie as tie
 
-next-child-requires : tie.Need-next-child-requires
-next-child-requires c κs = search needs
+next-tag-requires : tie.Need-next-tag-requires
+next-tag-requires c κs = search needs
 
 enum-told : tie.Need-enum-told
 enum-told c = search needs
 
-enum-known-n : tie.Need-enum-known-n
-enum-known-n c = search needs
-
-slice-aggregate-name-is : tie.Need-slice-aggregate-name-is
-slice-aggregate-name-is c = search needs
-
-name-is-requires : tie.Need-name-is-requires
-name-is-requires c κs = search needs
-
-returns : tie.Need-returns
-unfolding bytes
-returns c =
-    let s = c .before .before .before .before .before .before .before .before .before .args .text .now in
-    let g = given (c .before .before .before .before .before .before .before .before .before .args .uuid .now) (c .before .before .before .before .before .before .before .before .before .args .volume) in
-    let n = c .before .before .before .before .n .given .0 .0 in
-    let f : NextChild s 38 (At n (c .before .before .before .before .n .given .0 .1 .0)) = subst (NextChild s 38) (c .before .before .before .before .n .given .1) (c .before .before .before .before .before .before .next-child .ensures) in
-    root-name g (c .before .before .before .before .before .before .before .before .before .args .letter) (c .before .before .before .before .before .before .before .before .before .args .block) (rowAt s 38) (headAt s n) (childrenAt s n) (rowAt s (c .before .before .before .before .n .given .0 .1 .0)) (f .row) (sym (c .before .name-is .ensures) ∙ not-true _ (c .if1 .taken))
-
-key-of-requires : tie.Need-key-of-requires
-key-of-requires c κs = search needs
-
-slice-aggregate-same : tie.Need-slice-aggregate-same
-slice-aggregate-same c = search needs
-
-same-requires : tie.Need-same-requires
-same-requires c κs = search needs
-
-returns-2 : tie.Need-returns-2
-unfolding bytes
-returns-2 c =
-    let s = c .before .before .before .before .before .before .before .before .before .before .before .before .before .args .text .now in
-    let g = given (c .before .before .before .before .before .before .before .before .before .before .before .before .before .args .uuid .now) (c .before .before .before .before .before .before .before .before .before .before .before .before .before .args .volume) in
-    let n = c .before .before .before .before .before .before .before .before .n .given .0 .0 in
-    let f : NextChild s 38 (At n (c .before .before .before .before .before .before .before .before .n .given .0 .1 .0)) = subst (NextChild s 38) (c .before .before .before .before .before .before .before .before .n .given .1) (c .before .before .before .before .before .before .before .before .before .before .next-child .ensures) in
-    root-key g (c .before .before .before .before .before .before .before .before .before .before .before .before .before .args .letter) (c .before .before .before .before .before .before .before .before .before .before .before .before .before .args .block) (rowAt s 38) (headAt s n) (childrenAt s n) (rowAt s (c .before .before .before .before .before .before .before .before .n .given .0 .1 .0)) (f .row) (sym (c .before .before .before .before .before .name-is .ensures) ∙ not-false _ (c .before .before .before .before .if1 .left)) (ap (λ (k : List ℕ). same k (bytes "version")) (sym (c .before .before .before .key-of .ensures)) ∙ sym (c .before .same .ensures) ∙ not-true _ (c .if2 .taken))
-
-value-of-requires : tie.Need-value-of-requires
-value-of-requires c κs = search needs
-
-read-version-requires : tie.Need-read-version-requires
-read-version-requires c κs = search needs
-
 enum-told-2 : tie.Need-enum-told-2
 enum-told-2 c = search needs
 
-enum-known-release : tie.Need-enum-known-release
-enum-known-release c = search needs
+enum-known-n : tie.Need-enum-known-n
+enum-known-n c = search needs
 
-first-child-requires : tie.Need-first-child-requires
-first-child-requires c κs = search needs
+read-tag-requires : tie.Need-read-tag-requires
+read-tag-requires c κs =
+    let s = c .before .before .before .before .before .before .args .text .now in
+    let n = c .before .n .given .0 .0 in
+    let t : NextTag s 38 (Empty n) = subst (NextTag s 38) (c .before .n .given .1) (c .before .before .before .next-tag .ensures) in
+    let h : height (rowAt s 38) ≤ 64 = root-height (form-reads s (c .before .before .before .before .before .before .pre) .2) in
+    let w : height (childrenAt s n) < height (rowAt s 38) = rw (node-empty t) (height-children _ _ _) in
+    omega arith
 
-read-children-requires : tie.Need-read-children-requires
-read-children-requires c κs =
-    let s = c .before .before .before .before .before .before .before .before .before .before .before .before .before .before .before .before .before .before .before .args .text .now in
-    let g = given (c .before .before .before .before .before .before .before .before .before .before .before .before .before .before .before .before .before .before .before .args .uuid .now) (c .before .before .before .before .before .before .before .before .before .before .before .before .before .before .before .before .before .before .before .args .volume) in
-    let n = c .before .before .before .before .before .before .before .before .before .before .before .before .before .before .n .given .0 .0 in
-    let f : NextChild s 38 (At n (c .before .before .before .before .before .before .before .before .before .before .before .before .before .before .n .given .0 .1 .0)) = subst (NextChild s 38) (c .before .before .before .before .before .before .before .before .before .before .before .before .before .before .n .given .1) (c .before .before .before .before .before .before .before .before .before .before .before .before .before .before .before .before .next-child .ensures) in
-    let r = form-reads s (c .before .before .before .before .before .before .before .before .before .before .before .before .before .before .before .before .before .before .before .pre) in
-    let h : height (rowAt s 38) ≤ 64 = root-height (r .2) in
-    let w : height (childrenAt s n) < height (rowAt s 38) = height-first f in
-    (c .first-child .ensures .inside, subst (λ (k : Forest). height k ≤ 64) (sym (c .first-child .ensures .row)) (omega arith))
+enum-known-n-2 : tie.Need-enum-known-n-2
+enum-known-n-2 c = search needs
+
+read-tag-requires-2 : tie.Need-read-tag-requires-2
+read-tag-requires-2 c κs =
+    let s = c .before .before .before .before .before .before .args .text .now in
+    let n = c .before .n2 .given .0 .0 in
+    let t : NextTag s 38 (Open n) = subst (NextTag s 38) (c .before .n2 .given .1) (c .before .before .before .next-tag .ensures) in
+    let h : height (rowAt s 38) ≤ 64 = root-height (form-reads s (c .before .before .before .before .before .before .pre) .2) in
+    let w : height (childrenAt s n) < height (rowAt s 38) = rw (node-open t) (height-children _ _ _) in
+    omega arith
+
+returns : tie.Need-returns
+returns c =
+    let s = c .before .before .before .before .before .args .text .now in
+    let t : NextTag s 38 (End) = subst (NextTag s 38) (c .enum-told .given .1) (c .before .before .next-tag .ensures) in
+    root-none (given (c .before .before .before .before .before .args .uuid .now) (c .before .before .before .before .before .args .volume)) (c .before .before .before .before .before .args .letter) (c .before .before .before .before .before .args .block) (rowAt s 38) (row-end t)
+
+returns-2 : tie.Need-returns-2
+returns-2 c =
+    let s = c .before .before .before .before .before .args .text .now in
+    let t : NextTag s 38 (Close (c .enum-told2 .given .0 .0)) = subst (NextTag s 38) (c .enum-told2 .given .1) (c .before .before .next-tag .ensures) in
+    root-none (given (c .before .before .before .before .before .args .uuid .now) (c .before .before .before .before .before .args .volume)) (c .before .before .before .before .before .args .letter) (c .before .before .before .before .before .args .block) (rowAt s 38) (row-close t)
 
 returns-3 : tie.Need-returns-3
 returns-3 c =
-    let s = c .before .before .before .before .before .args .text .now in
-    let e : NextChild s 38 Done = subst (NextChild s 38) (c .enum-told .given .1) (c .before .before .next-child .ensures) in
-    root-none (given (c .before .before .before .before .before .args .uuid .now) (c .before .before .before .before .before .args .volume)) (c .before .before .before .before .before .args .letter) (c .before .before .before .before .before .args .block) (rowAt s 38) e
+    let s = c .before .before .before .before .before .before .before .args .text .now in
+    let n = c .before .before .n .given .0 .0 in
+    let t : NextTag s 38 (Empty n) = subst (NextTag s 38) (c .before .before .n .given .1) (c .before .before .before .before .next-tag .ensures) in
+    c .read-tag .ensures ∙ root-tag (given (c .before .before .before .before .before .before .before .args .uuid .now) (c .before .before .before .before .before .before .before .args .volume)) (c .before .before .before .before .before .before .before .args .letter) (c .before .before .before .before .before .before .before .args .block) (rowAt s 38) (headAt s n) (childrenAt s n) _ (node-empty t)
 
 returns-4 : tie.Need-returns-4
-unfolding bytes
 returns-4 c =
-    let s = c .before .before .before .before .before .before .before .before .before .before .before .before .before .before .before .before .before .args .text .now in
-    let g = given (c .before .before .before .before .before .before .before .before .before .before .before .before .before .before .before .before .before .args .uuid .now) (c .before .before .before .before .before .before .before .before .before .before .before .before .before .before .before .before .before .args .volume) in
-    let n = c .before .before .before .before .before .before .before .before .before .before .before .before .n .given .0 .0 in
-    let f : NextChild s 38 (At n (c .before .before .before .before .before .before .before .before .before .before .before .before .n .given .0 .1 .0)) = subst (NextChild s 38) (c .before .before .before .before .before .before .before .before .before .before .before .before .n .given .1) (c .before .before .before .before .before .before .before .before .before .before .before .before .before .before .next-child .ensures) in
-    root-version g (c .before .before .before .before .before .before .before .before .before .before .before .before .before .before .before .before .before .args .letter) (c .before .before .before .before .before .before .before .before .before .before .before .before .before .before .before .before .before .args .block) (rowAt s 38) (headAt s n) (childrenAt s n) (rowAt s (c .before .before .before .before .before .before .before .before .before .before .before .before .n .given .0 .1 .0)) (f .row) (sym (c .before .before .before .before .before .before .before .before .before .name-is .ensures) ∙ not-false _ (c .before .before .before .before .before .before .before .before .if1 .left)) (ap (λ (k : List ℕ). same k (bytes "version")) (sym (c .before .before .before .before .before .before .before .key-of .ensures)) ∙ sym (c .before .before .before .before .before .same .ensures) ∙ not-false _ (c .before .before .before .before .if2 .left)) (ap is.version (sym (c .before .before .before .value-of .ensures)) ∙ sym (c .before .before .read-version .ensures) ∙ ap is.versionOf (c .enum-told2 .given .1))
-
-returns-5 : tie.Need-returns-5
-unfolding bytes
-returns-5 c =
-    let s = c .before .before .before .before .before .before .before .before .before .before .before .before .before .before .before .before .before .before .before .before .args .text .now in
-    let g = given (c .before .before .before .before .before .before .before .before .before .before .before .before .before .before .before .before .before .before .before .before .args .uuid .now) (c .before .before .before .before .before .before .before .before .before .before .before .before .before .before .before .before .before .before .before .before .args .volume) in
-    let n = c .before .before .before .before .before .before .before .before .before .before .before .before .before .before .before .n .given .0 .0 in
-    let f : NextChild s 38 (At n (c .before .before .before .before .before .before .before .before .before .before .before .before .before .before .before .n .given .0 .1 .0)) = subst (NextChild s 38) (c .before .before .before .before .before .before .before .before .before .before .before .before .before .before .before .n .given .1) (c .before .before .before .before .before .before .before .before .before .before .before .before .before .before .before .before .before .next-child .ensures) in
-    c .read-children .ensures ∙ ap (λ (k : Forest). toldBy (childrenRead g (c .before .before .before .before .before .before .before .before .before .before .before .before .before .before .before .before .before .before .before .before .args .letter) (c .before .before .before .before .before .before .before .before .before .before .before .before .before .before .before .before .before .before .before .before .args .block) (c .before .before .before .release .given .0 .0) k)) (c .before .first-child .ensures .row)
-    ∙ root-read g (c .before .before .before .before .before .before .before .before .before .before .before .before .before .before .before .before .before .before .before .before .args .letter) (c .before .before .before .before .before .before .before .before .before .before .before .before .before .before .before .before .before .before .before .before .args .block) (rowAt s 38) (headAt s n) (childrenAt s n) (rowAt s (c .before .before .before .before .before .before .before .before .before .before .before .before .before .before .before .n .given .0 .1 .0)) (f .row) (sym (c .before .before .before .before .before .before .before .before .before .before .before .before .name-is .ensures) ∙ not-false _ (c .before .before .before .before .before .before .before .before .before .before .before .if1 .left)) (ap (λ (k : List ℕ). same k (bytes "version")) (sym (c .before .before .before .before .before .before .before .before .before .before .key-of .ensures)) ∙ sym (c .before .before .before .before .before .before .before .before .same .ensures) ∙ not-false _ (c .before .before .before .before .before .before .before .if2 .left)) (c .before .before .before .release .given .0 .0) (ap is.version (sym (c .before .before .before .before .before .before .value-of .ensures)) ∙ sym (c .before .before .before .before .before .read-version .ensures) ∙ ap is.versionOf (c .before .before .before .release .given .1))
+    let s = c .before .before .before .before .before .before .before .args .text .now in
+    let n = c .before .before .n2 .given .0 .0 in
+    let t : NextTag s 38 (Open n) = subst (NextTag s 38) (c .before .before .n2 .given .1) (c .before .before .before .before .next-tag .ensures) in
+    c .read-tag2 .ensures ∙ root-tag (given (c .before .before .before .before .before .before .before .args .uuid .now) (c .before .before .before .before .before .before .before .args .volume)) (c .before .before .before .before .before .before .before .args .letter) (c .before .before .before .before .before .before .before .args .block) (rowAt s 38) (headAt s n) (childrenAt s n) _ (node-open t)
 
 pub read-root-spec : {M : Type 1} → statement M
 read-root-spec =
     tie.close
     (tie.spec
-    next-child-requires
+    next-tag-requires
     enum-told
-    enum-known-n
-    slice-aggregate-name-is
-    name-is-requires
-    returns
-    key-of-requires
-    slice-aggregate-same
-    same-requires
-    returns-2
-    value-of-requires
-    read-version-requires
     enum-told-2
-    enum-known-release
-    first-child-requires
-    read-children-requires
+    enum-known-n
+    read-tag-requires
+    enum-known-n-2
+    read-tag-requires-2
+    returns
+    returns-2
     returns-3
-    returns-4
-    returns-5)
+    returns-4)

@@ -11,9 +11,6 @@ use Rattle.index.proofs.tests.judge.Tie as tie
 returns : tie.Need-returns
 returns c = no-file _ _ (c .before .before .args .volume) (c .if1 .taken)
 
-first-child-requires : tie.Need-first-child-requires
-first-child-requires c κs = search needs
-
 slice-aggregate-row-in : tie.Need-slice-aggregate-row-in
 slice-aggregate-row-in c = search needs
 
@@ -25,7 +22,7 @@ read-rows-requires c κs = search needs
 
 returns-2 : tie.Need-returns-2
 unfolding bytes
-returns-2 c = too-many (c .before .before .before .before .before .before .before .before .args .sort) _ (c .before .before .before .before .before .before .before .before .args .volume) (c .before .before .before .before .before .before .before .before .args .text .now) (c .before .before .before .before .before .first-child .result) (c .before .before .before .row-in .result) (c .before .before .before .before .before .before .if1 .left) (c .before .before .before .before .before .first-child .ensures .row) (c .before .before .before .row-in .ensures .0) _ (c .before .read-rows .result) (c .before .read-rows .ensures) (c .if2 .taken)
+returns-2 c = too-many (c .before .before .before .before .before .before .before .args .sort) _ (c .before .before .before .before .before .before .before .args .volume) (c .before .before .before .before .before .before .before .args .text .now) (c .before .before .before .before .before .before .before .args .row) (c .before .before .before .row-in .result) (c .before .before .before .before .before .if1 .left) refl (c .before .before .before .row-in .ensures) _ (c .before .read-rows .result) (c .before .read-rows .ensures) (c .if2 .taken)
 
 slice-aggregate-number-named : tie.Need-slice-aggregate-number-named
 slice-aggregate-number-named c = search needs
@@ -38,14 +35,13 @@ are-lawful-requires c κs = search needs
 
 returns-3 : tie.Need-returns-3
 unfolding bytes
-returns-3 c = judged (c .before .before .before .before .before .before .before .before .before .before .before .before .before .args .sort) _ (c .before .before .before .before .before .before .before .before .before .before .before .before .before .args .volume) (c .before .before .before .before .before .before .before .before .before .before .before .before .before .args .text .now) (c .before .before .before .before .before .before .before .before .before .before .first-child .result) (c .before .before .before .before .before .before .before .before .row-in .result) (c .before .before .before .before .before .before .before .before .before .before .before .if1 .left) (c .before .before .before .before .before .before .before .before .before .before .first-child .ensures .row) (c .before .before .before .before .before .before .before .before .row-in .ensures .0) _ (c .before .before .before .before .before .before .read-rows .result) (c .before .before .before .before .before .before .read-rows .ensures) (c .before .before .before .before .before .if2 .left) (c .before .before .before .number-named .result) (c .before .before .before .number-named .ensures) (c .are-lawful .result) (c .are-lawful .ensures)
+returns-3 c = judged (c .before .before .before .before .before .before .before .before .before .before .before .before .args .sort) _ (c .before .before .before .before .before .before .before .before .before .before .before .before .args .volume) (c .before .before .before .before .before .before .before .before .before .before .before .before .args .text .now) (c .before .before .before .before .before .before .before .before .before .before .before .before .args .row) (c .before .before .before .before .before .before .before .before .row-in .result) (c .before .before .before .before .before .before .before .before .before .before .if1 .left) refl (c .before .before .before .before .before .before .before .before .row-in .ensures) _ (c .before .before .before .before .before .before .read-rows .result) (c .before .before .before .before .before .before .read-rows .ensures) (c .before .before .before .before .before .if2 .left) (c .before .before .before .number-named .result) (c .before .before .before .number-named .ensures) (c .are-lawful .result) (c .are-lawful .ensures)
 
 pub judge-spec : {M : Type 1} → statement M
 judge-spec =
     tie.close
     (tie.spec
     returns
-    first-child-requires
     slice-aggregate-row-in
     row-in-requires
     read-rows-requires

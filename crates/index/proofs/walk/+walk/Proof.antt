@@ -7,9 +7,12 @@ use mathlib.Core.List.{List}
 use lib.ListN.{length}
 use Rattle.xml.specs.Tree.{Forest}
 use Rattle.xml.specs.Form.{height}
-use Rattle.elements.specs.declared.tags.Tag.the-variants.{End, Close, Open, Empty}
+use Rattle.elements.specs.declared.tags.Tag.the-variants.{Open, Empty}
+use Rattle.elements.specs.declared.starts.Next.the-variants.{End, Close, Opens}
 use Rattle.elements.specs.Reading.{rowAt, aroundAt, childrenAt, NextTag, FirstOf}
+use Rattle.elements.specs.Starts.{NextStart}
 use Rattle.elements.proofs.Left.{left-end}
+use Rattle.elements.proofs.Plain.{inner-first}
 use Rattle.elements.proofs.Rows.{row-end, row-close, around-end, around-close, first-open, first-empty, children-open, children-empty}
 use Rattle.elements.proofs.Roots.{height-open, height-rest}
 use Rattle.index.specs.Tests.{given}
@@ -17,14 +20,13 @@ use Rattle.index.specs.Sweep.{gathered, fresh, ended, endedSums, sweep}
 use Rattle.index.specs.declared.walk.Sums.{Sums}
 use Rattle.index.proofs.Steps.{row-over, step-holds, step-other}
 use borrow.Author.Needs.{needs}
-use Prim.Native.Nat.{ℕ, _<_}
 use borrow.Fn.Kinds.{In}
 use borrow.Fn.PlainCycle.{Measures, is, falls, and}
 use Rattle.index.proofs.walk.walk.Reads as walk
 use Rattle.index.proofs.walk.walk.Kinds as walk-kinds
 use Rattle.index.proofs.walk.+walk.Lts-walk as walk-lts
+use Rattle.elements.proofs.next_start.Reads as next-start-reads
 use Rattle.elements.proofs.leave.Reads as leave-reads
-use Rattle.elements.proofs.next_tag.Reads as next-tag-reads
 use Rattle.index.proofs.walk.enter.Reads as enter-reads
 use Rattle.index.proofs.walk.finish.Reads as finish-reads
 use Rattle.index.proofs.walk.is_open.Reads as is-open-reads
@@ -45,8 +47,8 @@ walk-below t = and 4 walk-kinds.ps (falls 4 walk-kinds.ps _<_ μ-walk t) walk.Pr
 
 abbrev claims : ℕ → walk-lts.Claims
 claims t = (
-  next-tag-reads.Asked,
-  next-tag-reads.Learnt,
+  next-start-reads.Asked,
+  next-start-reads.Learnt,
   finish-reads.Asked,
   finish-reads.Learnt,
   number-at-reads.Asked,
@@ -66,19 +68,19 @@ claims t = (
 )
 
 abbrev walk-Inv-loop : walk-lts.InvT-loop
-walk-Inv-loop text uuid uids₀ rows₀ at kind depth volume i₀ a₀ seen₀ t21 uids rows i a seen =
+walk-Inv-loop text uuid uids₀ rows₀ at kind depth volume i₀ a₀ seen₀ t18 uids rows i a seen =
     (at ≤ i) × (i ≤ length text) × (height (rowAt text i) ≤ depth) × (aroundAt text at ≡ aroundAt text i)
     × (sweep (given uuid volume) kind fresh (rowAt text at) (gathered a₀ uids₀) ≡ sweep (given uuid volume) kind seen (rowAt text i) (gathered a uids))
-    × (t21 ≡ fresh)
+    × (t18 ≡ fresh)
 
 abbrev walk-μ-loop : walk-lts.MeasureT-loop
-walk-μ-loop text uuid uids₀ rows₀ at kind depth volume i₀ a₀ seen₀ t21 uids rows i a seen = length text - i
+walk-μ-loop text uuid uids₀ rows₀ at kind depth volume i₀ a₀ seen₀ t18 uids rows i a seen = length text - i
 
 walk-loop-holds : (t : ℕ) → walk-lts.Need-loop-holds (claims t) (walk-at t) walk.Post walk-Inv-loop walk-μ-loop
 walk-loop-holds t c = (search needs, search needs, c .before .before .pre .1 .1, refl, refl, refl)
 
-walk-next-tag-requires : (t : ℕ) → walk-lts.Need-next-tag-requires (claims t) (walk-at t) walk.Post walk-Inv-loop walk-μ-loop
-walk-next-tag-requires t c κs = search needs
+walk-next-start-requires : (t : ℕ) → walk-lts.Need-next-start-requires (claims t) (walk-at t) walk.Post walk-Inv-loop walk-μ-loop
+walk-next-start-requires t c κs = search needs
 
 walk-enum-told : (t : ℕ) → walk-lts.Need-enum-told (claims t) (walk-at t) walk.Post walk-Inv-loop walk-μ-loop
 walk-enum-told t c = search needs
@@ -93,7 +95,7 @@ walk-returns t c =
     let s = a .text .now in
     let l = c .before .before .before .before .before .loop in
     let g = given (a .uuid .now) (a .volume) in
-    let tag : NextTag s (l .i) End = subst (NextTag s (l .i)) (c .before .before .enum-told .given .1) (c .before .before .before .before .next-tag .ensures) in (
+    let tag : NextStart s (l .i) End = subst (NextStart s (l .i)) (c .before .before .enum-told .given .1) (c .before .before .before .before .next-start .ensures) in (
       ap (λ (x : Sums). gathered x (l .uids)) (c .finish .ensures) ∙ sym (l .inv .4 ∙ row-over g (a .kind) (l .seen) (gathered (l .a) (l .uids)) (rowAt s (l .i)) (row-end tag)),
       record { left = left-end s (length s) (omega arith) ∙ sym (l .inv .3 ∙ around-end tag); ahead = search needs; inside = search needs },
     )
@@ -112,16 +114,23 @@ walk-returns-2 t c =
     let l = c .before .before .before .before .before .before .loop in
     let g = given (a .uuid .now) (a .volume) in
     let n = c .before .before .before .n .given .0 .0 in
-    let tag : NextTag s (l .i) (Close n) = subst (NextTag s (l .i)) (c .before .before .before .n .given .1) (c .before .before .before .before .before .next-tag .ensures) in (
+    let tag : NextStart s (l .i) (Close n) = subst (NextStart s (l .i)) (c .before .before .before .n .given .1) (c .before .before .before .before .before .next-start .ensures) in (
       ap (λ (x : Sums). gathered x (l .uids)) (c .finish2 .ensures) ∙ sym (l .inv .4 ∙ row-over g (a .kind) (l .seen) (gathered (l .a) (l .uids)) (rowAt s (l .i)) (row-close tag)),
-      record { left = sym (l .inv .3 ∙ around-close tag); ahead = search needs; inside = search needs },
+      record { left = sym (l .inv .3 ∙ around-close tag); ahead = omega (arith, tag .place); inside = tag .place .1 },
     )
 
-walk-enum-known-n-2 : (t : ℕ) → walk-lts.Need-enum-known-n-2 (claims t) (walk-at t) walk.Post walk-Inv-loop walk-μ-loop
-walk-enum-known-n-2 t c = search needs
+walk-enum-known-h : (t : ℕ) → walk-lts.Need-enum-known-h (claims t) (walk-at t) walk.Post walk-Inv-loop walk-μ-loop
+walk-enum-known-h t c = search needs
 
 walk-number-at-requires : (t : ℕ) → walk-lts.Need-number-at-requires (claims t) (walk-at t) walk.Post walk-Inv-loop walk-μ-loop
-walk-number-at-requires t c κs = search needs
+walk-number-at-requires t c κs =
+    let a = c .before .before .before .before .before .before .before .args in
+    let s = a .text .now in
+    let l = c .before .before .before .before .loop in
+    let g = given (a .uuid .now) (a .volume) in
+    let x = c .before .h .given .0 .0 in
+    let o : NextStart s (l .i) (Opens x) = subst (NextStart s (l .i)) (c .before .h .given .1) (c .before .before .before .next-start .ensures) in
+    o .shape
 
 walk-sort-in-requires : (t : ℕ) → walk-lts.Need-sort-in-requires (claims t) (walk-at t) walk.Post walk-Inv-loop walk-μ-loop
 walk-sort-in-requires t c κs = search needs
@@ -130,172 +139,171 @@ walk-mark-requires : (t : ℕ) → walk-lts.Need-mark-requires (claims t) (walk-
 walk-mark-requires t c κs = search needs
 
 walk-enter-requires : (t : ℕ) → walk-lts.Need-enter-requires (claims t) (walk-at t) walk.Post walk-Inv-loop walk-μ-loop
-walk-enter-requires t c κs = search needs
+walk-enter-requires t c κs =
+    let a = c .before .before .before .before .before .before .before .before .before .before .before .before .before .args in
+    let s = a .text .now in
+    let l = c .before .before .before .before .before .before .before .before .before .before .loop in
+    let g = given (a .uuid .now) (a .volume) in
+    let x = c .before .before .before .before .before .before .before .h .given .0 .0 in
+    let o : NextStart s (l .i) (Opens x) = subst (NextStart s (l .i)) (c .before .before .before .before .before .before .before .h .given .1) (c .before .before .before .before .before .before .before .before .before .next-start .ensures) in
+    o .shape
 
 walk-is-open-requires : (t : ℕ) → walk-lts.Need-is-open-requires (claims t) (walk-at t) walk.Post walk-Inv-loop walk-μ-loop
 walk-is-open-requires t c κs = search needs
 
-walk-sub-walk : (t : ℕ) → walk-lts.Need-sub-walk (claims t) (walk-at t) walk.Post walk-Inv-loop walk-μ-loop
-walk-sub-walk t c =
-    let a = c .before .before .before .before .before .before .before .before .before .before .before .before .before .before .before .before .before .before .args in
-    let s = a .text .now in
-    let l = c .before .before .before .before .before .before .before .before .before .before .before .before .before .before .before .loop in
-    let g = given (a .uuid .now) (a .volume) in
-    let n = c .before .before .before .before .before .before .before .before .before .before .before .before .n2 .given .0 .0 in
-    let tag : NextTag s (l .i) (Open n) = subst (NextTag s (l .i)) (c .before .before .before .before .before .before .before .before .before .before .before .before .n2 .given .1) (c .before .before .before .before .before .before .before .before .before .before .before .before .before .before .next-tag .ensures) in
-    let low = height-open tag in
-    search needs
-
-walk-walk-requires : (t : ℕ) → walk-lts.Need-walk-requires (claims t) (walk-at t) walk.Post walk-Inv-loop walk-μ-loop
-walk-walk-requires t c κs =
-    let a = c .before .before .before .before .before .before .before .before .before .before .before .before .before .before .before .before .before .before .args in
-    let s = a .text .now in
-    let l = c .before .before .before .before .before .before .before .before .before .before .before .before .before .before .before .loop in
-    let g = given (a .uuid .now) (a .volume) in
-    let n = c .before .before .before .before .before .before .before .before .before .before .before .before .n2 .given .0 .0 in
-    let tag : NextTag s (l .i) (Open n) = subst (NextTag s (l .i)) (c .before .before .before .before .before .before .before .before .before .before .before .before .n2 .given .1) (c .before .before .before .before .before .before .before .before .before .before .before .before .before .before .next-tag .ensures) in
-    let low = height-open tag in
-    let e : a .depth ≡ t = c .before .before .before .before .before .before .before .before .before .before .before .before .before .before .before .before .before .before .pre .0 in
-    let x : a .depth - 1 < t = omega arith in
-    (x, (search needs, omega arith))
+walk-finish-requires-3 : (t : ℕ) → walk-lts.Need-finish-requires-3 (claims t) (walk-at t) walk.Post walk-Inv-loop walk-μ-loop
+walk-finish-requires-3 t c κs = search needs
 
 walk-loop-less : (t : ℕ) → walk-lts.Need-loop-less (claims t) (walk-at t) walk.Post walk-Inv-loop walk-μ-loop
 walk-loop-less t c =
-    let a = c .before .before .before .before .before .before .before .before .before .before .before .before .before .before .before .before .before .before .before .before .args in
+    let a = c .before .before .before .before .before .before .before .before .before .before .before .before .before .before .before .before .before .before .before .args in
     let s = a .text .now in
-    let l = c .before .before .before .before .before .before .before .before .before .before .before .before .before .before .before .before .before .loop in
+    let l = c .before .before .before .before .before .before .before .before .before .before .before .before .before .before .before .before .loop in
     let g = given (a .uuid .now) (a .volume) in
-    let n = c .before .before .before .before .before .before .before .before .before .before .before .before .before .before .n2 .given .0 .0 in
-    let tag : NextTag s (l .i) (Open n) = subst (NextTag s (l .i)) (c .before .before .before .before .before .before .before .before .before .before .before .before .before .before .n2 .given .1) (c .before .before .before .before .before .before .before .before .before .before .before .before .before .before .before .before .next-tag .ensures) in
-    omega (arith, tag .place, c .before .walk .ensures .1 .ahead, c .before .walk .ensures .1 .inside)
+    let x = c .before .before .before .before .before .before .before .before .before .before .before .before .before .h .given .0 .0 in
+    let o : NextStart s (l .i) (Opens x) = subst (NextStart s (l .i)) (c .before .before .before .before .before .before .before .before .before .before .before .before .before .h .given .1) (c .before .before .before .before .before .before .before .before .before .before .before .before .before .before .before .next-start .ensures) in
+    let tag : NextTag s (l .i) (Empty (x .at)) = rw (c .before .before .if2 .taken) at (o .tag) in
+    let first : FirstOf s (l .i) (x .at) (x .at) = first-empty tag in
+    omega (arith, first .place, first .after)
 
 walk-loop-again : (t : ℕ) → walk-lts.Need-loop-again (claims t) (walk-at t) walk.Post walk-Inv-loop walk-μ-loop
+unfolding ended
 walk-loop-again t c =
-    let a = c .before .before .before .before .before .before .before .before .before .before .before .before .before .before .before .before .before .before .before .before .args in
+    let a = c .before .before .before .before .before .before .before .before .before .before .before .before .before .before .before .before .before .before .before .args in
     let s = a .text .now in
-    let l = c .before .before .before .before .before .before .before .before .before .before .before .before .before .before .before .before .before .loop in
+    let l = c .before .before .before .before .before .before .before .before .before .before .before .before .before .before .before .before .loop in
     let g = given (a .uuid .now) (a .volume) in
-    let n = c .before .before .before .before .before .before .before .before .before .before .before .before .before .before .n2 .given .0 .0 in
-    let tag : NextTag s (l .i) (Open n) = subst (NextTag s (l .i)) (c .before .before .before .before .before .before .before .before .before .before .before .before .before .before .n2 .given .1) (c .before .before .before .before .before .before .before .before .before .before .before .before .before .before .before .before .next-tag .ensures) in
-    let first : FirstOf s (l .i) n (c .before .walk .result .at) = first-open tag (c .before .walk .ensures .1) in
-    let low : height (rowAt s (c .before .walk .result .at)) ≤ height (rowAt s (l .i)) = height-rest first in (
-      omega (arith, tag .place, c .before .walk .ensures .1 .ahead, c .before .walk .ensures .1 .inside),
-      c .before .walk .ensures .1 .inside,
+    let x = c .before .before .before .before .before .before .before .before .before .before .before .before .before .h .given .0 .0 in
+    let o : NextStart s (l .i) (Opens x) = subst (NextStart s (l .i)) (c .before .before .before .before .before .before .before .before .before .before .before .before .before .h .given .1) (c .before .before .before .before .before .before .before .before .before .before .before .before .before .before .before .next-start .ensures) in
+    let tag : NextTag s (l .i) (Empty (x .at)) = rw (c .before .before .if2 .taken) at (o .tag) in
+    let first : FirstOf s (l .i) (x .at) (x .at) = first-empty tag in
+    let low : height (rowAt s (x .at)) ≤ height (rowAt s (l .i)) = height-rest first in (
+      omega (arith, first .place, first .after),
+      first .after .1,
       omega arith,
       l .inv .3 ∙ first .around,
-      l .inv .4 ∙ step-holds g (a .kind) (l .seen) (gathered (l .a) (l .uids)) first (c .before .before .before .before .before .before .before .before .before .before .before .before .number-at .result) (c .before .before .before .before .before .before .before .before .before .before .before .sort-in .result) (c .before .before .before .before .before .before .before .before .before .mark .last .0) (gathered (c .before .before .before .before .before .before .enter .result) (c .before .before .before .before .before .before .enter .last .1 .1 .0)) (c .before .before .before .before .before .before .before .before .before .before .before .before .number-at .ensures) (c .before .before .before .before .before .before .before .before .before .before .before .sort-in .ensures) (c .before .before .before .before .before .before .before .before .before .mark .ensures) (c .before .before .before .before .before .before .enter .ensures) (gathered (c .before .walk .result .sums) (c .before .walk .last .1 .1 .0)) (sym (c .before .before .before .before .before .is-open .ensures) ∙ c .before .before .before .before .if1 .taken)
-          (c .before .walk .ensures .0 ∙ ap (λ (f : Forest). sweep g (c .before .before .before .before .before .before .before .before .before .before .before .sort-in .result) fresh f (gathered (c .before .before .before .before .before .before .enter .result) (c .before .before .before .before .before .before .enter .last .1 .1 .0))) (sym (children-open tag))),
+      l .inv .4 ∙ step-holds g (a .kind) (l .seen) (gathered (l .a) (l .uids)) first (c .before .before .before .before .before .before .before .before .before .before .before .number-at .result) (c .before .before .before .before .before .before .before .before .before .before .sort-in .result) (c .before .before .before .before .before .before .before .before .mark .last .0) (gathered (c .before .before .before .before .before .enter .result) (c .before .before .before .before .before .enter .last .1 .1 .0)) (c .before .before .before .before .before .before .before .before .before .before .before .number-at .ensures) (c .before .before .before .before .before .before .before .before .before .before .sort-in .ensures) (c .before .before .before .before .before .before .before .before .mark .ensures) (c .before .before .before .before .before .enter .ensures) (gathered (c .finish3 .result) (c .before .before .before .before .before .enter .last .1 .1 .0)) (sym (c .before .before .before .before .is-open .ensures) ∙ c .before .before .before .if1 .taken)
+          (ap (λ (x : Sums). gathered x (c .before .before .before .before .before .enter .last .1 .1 .0)) (c .finish3 .ensures ∙ ap (λ (m : List ℕ). endedSums (c .before .before .before .before .before .before .before .before .before .before .sort-in .result) m (c .before .before .before .before .before .enter .result)) (l .inv .5))
+          ∙ sym (row-over g (c .before .before .before .before .before .before .before .before .before .before .sort-in .result) fresh (gathered (c .before .before .before .before .before .enter .result) (c .before .before .before .before .before .enter .last .1 .1 .0)) (childrenAt s (x .at)) (children-empty tag))),
       l .inv .5,
     )
 
-walk-leave-requires : (t : ℕ) → walk-lts.Need-leave-requires (claims t) (walk-at t) walk.Post walk-Inv-loop walk-μ-loop
-walk-leave-requires t c κs = search needs
+walk-sub-walk : (t : ℕ) → walk-lts.Need-sub-walk (claims t) (walk-at t) walk.Post walk-Inv-loop walk-μ-loop
+walk-sub-walk t c =
+    let a = c .before .before .before .before .before .before .before .before .before .before .before .before .before .before .before .before .before .before .before .args in
+    let s = a .text .now in
+    let l = c .before .before .before .before .before .before .before .before .before .before .before .before .before .before .before .before .loop in
+    let g = given (a .uuid .now) (a .volume) in
+    let x = c .before .before .before .before .before .before .before .before .before .before .before .before .before .h .given .0 .0 in
+    let o : NextStart s (l .i) (Opens x) = subst (NextStart s (l .i)) (c .before .before .before .before .before .before .before .before .before .before .before .before .before .h .given .1) (c .before .before .before .before .before .before .before .before .before .before .before .before .before .before .before .next-start .ensures) in
+    let tag : NextTag s (l .i) (Open (x .at)) = rw (c .before .before .if2 .left) at (o .tag) in
+    let low = height-open tag in
+    omega (arith, l .inv .2)
+
+walk-walk-requires : (t : ℕ) → walk-lts.Need-walk-requires (claims t) (walk-at t) walk.Post walk-Inv-loop walk-μ-loop
+walk-walk-requires t c κs =
+    let a = c .before .before .before .before .before .before .before .before .before .before .before .before .before .before .before .before .before .before .before .args in
+    let s = a .text .now in
+    let l = c .before .before .before .before .before .before .before .before .before .before .before .before .before .before .before .before .loop in
+    let g = given (a .uuid .now) (a .volume) in
+    let x = c .before .before .before .before .before .before .before .before .before .before .before .before .before .h .given .0 .0 in
+    let o : NextStart s (l .i) (Opens x) = subst (NextStart s (l .i)) (c .before .before .before .before .before .before .before .before .before .before .before .before .before .h .given .1) (c .before .before .before .before .before .before .before .before .before .before .before .before .before .before .before .next-start .ensures) in
+    let tag : NextTag s (l .i) (Open (x .at)) = rw (c .before .before .if2 .left) at (o .tag) in
+    let low = height-open tag in
+    let e : a .depth ≡ t = c .before .before .before .before .before .before .before .before .before .before .before .before .before .before .before .before .before .before .before .pre .0 in
+    let y : a .depth - 1 < t = omega arith in
+    (y, (tag .place .1, omega arith))
 
 walk-loop-less-2 : (t : ℕ) → walk-lts.Need-loop-less-2 (claims t) (walk-at t) walk.Post walk-Inv-loop walk-μ-loop
 walk-loop-less-2 t c =
-    let a = c .before .before .before .before .before .before .before .before .before .before .before .before .before .before .before .before .before .args in
+    let a = c .before .before .before .before .before .before .before .before .before .before .before .before .before .before .before .before .before .before .before .before .before .args in
     let s = a .text .now in
-    let l = c .before .before .before .before .before .before .before .before .before .before .before .before .before .before .loop in
+    let l = c .before .before .before .before .before .before .before .before .before .before .before .before .before .before .before .before .before .before .loop in
     let g = given (a .uuid .now) (a .volume) in
-    let n = c .before .before .before .before .before .before .before .before .before .before .before .n2 .given .0 .0 in
-    let tag : NextTag s (l .i) (Open n) = subst (NextTag s (l .i)) (c .before .before .before .before .before .before .before .before .before .before .before .n2 .given .1) (c .before .before .before .before .before .before .before .before .before .before .before .before .before .next-tag .ensures) in
-    omega (arith, tag .place, c .leave .ensures .ahead, c .leave .ensures .inside)
+    let x = c .before .before .before .before .before .before .before .before .before .before .before .before .before .before .before .h .given .0 .0 in
+    let o : NextStart s (l .i) (Opens x) = subst (NextStart s (l .i)) (c .before .before .before .before .before .before .before .before .before .before .before .before .before .before .before .h .given .1) (c .before .before .before .before .before .before .before .before .before .before .before .before .before .before .before .before .before .next-start .ensures) in
+    let tag : NextTag s (l .i) (Open (x .at)) = rw (c .before .before .before .before .if2 .left) at (o .tag) in
+    let first : FirstOf s (l .i) (x .at) (c .before .walk .result .at) = first-open tag (c .before .walk .ensures .1) in
+    omega (arith, first .place, first .after)
 
 walk-loop-again-2 : (t : ℕ) → walk-lts.Need-loop-again-2 (claims t) (walk-at t) walk.Post walk-Inv-loop walk-μ-loop
 walk-loop-again-2 t c =
+    let a = c .before .before .before .before .before .before .before .before .before .before .before .before .before .before .before .before .before .before .before .before .before .args in
+    let s = a .text .now in
+    let l = c .before .before .before .before .before .before .before .before .before .before .before .before .before .before .before .before .before .before .loop in
+    let g = given (a .uuid .now) (a .volume) in
+    let x = c .before .before .before .before .before .before .before .before .before .before .before .before .before .before .before .h .given .0 .0 in
+    let o : NextStart s (l .i) (Opens x) = subst (NextStart s (l .i)) (c .before .before .before .before .before .before .before .before .before .before .before .before .before .before .before .h .given .1) (c .before .before .before .before .before .before .before .before .before .before .before .before .before .before .before .before .before .next-start .ensures) in
+    let tag : NextTag s (l .i) (Open (x .at)) = rw (c .before .before .before .before .if2 .left) at (o .tag) in
+    let first : FirstOf s (l .i) (x .at) (c .before .walk .result .at) = first-open tag (c .before .walk .ensures .1) in
+    let low : height (rowAt s (c .before .walk .result .at)) ≤ height (rowAt s (l .i)) = height-rest first in (
+      omega (arith, first .place, first .after),
+      first .after .1,
+      omega arith,
+      l .inv .3 ∙ first .around,
+      l .inv .4 ∙ step-holds g (a .kind) (l .seen) (gathered (l .a) (l .uids)) first (c .before .before .before .before .before .before .before .before .before .before .before .before .before .number-at .result) (c .before .before .before .before .before .before .before .before .before .before .before .before .sort-in .result) (c .before .before .before .before .before .before .before .before .before .before .mark .last .0) (gathered (c .before .before .before .before .before .before .before .enter .result) (c .before .before .before .before .before .before .before .enter .last .1 .1 .0)) (c .before .before .before .before .before .before .before .before .before .before .before .before .before .number-at .ensures) (c .before .before .before .before .before .before .before .before .before .before .before .before .sort-in .ensures) (c .before .before .before .before .before .before .before .before .before .before .mark .ensures) (c .before .before .before .before .before .before .before .enter .ensures) (gathered (c .before .walk .result .sums) (c .before .walk .last .1 .1 .0)) (sym (c .before .before .before .before .before .before .is-open .ensures) ∙ c .before .before .before .before .before .if1 .taken)
+          (c .before .walk .ensures .0 ∙ ap (λ (f : Forest). sweep g (c .before .before .before .before .before .before .before .before .before .before .before .before .sort-in .result) fresh f (gathered (c .before .before .before .before .before .before .before .enter .result) (c .before .before .before .before .before .before .before .enter .last .1 .1 .0))) (sym (children-open tag))),
+      l .inv .5,
+    )
+
+walk-loop-less-3 : (t : ℕ) → walk-lts.Need-loop-less-3 (claims t) (walk-at t) walk.Post walk-Inv-loop walk-μ-loop
+walk-loop-less-3 t c =
     let a = c .before .before .before .before .before .before .before .before .before .before .before .before .before .before .before .before .before .args in
     let s = a .text .now in
     let l = c .before .before .before .before .before .before .before .before .before .before .before .before .before .before .loop in
     let g = given (a .uuid .now) (a .volume) in
-    let n = c .before .before .before .before .before .before .before .before .before .before .before .n2 .given .0 .0 in
-    let tag : NextTag s (l .i) (Open n) = subst (NextTag s (l .i)) (c .before .before .before .before .before .before .before .before .before .before .before .n2 .given .1) (c .before .before .before .before .before .before .before .before .before .before .before .before .before .next-tag .ensures) in
-    let first : FirstOf s (l .i) n (c .leave .result) = first-open tag (c .leave .ensures) in
-    let low : height (rowAt s (c .leave .result)) ≤ height (rowAt s (l .i)) = height-rest first in (
-      omega (arith, tag .place, c .leave .ensures .ahead, c .leave .ensures .inside),
-      c .leave .ensures .inside,
+    let x = c .before .before .before .before .before .before .before .before .before .before .before .h .given .0 .0 in
+    let o : NextStart s (l .i) (Opens x) = subst (NextStart s (l .i)) (c .before .before .before .before .before .before .before .before .before .before .before .h .given .1) (c .before .before .before .before .before .before .before .before .before .before .before .before .before .next-start .ensures) in
+    let first : FirstOf s (l .i) (x .at) (x .next) = o .next (c .if3 .taken) in
+    omega (arith, first .place, first .after)
+
+walk-loop-again-3 : (t : ℕ) → walk-lts.Need-loop-again-3 (claims t) (walk-at t) walk.Post walk-Inv-loop walk-μ-loop
+walk-loop-again-3 t c =
+    let a = c .before .before .before .before .before .before .before .before .before .before .before .before .before .before .before .before .before .args in
+    let s = a .text .now in
+    let l = c .before .before .before .before .before .before .before .before .before .before .before .before .before .before .loop in
+    let g = given (a .uuid .now) (a .volume) in
+    let x = c .before .before .before .before .before .before .before .before .before .before .before .h .given .0 .0 in
+    let o : NextStart s (l .i) (Opens x) = subst (NextStart s (l .i)) (c .before .before .before .before .before .before .before .before .before .before .before .h .given .1) (c .before .before .before .before .before .before .before .before .before .before .before .before .before .next-start .ensures) in
+    let first : FirstOf s (l .i) (x .at) (x .next) = o .next (c .if3 .taken) in
+    let low : height (rowAt s (x .next)) ≤ height (rowAt s (l .i)) = height-rest first in (
+      omega (arith, first .place, first .after),
+      first .after .1,
       omega arith,
       l .inv .3 ∙ first .around,
       l .inv .4 ∙ step-other g (a .kind) (l .seen) (gathered (l .a) (l .uids)) first (c .before .before .before .before .before .before .before .before .before .number-at .result) (c .before .before .before .before .before .before .before .before .sort-in .result) (c .before .before .before .before .before .before .mark .last .0) (gathered (c .before .before .before .enter .result) (c .before .before .before .enter .last .1 .1 .0)) (c .before .before .before .before .before .before .before .before .before .number-at .ensures) (c .before .before .before .before .before .before .before .before .sort-in .ensures) (c .before .before .before .before .before .before .mark .ensures) (c .before .before .before .enter .ensures) (sym (c .before .before .is-open .ensures) ∙ c .before .if1 .left),
       l .inv .5,
     )
 
-walk-enum-known-n-3 : (t : ℕ) → walk-lts.Need-enum-known-n-3 (claims t) (walk-at t) walk.Post walk-Inv-loop walk-μ-loop
-walk-enum-known-n-3 t c = search needs
-
-walk-number-at-requires-2 : (t : ℕ) → walk-lts.Need-number-at-requires-2 (claims t) (walk-at t) walk.Post walk-Inv-loop walk-μ-loop
-walk-number-at-requires-2 t c κs = search needs
-
-walk-sort-in-requires-2 : (t : ℕ) → walk-lts.Need-sort-in-requires-2 (claims t) (walk-at t) walk.Post walk-Inv-loop walk-μ-loop
-walk-sort-in-requires-2 t c κs = search needs
-
-walk-mark-requires-2 : (t : ℕ) → walk-lts.Need-mark-requires-2 (claims t) (walk-at t) walk.Post walk-Inv-loop walk-μ-loop
-walk-mark-requires-2 t c κs = search needs
-
-walk-enter-requires-2 : (t : ℕ) → walk-lts.Need-enter-requires-2 (claims t) (walk-at t) walk.Post walk-Inv-loop walk-μ-loop
-walk-enter-requires-2 t c κs = search needs
-
-walk-is-open-requires-2 : (t : ℕ) → walk-lts.Need-is-open-requires-2 (claims t) (walk-at t) walk.Post walk-Inv-loop walk-μ-loop
-walk-is-open-requires-2 t c κs = search needs
-
-walk-finish-requires-3 : (t : ℕ) → walk-lts.Need-finish-requires-3 (claims t) (walk-at t) walk.Post walk-Inv-loop walk-μ-loop
-walk-finish-requires-3 t c κs = search needs
-
-walk-loop-less-3 : (t : ℕ) → walk-lts.Need-loop-less-3 (claims t) (walk-at t) walk.Post walk-Inv-loop walk-μ-loop
-walk-loop-less-3 t c =
-    let a = c .before .before .before .before .before .before .before .before .before .before .before .before .before .before .before .before .before .before .args in
-    let s = a .text .now in
-    let l = c .before .before .before .before .before .before .before .before .before .before .before .before .before .before .before .loop in
-    let g = given (a .uuid .now) (a .volume) in
-    let n = c .before .before .before .before .before .before .before .before .before .before .before .before .n3 .given .0 .0 in
-    let tag : NextTag s (l .i) (Empty n) = subst (NextTag s (l .i)) (c .before .before .before .before .before .before .before .before .before .before .before .before .n3 .given .1) (c .before .before .before .before .before .before .before .before .before .before .before .before .before .before .next-tag .ensures) in
-    omega (arith, tag .place)
-
-walk-loop-again-3 : (t : ℕ) → walk-lts.Need-loop-again-3 (claims t) (walk-at t) walk.Post walk-Inv-loop walk-μ-loop
-unfolding ended
-walk-loop-again-3 t c =
-    let a = c .before .before .before .before .before .before .before .before .before .before .before .before .before .before .before .before .before .before .args in
-    let s = a .text .now in
-    let l = c .before .before .before .before .before .before .before .before .before .before .before .before .before .before .before .loop in
-    let g = given (a .uuid .now) (a .volume) in
-    let n = c .before .before .before .before .before .before .before .before .before .before .before .before .n3 .given .0 .0 in
-    let tag : NextTag s (l .i) (Empty n) = subst (NextTag s (l .i)) (c .before .before .before .before .before .before .before .before .before .before .before .before .n3 .given .1) (c .before .before .before .before .before .before .before .before .before .before .before .before .before .before .next-tag .ensures) in
-    let first : FirstOf s (l .i) n n = first-empty tag in
-    let low : height (rowAt s n) ≤ height (rowAt s (l .i)) = height-rest first in (
-      omega (arith, tag .place),
-      tag .place .1,
-      omega arith,
-      l .inv .3 ∙ first .around,
-      l .inv .4 ∙ step-holds g (a .kind) (l .seen) (gathered (l .a) (l .uids)) first (c .before .before .before .before .before .before .before .before .before .before .number-at2 .result) (c .before .before .before .before .before .before .before .before .before .sort-in2 .result) (c .before .before .before .before .before .before .before .mark2 .last .0) (gathered (c .before .before .before .before .enter2 .result) (c .before .before .before .before .enter2 .last .1 .1 .0)) (c .before .before .before .before .before .before .before .before .before .before .number-at2 .ensures) (c .before .before .before .before .before .before .before .before .before .sort-in2 .ensures) (c .before .before .before .before .before .before .before .mark2 .ensures) (c .before .before .before .before .enter2 .ensures) (gathered (c .finish3 .result) (c .before .before .before .before .enter2 .last .1 .1 .0)) (sym (c .before .before .before .is-open2 .ensures) ∙ c .before .before .if2 .taken)
-          (ap (λ (x : Sums). gathered x (c .before .before .before .before .enter2 .last .1 .1 .0)) (c .finish3 .ensures ∙ ap (λ (m : List ℕ). endedSums (c .before .before .before .before .before .before .before .before .before .sort-in2 .result) m (c .before .before .before .before .enter2 .result)) (l .inv .5))
-          ∙ sym (row-over g (c .before .before .before .before .before .before .before .before .before .sort-in2 .result) fresh (gathered (c .before .before .before .before .enter2 .result) (c .before .before .before .before .enter2 .last .1 .1 .0)) (childrenAt s n) (children-empty tag))),
-      l .inv .5,
-    )
+walk-leave-requires : (t : ℕ) → walk-lts.Need-leave-requires (claims t) (walk-at t) walk.Post walk-Inv-loop walk-μ-loop
+walk-leave-requires t c κs = search needs
 
 walk-loop-less-4 : (t : ℕ) → walk-lts.Need-loop-less-4 (claims t) (walk-at t) walk.Post walk-Inv-loop walk-μ-loop
 walk-loop-less-4 t c =
-    let a = c .before .before .before .before .before .before .before .before .before .before .before .before .before .before .before .before .args in
+    let a = c .before .before .before .before .before .before .before .before .before .before .before .before .before .before .before .before .before .before .args in
     let s = a .text .now in
-    let l = c .before .before .before .before .before .before .before .before .before .before .before .before .before .loop in
+    let l = c .before .before .before .before .before .before .before .before .before .before .before .before .before .before .before .loop in
     let g = given (a .uuid .now) (a .volume) in
-    let n = c .before .before .before .before .before .before .before .before .before .before .n3 .given .0 .0 in
-    let tag : NextTag s (l .i) (Empty n) = subst (NextTag s (l .i)) (c .before .before .before .before .before .before .before .before .before .before .n3 .given .1) (c .before .before .before .before .before .before .before .before .before .before .before .before .next-tag .ensures) in
-    omega (arith, tag .place)
+    let x = c .before .before .before .before .before .before .before .before .before .before .before .before .h .given .0 .0 in
+    let o : NextStart s (l .i) (Opens x) = subst (NextStart s (l .i)) (c .before .before .before .before .before .before .before .before .before .before .before .before .h .given .1) (c .before .before .before .before .before .before .before .before .before .before .before .before .before .before .next-start .ensures) in
+    let first : FirstOf s (l .i) (x .at) (c .leave .result) = inner-first o (c .before .if3 .left) (c .leave .ensures) in
+    omega (arith, first .place, first .after)
 
 walk-loop-again-4 : (t : ℕ) → walk-lts.Need-loop-again-4 (claims t) (walk-at t) walk.Post walk-Inv-loop walk-μ-loop
 walk-loop-again-4 t c =
-    let a = c .before .before .before .before .before .before .before .before .before .before .before .before .before .before .before .before .args in
+    let a = c .before .before .before .before .before .before .before .before .before .before .before .before .before .before .before .before .before .before .args in
     let s = a .text .now in
-    let l = c .before .before .before .before .before .before .before .before .before .before .before .before .before .loop in
+    let l = c .before .before .before .before .before .before .before .before .before .before .before .before .before .before .before .loop in
     let g = given (a .uuid .now) (a .volume) in
-    let n = c .before .before .before .before .before .before .before .before .before .before .n3 .given .0 .0 in
-    let tag : NextTag s (l .i) (Empty n) = subst (NextTag s (l .i)) (c .before .before .before .before .before .before .before .before .before .before .n3 .given .1) (c .before .before .before .before .before .before .before .before .before .before .before .before .next-tag .ensures) in
-    let first : FirstOf s (l .i) n n = first-empty tag in
-    let low : height (rowAt s n) ≤ height (rowAt s (l .i)) = height-rest first in (
-      omega (arith, tag .place),
-      tag .place .1,
+    let x = c .before .before .before .before .before .before .before .before .before .before .before .before .h .given .0 .0 in
+    let o : NextStart s (l .i) (Opens x) = subst (NextStart s (l .i)) (c .before .before .before .before .before .before .before .before .before .before .before .before .h .given .1) (c .before .before .before .before .before .before .before .before .before .before .before .before .before .before .next-start .ensures) in
+    let first : FirstOf s (l .i) (x .at) (c .leave .result) = inner-first o (c .before .if3 .left) (c .leave .ensures) in
+    let low : height (rowAt s (c .leave .result)) ≤ height (rowAt s (l .i)) = height-rest first in (
+      omega (arith, first .place, first .after),
+      first .after .1,
       omega arith,
       l .inv .3 ∙ first .around,
-      l .inv .4 ∙ step-other g (a .kind) (l .seen) (gathered (l .a) (l .uids)) first (c .before .before .before .before .before .before .before .before .number-at2 .result) (c .before .before .before .before .before .before .before .sort-in2 .result) (c .before .before .before .before .before .mark2 .last .0) (gathered (c .before .before .enter2 .result) (c .before .before .enter2 .last .1 .1 .0)) (c .before .before .before .before .before .before .before .before .number-at2 .ensures) (c .before .before .before .before .before .before .before .sort-in2 .ensures) (c .before .before .before .before .before .mark2 .ensures) (c .before .before .enter2 .ensures) (sym (c .before .is-open2 .ensures) ∙ c .if2 .left),
+      l .inv .4 ∙ step-other g (a .kind) (l .seen) (gathered (l .a) (l .uids)) first (c .before .before .before .before .before .before .before .before .before .before .number-at .result) (c .before .before .before .before .before .before .before .before .before .sort-in .result) (c .before .before .before .before .before .before .before .mark .last .0) (gathered (c .before .before .before .before .enter .result) (c .before .before .before .before .enter .last .1 .1 .0)) (c .before .before .before .before .before .before .before .before .before .before .number-at .ensures) (c .before .before .before .before .before .before .before .before .before .sort-in .ensures) (c .before .before .before .before .before .before .before .mark .ensures) (c .before .before .before .before .enter .ensures) (sym (c .before .before .before .is-open .ensures) ∙ c .before .before .if1 .left),
       l .inv .5,
     )
 
@@ -306,34 +314,28 @@ pub +walk-spec : {M : Type 1} → statement M
     walk-Inv-loop
     walk-μ-loop
     (walk-loop-holds t)
-    (walk-next-tag-requires t)
+    (walk-next-start-requires t)
     (walk-enum-told t)
     (walk-finish-requires t)
     (walk-returns t)
     (walk-enum-known-n t)
     (walk-finish-requires-2 t)
     (walk-returns-2 t)
-    (walk-enum-known-n-2 t)
+    (walk-enum-known-h t)
     (walk-number-at-requires t)
     (walk-sort-in-requires t)
     (walk-mark-requires t)
     (walk-enter-requires t)
     (walk-is-open-requires t)
-    (walk-sub-walk t)
-    (walk-walk-requires t)
+    (walk-finish-requires-3 t)
     (walk-loop-less t)
     (walk-loop-again t)
-    (walk-leave-requires t)
+    (walk-sub-walk t)
+    (walk-walk-requires t)
     (walk-loop-less-2 t)
     (walk-loop-again-2 t)
-    (walk-enum-known-n-3 t)
-    (walk-number-at-requires-2 t)
-    (walk-sort-in-requires-2 t)
-    (walk-mark-requires-2 t)
-    (walk-enter-requires-2 t)
-    (walk-is-open-requires-2 t)
-    (walk-finish-requires-3 t)
     (walk-loop-less-3 t)
     (walk-loop-again-3 t)
+    (walk-leave-requires t)
     (walk-loop-less-4 t)
     (walk-loop-again-4 t)

@@ -5,8 +5,9 @@ use Prim.Native.Nat.{ℕ}
 use mathlib.Core.List.{List}
 use lib.ListN.{set}
 use Rattle.index.specs.Sweep.{more}
-use Rattle.index.specs.Tests.{given, valued, own}
+use Rattle.index.specs.Tests.{given, valued, own, few, lawful}
 use Rattle.index.specs.Entries.{uidOf}
+use Rattle.xml.specs.Tree.{Forest}
 use Rattle.elements.specs.Reading.{headAt, childrenAt}
 use Rattle.index.proofs.Gathering.{entered-parts}
 use borrow.Author.Needs.{needs}
@@ -16,17 +17,20 @@ use Rattle.index.proofs.walk.enter.Tie as tie
 is-entry-requires : tie.Need-is-entry-requires
 is-entry-requires c κs = search needs
 
+children-row-requires : tie.Need-children-row-requires
+children-row-requires c κs = c .before .before .before .pre
+
 put-uid-requires : tie.Need-put-uid-requires
 put-uid-requires c κs = search needs
 
 fits-at-requires : tie.Need-fits-at-requires
-fits-at-requires c κs = search needs
+fits-at-requires c κs = c .before .before .before .before .before .before .pre
 
 judge-requires : tie.Need-judge-requires
 judge-requires c κs = search needs
 
-text-of-requires : tie.Need-text-of-requires
-text-of-requires c κs = search needs
+part-requires : tie.Need-part-requires
+part-requires c κs = search needs
 
 both-requires : tie.Need-both-requires
 both-requires c κs = search needs
@@ -57,29 +61,34 @@ bump-if-requires-2 c κs = search needs
 
 returns : tie.Need-returns
 returns c =
-    let a = c .before .before .before .before .before .before .before .before .before .before .before .before .before .before .before .before .before .before .args .a in
-    let n = c .before .before .before .before .before .before .before .before .before .before .before .before .before .before .before .before .before .before .args .n in
-    let s = c .before .before .before .before .before .before .before .before .before .before .before .before .before .before .before .before .before .before .args .text .now in
-    let q = c .before .before .before .before .before .before .before .before .before .before .before .before .before .before .before .before .before .before .args .sort in
-    entered-parts (given (c .before .before .before .before .before .before .before .before .before .before .before .before .before .before .before .before .before .before .args .uuid .now) (c .before .before .before .before .before .before .before .before .before .before .before .before .before .before .before .before .before .before .args .volume)) q (headAt s n) (childrenAt s n) a _ (c .before .before .before .before .before .before .before .before .before .before .before .before .before .before .before .before .before .before .args .uids .now) _
+    let a = c .before .before .before .before .before .before .before .before .before .before .before .before .before .before .before .before .before .before .before .args .a in
+    let s = c .before .before .before .before .before .before .before .before .before .before .before .before .before .before .before .before .before .before .before .args .text .now in
+    let n = c .before .before .before .before .before .before .before .before .before .before .before .before .before .before .before .before .before .before .before .args .h .at in
+    let q = c .before .before .before .before .before .before .before .before .before .before .before .before .before .before .before .before .before .before .before .args .sort in
+    let g = given (c .before .before .before .before .before .before .before .before .before .before .before .before .before .before .before .before .before .before .before .args .uuid .now) (c .before .before .before .before .before .before .before .before .before .before .before .before .before .before .before .before .before .before .before .args .volume) in
+    let u = c .before .before .before .before .before .before .before .before .before .before .before .before .before .before .before .before .before .before .before .args .uids .now in
+    let row = c .before .before .before .before .before .before .before .before .before .before .before .before .before .before .before .children-row .ensures in
+    let raw = c .before .before .before .before .before .before .before .before .before .part .ensures ∙ c .before .before .before .before .before .before .before .before .before .before .before .before .before .before .before .before .before .before .before .pre .text .part in
+    entered-parts g q (headAt s n) (childrenAt s n) a _ u _
     (c .before .before .before .before .before .before .before .before .both .ensures ∙ ap (λ (b : Bool). a .structure && b) (c .before .before .before .before .before .before .before .before .before .before .before .before .fits-at .ensures))
-    (c .before .before .before .before .before .before .before .both2 .ensures ∙ ap (λ (b : Bool). a .few && b) (c .before .before .before .before .before .before .before .before .before .before .judge .ensures .0))
-    (c .before .before .before .before .before .both3 .ensures ∙ ap (λ (b : Bool). a .values && b) (c .before .before .before .before .before .before .is-valued .ensures ∙ ap (valued q) (c .before .before .before .before .before .before .before .before .before .text-of .ensures)))
-    (c .before .before .before .both4 .ensures ∙ ap (λ (b : Bool). a .own && b) (c .before .before .before .before .is-own .ensures ∙ ap (own (given (c .before .before .before .before .before .before .before .before .before .before .before .before .before .before .before .before .before .before .args .uuid .now) (c .before .before .before .before .before .before .before .before .before .before .before .before .before .before .before .before .before .before .args .volume)) q) (c .before .before .before .before .before .before .before .before .before .text-of .ensures)))
-    (c .before .before .both5 .ensures ∙ ap (λ (b : Bool). a .lawful && b) (c .before .before .before .before .before .before .before .before .before .before .judge .ensures .1 (c .before .before .before .before .before .before .before .before .before .before .before .before .before .before .before .before .before .before .args .uuid .now)))
-    (c .before .bump-if .ensures ∙ ap (λ (b : Bool). cond b (more (a .entries)) (a .entries)) (c .before .before .before .before .before .before .before .before .before .before .before .before .before .before .before .is-entry .ensures))
+    (c .before .before .before .before .before .before .before .both2 .ensures ∙ ap (λ (b : Bool). a .few && b) (c .before .before .before .before .before .before .before .before .before .before .judge .ensures .0 ∙ ap (few q) row))
+    (c .before .before .before .before .before .both3 .ensures ∙ ap (λ (b : Bool). a .values && b) (c .before .before .before .before .before .before .is-valued .ensures ∙ ap (valued q) raw))
+    (c .before .before .before .both4 .ensures ∙ ap (λ (b : Bool). a .own && b) (c .before .before .before .before .is-own .ensures ∙ ap (own g q) raw))
+    (c .before .before .both5 .ensures ∙ ap (λ (b : Bool). a .lawful && b) (c .before .before .before .before .before .before .before .before .before .before .judge .ensures .1 (c .before .before .before .before .before .before .before .before .before .before .before .before .before .before .before .before .before .before .before .args .uuid .now) ∙ ap (lawful g q) row))
+    (c .before .bump-if .ensures ∙ ap (λ (b : Bool). cond b (more (a .entries)) (a .entries)) (c .before .before .before .before .before .before .before .before .before .before .before .before .before .before .before .before .is-entry .ensures))
     (c .bump-if2 .ensures)
-    (c .before .before .before .before .before .before .before .before .before .before .before .before .before .put-uid .ensures ∙ ap (λ (b : Bool). cond b (set (c .before .before .before .before .before .before .before .before .before .before .before .before .before .before .before .before .before .before .args .uids .now) (a .entries) (uidOf (childrenAt s n))) (c .before .before .before .before .before .before .before .before .before .before .before .before .before .before .before .before .before .before .args .uids .now)) (c .before .before .before .before .before .before .before .before .before .before .before .before .before .before .before .is-entry .ensures))
+    (c .before .before .before .before .before .before .before .before .before .before .before .before .before .put-uid .ensures ∙ ap (λ (f : Forest). cond (c .before .before .before .before .before .before .before .before .before .before .before .before .before .before .before .before .is-entry .result) (set u (a .entries) (uidOf f)) u) row ∙ ap (λ (b : Bool). cond b (set u (a .entries) (uidOf (childrenAt s n))) u) (c .before .before .before .before .before .before .before .before .before .before .before .before .before .before .before .before .is-entry .ensures))
 
 pub enter-spec : {M : Type 1} → statement M
 enter-spec =
     tie.close
     (tie.spec
     is-entry-requires
+    children-row-requires
     put-uid-requires
     fits-at-requires
     judge-requires
-    text-of-requires
+    part-requires
     both-requires
     both-requires-2
     is-valued-requires

@@ -2,21 +2,29 @@
 use mathlib.Core.Path.{_≡_, refl, ap, sym, _∙_, subst}
 use Prim.Native.Nat.{ℕ}
 use lib.ListN.{set}
+use Rattle.slices.specs.Words.{bytes}
+use Rattle.index.specs.Entries.{uidOf}
 use borrow.Author.Needs.{needs}
 use Rattle.index.proofs.walk.put_uid.Statement.{statement}
 use Rattle.index.proofs.walk.put_uid.Tie as tie
 
-uid-at-requires : tie.Need-uid-at-requires
-uid-at-requires c κs = search needs
+slice-aggregate-number-named : tie.Need-slice-aggregate-number-named
+slice-aggregate-number-named c = search needs
+
+number-named-requires : tie.Need-number-named-requires
+number-named-requires c κs = search needs
 
 put-requires : tie.Need-put-requires
 put-requires c κs = search needs
 
 returns : tie.Need-returns
-returns c = c .put .ensures ∙ ap (λ (v : ℕ). set (c .before .before .before .before .before .args .uids .now) (c .before .before .before .before .before .args .at) v) (c .before .uid-at .ensures) ∙ sym (simp (c .before .before .before .if1 .taken))
+unfolding uidOf bytes
+returns c = c .put .ensures ∙ ap (λ (v : ℕ). set (c .before .before .before .before .before .before .args .uids .now) (c .before .before .before .before .before .before .args .at) v) (c .before .number-named .ensures) ∙ sym (simp (c .before .before .before .before .if1 .taken))
 
 returns-2 : tie.Need-returns-2
 returns-2 c = sym (simp (c .if1 .left))
 
 pub put-uid-spec : {M : Type 1} → statement M
-put-uid-spec = tie.close (tie.spec uid-at-requires put-requires returns returns-2)
+put-uid-spec =
+    tie.close
+    (tie.spec slice-aggregate-number-named number-named-requires put-requires returns returns-2)
