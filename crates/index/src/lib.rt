@@ -8,6 +8,7 @@ mod walk;
 
 pub use read::Header;
 pub use read::Read;
+pub use read::is_caller_right;
 pub use read::read_index;
 pub use rows::number_said;
 pub use rows::row_in;

@@ -46,7 +46,7 @@ pub enum Read {
 }
 
 // Whether the caller's letters, block size, UUID and place are in their rules.
-fn is_caller_right(uuid: &[u8], volume: Volume, letter: u8) -> bool
+pub fn is_caller_right(uuid: &[u8], volume: Volume, letter: u8) -> bool
     ensures { λ r. ⌜ r ≡ callerRight (given (now (uuid .entry)) volume) letter ⌝ }
 {
     if !quantities::is_letter(volume.first as u64) {
