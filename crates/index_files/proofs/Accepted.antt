@@ -25,7 +25,7 @@ use Rattle.index.specs.Elements.{elements}
 use Rattle.index.specs.Structure.{complete, rightly}
 use Rattle.index.specs.Entries.{orZero}
 use Rattle.index.specs.Tests.{Given, isSome}
-use Rattle.index.specs.Index.{Index, said, structured, bounded, allValued, allOwn, allLawful, standsAt, locationIn, childrenRead, rootRead, callerRight, isGood, indexOf}
+use Rattle.index.specs.Index.{Index, said, structured, bounded, allValued, allOwn, allLawful, standsAt, locationIn, childrenRead, tagRead, rootRead, callerRight, isGood, indexOf}
 
 pub record Accepted (g : Given) (letter : ℕ) (text : List ℕ) (x : Index) : Type 0 where
   pub caller : callerRight g letter ≡ true
@@ -72,7 +72,7 @@ module _ (g : Given) (letter block : ℕ) (x : Index) where
       same-answer e = cc
 
   root-accepted : (text : List ℕ) (h : Head) (k : Forest) → callerRight g letter ≡ true → Reads text h k → rootRead g letter block (node h k none) ≡ answer x → Accepted g letter text x
-  unfolding rootRead structured
+  unfolding rootRead tagRead structured
   root-accepted text h k right form e =
       let n = orZero (is.version (h .value)) in
       let p0 = passed Structure (require (isSome (is.version (h .value))) Version (childrenRead g letter block n k)) x (same (h .name) (bytes "ltfsindex") && same (h .key) (bytes "version")) e in

@@ -26,7 +26,6 @@ rowIs r =
 -- at j the rows of the file whose tag is at n begin
 pub record RowsFrom (s : List ℕ) (n j : ℕ) : Type 0 where
   pub row : rowAt s j ≡ rowIn (bytes "extentinfo") (childrenAt s n)
-  pub inside : j ≤ length s
 
 -- the first of the rows at i, and where they go on
 pub record FirstRow (s : List ℕ) (i : ℕ) (r : Row) (j : ℕ) : Type 0 where

@@ -237,7 +237,7 @@ module _ (il is dl ds : List ℕ) where
           subst (Demand3 labels v i d) (sym (cut-of r (rescue v i d) q)) (demand3 labels v i d (ap agreed (labels-front i d) ∙ a))
 
 -- lists whose labels are read are well formed
-read-tape : (l s : List ℕ) (t : Tape) → Bytes l → tapeIn l s ≡ answer t → Encodes l s t
+pub read-tape : (l s : List ℕ) (t : Tape) → Bytes l → tapeIn l s ≡ answer t → Encodes l s t
 read-tape l s t bs = go (tapeOf l s) refl
   where
     go : (o : Option Tape) → tapeOf l s ≡ o → orRefused o ≡ answer t → Encodes l s t

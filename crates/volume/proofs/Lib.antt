@@ -6,3 +6,4 @@ pub mod Trying
 pub mod Partitions
 pub mod Verdicts
 pub mod Answering
+pub mod Choosing

@@ -1,3 +1,4 @@
 pub mod Volume
 pub mod Steps
 pub mod Answers
+pub mod Chosen

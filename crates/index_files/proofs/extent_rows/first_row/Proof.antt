@@ -17,7 +17,7 @@ row-in-requires c κs = search needs
 
 returns : tie.Need-returns
 unfolding bytes
-returns c = record { row = c .row-in .ensures .0 ∙ ap (rowIn (bytes "extentinfo")) (c .before .before .first-child .ensures .row); inside = c .row-in .ensures .1 }
+returns c = record { row = c .row-in .ensures ∙ ap (rowIn (bytes "extentinfo")) (c .before .before .first-child .ensures .row) }
 
 pub first-row-spec : {M : Type 1} → statement M
 first-row-spec =

@@ -9,7 +9,7 @@ use Rattle.slices.specs.Slices.{every}
 use lib.ListN.{length}
 use borrow.Author.Tests.{not-true, not-false}
 use native.Mathlib.Omega.{arith}
-use Prim.Native.Nat.{_-_, _≤_}
+use Prim.Native.Nat.{_-_}
 use mathlib.Core.Path.{_≡_, sym, ap, subst, _∙_}
 use borrow.Author.Needs.{needs}
 use Rattle.volume.proofs.lost.file_lies.Statement.{statement}
@@ -22,7 +22,7 @@ use Rattle.volume.proofs.lost.row_lies.Reads as row-lies-reads
 
 abbrev Inv-loop : tie.InvT-loop
 Inv-loop text n volume index-reach index-kept data-reach data-kept at₀ at =
-    (at ≤ length text) × (every (liesIn volume index-reach index-kept data-reach data-kept) (rowsOf (childrenAt text n)) ≡ every (liesIn volume index-reach index-kept data-reach data-kept) (rowsIn (rowAt text at)))
+    every (liesIn volume index-reach index-kept data-reach data-kept) (rowsOf (childrenAt text n)) ≡ every (liesIn volume index-reach index-kept data-reach data-kept) (rowsIn (rowAt text at))
 
 abbrev μ-loop : tie.MeasureT-loop
 μ-loop text n volume index-reach index-kept data-reach data-kept at₀ at = length text - at
@@ -31,7 +31,7 @@ first-row-requires : tie.Need-first-row-requires Inv-loop μ-loop
 first-row-requires c κs = search needs
 
 loop-holds : tie.Need-loop-holds Inv-loop μ-loop
-loop-holds c = (c .first-row .ensures .inside, ap (λ (f : Forest). every (liesIn (c .before .before .before .before .args .volume) (c .before .before .before .before .args .index-reach .now) (c .before .before .before .before .args .index-kept) (c .before .before .before .before .args .data-reach .now) (c .before .before .before .before .args .data-kept)) (rowsIn f)) (sym (c .first-row .ensures .row)))
+loop-holds c = ap (λ (f : Forest). every (liesIn (c .before .before .before .before .args .volume) (c .before .before .before .before .args .index-reach .now) (c .before .before .before .before .args .index-kept) (c .before .before .before .before .args .data-reach .now) (c .before .before .before .before .args .data-kept)) (rowsIn f)) (sym (c .first-row .ensures .row))
 
 next-row-requires : tie.Need-next-row-requires Inv-loop μ-loop
 next-row-requires c κs = search needs
@@ -40,7 +40,7 @@ enum-told : tie.Need-enum-told Inv-loop μ-loop
 enum-told c = search needs
 
 returns : tie.Need-returns Inv-loop μ-loop
-returns c = every-end (liesIn (c .before .before .before .before .before .before .before .before .args .volume) (c .before .before .before .before .before .before .before .before .args .index-reach .now) (c .before .before .before .before .before .before .before .before .args .index-kept) (c .before .before .before .before .before .before .before .before .args .data-reach .now) (c .before .before .before .before .before .before .before .before .args .data-kept)) (every (liesIn (c .before .before .before .before .before .before .before .before .args .volume) (c .before .before .before .before .before .before .before .before .args .index-reach .now) (c .before .before .before .before .before .before .before .before .args .index-kept) (c .before .before .before .before .before .before .before .before .args .data-reach .now) (c .before .before .before .before .before .before .before .before .args .data-kept)) (rowsOf (childrenAt (c .before .before .before .before .before .before .before .before .args .text .now) (c .before .before .before .before .before .before .before .before .args .n)))) (rowsIn (rowAt (c .before .before .before .before .before .before .before .before .args .text .now) (c .before .before .before .loop .at))) (c .before .before .before .loop .inv .1) (subst (RowAhead (c .before .before .before .before .before .before .before .before .args .text .now) (c .before .before .before .loop .at)) (c .enum-told .given .1) (c .before .before .next-row .ensures))
+returns c = every-end (liesIn (c .before .before .before .before .before .before .before .before .args .volume) (c .before .before .before .before .before .before .before .before .args .index-reach .now) (c .before .before .before .before .before .before .before .before .args .index-kept) (c .before .before .before .before .before .before .before .before .args .data-reach .now) (c .before .before .before .before .before .before .before .before .args .data-kept)) (every (liesIn (c .before .before .before .before .before .before .before .before .args .volume) (c .before .before .before .before .before .before .before .before .args .index-reach .now) (c .before .before .before .before .before .before .before .before .args .index-kept) (c .before .before .before .before .before .before .before .before .args .data-reach .now) (c .before .before .before .before .before .before .before .before .args .data-kept)) (rowsOf (childrenAt (c .before .before .before .before .before .before .before .before .args .text .now) (c .before .before .before .before .before .before .before .before .args .n)))) (rowsIn (rowAt (c .before .before .before .before .before .before .before .before .args .text .now) (c .before .before .before .loop .at))) (c .before .before .before .loop .inv) (subst (RowAhead (c .before .before .before .before .before .before .before .before .args .text .now) (c .before .before .before .loop .at)) (c .enum-told .given .1) (c .before .before .next-row .ensures))
 
 enum-known-row : tie.Need-enum-known-row Inv-loop μ-loop
 enum-known-row c = search needs
@@ -51,7 +51,7 @@ row-lies-requires c κs = search needs
 returns-2 : tie.Need-returns-2 Inv-loop μ-loop
 returns-2 c =
     let w = subst (RowAhead (c .before .before .before .before .before .before .before .before .before .before .before .args .text .now) (c .before .before .before .before .before .before .loop .at)) (c .before .before .before .row .given .1) (c .before .before .before .before .before .next-row .ensures) in
-    every-stop (liesIn (c .before .before .before .before .before .before .before .before .before .before .before .args .volume) (c .before .before .before .before .before .before .before .before .before .before .before .args .index-reach .now) (c .before .before .before .before .before .before .before .before .before .before .before .args .index-kept) (c .before .before .before .before .before .before .before .before .before .before .before .args .data-reach .now) (c .before .before .before .before .before .before .before .before .before .before .before .args .data-kept)) (every (liesIn (c .before .before .before .before .before .before .before .before .before .before .before .args .volume) (c .before .before .before .before .before .before .before .before .before .before .before .args .index-reach .now) (c .before .before .before .before .before .before .before .before .before .before .before .args .index-kept) (c .before .before .before .before .before .before .before .before .before .before .before .args .data-reach .now) (c .before .before .before .before .before .before .before .before .before .before .before .args .data-kept)) (rowsOf (childrenAt (c .before .before .before .before .before .before .before .before .before .before .before .args .text .now) (c .before .before .before .before .before .before .before .before .before .before .before .args .n)))) (rowsIn (rowAt (c .before .before .before .before .before .before .before .before .before .before .before .args .text .now) (c .before .before .before .before .before .before .loop .at))) (c .before .before .before .before .before .before .loop .inv .1) (rowIs (c .before .before .before .row .given .0 .0)) (rowsIn (rowAt (c .before .before .before .before .before .before .before .before .before .before .before .args .text .now) (c .before .before .before .row .given .0 .1 .0))) (w .rows) (sym (c .before .row-lies .ensures) ∙ not-true _ (c .if1 .taken))
+    every-stop (liesIn (c .before .before .before .before .before .before .before .before .before .before .before .args .volume) (c .before .before .before .before .before .before .before .before .before .before .before .args .index-reach .now) (c .before .before .before .before .before .before .before .before .before .before .before .args .index-kept) (c .before .before .before .before .before .before .before .before .before .before .before .args .data-reach .now) (c .before .before .before .before .before .before .before .before .before .before .before .args .data-kept)) (every (liesIn (c .before .before .before .before .before .before .before .before .before .before .before .args .volume) (c .before .before .before .before .before .before .before .before .before .before .before .args .index-reach .now) (c .before .before .before .before .before .before .before .before .before .before .before .args .index-kept) (c .before .before .before .before .before .before .before .before .before .before .before .args .data-reach .now) (c .before .before .before .before .before .before .before .before .before .before .before .args .data-kept)) (rowsOf (childrenAt (c .before .before .before .before .before .before .before .before .before .before .before .args .text .now) (c .before .before .before .before .before .before .before .before .before .before .before .args .n)))) (rowsIn (rowAt (c .before .before .before .before .before .before .before .before .before .before .before .args .text .now) (c .before .before .before .before .before .before .loop .at))) (c .before .before .before .before .before .before .loop .inv) (rowIs (c .before .before .before .row .given .0 .0)) (rowsIn (rowAt (c .before .before .before .before .before .before .before .before .before .before .before .args .text .now) (c .before .before .before .row .given .0 .1 .0))) (w .rows) (sym (c .before .row-lies .ensures) ∙ not-true _ (c .if1 .taken))
 
 loop-less : tie.Need-loop-less Inv-loop μ-loop
 loop-less c =
@@ -61,7 +61,7 @@ loop-less c =
 loop-again : tie.Need-loop-again Inv-loop μ-loop
 loop-again c =
     let w = subst (RowAhead (c .before .before .before .before .before .before .before .before .before .before .before .args .text .now) (c .before .before .before .before .before .before .loop .at)) (c .before .before .before .row .given .1) (c .before .before .before .before .before .next-row .ensures) in
-    (w .place .1, every-on (liesIn (c .before .before .before .before .before .before .before .before .before .before .before .args .volume) (c .before .before .before .before .before .before .before .before .before .before .before .args .index-reach .now) (c .before .before .before .before .before .before .before .before .before .before .before .args .index-kept) (c .before .before .before .before .before .before .before .before .before .before .before .args .data-reach .now) (c .before .before .before .before .before .before .before .before .before .before .before .args .data-kept)) (every (liesIn (c .before .before .before .before .before .before .before .before .before .before .before .args .volume) (c .before .before .before .before .before .before .before .before .before .before .before .args .index-reach .now) (c .before .before .before .before .before .before .before .before .before .before .before .args .index-kept) (c .before .before .before .before .before .before .before .before .before .before .before .args .data-reach .now) (c .before .before .before .before .before .before .before .before .before .before .before .args .data-kept)) (rowsOf (childrenAt (c .before .before .before .before .before .before .before .before .before .before .before .args .text .now) (c .before .before .before .before .before .before .before .before .before .before .before .args .n)))) (rowsIn (rowAt (c .before .before .before .before .before .before .before .before .before .before .before .args .text .now) (c .before .before .before .before .before .before .loop .at))) (c .before .before .before .before .before .before .loop .inv .1) (rowIs (c .before .before .before .row .given .0 .0)) (rowsIn (rowAt (c .before .before .before .before .before .before .before .before .before .before .before .args .text .now) (c .before .before .before .row .given .0 .1 .0))) (w .rows) (sym (c .before .row-lies .ensures) ∙ not-false _ (c .if1 .left)))
+    every-on (liesIn (c .before .before .before .before .before .before .before .before .before .before .before .args .volume) (c .before .before .before .before .before .before .before .before .before .before .before .args .index-reach .now) (c .before .before .before .before .before .before .before .before .before .before .before .args .index-kept) (c .before .before .before .before .before .before .before .before .before .before .before .args .data-reach .now) (c .before .before .before .before .before .before .before .before .before .before .before .args .data-kept)) (every (liesIn (c .before .before .before .before .before .before .before .before .before .before .before .args .volume) (c .before .before .before .before .before .before .before .before .before .before .before .args .index-reach .now) (c .before .before .before .before .before .before .before .before .before .before .before .args .index-kept) (c .before .before .before .before .before .before .before .before .before .before .before .args .data-reach .now) (c .before .before .before .before .before .before .before .before .before .before .before .args .data-kept)) (rowsOf (childrenAt (c .before .before .before .before .before .before .before .before .before .before .before .args .text .now) (c .before .before .before .before .before .before .before .before .before .before .before .args .n)))) (rowsIn (rowAt (c .before .before .before .before .before .before .before .before .before .before .before .args .text .now) (c .before .before .before .before .before .before .loop .at))) (c .before .before .before .before .before .before .loop .inv) (rowIs (c .before .before .before .row .given .0 .0)) (rowsIn (rowAt (c .before .before .before .before .before .before .before .before .before .before .before .args .text .now) (c .before .before .before .row .given .0 .1 .0))) (w .rows) (sym (c .before .row-lies .ensures) ∙ not-false _ (c .if1 .left))
 
 pub file-lies-spec : {M : Type 1} → statement M
 file-lies-spec =

@@ -1,0 +1,35 @@
+-- `read_place` meets its contract.
+use Rattle.volume.proofs.Choosing.{place-found, place-refused}
+use Rattle.index.specs.Tests.{given}
+use Rattle.index.specs.Index.{saying}
+use mathlib.Core.Path.{sym, ap, _∙_}
+use borrow.Author.Needs.{needs}
+use Rattle.volume.proofs.chosen.read_place.Statement.{statement}
+use Rattle.volume.proofs.chosen.read_place.Tie as tie
+use Rattle.volume.proofs.chosen.read_place.Reads as reads
+use Rattle.volume.proofs.chosen.read_place.Lts as lts
+use Rattle.index.proofs.read_index.Reads as read-index-reads
+use Rattle.volume.proofs.sound.text_at.Reads as text-at-reads
+
+text-at-requires : tie.Need-text-at-requires
+text-at-requires c κs = search needs
+
+read-index-requires : tie.Need-read-index-requires
+read-index-requires c κs = search needs
+
+enum-known-h : tie.Need-enum-known-h
+enum-known-h c = search needs
+
+enum-known-r : tie.Need-enum-known-r
+enum-known-r c = search needs
+
+returns : tie.Need-returns
+returns c = place-found (given (c .before .before .before .before .before .before .before .args .uuid .now) (c .before .before .before .before .before .before .before .args .volume)) (c .before .before .before .before .before .before .before .args .letter) (c .before .before .before .before .before .before .before .args .store .now) (c .before .before .before .before .before .before .before .args .place) (c .before .before .before .before .text-at .result .now) (c .before .before .before .before .text-at .ensures) (c .before .h .given .0 .0) (ap (saying (c .before .before .before .before .text-at .result .now)) (sym (c .before .h .given .1)) ∙ c .before .before .before .read-index .ensures)
+
+returns-2 : tie.Need-returns-2
+returns-2 c = place-refused (given (c .before .before .before .before .before .before .before .args .uuid .now) (c .before .before .before .before .before .before .before .args .volume)) (c .before .before .before .before .before .before .before .args .letter) (c .before .before .before .before .before .before .before .args .store .now) (c .before .before .before .before .before .before .before .args .place) (c .before .before .before .before .text-at .result .now) (c .before .before .before .before .text-at .ensures) (c .before .r .given .0 .0) (ap (saying (c .before .before .before .before .text-at .result .now)) (sym (c .before .r .given .1)) ∙ c .before .before .before .read-index .ensures)
+
+pub read-place-spec : {M : Type 1} → statement M
+read-place-spec =
+    tie.close
+    (tie.spec text-at-requires read-index-requires enum-known-h enum-known-r returns returns-2)

@@ -1,0 +1,56 @@
+// The index of a partition by its construct's number.
+use crate::sound;
+use constructs::Place;
+use constructs::Scanned;
+use index::Header;
+use index::Read;
+use index::Volume;
+use quantities::BlockNumber;
+use refusals::Refusal;
+ghost use mathlib.Core.Path.{_≡_};
+ghost use Rattle.index.specs.Tests.{given};
+ghost use Rattle.volume.specs.Chosen.{chosenIn, chosenBy, ReadsPlace};
+
+// Where the construct lies, and its index's header, whose places are those of the text; or a refusal.
+pub enum Chosen {
+    Found(Place, Header),
+    Refused(Refusal),
+}
+
+// The index whose text lies at a place of the store.
+fn read_place(store: &[u8], uuid: &[u8], volume: Volume, letter: u8, place: Place) -> Chosen
+    ensures { λ r. ⌜ ReadsPlace (given (now (uuid .entry)) volume) letter (now (store .entry)) place r ⌝ }
+{
+    let text = sound::text_at(store, place);
+    match index::read_index(text, uuid, volume, letter, BlockNumber(place.first as u64)) {
+        Read::Found(h) => Chosen::Found(place, h),
+        Read::Refused(r) => Chosen::Refused(r),
+    }
+}
+
+// The index of construct k of the partition with that letter.
+pub fn read_construct(
+    list: &[u8],
+    store: &[u8],
+    uuid: &[u8],
+    volume: Volume,
+    letter: u8,
+    k: u64,
+) -> Chosen
+    ensures { λ r. ⌜ chosenBy (now (store .entry)) r ≡ chosenIn (given (now (uuid .entry)) volume) letter k (now (list .entry)) (now (store .entry)) ⌝ }
+{
+    if !index::is_caller_right(uuid, volume, letter) {
+        return Chosen::Refused(Refusal::Caller);
+    }
+    let mut table = [0u32; 87380];
+    match constructs::scan(list, store, volume.size as usize, &mut table) {
+        Scanned::Refused(r) => Chosen::Refused(r),
+        Scanned::Constructs(n) => {
+            if n as u64 <= k {
+                return Chosen::Refused(Refusal::Missing);
+            }
+            let place = constructs::construct(&table, k as usize);
+            read_place(store, uuid, volume, letter, place)
+        }
+    }
+}
