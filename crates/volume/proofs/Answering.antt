@@ -11,10 +11,12 @@ use Rattle.refusals.specs.declared.Refusal.{Refusal}
 use Rattle.refusals.specs.declared.Refusal.the-variants.{NoCut}
 use Rattle.refusals.specs.Refusals.{Answer, refused, answer, andThen}
 use Rattle.tape.specs.Tape.{Tape, Encodes}
-use Rattle.tape.specs.Answers.{tapeIn}
+use Rattle.tape.specs.Answers.{tapeIn, orRefused}
+use Rattle.tape.specs.Reading.{tapeOf}
 use Rattle.tape.proofs.Encoding.{Bytes, encodes-read}
+use Rattle.constructs.specs.Tables.{placeIn}
 use Rattle.constructs.specs.Constructs.{Construct, start, standing, dataLengths}
-use Rattle.constructs.proofs.Suffixes.{Suffix, suffix-trans}
+use Rattle.constructs.proofs.Suffixes.{Suffix, here, suffix-trans}
 use Rattle.constructs.proofs.Scanning.{scan-at, standing-few}
 use Rattle.constructs.proofs.Fronts.{Below, standing-at, standing-below, below-suffix}
 use Rattle.constructs.proofs.Lengths.{length-lengths}
@@ -23,20 +25,30 @@ use Rattle.labels.specs.Labels.{labelsOf, labelsIn}
 use Rattle.labels.proofs.Fronts.{labels-front}
 use Rattle.index.specs.Tests.{Given}
 use Rattle.index.specs.declared.tests.Volume.{Volume as Letters}
-use Rattle.verdict.specs.Verdict.{Volume, Break, verdict}
-use Rattle.verdict.specs.Rescue.{Cut, through, chain, cutAmong, rescue}
+use Rattle.verdict.specs.Verdict.{Volume, Break, endsWith, chainBreak, verdict}
+use Rattle.verdict.specs.Rescue.{Cut, generationOf, through, chain, cutAmong, rescue}
 use Rattle.verdict.specs.Partners.{beginnings}
 use Rattle.verdict.specs.Demand.{Demand3}
 use Rattle.verdict.proofs.Demand.{demand3}
-use Rattle.verdict.proofs.Orders.{firsts, firsts-suffix}
+use Rattle.verdict.proofs.Orders.{firsts, firsts-suffix, firsts-all}
 use Rattle.verdict.proofs.Partners.{begins-at, length-beginnings}
 use Rattle.volume.specs.Volume.{volumeWith, givenBy, agreed, labels, onVolume, orNoCut, rescueIn, verdictIn}
-use Rattle.volume.specs.Steps.{Listed, Generations, Chains, ChainsOf, ReachTable, Ready, BeginsOf, Searches, ListsOf, ReachesOf, triedCut, cutIs, Cuts}
-use Rattle.volume.specs.Answers.{rescued, cutOf, Rescues}
+use Rattle.volume.specs.Steps.{Located, Listed, EndsAt, JudgesLast, Judges, breakOf, lastBreak, Generations, Chains, ChainsOf, ReachTable, Ready, BeginsOf, Searches, ListsOf, ReachesOf, triedCut, cutIs, Cuts}
+use Rattle.volume.specs.Answers.{judged, rescued, cutOf, Rescues}
 use Rattle.volume.specs.declared.search.Tried.{Tried}
 use Rattle.volume.specs.declared.answers.Rescue.{Rescue}
 use Rattle.volume.specs.declared.answers.Rescue.the-variants as rescueIs
+use Rattle.volume.specs.declared.judge.Judgement.{Judgement}
+use Rattle.volume.specs.declared.judge.Judgement.the-variants.{Broken}
+use Rattle.volume.specs.declared.answers.Verdict.{Verdict}
+use Rattle.volume.proofs.Chaining.{last-sound}
+use Rattle.volume.proofs.Verdicts.{verdict-1, verdict-2, verdict-3, verdict-last, ends-some}
 use Rattle.volume.proofs.Partitions.{tape-read, through-past, listed-suffix}
+
+-- the last construct of a list
+located-first : (s table : List ℕ) (cs : List Construct) (c : Construct) (bs : List Construct) (p : ℕ) → Listed s table cs → cs ≡ c ∷ bs → length bs ≡ p
+    → Located s (placeIn table p) c
+located-first s table cs c bs p l e n = subst (λ (z : ℕ). Located s (placeIn table z) c) n (l c bs (here (sym e)))
 
 scan-length : (B : ℕ) (t : Tape) → Below (length t) (standing B t)
 scan-length B t = subst (λ (n : ℕ). Below n (standing B t)) (scan-at B start t ∙ omega arith) (standing-below B t)
@@ -106,6 +118,64 @@ cuts-by g w il is dl ds ti td ri rd gens begins n m k x y r lt ld lri lrd lc lb 
     cuts g il is dl ds i d ei ed ti td ri rd gens begins n m k a b (lri i ei (length-replicate {A = ℕ} 65536 0) .1) (lrd d ed (length-replicate {A = ℕ} 65536 0) .1) c
     (lb ds (standing (g .size) d) (b .1) (c .few) (omega (arith, few, c .few))) w r ls
 
+-- the verdict from what the functions promise that fill the tables
+module _ (g : Given) (il is dl ds ti ri : List ℕ) (n x : ℕ) (b : Bool) (lt : ListsOf (g .size) il is (replicate 87380 0) ti n)
+    (lri : ReachesOf (g .size) il is (replicate 65536 0) ri x) (le : EndsAt ti n x b) where
+  ends-index : (i : Tape) → Encodes il is i → b ≡ endsWith i (standing (g .size) i)
+  ends-index i ei =
+      let a = lt i ei (length-replicate {A = ℕ} 87380 0) in
+      le .told is i (standing (g .size) i) (a .1) (a .0) (lri i ei (length-replicate {A = ℕ} 65536 0) .0)
+
+  pub judges-1 : b ≡ false → Judges g il is dl ds (Broken 1 0)
+  judges-1 f i d ei ed = verdict-1 (volumeWith g) i d (sym (ends-index i ei) ∙ f)
+
+  module _ (td rd : List ℕ) (m y : ℕ) (c : Bool) (ld : ListsOf (g .size) dl ds (replicate 87380 0) td m)
+      (lrd : ReachesOf (g .size) dl ds (replicate 65536 0) rd y) (lf : EndsAt td m y c) (bt : b ≡ true) where
+    ends-data : (d : Tape) → Encodes dl ds d → c ≡ endsWith d (standing (g .size) d)
+    ends-data d ed =
+        let a = ld d ed (length-replicate {A = ℕ} 87380 0) in
+        lf .told ds d (standing (g .size) d) (a .1) (a .0) (lrd d ed (length-replicate {A = ℕ} 65536 0) .0)
+
+    pub judges-2 : c ≡ false → Judges g il is dl ds (Broken 2 0)
+    judges-2 f i d ei ed = verdict-2 (volumeWith g) i d (sym (ends-index i ei) ∙ bt) (sym (ends-data d ed) ∙ f)
+
+    module _ (gens : List ℕ) (k : ℕ) (lc : ChainsOf (volumeWith g) ds td m (length {A = ℕ} (replicate 21845 0)) gens k) (ct : c ≡ true) where
+      chain-of : (d : Tape) → Encodes dl ds d → Chains (volumeWith g) (standing (g .size) d) gens k
+      chain-of d ed =
+          let a = ld d ed (length-replicate {A = ℕ} 87380 0) in
+          let few : length (standing (g .size) d) ≤ 21845 = omega (arith, standing-few (g .size) d, ed .elements) in
+          let room : length {A = ℕ} (replicate 21845 0) ≡ 21845 = length-replicate {A = ℕ} 21845 0 in
+          lc (standing (g .size) d) (a .1) (sym (a .0)) (omega (arith, few, room, a .0))
+
+      pub judges-3 : k < m → Judges g il is dl ds (Broken 3 k)
+      judges-3 h i d ei ed =
+          let a = ld d ed (length-replicate {A = ℕ} 87380 0) in
+          verdict-3 (volumeWith g) i d k (sym (ends-index i ei) ∙ bt) (sym (ends-data d ed) ∙ ct) (chain-of d ed .stops (omega (arith, a .0)))
+
+      pub judges-rest : (p q generation : ℕ) (r : Judgement) → m ≤ k → p ≡ n - 1 → q ≡ m - 1 → generation ≡ getD gens q 0
+          → JudgesLast g is ti p td q generation ri rd r → Judges g il is dl ds r
+      judges-rest p q generation r h hp hq hg w i d ei ed =
+          let v = volumeWith g in
+          let a = lt i ei (length-replicate {A = ℕ} 87380 0) in
+          let e = ld d ed (length-replicate {A = ℕ} 87380 0) in
+          let ch = chain-of d ed in
+          let one = ends-some v i d i (standing (g .size) i) (sym (ends-index i ei) ∙ bt) in
+          let two = ends-some v i d d (standing (g .size) d) (sym (ends-data d ed) ∙ ct) in
+          let k-all : k ≡ length (standing (g .size) d) = omega (arith, ch .few, e .0) in
+          let all : firsts k (standing (g .size) d) ≡ standing (g .size) d = ap (λ (z : ℕ). firsts z (standing (g .size) d)) k-all ∙ firsts-all (standing (g .size) d) in
+          let whole : chainBreak v (standing (g .size) d) ≡ none = ap (chainBreak v) (sym all) ∙ ch .whole in
+          let y = last-sound v (two .0) (two .1) (ap (chainBreak v) (sym (two .2)) ∙ whole) in
+          let bs-p : length (one .1) ≡ p = omega (arith, a .0, ap length (one .2), hp) in
+          let es-q : length (two .1) ≡ q = omega (arith, e .0, ap length (two .2), hq) in
+          let li = located-first is ti (standing (g .size) i) (one .0) (one .1) p (a .1) (one .2) bs-p in
+          let ldd = located-first ds td (standing (g .size) d) (two .0) (two .1) q (e .1) (two .2) es-q in
+          let gen : generation ≡ y .0 .generation
+          = hg ∙ ap (λ (z : ℕ). getD gens z 0) (sym es-q) ∙ ch .generations (two .0) (two .1) (here (sym (all ∙ two .2))) ∙ ap generationOf (y .1) in
+          w ds (one .0) (two .0) (dataLengths i) (dataLengths d) li ldd (y .0) (y .1) gen (lri i ei (length-replicate {A = ℕ} 65536 0) .1) (lrd d ed (length-replicate {A = ℕ} 65536 0) .1)
+          (one .3 ∙ sym (length-lengths 4 true i)) (two .3 ∙ sym (length-lengths 4 true d))
+          ∙ ap (λ (z : ℕ). lastBreak v z (one .0) (two .0) (dataLengths i) (dataLengths d)) (sym bs-p)
+          ∙ verdict-last v i d (one .0) (one .1) (two .0) (two .1) (sym (ends-index i ei) ∙ bt) (sym (ends-data d ed) ∙ ct) whole (one .2) (two .2)
+
 module _ {A : Type 0} (ask : Volume → Tape → Tape → Answer A) (il is dl ds : List ℕ) where
   -- where the labels are refused, so is the question
   pub ask-refused : (r : Refusal) → refused r ≡ labelsIn il is dl ds → refused r ≡ onVolume ask il is dl ds
@@ -165,3 +235,27 @@ module _ (il is dl ds : List ℕ) where
           let q : rescued r ≡ orNoCut (rescue v i d)
           = e ∙ ask-labelled (λ w i d. orNoCut (rescue w i d)) il is dl ds (x .0) l ∙ ap (λ (w : Volume). orNoCut (rescue w i d)) (x .2) in
           subst (Demand3 labels v i d) (sym (cut-of r (rescue v i d) q)) (demand3 labels v i d (ap agreed (labels-front i d) ∙ a))
+
+-- lists whose labels are read are well formed
+read-tape : (l s : List ℕ) (t : Tape) → Bytes l → tapeIn l s ≡ answer t → Encodes l s t
+read-tape l s t bs = go (tapeOf l s) refl
+  where
+    go : (o : Option Tape) → tapeOf l s ≡ o → orRefused o ≡ answer t → Encodes l s t
+    go none x e = let z : _≡_ {A = ℕ} 0 1 = cc in absurd (omega arith)
+    go (some u) x e = let z : u ≡ t = cc in encodes-read l s t bs (x ∙ ap some z)
+
+module _ (il is dl ds : List ℕ) (bi : Bytes il) (bd : Bytes dl) (f : Label) (e : answer f ≡ labelsIn il is dl ds) (g : Given) (same : g ≡ givenBy f) where
+  pub cut-found : (r : Tried) → Cuts g il is dl ds r → (a : Rescue) → rescued a ≡ orNoCut (triedCut r) → Rescues il is dl ds a
+  cut-found r c a h =
+      let l = labelled (λ v i d. orNoCut (rescue v i d)) il is dl ds f e in
+      rescues il is dl ds a
+      (h ∙ ap orNoCut (c (l .index) (l .other) (read-tape il is (l .index) bi (l .indexRead)) (read-tape dl ds (l .other) bd (l .otherRead)))
+      ∙ ap (λ (x : Given). orNoCut (rescue (volumeWith x) (l .index) (l .other))) same
+      ∙ sym (ask-labelled (λ v i d. orNoCut (rescue v i d)) il is dl ds f l))
+
+  pub verdict-found : (r : Judgement) → Judges g il is dl ds r → (a : Verdict) → judged a ≡ answer (breakOf r) → judged a ≡ verdictIn il is dl ds
+  verdict-found r c a h =
+      let l = labelled (λ v i d. answer (verdict v i d)) il is dl ds f e in
+      h ∙ ap answer (c (l .index) (l .other) (read-tape il is (l .index) bi (l .indexRead)) (read-tape dl ds (l .other) bd (l .otherRead)))
+      ∙ ap (λ (x : Given). answer (verdict (volumeWith x) (l .index) (l .other))) same
+      ∙ sym (ask-labelled (λ v i d. answer (verdict v i d)) il is dl ds f l)

@@ -100,16 +100,22 @@ module _ (B : ℕ) (l s before after : List ℕ) (r : Checked) (w : Reaches B l 
 
 -- whether the last construct of a table ends with the last element
 pub ends-none : (table : List ℕ) (n count : ℕ) → n ≡ 0 → EndsAt table n count false
-ends-none table n count z s t [] l e f = refl
-ends-none table n count z s t (c ∷ cs) l e f = absurd (omega arith)
+ends-none table n count z = record { told = go }
+  where
+    go : (s : List ℕ) (t : Tape) (ds : List Construct) → Listed s table ds → n ≡ length ds → count ≡ length t → false ≡ endsWith t ds
+    go s t [] l e f = refl
+    go s t (c ∷ cs) l e f = absurd (omega arith)
 
 pub ends-last : (table : List ℕ) (n count : ℕ) (p : Spot) (b : Bool) → (n ≡ 0 → ⊥) → p ≡ placeIn table (n - 1) → b ≡ eqb (p .end) count → EndsAt table n count b
-ends-last table n count p b z at q s t [] l e f = absurd (z e)
-ends-last table n count p b z at q s t (c ∷ cs) l e f =
-    let m : n - 1 ≡ length cs = omega arith in
-    let w = l c cs (here refl) in
-    let h : p .end ≡ c .upTo = ap (λ (x : Spot). x .end) (at ∙ ap (placeIn table) m) ∙ w .end in
-    q ∙ ap (λ (x : ℕ). eqb x count) h ∙ ap (eqb (c .upTo)) f
+ends-last table n count p b z at q = record { told = go }
+  where
+    go : (s : List ℕ) (t : Tape) (ds : List Construct) → Listed s table ds → n ≡ length ds → count ≡ length t → b ≡ endsWith t ds
+    go s t [] l e f = absurd (z e)
+    go s t (c ∷ cs) l e f =
+        let m : n - 1 ≡ length cs = omega arith in
+        let w = l c cs (here refl) in
+        let h : p .end ≡ c .upTo = ap (λ (x : Spot). x .end) (at ∙ ap (placeIn table) m) ∙ w .end in
+        q ∙ ap (λ (x : ℕ). eqb x count) h ∙ ap (eqb (c .upTo)) f
 
 -- no construct of a partition begins past its end
 pub through-past : (n k : ℕ) (ds : List Construct) → Below n ds → n ≤ k → through k ds ≡ []

@@ -65,12 +65,6 @@ module _ (u : List ℕ) (w : Letters) (is ti : List ℕ) (k : ℕ) (td : List �
         e ∙ ap (numbered 5) (sym x) ∙ rw (p, q, sym (follows-by ds c d lc lcd y r g) ∙ f)
 
 module _ (v : Volume) (i d : Tape) where
-  cs : List Construct
-  cs = standing (v .size) i
-
-  es : List Construct
-  es = standing (v .size) d
-
   pub verdict-1 : endsWith i (standing (v .size) i) ≡ false → some (record { which = 1; number = 0 }) ≡ verdict v i d
   unfolding verdict
   verdict-1 a = rw a
@@ -84,7 +78,7 @@ module _ (v : Volume) (i d : Tape) where
   unfolding verdict
   verdict-3 k a b e = rw (a, b, e)
 
-  verdict-last : (c : Construct) (bs : List Construct) (e : Construct) (fs : List Construct) → endsWith i (standing (v .size) i) ≡ true → endsWith d (standing (v .size) d) ≡ true
+  pub verdict-last : (c : Construct) (bs : List Construct) (e : Construct) (fs : List Construct) → endsWith i (standing (v .size) i) ≡ true → endsWith d (standing (v .size) d) ≡ true
       → chainBreak v (standing (v .size) d) ≡ none → standing (v .size) i ≡ c ∷ bs → standing (v .size) d ≡ e ∷ fs
       → lastBreak v (length bs) c e (dataLengths i) (dataLengths d) ≡ verdict v i d
   unfolding verdict

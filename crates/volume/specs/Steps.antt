@@ -175,11 +175,10 @@ ReachesOf B l s before after n =
     (t : Tape) → Encodes l s t → length before ≡ 65536 → (n ≡ length t) × ReachTable B (dataLengths t) after
 
 -- a table's last construct of n ends with the last of so many elements
-abbrev pub EndsAt : List ℕ → ℕ → ℕ → Bool → Type 0
-EndsAt table n count r =
-    (s : List ℕ) (t : Tape) (ds : List Construct) → Listed s table ds → n ≡ length ds → count ≡ length t → r ≡ endsWith t ds
+pub record EndsAt (table : List ℕ) (n count : ℕ) (r : Bool) : Type 0 where
+  pub told : (s : List ℕ) (t : Tape) (ds : List Construct) → Listed s table ds → n ≡ length ds → count ≡ length t → r ≡ endsWith t ds
 
--- the cut, and the verdict, of the volume with that UUID and those letters
+-- the cut of the volume with that UUID and those letters
 abbrev pub Cuts : Given → List ℕ → List ℕ → List ℕ → List ℕ → Tried → Type 0
 Cuts g il is dl ds r = (i d : Tape) → Encodes il is i → Encodes dl ds d → triedCut r ≡ rescue (volumeWith g) i d
 

@@ -1,6 +1,8 @@
 // The verdict on a volume and the rescue's cut, from the lists and stores of its two partitions.
 use crate::chains;
 use crate::filling;
+use crate::judge;
+use crate::judge::Judgement;
 use crate::search;
 use crate::search::Kept;
 use crate::search::Tried;
@@ -10,8 +12,9 @@ use label::Label;
 use refusals::Refusal;
 ghost use mathlib.Core.Path.{_≡_};
 ghost use Rattle.index.specs.Tests.{given};
+ghost use Rattle.volume.specs.Volume.{verdictIn};
 ghost use Rattle.volume.specs.Steps.{Cuts};
-ghost use Rattle.volume.specs.Answers.{Rescues};
+ghost use Rattle.volume.specs.Answers.{Rescues, judged};
 
 pub enum Verdict {
     Consistent,
@@ -95,6 +98,34 @@ pub fn find_cut(
             ) {
                 Tried::Fits(cut) => Rescue::Cut(cut),
                 Tried::Fails => Rescue::Refused(Refusal::NoCut),
+            }
+        }
+    }
+}
+
+// Whether the volume is consistent, or which break comes first.
+pub fn find_break(
+    index_list: &[u8],
+    index_store: &[u8],
+    data_list: &[u8],
+    data_store: &[u8],
+) -> Verdict
+    ensures { λ r. ⌜ judged r ≡ verdictIn (now («index_list» .entry)) (now («index_store» .entry)) (now («data_list» .entry)) (now («data_store» .entry)) ⌝ }
+{
+    match labels::check(index_list, index_store, data_list, data_store) {
+        Label::Refused(r) => Verdict::Refused(r),
+        Label::Says(f) => {
+            let uuid = tables::part(index_store, f.uuid.from, f.uuid.len);
+            match judge::judge(
+                index_list,
+                index_store,
+                data_list,
+                data_store,
+                uuid,
+                letters_of(f),
+            ) {
+                Judgement::Sound => Verdict::Consistent,
+                Judgement::Broken(which, number) => Verdict::Break(which, number),
             }
         }
     }

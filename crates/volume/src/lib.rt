@@ -9,5 +9,6 @@ mod sound;
 
 pub use answers::Rescue;
 pub use answers::Verdict;
+pub use answers::find_break;
 pub use answers::find_cut;
 pub use search::Kept;
