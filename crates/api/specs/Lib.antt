@@ -3,3 +3,4 @@ pub mod Partitions
 pub mod Labels
 pub mod Files
 pub mod Indexes
+pub mod Volumes

@@ -4,3 +4,4 @@ pub mod indexes;
 pub mod labelling;
 mod numbers;
 pub mod partitions;
+pub mod volumes;

@@ -1,0 +1,30 @@
+-- `klapouzen_rescue` meets its contract: the cut in numbers, and demand 3 of them.
+use mathlib.Core.Path.{subst}
+use Rattle.volume.specs.Answers.{Rescues}
+use Rattle.api.proofs.Rescuing.{cut-shown, no-cut-shown}
+use borrow.Author.Needs.{needs}
+use Rattle.api.proofs.volumes.klapouzen_rescue.Statement.{statement}
+use Rattle.api.proofs.volumes.klapouzen_rescue.Tie as tie
+
+find-cut-requires : tie.Need-find-cut-requires
+find-cut-requires c κs = search needs
+
+enum-known-k : tie.Need-enum-known-k
+enum-known-k c = search needs
+
+enum-known-r : tie.Need-enum-known-r
+enum-known-r c = search needs
+
+number-requires : tie.Need-number-requires
+number-requires c κs = search needs
+
+returns : tie.Need-returns
+returns c = cut-shown (c .before .before .before .before .before .before .before .before .before .args .index-list .now) (c .before .before .before .before .before .before .before .before .before .args .index-store .now) (c .before .before .before .before .before .before .before .before .before .args .data-list .now) (c .before .before .before .before .before .before .before .before .before .args .data-store .now) (c .before .before .k .given .0 .0) (subst (Rescues (c .before .before .before .before .before .before .before .before .before .args .index-list .now) (c .before .before .before .before .before .before .before .before .before .args .index-store .now) (c .before .before .before .before .before .before .before .before .before .args .data-list .now) (c .before .before .before .before .before .before .before .before .before .args .data-store .now)) (c .before .before .k .given .1) (c .before .before .before .before .find-cut .ensures))
+
+returns-2 : tie.Need-returns-2
+returns-2 c = no-cut-shown (c .before .before .before .before .before .before .before .before .before .before .args .index-list .now) (c .before .before .before .before .before .before .before .before .before .before .args .index-store .now) (c .before .before .before .before .before .before .before .before .before .before .args .data-list .now) (c .before .before .before .before .before .before .before .before .before .before .args .data-store .now) (c .before .before .before .r .given .0 .0) (c .number .ensures) (subst (Rescues (c .before .before .before .before .before .before .before .before .before .before .args .index-list .now) (c .before .before .before .before .before .before .before .before .before .before .args .index-store .now) (c .before .before .before .before .before .before .before .before .before .before .args .data-list .now) (c .before .before .before .before .before .before .before .before .before .before .args .data-store .now)) (c .before .before .before .r .given .1) (c .before .before .before .before .before .find-cut .ensures))
+
+pub klapouzen-rescue-spec : {M : Type 1} → statement M
+klapouzen-rescue-spec =
+    tie.close
+    (tie.spec find-cut-requires enum-known-k enum-known-r number-requires returns returns-2)

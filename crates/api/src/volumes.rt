@@ -1,0 +1,62 @@
+// A volume: its verdict, and the rescue.
+use volume::Rescue;
+use volume::Verdict;
+ghost use Rattle.volume.specs.Volume.{verdictIn};
+ghost use Rattle.api.specs.Outputs.{Shown};
+ghost use Rattle.api.specs.Volumes.{breakNumbers, RescuesOut};
+
+// Whether the volume is consistent, or which break comes first.
+#[no_mangle]
+pub extern "C" fn klapouzen_verdict(
+    index_list: &[u8],
+    index_store: &[u8],
+    data_list: &[u8],
+    data_store: &[u8],
+    out: &mut [u64; 2],
+) -> u64
+    ensures { λ r. ⌜ Shown 2 breakNumbers (verdictIn (now («index_list» .entry)) (now («index_store» .entry)) (now («data_list» .entry)) (now («data_store» .entry))) r (now (out .exit)) ⌝ }
+{
+    match volume::find_break(index_list, index_store, data_list, data_store) {
+        Verdict::Consistent => {
+            *out = [0; 2];
+            0
+        }
+        Verdict::Break(which, number) => {
+            *out = [which, number];
+            0
+        }
+        Verdict::Refused(r) => {
+            *out = [0; 2];
+            refusals::number(r)
+        }
+    }
+}
+
+// The cut that keeps most index constructs in the index partition and leaves a consistent volume.
+#[no_mangle]
+pub extern "C" fn klapouzen_rescue(
+    index_list: &[u8],
+    index_store: &[u8],
+    data_list: &[u8],
+    data_store: &[u8],
+    out: &mut [u64; 5],
+) -> u64
+    ensures { λ r. ⌜ RescuesOut (now («index_list» .entry)) (now («index_store» .entry)) (now («data_list» .entry)) (now («data_store» .entry)) r (now (out .exit)) ⌝ }
+{
+    match volume::find_cut(index_list, index_store, data_list, data_store) {
+        Rescue::Cut(k) => {
+            *out = [
+                k.index_construct,
+                k.data_construct,
+                k.index_kept,
+                k.data_kept,
+                k.generation,
+            ];
+            0
+        }
+        Rescue::Refused(r) => {
+            *out = [0; 5];
+            refusals::number(r)
+        }
+    }
+}
