@@ -10,3 +10,4 @@ pub mod Differ
 pub mod Surveying
 pub mod Answers
 pub mod Shapes
+pub mod Seated

@@ -5,8 +5,8 @@ use Prim.Native.Nat.{ℕ, zero, suc, _+_, _*_, _/_, _≤_, _<_}
 use native.Mathlib.Omega.{arith}
 use lib.ListN.{length, take, drop, set, length-append}
 use lib.Seq.{sets, sets-eq, take-at, length-take-le}
-use Rattle.xml.specs.Tree.{Forest, none}
-use Rattle.elements.specs.Reading.{rowAt, childrenAt, FirstOf}
+use Rattle.xml.specs.Tree.{Forest, none, node}
+use Rattle.elements.specs.Reading.{rowAt, headAt, childrenAt}
 use Rattle.extents.specs.Rows.{Row, rowsOf}
 use Rattle.extents.proofs.Rows.{rows-count}
 use Rattle.index.specs.Tests.{five, rowOf, rowsIn, RowsRead}
@@ -57,23 +57,23 @@ rows-none s i l e = ap (λ (f : Forest). l ++ rowsIn f) e ∙ append-nil l
 pub rows-read : (all : List Row) (out : List ℕ) (n : ℕ) → n ≤ 1024 → n * 5 ≤ length out → all ≡ rowsOf (take (n * 5) out) → RowsRead all out n
 rows-read all out n h g e = record { all = λ z. (sym e, ap length e ∙ front-count out n g); many = λ z. absurd (omega arith) }
 
-module _ (s : List ℕ) (all : List Row) {i n j : ℕ} (first : FirstOf s i n j) where
-  rows-first : rowsIn (rowAt s i) ≡ rowOf (childrenAt s n) ∷ rowsIn (rowAt s j)
+module _ (s : List ℕ) (all : List Row) (i n : ℕ) (r : Forest) (first : rowAt s i ≡ node (headAt s n) (childrenAt s n) r) where
+  rows-first : rowsIn (rowAt s i) ≡ rowOf (childrenAt s n) ∷ rowsIn r
   unfolding rowsIn
-  rows-first = ap rowsIn (first .row)
+  rows-first = ap rowsIn first
 
   pub rows-too-many : (out : List ℕ) (k : ℕ) → k ≡ 1024 → k * 5 ≤ length out → all ≡ rowsOf (take (k * 5) out) ++ rowsIn (rowAt s i) → RowsRead all out 1025
   rows-too-many out k e g x =
-      let a : length all ≡ length (rowsOf (take (k * 5) out)) + suc (length (rowsIn (rowAt s j))) =
-      ap length (x ∙ ap (λ (l : List Row). rowsOf (take (k * 5) out) ++ l) rows-first) ∙ length-append (rowsOf (take (k * 5) out)) (rowOf (childrenAt s n) ∷ rowsIn (rowAt s j)) in
+      let a : length all ≡ length (rowsOf (take (k * 5) out)) + suc (length (rowsIn r)) =
+      ap length (x ∙ ap (λ (l : List Row). rowsOf (take (k * 5) out) ++ l) rows-first) ∙ length-append (rowsOf (take (k * 5) out)) (rowOf (childrenAt s n) ∷ rowsIn r) in
       let b = front-count out k g in
       record { all = λ z. absurd (omega arith); many = λ z. omega arith }
 
   pub rows-go : (out out′ : List ℕ) (k from : ℕ) → k * 5 + 5 ≤ length out → rowAt s from ≡ childrenAt s n
       → out′ ≡ sets out (k * 5) (five (rowOf (rowAt s from))) → all ≡ rowsOf (take (k * 5) out) ++ rowsIn (rowAt s i)
-      → all ≡ rowsOf (take ((k + 1) * 5) out′) ++ rowsIn (rowAt s j)
+      → all ≡ rowsOf (take ((k + 1) * 5) out′) ++ rowsIn r
   rows-go out out′ k from h er eo x =
       let y : Row = rowOf (childrenAt s n) in
       x ∙ ap (λ (l : List Row). rowsOf (take (k * 5) out) ++ l) rows-first
-      ∙ sym (append-assoc (rowsOf (take (k * 5) out)) (y ∷ []) (rowsIn (rowAt s j)))
-      ∙ ap (λ (l : List Row). l ++ rowsIn (rowAt s j)) (sym (ap (λ (o : List ℕ). rowsOf (take ((k + 1) * 5) o)) (eo ∙ ap (λ (f : Forest). sets out (k * 5) (five (rowOf f))) er) ∙ rows-more out k y h))
+      ∙ sym (append-assoc (rowsOf (take (k * 5) out)) (y ∷ []) (rowsIn r))
+      ∙ ap (λ (l : List Row). l ++ rowsIn r) (sym (ap (λ (o : List ℕ). rowsOf (take ((k + 1) * 5) o)) (eo ∙ ap (λ (f : Forest). sets out (k * 5) (five (rowOf f))) er) ∙ rows-more out k y h))

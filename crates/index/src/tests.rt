@@ -1,9 +1,10 @@
 // What each element is tested for by itself.
 use crate::rows;
 use digits::Number;
-use elements::Item;
+use elements::Next;
 use index_names::BOOLEAN;
 use index_names::CREATOR;
+use index_names::EXTENT;
 use index_names::FILE;
 use index_names::GENERATION;
 use index_names::LETTER;
@@ -26,7 +27,9 @@ ghost use Rattle.extents.specs.Lawful as extents;
 ghost use lib.Dec.{eqb};
 ghost use lib.Seq.{sets};
 ghost use Rattle.values.specs.Values as is;
-ghost use Rattle.elements.specs.Reading.{rowAt};
+ghost use Rattle.elements.specs.Reading.{rowAt, Behind};
+ghost use Rattle.children.specs.Children.{textOf};
+ghost use Rattle.children.specs.Rows.{seat};
 ghost use Rattle.index.specs.Elements.{textIn};
 ghost use Rattle.index.specs.Entries.{numberSaid};
 ghost use Rattle.index.specs.Tests.{isSome, valued, own, letterSaid, five, rowOf, rowsIn, few, lawful, RowsRead, given};
@@ -145,17 +148,27 @@ pub fn number_named(text: &[u8], at: usize, name: &[u8]) -> u64
     rows::number_said(rows::text_in(text, at, name))
 }
 
-// The five numbers of the extent whose row is at from, into out from at on.
-fn put_row(text: &[u8], from: usize, out: &mut [u64], at: usize)
-    requires { ⌜ at + 5 ≤ length (now out) ⌝ }
-    ensures { λ r. ⌜ now (out .exit) ≡ sets (now (out .entry)) at (five (rowOf (rowAt (now (text .entry)) from))) ⌝ }
+// The number that the element at a place says, 0 for the place 0.
+fn number_placed(text: &[u8], n: usize) -> u64
+    ensures { λ r. ⌜ r ≡ numberSaid (textOf (seat (now (text .entry)) n)) ⌝ }
 {
-    let letter = letter_said(rows::text_in(text, from, b"partition"));
+    rows::number_said(index_rows::text_at(text, n))
+}
+
+// The five numbers of the extent whose row is at from, into out from at on; and where reading goes on behind it.
+fn put_row(text: &[u8], from: usize, out: &mut [u64], at: usize) -> usize
+    requires { ⌜ at + 5 ≤ length (now out) ⌝ }
+    ensures { λ r. ⌜ (now (out .exit) ≡ sets (now (out .entry)) at (five (rowOf (rowAt (now (text .entry)) from)))) × Behind (now (text .entry)) from r ⌝ }
+{
+    let row = index_rows::read_row(text, from, EXTENT);
+    let places = row.places;
+    let letter = letter_said(index_rows::text_at(text, places[1]));
     rows::put(out, at, letter as u64);
-    rows::put(out, at + 1, number_named(text, from, b"startblock"));
-    rows::put(out, at + 2, number_named(text, from, b"byteoffset"));
-    rows::put(out, at + 3, number_named(text, from, b"bytecount"));
-    rows::put(out, at + 4, number_named(text, from, b"fileoffset"));
+    rows::put(out, at + 1, number_placed(text, places[2]));
+    rows::put(out, at + 2, number_placed(text, places[3]));
+    rows::put(out, at + 3, number_placed(text, places[4]));
+    rows::put(out, at + 4, number_placed(text, places[0]));
+    row.at
 }
 
 // The rows of the extents in the row at at, into out; 1,025 where there are more than 1,024.
@@ -166,17 +179,25 @@ pub fn read_rows(text: &[u8], at: usize, out: &mut [u64]) -> usize
     let mut i = at;
     let mut n: usize = 0;
     loop {
-        match elements::next_item(text, i) {
-            Item::Done => {
+        match elements::next_start(text, i) {
+            Next::End => {
                 return n;
             }
-            Item::At(h, next) => {
+            Next::Close(_) => {
+                return n;
+            }
+            Next::Opens(h) => {
                 if n == 1024 {
                     return 1025;
                 }
-                put_row(text, rows::children_row(text, h), out, n * 5);
-                n += 1;
-                i = next;
+                if h.empty {
+                    put_row(text, text.len(), out, n * 5);
+                    n += 1;
+                    i = h.at;
+                } else {
+                    i = put_row(text, h.at, out, n * 5);
+                    n += 1;
+                }
             }
         }
     }
@@ -207,15 +228,16 @@ pub fn judge(text: &[u8], out: &mut [u64; 5120], row: usize, sort: usize, volume
             lawful: true,
         };
     }
-    let from = rows::row_in(text, row, b"extentinfo");
-    let count = read_rows(text, from, out);
+    let held = index_rows::read_row(text, row, FILE);
+    let places = held.places;
+    let count = read_rows(text, index_rows::row_at(text, places[9]), out);
     if 1024 < count {
         return Judged {
             few: false,
             lawful: false,
         };
     }
-    let size = number_named(text, row, b"length");
+    let size = number_placed(text, places[8]);
     let good = are_lawful(out, count, size, volume.size);
     Judged {
         few: true,
