@@ -7,14 +7,19 @@ use Prim.Native.Nat.{ℕ}
 use lib.ListN.{length}
 use Rattle.refusals.specs.Refusals.{Answer, answer, andThen}
 use Rattle.extents.specs.Rows.{Row}
-use Rattle.index.specs.Index.{Index, File, Told as Header, told, toldBy, saying}
+use Rattle.elements.specs.Reading.{partAt}
+use Rattle.constructs.specs.declared.Place.{Place as Spot}
+use Rattle.index.specs.Index.{Index, File, Told as Header, told, toldBy, saying, placeOf, backOf}
 use Rattle.index.specs.declared.read.Header.{Header as Read}
 use Rattle.index.specs.declared.read.Read.the-variants.{Found}
 use Rattle.index_files.specs.Asked.{Shown as Head, shown as headOf, fileSaid}
 use Rattle.index_files.specs.declared.asked.FileHead.{FileHead}
 use Rattle.index_files.specs.declared.asked.FileRead.the-variants as file
+use Rattle.volume.specs.Steps.{textIn}
+use Rattle.volume.specs.Chosen.{Told·Construct, chosenBy}
+use Rattle.volume.specs.declared.chosen.Chosen.the-variants as chosenIs
 use Rattle.api.specs.Outputs.{Told, Shown, bit, one}
-use Rattle.api.specs.Indexes.{backNumbers, SaysIndex, SaysFile, headerNumbers, rowCount}
+use Rattle.api.specs.Indexes.{backNumbers, SaysHeader, SaysIndex, SaysConstruct, SaysFile, headerNumbers, constructNumbers, rowCount}
 use Rattle.api.proofs.Showing.{told as tells, shown}
 use Rattle.api.proofs.Mapped.{mapped}
 
@@ -22,23 +27,47 @@ back-numbers : (b : Bool) (l k : ℕ) → bit b ∷ cond b l 0 ∷ cond b k 0 �
 back-numbers true l k = refl
 back-numbers false l k = refl
 
+-- what a header says of a text
+abbrev toldOf : List ℕ → Read → Header
+toldOf s h =
+    record {
+      release = h .release;
+      generation = h .generation .0;
+      updatetime = partAt s (h .time);
+      location = placeOf (h .letter) (h .block);
+      back = backOf h;
+      allowpolicyupdate = h .allow;
+      highestfileuid = h .highest;
+      directories = h .directories;
+      files = h .files;
+    }
+
+says-header : (s : List ℕ) (h : Read) → SaysHeader s (toldOf s h) (headerNumbers h)
+says-header s h =
+    record {
+      release = refl;
+      generation = refl;
+      updatetime = refl;
+      letter = refl;
+      block = refl;
+      back = back-numbers (h .back) (h .«back_letter») (h .«back_block» .0);
+      allowpolicyupdate = refl;
+      highestfileuid = refl;
+      directories = refl;
+      files = refl;
+    }
+
 pub says-index : (s : List ℕ) (a : Answer Index) (h : Read) {out : List ℕ} → saying s (Found h) ≡ toldBy a → out ≡ headerNumbers h → Told 13 (SaysIndex s) a 0 out
 says-index s a h {out} e q =
     let (x, g, p) = mapped told a _ e in
-    tells x g
-    (subst (λ (o : List ℕ). SaysIndex s x o) (sym q)
-    record {
-      release = ap (λ (t : Header). t .release) p;
-      generation = ap (λ (t : Header). t .generation) p;
-      updatetime = ap (λ (t : Header). t .updatetime) p;
-      letter = ap (λ (t : Header). t .location .letter) p;
-      block = ap (λ (t : Header). t .location .block) p;
-      back = back-numbers (h .back) (h .«back_letter») (h .«back_block» .0) ∙ ap (λ (t : Header). backNumbers (t .back)) p;
-      allowpolicyupdate = ap (λ (t : Header). bit (t .allowpolicyupdate)) p;
-      highestfileuid = ap (λ (t : Header). t .highestfileuid) p;
-      directories = ap (λ (t : Header). t .directories) p;
-      files = ap (λ (t : Header). t .files) p;
-    })
+    tells x g (subst (λ (o : List ℕ). SaysIndex s x o) (sym q) (subst (λ (t : Header). SaysHeader s t (headerNumbers h)) p (says-header s h)))
+
+pub says-construct : (s : List ℕ) (a : Answer Told·Construct) (p : Spot) (h : Read) {out : List ℕ} → chosenBy s (chosenIs.Found p h) ≡ a → out ≡ constructNumbers p h
+    → Told 17 (SaysConstruct s) a 0 out
+says-construct s a p h {out} e q =
+    tells (record { construct = record { first = p .first; upTo = p .end; text = textIn s p }; told = toldOf (textIn s p) h }) e
+    (subst (λ (o : List ℕ). SaysConstruct s (record { construct = record { first = p .first; upTo = p .end; text = textIn s p }; told = toldOf (textIn s p) h }) o) (sym q)
+    record { first = refl; end = refl; text = refl; header = says-header (textIn s p) h })
 
 pub says-file : (s : List ℕ) (a : Answer File) (h : FileHead) → fileSaid s (file.Found h) ≡ andThen a (λ f. answer (headOf f))
     → Told 4 (SaysFile s) a 0 (h .length .0 ∷ h .name .from ∷ h .name .len ∷ h .rows ∷ [])

@@ -3,14 +3,16 @@ use mathlib.Core.Path.{_≡_}
 use mathlib.Core.Bool.{cond}
 use mathlib.Core.List.{List, [], _∷_}
 use mathlib.Core.Option.{Option, none, some}
-use Prim.Native.Nat.{ℕ}
+use Prim.Native.Nat.{ℕ, _-_}
 use lib.ListN.{length, take, drop, getD}
 use Rattle.refusals.specs.Refusals.{Answer, andThen}
 use Rattle.quantities.specs.Places.{Place}
 use Rattle.extents.specs.Rows.{Row}
-use Rattle.index.specs.Index.{Index, File, indexOf}
+use Rattle.index.specs.Index.{Index, File, Told, told, indexOf}
 use Rattle.index.specs.declared.read.Header.{Header}
 use Rattle.index_files.specs.Asked.{fitting}
+use Rattle.constructs.specs.declared.Place.{Place as Spot}
+use Rattle.volume.specs.Chosen.{Told·Construct, chosenIn}
 use Rattle.api.specs.Outputs.{bit, partTold}
 
 -- the index that a text is: of the volume with that UUID, those letters and that block size, at a partition letter and a block number
@@ -24,7 +26,7 @@ backNumbers (some p) = 1 ∷ p .letter ∷ p .block ∷ []
 
 -- thirteen numbers say what an index says: the R of its version, its generation, the place of its update time in s and its length, its location's
 -- letter and block, its back pointer, the policy's boolean, the highest file UID, and how many directories and files it has
-pub record SaysIndex (s : List ℕ) (x : Index) (out : List ℕ) : Type 0 where
+pub record SaysHeader (s : List ℕ) (x : Told) (out : List ℕ) : Type 0 where
   pub release : getD out 0 0 ≡ x .release
   pub generation : getD out 1 0 ≡ x .generation
   pub updatetime : partTold s out 2 ≡ x .updatetime
@@ -34,7 +36,22 @@ pub record SaysIndex (s : List ℕ) (x : Index) (out : List ℕ) : Type 0 where
   pub allowpolicyupdate : getD out 9 0 ≡ bit (x .allowpolicyupdate)
   pub highestfileuid : getD out 10 0 ≡ x .highestfileuid
   pub directories : getD out 11 0 ≡ x .directories
-  pub files : getD out 12 0 ≡ length (x .files)
+  pub files : getD out 12 0 ≡ x .files
+
+abbrev pub SaysIndex : List ℕ → Index → List ℕ → Type 0
+SaysIndex s x out = SaysHeader s (told x) out
+
+-- seventeen numbers say where a construct lies and what its index says: its first block, the elements through its closing mark, the place of its text in
+-- s and its length; then the thirteen of its index, whose places are in that text
+pub record SaysConstruct (s : List ℕ) (c : Told·Construct) (out : List ℕ) : Type 0 where
+  pub first : getD out 0 0 ≡ c .construct .first
+  pub end : getD out 1 0 ≡ c .construct .upTo
+  pub text : partTold s out 2 ≡ c .construct .text
+  pub header : SaysHeader (c .construct .text) (c .told) (drop 4 out)
+
+-- the index of a construct of a partition, by its number
+abbrev pub constructIn : List ℕ → List ℕ → List ℕ → ℕ → ℕ → ℕ → ℕ → ℕ → Answer Told·Construct
+constructIn l s uuid index other size letter number = chosenIn (record { uuid = uuid; first = index; other = other; size = size }) letter number l s
 
 -- a header that a reader read, in those numbers
 abbrev pub headerNumbers : Header → List ℕ
@@ -42,6 +59,10 @@ headerNumbers h =
     h .release ∷ h .generation .0 ∷ h .time .from ∷ h .time .len ∷ h .letter ∷ h .block .0
     ∷ bit (h .back) ∷ cond (h .back) (h .«back_letter») 0 ∷ cond (h .back) (h .«back_block» .0) 0
     ∷ bit (h .allow) ∷ h .highest ∷ h .directories ∷ h .files ∷ []
+
+-- and where its text lies
+abbrev pub constructNumbers : Spot → Header → List ℕ
+constructNumbers p h = p .first ∷ p .end ∷ p .from ∷ (p .to - p .from) ∷ headerNumbers h
 
 -- four numbers say what a file says: its length, the place of its name, as spelled, in s and its length, and how many rows it has
 pub record SaysFile (s : List ℕ) (f : File) (out : List ℕ) : Type 0 where

@@ -1,17 +1,19 @@
 // Indexes: an index's text read, a file of it, and a file's rows.
 use crate::numbers::flag;
 use crate::numbers::present;
+use constructs::Place;
 use index::Header;
 use index::Read;
 use index::Volume;
 use index_files::FileRead;
 use index_files::RowsRead;
 use quantities::BlockNumber;
+use volume::Chosen;
 ghost use mathlib.Core.Path.{_≡_};
 ghost use lib.ListN.{length};
 ghost use Rattle.index_files.specs.Asked.{fileIn, rowsStored};
 ghost use Rattle.api.specs.Outputs.{Shown, Told, one};
-ghost use Rattle.api.specs.Indexes.{indexIn, headerNumbers, SaysIndex, SaysFile, rowsFor, rowCount};
+ghost use Rattle.api.specs.Indexes.{indexIn, constructIn, headerNumbers, constructNumbers, SaysIndex, SaysConstruct, SaysFile, rowsFor, rowCount};
 
 fn in_numbers(h: Header) -> [u64; 13]
     ensures { λ r. ⌜ r ≡ headerNumbers h ⌝ }
@@ -125,6 +127,64 @@ pub extern "C" fn klapouzen_read_rows(
         }
         RowsRead::Refused(r) => {
             *count = 0;
+            refusals::number(r)
+        }
+    }
+}
+
+fn in_place(p: Place, h: Header) -> [u64; 17]
+    ensures { λ r. ⌜ r ≡ constructNumbers p h ⌝ }
+{
+    let a = in_numbers(h);
+    let len = volume::between(p.from, p.to);
+    [
+        p.first as u64,
+        p.end as u64,
+        p.from as u64,
+        len as u64,
+        a[0],
+        a[1],
+        a[2],
+        a[3],
+        a[4],
+        a[5],
+        a[6],
+        a[7],
+        a[8],
+        a[9],
+        a[10],
+        a[11],
+        a[12],
+    ]
+}
+
+// The index of a construct by its number on the partition with that letter; the other parameters are those of reading its text.
+#[no_mangle]
+pub extern "C" fn klapouzen_index(
+    list: &[u8],
+    store: &[u8],
+    uuid: &[u8],
+    index_letter: u8,
+    data_letter: u8,
+    block_size: u64,
+    letter: u8,
+    number: u64,
+    out: &mut [u64; 17],
+) -> u64
+    ensures { λ r. ⌜ Told 17 (SaysConstruct (now (store .entry))) (constructIn (now (list .entry)) (now (store .entry)) (now (uuid .entry)) «index_letter» «data_letter» «block_size» letter number) r (now (out .exit)) ⌝ }
+{
+    let letters = Volume {
+        first: index_letter,
+        other: data_letter,
+        size: block_size,
+    };
+    match volume::read_construct(list, store, uuid, letters, letter, number) {
+        Chosen::Found(p, h) => {
+            *out = in_place(p, h);
+            0
+        }
+        Chosen::Refused(r) => {
+            *out = [0; 17];
             refusals::number(r)
         }
     }

@@ -15,3 +15,4 @@ pub use answers::find_cut;
 pub use chosen::Chosen;
 pub use chosen::read_construct;
 pub use search::Kept;
+pub use sound::between;
