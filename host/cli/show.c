@@ -1,0 +1,241 @@
+/* klapouzen show: both partitions as a map. */
+#include <inttypes.h>
+#include <string.h>
+
+#include "commands.h"
+#include "common.h"
+#include "layout.h"
+#include "svg.h"
+#include "words.h"
+
+static const char help[] =
+    "usage: klapouzen show [--svg FILE] DIR\n"
+    "\n"
+    "Draws both partitions of a cartridge: labels, data runs, index constructs with\n"
+    "generation and back pointer, the first defect, and where the cut falls.\n"
+    "In the bars L is a label construct, = data, I an index that stands, ? an index\n"
+    "run that does not, ! the first defect; what a cut would drop is in small letters\n"
+    "or -.\n"
+    "\n"
+    "  --svg FILE  also writes the map as a picture to a new file\n"
+    "  --help      this text\n"
+    "\n"
+    "Exit status: 0 drawn, 1 the labels are refused, 2 bad use or a file that can't be\n"
+    "read or written.\n";
+
+/* ---- The bar ---- */
+
+enum { BAR = 72 };
+
+struct mark {
+    char kept, dropped;
+    enum colour colour;
+};
+
+static const struct mark marks[] = {
+    { '=', '-', BLUE }, { 'L', 'l', CYAN }, { 'I', 'i', GREEN }, { '?', '?', YELLOW }, { '!', '!', RED },
+};
+
+/* What a segment shows as; where several share a cell, the highest does. */
+static int rank(const struct segment *segment)
+{
+    switch (segment->kind) {
+    case DATA_RUN:
+        return 0;
+    case LABELS:
+        return 1;
+    default:
+        return segment->stands && segment->refusal == 0 ? 2 : 3;
+    }
+}
+
+/* The highest rank of the segments within elements from..to. */
+static int rank_between(const struct layout *layout, uint64_t from, uint64_t to)
+{
+    int highest = 0;
+    for (size_t i = 0; i < layout->count; i++) {
+        const struct segment *segment = &layout->segments[i];
+        bool within = segment->first < to && segment->first + segment->elements > from;
+        if (within && rank(segment) > highest)
+            highest = rank(segment);
+    }
+    bool defect = layout->defect.what != NULL && layout->defect.element >= from
+        && layout->defect.element < to;
+    return defect ? 4 : highest;
+}
+
+static void print_bar(const struct layout *layout, uint64_t kept)
+{
+    uint64_t cells = layout->elements < BAR ? layout->elements : BAR;
+    fputs("  [", stdout);
+    for (uint64_t cell = 0; cell < cells; cell++) {
+        uint64_t from = cell * layout->elements / cells, to = (cell + 1) * layout->elements / cells;
+        const struct mark *mark = &marks[rank_between(layout, from, to)];
+        bool is_kept = from < kept;
+        printf("%s%c", colour_code(stdout, is_kept ? mark->colour : DIM),
+               is_kept ? mark->kept : mark->dropped);
+    }
+    printf("%s]\n", colour_code(stdout, PLAIN));
+}
+
+/* ---- The lines ---- */
+
+static void print_index(const struct segment *segment)
+{
+    const uint64_t *header = segment->header;
+    if (segment->refusal != 0) {
+        printf("%srefused %" PRIu64 "%s: %s", colour_code(stdout, RED), segment->refusal,
+               colour_code(stdout, PLAIN), klapouzen_refusal_text(segment->refusal));
+        return;
+    }
+    printf("generation %" PRIu64 ", ", header[KLAPOUZEN_INDEX_GENERATION]);
+    if (header[KLAPOUZEN_INDEX_HAS_BACK])
+        printf("points back to %c %" PRIu64, (char)header[KLAPOUZEN_INDEX_BACK_LETTER],
+               header[KLAPOUZEN_INDEX_BACK_BLOCK]);
+    else
+        fputs("no back pointer", stdout);
+    fputs(", ", stdout);
+    print_counted(stdout, header[KLAPOUZEN_INDEX_FILES], "file", "files");
+}
+
+static void print_blocks(const char *what, const struct segment *segment)
+{
+    printf("%-9s  ", what);
+    print_counted(stdout, segment->blocks, "block", "blocks");
+    fputs(", ", stdout);
+    print_counted(stdout, segment->bytes, "byte", "bytes");
+}
+
+static void print_what(const struct segment *segment)
+{
+    char name[32];
+    snprintf(name, sizeof name, "index %" PRIu64, segment->construct);
+    if (segment->kind == LABELS) {
+        fputs("labels     VOL1 and LTFS label", stdout);
+    } else if (segment->kind == DATA_RUN) {
+        print_blocks("data", segment);
+    } else if (!segment->stands) {
+        print_blocks("index run", segment);
+        fputs(segment->is_closed ? "" : ", no closing mark", stdout);
+    } else {
+        printf("%-9s  ", name);
+        print_index(segment);
+    }
+}
+
+static void print_range(uint64_t first, uint64_t elements)
+{
+    char range[48];
+    if (elements == 1)
+        snprintf(range, sizeof range, "%" PRIu64, first);
+    else
+        snprintf(range, sizeof range, "%" PRIu64 "-%" PRIu64, first, first + elements - 1);
+    printf("  %11s  ", range);
+}
+
+static void print_segment(const struct layout *layout, const struct segment *segment, bool is_kept)
+{
+    uint64_t defect = layout->defect.element;
+    fputs(colour_code(stdout, is_kept ? marks[rank(segment)].colour : DIM), stdout);
+    print_range(segment->first, segment->elements);
+    print_what(segment);
+    printf("%s\n", colour_code(stdout, PLAIN));
+    if (layout->defect.what != NULL && defect >= segment->first
+        && defect < segment->first + segment->elements)
+        printf("%s  %11" PRIu64 "  defect     %s%s\n", colour_code(stdout, RED), defect,
+               layout->defect.what, colour_code(stdout, PLAIN));
+}
+
+static void print_cut_line(uint64_t kept, uint64_t elements)
+{
+    printf("%s  ---- cut: %s kept, %s dropped ----%s\n", colour_code(stdout, MAGENTA), grouped(kept),
+           grouped(elements - kept), colour_code(stdout, PLAIN));
+}
+
+static void print_side(const struct volume *volume, const struct assessment *found,
+                       const struct layout *layout, int side)
+{
+    uint64_t kept = kept_elements(found, side);
+    printf("\n%s%s partition%s", colour_code(stdout, BOLD), volume->sides[side].name,
+           colour_code(stdout, PLAIN));
+    if (found->refusal == 0)
+        printf(" %c", found->label.letters[side]);
+    fputs(": ", stdout);
+    print_counted(stdout, layout->elements, "element", "elements");
+    fputs(", ", stdout);
+    print_counted(stdout, volume->sides[side].store.length, "byte", "bytes");
+    putchar('\n');
+    if (layout->count == 0)
+        return;
+    print_bar(layout, kept);
+    for (size_t i = 0; i < layout->count; i++) {
+        const struct segment *segment = &layout->segments[i];
+        if (segment->first == kept)
+            print_cut_line(kept, layout->elements);
+        print_segment(layout, segment, segment->first < kept);
+    }
+}
+
+static void print_labels(const struct label *label)
+{
+    fputs(colour_code(stdout, BOLD), stdout);
+    print_bytes(stdout, label->identifier);
+    printf("%s  ", colour_code(stdout, PLAIN));
+    print_bytes(stdout, label->uuid);
+    printf("\nformat   2.0.%" PRIu64 ", ", label->release);
+    print_bytes(stdout, label->time);
+    fputs(", by ", stdout);
+    print_spelled(stdout, label->creator);
+    printf("\nblocks   %s bytes, compression %s\n", grouped(label->block_size),
+           label->compression ? "on" : "off");
+}
+
+static void print_head(const struct volume *volume, const struct assessment *found)
+{
+    print_bytes(stdout, bytes_of(volume->folder));
+    putchar('\n');
+    if (found->refusal != 0) {
+        print_refusal(stdout, volume, found->refusal);
+        putchar('\n');
+        return;
+    }
+    print_labels(&found->label);
+    fputs("verdict  ", stdout);
+    print_verdict(stdout, found->verdict);
+    fputs("\ncut      ", stdout);
+    print_cut(stdout, found);
+    putchar('\n');
+}
+
+static int show(const struct volume *volume, const char *picture)
+{
+    struct assessment found;
+    struct layout layouts[2];
+    assess(volume, &found);
+    print_head(volume, &found);
+    for (int side = INDEX; side <= DATA; side++) {
+        layout_read(&layouts[side], volume, &found, side);
+        print_side(volume, &found, &layouts[side], side);
+    }
+    bool drawn = picture == NULL || write_svg(picture, volume, &found, layouts);
+    layout_free(&layouts[INDEX]);
+    layout_free(&layouts[DATA]);
+    return !drawn ? FAILED : found.refusal != 0 ? NOT_SO : DONE;
+}
+
+int run_show(struct words *words)
+{
+    const char *picture = NULL;
+    const struct option options[] = { { "svg", &picture, NULL }, { NULL, NULL, NULL } };
+    int status = take_options(words, options, help);
+    if (status != GO_ON)
+        return status;
+    if (words->count != 1)
+        return bad_use(help, "one folder wanted", "");
+    struct volume volume;
+    if (!volume_open(&volume, words->words[0]))
+        return FAILED;
+    status = show(&volume, picture);
+    volume_close(&volume);
+    return status;
+}
