@@ -13,6 +13,7 @@ enum {
     WIDTH = 1000,
     HEIGHT = 400,
     MARGIN = 28,
+    LEFT = 126,      /* where the tracks begin, right of their names */
     TRACK = 46,      /* a track's height */
     WIDEST_UNIT = 22 /* so that a fresh volume isn't stretched over the page */
 };
@@ -52,14 +53,14 @@ static double unit_for(const struct layout layouts[2])
 {
     double index = total_weight(&layouts[INDEX]), data = total_weight(&layouts[DATA]);
     double most = index > data ? index : data;
-    double unit = most > 0 ? (WIDTH - 2 * MARGIN) / most : WIDEST_UNIT;
+    double unit = most > 0 ? (WIDTH - LEFT - MARGIN) / most : WIDEST_UNIT;
     return unit < WIDEST_UNIT ? unit : WIDEST_UNIT;
 }
 
 static double *starts_of(const struct layout *layout, double unit)
 {
     double *starts = allocate((layout->count + 1) * sizeof *starts);
-    starts[0] = MARGIN;
+    starts[0] = LEFT;
     for (size_t i = 0; i < layout->count; i++)
         starts[i + 1] = starts[i] + unit * weight(&layout->segments[i]);
     return starts;
@@ -129,7 +130,7 @@ static void put_caption(FILE *out, const struct segment *segment)
     else if (segment->kind == DATA_RUN)
         print_counted(out, segment->blocks, "block", "blocks");
     else if (!segment->stands)
-        fputs("unfinished", out);
+        fputs(segment->is_closed ? "no index" : "open", out);
     else if (segment->refusal != 0)
         fprintf(out, "refused %" PRIu64, segment->refusal);
     else
@@ -186,8 +187,8 @@ static void put_defect(const struct picture *picture, int side)
 
 static void put_track(const struct picture *picture, int side)
 {
-    begin_text(picture->out, MARGIN, track_top[side] - 8, "note");
-    fprintf(picture->out, "%s partition", picture->volume->sides[side].name);
+    begin_text(picture->out, MARGIN, track_top[side] + TRACK / 2 + 5, "text");
+    fputs(picture->volume->sides[side].name, picture->out);
     if (picture->found->refusal == 0)
         fprintf(picture->out, " %c", picture->found->label.letters[side]);
     fputs("</text>\n", picture->out);

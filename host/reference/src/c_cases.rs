@@ -2,6 +2,7 @@
 
 use crate::label::Label;
 use crate::random::{self, Random};
+use crate::values::decode;
 use crate::xml::{self, Element};
 use std::ptr;
 
@@ -168,8 +169,11 @@ pub extern "C" fn random_rows(seed: u64) -> Case {
     case_of(Vec::new(), map.numbers, &numbers)
 }
 
-/// The tree of a text in the form, a line for each start (`(name`, and
-/// `@name=value`), text (`"text`) and end (`)`), as spelled; else no bytes.
+/// The tree of a text in the form, as a parser hands it out: a line for each
+/// start (`(name`, and `@name=` with the value), for the text of an element
+/// without children (`"`), and for each end (`)`). Values and texts are decoded,
+/// line ends are made LF and white space in values spaces, and each has its
+/// length before it. No bytes for a text that is not in the form.
 ///
 /// # Safety
 /// `text` points at `length` bytes.
@@ -182,13 +186,19 @@ pub unsafe extern "C" fn random_tree(text: *const u8, length: usize) -> Case {
     case_of(vec![lines], Vec::new(), &[])
 }
 
+fn handed_out(raw: &str) -> String {
+    decode(raw).replace("\r\n", "\n").replace('\r', "\n")
+}
+
 fn write_tree(element: &Element, lines: &mut Vec<u8>) {
     lines.extend(format!("({}\n", element.name).bytes());
     if let Some(attribute) = &element.attribute {
-        lines.extend(format!("@{}={}\n", attribute.name, attribute.raw).bytes());
+        let value = handed_out(&attribute.raw).replace(['\n', '\t'], " ");
+        lines.extend(format!("@{}={} {value}\n", attribute.name, value.len()).bytes());
     }
     if element.children.is_empty() {
-        lines.extend(format!("\"{}\n", element.raw_text).bytes());
+        let text = handed_out(&element.raw_text);
+        lines.extend(format!("\"{} {text}\n", text.len()).bytes());
     }
     for child in &element.children {
         write_tree(child, lines);
