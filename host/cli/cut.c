@@ -89,8 +89,9 @@ static bool write_undisturbed(const struct volume *volume, const uint64_t cut[KL
     return written;
 }
 
-static int cut(const struct volume *volume, const char *out)
+static int cut(const struct volume *volume, const void *wish)
 {
+    const char *out = wish;
     struct assessment found;
     assess(volume, &found);
     uint64_t refusal = found.refusal != 0 ? found.refusal : found.has_cut ? 0 : KLAPOUZEN_NO_CUT;
@@ -110,15 +111,6 @@ static int cut(const struct volume *volume, const char *out)
 int run_cut(struct words *words)
 {
     const struct option options[] = { { NULL, NULL, NULL } };
-    int status = take_options(words, options, help);
-    if (status != GO_ON)
-        return status;
-    if (words->count != 2)
-        return bad_use(help, "a folder and a new folder wanted", "");
-    struct volume volume;
-    if (!volume_open(&volume, words->words[0]))
-        return FAILED;
-    status = cut(&volume, words->words[1]);
-    volume_close(&volume);
-    return status;
+    int status = take_words(words, options, help, 2, "a folder and a new folder wanted");
+    return status == GO_ON ? on_volume(words->words[0], cut, words->words[1]) : status;
 }

@@ -171,40 +171,38 @@ static int write_to(struct extraction *this, const char *output)
     return status;
 }
 
-static int extract(const struct volume *volume, const struct choice *choice, const char *word,
-                   const char *output)
+struct wish {
+    struct choice choice;
+    const char *file, *output;
+};
+
+static int extract(const struct volume *volume, const void *data)
 {
     static struct rows rows;
+    const struct wish *wish = data;
     struct chosen chosen;
     uint64_t number, file[KLAPOUZEN_FILE];
-    int status = choose_index(volume, choice, &chosen);
+    int status = choose_index(volume, &wish->choice, &chosen);
     if (status != GO_ON)
         return status;
-    if (!find_file(&chosen, word, &number) || !read_chosen_file(&chosen, number, file))
+    if (!find_file(&chosen, wish->file, &number) || !read_chosen_file(&chosen, number, file))
         return NOT_SO;
     read_chosen_rows(&chosen, number, file, &rows);
     struct extraction extraction = {
         .volume = volume, .chosen = &chosen, .length = file[KLAPOUZEN_FILE_LENGTH], .rows = &rows,
     };
-    return write_to(&extraction, output);
+    return write_to(&extraction, wish->output);
 }
 
 int run_extract(struct words *words)
 {
-    struct choice choice = { NULL, false };
-    const char *output = NULL;
+    struct wish wish = { .output = NULL };
     const struct option options[] = {
-        CHOICE_OPTIONS(choice), { "output", &output, NULL }, { NULL, NULL, NULL },
+        CHOICE_OPTIONS(wish.choice), { "output", &wish.output, NULL }, { NULL, NULL, NULL },
     };
-    int status = take_options(words, options, help);
+    int status = take_words(words, options, help, 2, "a folder and a file wanted");
     if (status != GO_ON)
         return status;
-    if (words->count != 2)
-        return bad_use(help, "a folder and a file wanted", "");
-    struct volume volume;
-    if (!volume_open(&volume, words->words[0]))
-        return FAILED;
-    status = extract(&volume, &choice, words->words[1], output);
-    volume_close(&volume);
-    return status;
+    wish.file = words->words[1];
+    return on_volume(words->words[0], extract, &wish);
 }

@@ -81,29 +81,30 @@ static void list_files(const struct chosen *chosen, bool json)
     }
 }
 
-int run_files(struct words *words)
+struct wish {
+    struct choice choice;
+    bool json;
+};
+
+static int files(const struct volume *volume, const void *data)
 {
-    struct choice choice = { NULL, false };
-    bool json = false;
-    const struct option options[] = {
-        CHOICE_OPTIONS(choice), { "json", NULL, &json }, { NULL, NULL, NULL },
-    };
-    int status = take_options(words, options, help);
+    const struct wish *wish = data;
+    struct chosen chosen;
+    int status = choose_index(volume, &wish->choice, &chosen);
     if (status != GO_ON)
         return status;
-    if (words->count != 1)
-        return bad_use(help, "one folder wanted", "");
-    struct volume volume;
-    struct chosen chosen;
-    if (!volume_open(&volume, words->words[0]))
-        return FAILED;
-    status = choose_index(&volume, &choice, &chosen);
-    if (status == GO_ON) {
-        if (!json)
-            print_head(&chosen);
-        list_files(&chosen, json);
-        status = DONE;
-    }
-    volume_close(&volume);
-    return status;
+    if (!wish->json)
+        print_head(&chosen);
+    list_files(&chosen, wish->json);
+    return DONE;
+}
+
+int run_files(struct words *words)
+{
+    struct wish wish = { .json = false };
+    const struct option options[] = {
+        CHOICE_OPTIONS(wish.choice), { "json", NULL, &wish.json }, { NULL, NULL, NULL },
+    };
+    int status = take_words(words, options, help, 1, "one folder wanted");
+    return status == GO_ON ? on_volume(words->words[0], files, &wish) : status;
 }

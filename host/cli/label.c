@@ -139,13 +139,11 @@ int run_label(struct words *words)
         { "block-size", &fields.block_size, NULL }, { "compression", &fields.compression, NULL },
         { NULL, NULL, NULL },
     };
-    int status = take_options(words, options, help);
+    int status = take_words(words, options, help, 2, "two new files wanted");
     if (status != GO_ON)
         return status;
     if (fields.identifier == NULL || fields.creator == NULL || fields.uuid == NULL)
         return bad_use(help, "identifier, creator and UUID wanted", "");
-    if (words->count != 2)
-        return bad_use(help, "two new files wanted", "");
     if (fields.time == NULL)
         fields.time = now();
     if (fields.location == NULL)

@@ -75,6 +75,15 @@ int take_options(struct words *words, const struct option *options, const char *
     return GO_ON;
 }
 
+int take_words(struct words *words, const struct option *options, const char *help, int operands,
+               const char *wanted)
+{
+    int status = take_options(words, options, help);
+    if (status != GO_ON || words->count == operands)
+        return status;
+    return bad_use(help, wanted, "");
+}
+
 bool read_number(const char *text, uint64_t *number)
 {
     char *end;

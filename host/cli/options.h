@@ -25,6 +25,10 @@ enum { GO_ON = -1 };
  */
 int take_options(struct words *words, const struct option *options, const char *help);
 
+/* The same where so many operands are wanted, which `wanted` names. */
+int take_words(struct words *words, const struct option *options, const char *help, int operands,
+               const char *wanted);
+
 /* Says what is wrong with the words and where help is; answers FAILED. */
 int bad_use(const char *help, const char *what, const char *word);
 

@@ -207,7 +207,7 @@ static void print_head(const struct volume *volume, const struct assessment *fou
     putchar('\n');
 }
 
-static int show(const struct volume *volume, const char *picture)
+static int show(const struct volume *volume, const void *picture)
 {
     struct assessment found;
     struct layout layouts[2];
@@ -227,15 +227,6 @@ int run_show(struct words *words)
 {
     const char *picture = NULL;
     const struct option options[] = { { "svg", &picture, NULL }, { NULL, NULL, NULL } };
-    int status = take_options(words, options, help);
-    if (status != GO_ON)
-        return status;
-    if (words->count != 1)
-        return bad_use(help, "one folder wanted", "");
-    struct volume volume;
-    if (!volume_open(&volume, words->words[0]))
-        return FAILED;
-    status = show(&volume, picture);
-    volume_close(&volume);
-    return status;
+    int status = take_words(words, options, help, 1, "one folder wanted");
+    return status == GO_ON ? on_volume(words->words[0], show, picture) : status;
 }

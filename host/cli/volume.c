@@ -84,6 +84,17 @@ void volume_close(struct volume *volume)
     }
 }
 
+int on_volume(const char *folder, int (*use)(const struct volume *volume, const void *wish),
+              const void *wish)
+{
+    struct volume volume;
+    if (!volume_open(&volume, folder))
+        return FAILED;
+    int status = use(&volume, wish);
+    volume_close(&volume);
+    return status;
+}
+
 /* ---- Asking the library ---- */
 
 struct bytes part_of(struct bytes whole, uint64_t offset, uint64_t length)

@@ -39,6 +39,10 @@ enum { INDEX, DATA };
 bool volume_open(struct volume *volume, const char *folder);
 void volume_close(struct volume *volume);
 
+/* Opens a volume for a function that answers the exit status; FAILED where it can't be read. */
+int on_volume(const char *folder, int (*use)(const struct volume *volume, const void *wish),
+              const void *wish);
+
 /* A part of a slice. */
 struct bytes part_of(struct bytes whole, uint64_t offset, uint64_t length);
 

@@ -120,6 +120,21 @@ static void drop_case(struct random_case random, struct slice parts[4])
     random_free(random);
 }
 
+/* Now and then a text filled up with white space to a bound, or a byte past it. */
+static struct slice stretched(struct slice text, uint64_t every, size_t bound)
+{
+    if (seed % every != 0 || text.length > bound)
+        return (struct slice){ NULL, 0 };
+    struct slice longer = { NULL, bound + seed / every % 2 };
+    uint8_t *bytes = malloc(longer.length);
+    if (text.length > 0)
+        memcpy(bytes, text.start, text.length);
+    memset(bytes + text.length, ' ', longer.length - text.length);
+    longer.start = guarded_copy(bytes, longer.length);
+    free(bytes);
+    return longer;
+}
+
 /* ---- Lists ---- */
 
 static void compare_tables(void)
@@ -198,6 +213,10 @@ static void index_case(void)
                            random.numbers[2] };
     compare_index(parts[0], &given, (uint8_t)random.numbers[3], random.numbers[4]);
     BOTH("check_form", f->check_form(SLICE(parts[0])));
+    struct slice longer = stretched(parts[0], 100, KLAPOUZEN_MAX_INDEX);
+    BOTH("read_index", f->read_index(SLICE(longer), GIVEN(&given), (uint8_t)random.numbers[3],
+                                     random.numbers[4], a->out));
+    guarded_free(longer.start, longer.length);
     drop_case(random, parts);
 }
 
@@ -254,6 +273,9 @@ static void label_case(void)
     BOTH("read_label", f->read_label(SLICE(parts[0]), a->out));
     BOTH("check_form", f->check_form(SLICE(parts[0])));
     compare_label_writer(parts, random.numbers);
+    struct slice longer = stretched(parts[0], 20, KLAPOUZEN_MAX_LABEL);
+    BOTH("read_label", f->read_label(SLICE(longer), a->out));
+    guarded_free(longer.start, longer.length);
     drop_case(random, parts);
 }
 
@@ -281,6 +303,17 @@ static void rows_case(void)
     random_free(random);
 }
 
+/* As many rows as there may be, or one more; sometimes the last two share a position. */
+static void many_rows_case(void)
+{
+    static uint64_t rows[KLAPOUZEN_ROW * (KLAPOUZEN_MAX_ROWS + 1)];
+    uint64_t count = KLAPOUZEN_MAX_ROWS + seed % 2;
+    for (uint64_t i = 0; i < count; i++)
+        memcpy(rows + KLAPOUZEN_ROW * i, (uint64_t[]){ 'b', i, seed % 5000, 7, 7 * i - (seed % 3 == 0 && i == 1023) },
+               KLAPOUZEN_ROW * sizeof *rows);
+    BOTH("byte_at", f->byte_at(rows, KLAPOUZEN_ROW * count, 8000, 4096, seed % 8001, a->out));
+}
+
 int main(int count, char **words)
 {
     uint64_t cases = count > 1 ? strtoull(words[1], NULL, 10) : 10000;
@@ -292,6 +325,7 @@ int main(int count, char **words)
         label_case();
         vol1_case();
         rows_case();
+        many_rows_case();
     }
     printf("%" PRIu64 " cases, %" PRIu64 " calls, %" PRIu64 " differences; answers by refusal:", cases,
            calls, differences);

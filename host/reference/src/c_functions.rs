@@ -480,86 +480,58 @@ pub unsafe extern "C" fn reference_byte_at(
 
 // ---- Volumes ----
 
-#[no_mangle]
-pub unsafe extern "C" fn reference_check_labels(
-    index_list: *const u8,
-    index_list_length: usize,
-    index_store: *const u8,
-    index_store_length: usize,
-    data_list: *const u8,
-    data_list_length: usize,
-    data_store: *const u8,
-    data_store_length: usize,
-    out: *mut u64,
-) -> u64 {
-    let index = side(
-        index_list,
-        index_list_length,
-        index_store,
-        index_store_length,
-    );
-    let data = side(data_list, data_list_length, data_store, data_store_length);
-    let numbers = volume::check_labels(index, data).and_then(|labels| {
-        let text = index.read()?.block(2)?;
-        let before = offset(index.store, text);
-        Ok(label_numbers(text, &labels.index.label, before))
-    });
-    answer(numbers, out)
+/// A function of a volume's two sides that answers numbers.
+macro_rules! of_volume {
+    ($name:ident, $numbers:expr) => {
+        #[no_mangle]
+        pub unsafe extern "C" fn $name(
+            index_list: *const u8,
+            index_list_length: usize,
+            index_store: *const u8,
+            index_store_length: usize,
+            data_list: *const u8,
+            data_list_length: usize,
+            data_store: *const u8,
+            data_store_length: usize,
+            out: *mut u64,
+        ) -> u64 {
+            let index = side(
+                index_list,
+                index_list_length,
+                index_store,
+                index_store_length,
+            );
+            let data = side(data_list, data_list_length, data_store, data_store_length);
+            answer($numbers(index, data), out)
+        }
+    };
 }
 
-#[no_mangle]
-pub unsafe extern "C" fn reference_verdict(
-    index_list: *const u8,
-    index_list_length: usize,
-    index_store: *const u8,
-    index_store_length: usize,
-    data_list: *const u8,
-    data_list_length: usize,
-    data_store: *const u8,
-    data_store_length: usize,
-    out: *mut u64,
-) -> u64 {
-    let index = side(
-        index_list,
-        index_list_length,
-        index_store,
-        index_store_length,
-    );
-    let data = side(data_list, data_list_length, data_store, data_store_length);
-    let numbers = volume::verdict(index, data).map(|verdict| match verdict {
+of_volume!(reference_check_labels, check_labels);
+of_volume!(reference_verdict, verdict);
+of_volume!(reference_rescue, rescue);
+
+fn check_labels(index: Side, data: Side) -> Result<[u64; 12], Refusal> {
+    let labels = volume::check_labels(index, data)?;
+    let text = index.read()?.block(2)?;
+    let before = offset(index.store, text);
+    Ok(label_numbers(text, &labels.index.label, before))
+}
+
+fn verdict(index: Side, data: Side) -> Result<[u64; 2], Refusal> {
+    Ok(match volume::verdict(index, data)? {
         Verdict::Consistent => [0, 0],
         Verdict::Break { which, number } => [which, number],
-    });
-    answer(numbers, out)
+    })
 }
 
-#[no_mangle]
-pub unsafe extern "C" fn reference_rescue(
-    index_list: *const u8,
-    index_list_length: usize,
-    index_store: *const u8,
-    index_store_length: usize,
-    data_list: *const u8,
-    data_list_length: usize,
-    data_store: *const u8,
-    data_store_length: usize,
-    out: *mut u64,
-) -> u64 {
-    let index = side(
-        index_list,
-        index_list_length,
-        index_store,
-        index_store_length,
-    );
-    let data = side(data_list, data_list_length, data_store, data_store_length);
-    let numbers = volume::rescue(index, data).map(|cut| {
-        [
-            cut.index_construct,
-            cut.data_construct,
-            cut.index_kept,
-            cut.data_kept,
-            cut.generation,
-        ]
-    });
-    answer(numbers, out)
+fn rescue(index: Side, data: Side) -> Result<[u64; 5], Refusal> {
+    let cut = volume::rescue(index, data)?;
+    Ok([
+        cut.index_construct,
+        cut.data_construct,
+        cut.index_kept,
+        cut.data_kept,
+        cut.generation,
+    ])
 }
