@@ -109,14 +109,24 @@ static void print_object(const struct volume *volume, const struct assessment *f
     fputs("}\n", stdout);
 }
 
+static void print_unreadable(const char *folder)
+{
+    fputs("{\"folder\":", stdout);
+    print_json(stdout, bytes_of(folder), false);
+    fputs(",\"verdict\":\"unreadable\"}\n", stdout);
+}
+
 /* ---- The command ---- */
 
 static enum outcome check_one(const char *folder, bool json)
 {
     struct volume volume;
     struct assessment found;
-    if (!volume_open(&volume, folder))
+    if (!volume_open(&volume, folder)) {
+        if (json)
+            print_unreadable(folder);
         return UNREADABLE;
+    }
     assess(&volume, &found);
     clear_progress();
     (json ? print_object : print_line)(&volume, &found);

@@ -120,13 +120,13 @@ static void read_standing(struct layout *layout, const struct volume *volume,
 void layout_read(struct layout *layout, const struct volume *volume,
                  const struct assessment *found, int side)
 {
-    bool known = found->refusal == 0;
     uint64_t count;
-    *layout = (struct layout){ 0 };
+    *layout = (struct layout){ .has_labels = found->refusal == 0 };
     if (klapouzen_check_list(SIDE(&volume->sides[side]), &count) != 0)
         return;
-    walk(layout, volume->sides[side].list, known ? found->label.block_size : KLAPOUZEN_MAX_BLOCK);
-    if (known)
+    walk(layout, volume->sides[side].list,
+         layout->has_labels ? found->label.block_size : KLAPOUZEN_MAX_BLOCK);
+    if (layout->has_labels)
         read_standing(layout, volume, &found->label, side);
 }
 

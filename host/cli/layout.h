@@ -30,6 +30,7 @@ struct layout {
     struct segment *segments;
     size_t count;
     uint64_t elements;
+    bool has_labels; /* that agree: without them no construct stands */
     struct defect defect;
 };
 

@@ -6,6 +6,7 @@
 
 #include "commands.h"
 #include "common.h"
+#include "klapouzen.h"
 
 static const struct command {
     const char *name;
@@ -40,6 +41,10 @@ static int run(int count, char **words)
     }
     if (strcmp(words[1], "--help") == 0) {
         print_help(stdout);
+        return DONE;
+    }
+    if (strcmp(words[1], "--version") == 0) {
+        puts("klapouzen " KLAPOUZEN_VERSION);
         return DONE;
     }
     for (int i = 0; i < COMMANDS; i++)

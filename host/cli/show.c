@@ -106,14 +106,14 @@ static void print_blocks(const char *what, const struct segment *segment)
     print_counted(stdout, segment->bytes, "byte", "bytes");
 }
 
-static void print_what(const struct segment *segment)
+static void print_what(const struct layout *layout, const struct segment *segment)
 {
     char name[32];
     snprintf(name, sizeof name, "index %" PRIu64, segment->construct);
-    if (segment->kind == LABELS) {
+    if (segment->kind == LABELS && layout->has_labels) {
         fputs("labels     VOL1 and LTFS label", stdout);
-    } else if (segment->kind == DATA_RUN) {
-        print_blocks("data", segment);
+    } else if (segment->kind != INDEX_RUN) {
+        print_blocks(segment->kind == LABELS ? "labels?" : "data", segment);
     } else if (!segment->stands) {
         print_blocks("index run", segment);
         fputs(segment->is_closed ? "" : ", no closing mark", stdout);
@@ -138,7 +138,7 @@ static void print_segment(const struct layout *layout, const struct segment *seg
     uint64_t defect = layout->defect.element;
     fputs(colour_code(stdout, is_kept ? marks[rank(segment)].colour : DIM), stdout);
     print_range(segment->first, segment->elements);
-    print_what(segment);
+    print_what(layout, segment);
     printf("%s\n", colour_code(stdout, PLAIN));
     if (layout->defect.what != NULL && defect >= segment->first
         && defect < segment->first + segment->elements)

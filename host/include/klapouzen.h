@@ -34,6 +34,8 @@
 extern "C" {
 #endif
 
+#define KLAPOUZEN_VERSION "0.1.0"
+
 /* ---- Bounds ---- */
 
 #define KLAPOUZEN_MAX_ELEMENTS 65536    /* elements of a list */

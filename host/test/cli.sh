@@ -4,7 +4,7 @@ set -u
 K=$(realpath "$1")
 SAMPLE=$(realpath "$2")
 WORK=$(mktemp -d)
-trap 'rm -rf "$WORK"' EXIT
+trap 'umount "$WORK/small" 2> /dev/null; rm -rf "$WORK"' EXIT
 cd "$WORK" || exit 2
 export TERM=xterm
 unset NO_COLOR
@@ -76,6 +76,8 @@ for command in check show cut files extract label; do
     is 2 "$K" $command --nonsense
     says err "unknown option: --nonsense"
 done
+is 0 "$K" --version
+says out "klapouzen 0."
 is 2 "$K"
 is 2 "$K" nonsense
 says err "unknown command"
@@ -129,6 +131,8 @@ says out "refused 1: "
 is 2 "$K" check fresh nowhere
 says err "nowhere: No such file or directory"
 says out "1 consistent, 0 to cut, 0 without a cut, 0 refused, 1 unreadable"
+is 2 "$K" check --json nowhere
+says out '{"folder":"nowhere","verdict":"unreadable"}'
 mkdir -p unreadable/index.list
 is 2 "$K" check unreadable
 says err "unreadable/index.list: Is a directory"
@@ -161,6 +165,12 @@ is 2 "$K" show nights --svg picture.svg
 says err "picture.svg: File exists"
 same picture.svg before.svg
 is 2 "$K" show nights --svg nowhere/picture.svg
+is 1 "$K" show bad1 --svg refused.svg
+says refused.svg "refused 1"
+is 1 "$K" show bad3
+says out "index partition: 7 elements"
+says out "0-3  labels?    2 blocks, "
+says out "4-6  index run  1 block, "
 no_drafts
 
 # ---- cut ----

@@ -51,7 +51,10 @@ END
 
 run "header in C11" header_alone "$CC" -std=c11 -x c
 run "header in C99" header_alone "$CC" -std=c99 -x c
-run "header in C++" header_alone "$CC" -std=c++11 -x c++
+# gcc without g++ has no C++ in it.
+if "$CC" -x c++ -fsyntax-only /dev/null 2> /dev/null; then
+    run "header in C++" header_alone "$CC" -std=c++11 -x c++
+fi
 run "smallest and largest sizes" $T/test/bounds
 run "stack" $T/test/stack
 run "against the reference" $T/test/differential "$CASES"
