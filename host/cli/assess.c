@@ -31,9 +31,9 @@ void print_cut(FILE *out, const struct assessment *found)
     const uint64_t *cut = found->cut;
     uint64_t index = cut[KLAPOUZEN_CUT_INDEX_KEPT], data = cut[KLAPOUZEN_CUT_DATA_KEPT];
     if (index == found->elements[INDEX] && data == found->elements[DATA])
-        fprintf(out, "keeps all %" PRIu64 " + %" PRIu64 " elements", index, data);
+        fprintf(out, "keeps all %s + %s elements", grouped(index), grouped(data));
     else
-        fprintf(out, "keeps %" PRIu64 " + %" PRIu64 " of %" PRIu64 " + %" PRIu64 " elements",
-                index, data, found->elements[INDEX], found->elements[DATA]);
+        fprintf(out, "keeps %s + %s of %s + %s elements", grouped(index), grouped(data),
+                grouped(found->elements[INDEX]), grouped(found->elements[DATA]));
     fprintf(out, ", generation %" PRIu64, cut[KLAPOUZEN_CUT_GENERATION]);
 }

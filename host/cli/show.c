@@ -9,7 +9,7 @@
 #include "words.h"
 
 static const char help[] =
-    "usage: klapouzen show [--svg FILE] DIR\n"
+    "usage: klapouzen show [--all] [--svg FILE] DIR\n"
     "\n"
     "Draws both partitions of a cartridge: labels, data runs, index constructs with\n"
     "generation and back pointer, the first defect, and where the cut falls.\n"
@@ -17,11 +17,17 @@ static const char help[] =
     "run that does not, ! the first defect; what a cut would drop is in small letters\n"
     "or -.\n"
     "\n"
+    "  --all       every run, also where there are many\n"
     "  --svg FILE  also writes the map as a picture to a new file\n"
     "  --help      this text\n"
     "\n"
     "Exit status: 0 drawn, 1 the labels are refused, 2 bad use or a file that can't be\n"
     "read or written.\n";
+
+static bool is_within(const struct segment *segment, uint64_t element)
+{
+    return segment->first <= element && element - segment->first < segment->elements;
+}
 
 /* ---- The bar ---- */
 
@@ -67,6 +73,8 @@ static int rank_between(const struct layout *layout, uint64_t from, uint64_t to)
 static void print_bar(const struct layout *layout, uint64_t kept)
 {
     uint64_t cells = layout->elements < BAR ? layout->elements : BAR;
+    if (cells == 0)
+        return;
     fputs("  [", stdout);
     for (uint64_t cell = 0; cell < cells; cell++) {
         uint64_t from = cell * layout->elements / cells, to = (cell + 1) * layout->elements / cells;
@@ -135,15 +143,13 @@ static void print_range(uint64_t first, uint64_t elements)
 
 static void print_segment(const struct layout *layout, const struct segment *segment, bool is_kept)
 {
-    uint64_t defect = layout->defect.element;
     fputs(colour_code(stdout, is_kept ? marks[rank(segment)].colour : DIM), stdout);
     print_range(segment->first, segment->elements);
     print_what(layout, segment);
     printf("%s\n", colour_code(stdout, PLAIN));
-    if (layout->defect.what != NULL && defect >= segment->first
-        && defect < segment->first + segment->elements)
-        printf("%s  %11" PRIu64 "  defect     %s%s\n", colour_code(stdout, RED), defect,
-               layout->defect.what, colour_code(stdout, PLAIN));
+    if (layout->defect.what != NULL && is_within(segment, layout->defect.element))
+        printf("%s  %11" PRIu64 "  defect     %s%s\n", colour_code(stdout, RED),
+               layout->defect.element, layout->defect.what, colour_code(stdout, PLAIN));
 }
 
 static void print_cut_line(uint64_t kept, uint64_t elements)
@@ -152,27 +158,71 @@ static void print_cut_line(uint64_t kept, uint64_t elements)
            grouped(elements - kept), colour_code(stdout, PLAIN));
 }
 
-static void print_side(const struct volume *volume, const struct assessment *found,
-                       const struct layout *layout, int side)
+/* ---- Long partitions ---- */
+
+enum { FEW = 60, NEAR = 8 };
+
+/* Whether a run near this one has the element. */
+static bool is_near(const struct layout *layout, size_t i, uint64_t element)
 {
-    uint64_t kept = kept_elements(found, side);
+    size_t from = i > NEAR ? i - NEAR : 0, to = i + NEAR;
+    for (size_t other = from; other <= to && other < layout->count; other++)
+        if (is_within(&layout->segments[other], element))
+            return true;
+    return false;
+}
+
+/* Where there are many runs: the first, the last, and those at the cut and the defect. */
+static bool is_shown(const struct layout *layout, size_t i, uint64_t kept, bool all)
+{
+    return all || layout->count <= FEW || i < NEAR || i + NEAR >= layout->count
+        || is_near(layout, i, kept)
+        || (layout->defect.what != NULL && is_near(layout, i, layout->defect.element));
+}
+
+/* The runs from i on that are left out; answers how many. */
+static size_t print_left_out(const struct layout *layout, size_t i, uint64_t kept)
+{
+    size_t count = 0, unsound = 0;
+    while (i + count < layout->count && !is_shown(layout, i + count, kept, false)) {
+        unsound += rank(&layout->segments[i + count]) == 3;
+        count++;
+    }
+    printf("%s  %11s  ", colour_code(stdout, DIM), "...");
+    print_counted(stdout, count, "run", "runs");
+    fputs(" more", stdout);
+    if (unsound > 0)
+        printf(", %s of them not sound", grouped(unsound));
+    printf("; --all shows them%s\n", colour_code(stdout, PLAIN));
+    return count;
+}
+
+/* ---- A side ---- */
+
+static void print_side_head(const struct volume *volume, const struct assessment *found,
+                            const struct layout *layout, int side)
+{
     printf("\n%s%s partition%s", colour_code(stdout, BOLD), volume->sides[side].name,
            colour_code(stdout, PLAIN));
-    if (found->refusal == 0)
+    if (layout->has_labels)
         printf(" %c", found->label.letters[side]);
     fputs(": ", stdout);
     print_counted(stdout, layout->elements, "element", "elements");
     fputs(", ", stdout);
     print_counted(stdout, volume->sides[side].store.length, "byte", "bytes");
     putchar('\n');
-    if (layout->count == 0)
-        return;
-    print_bar(layout, kept);
+}
+
+static void print_segments(const struct layout *layout, uint64_t kept, bool all)
+{
     for (size_t i = 0; i < layout->count; i++) {
         const struct segment *segment = &layout->segments[i];
         if (segment->first == kept)
             print_cut_line(kept, layout->elements);
-        print_segment(layout, segment, segment->first < kept);
+        if (is_shown(layout, i, kept, all))
+            print_segment(layout, segment, segment->first < kept);
+        else
+            i += print_left_out(layout, i, kept) - 1;
     }
 }
 
@@ -207,26 +257,37 @@ static void print_head(const struct volume *volume, const struct assessment *fou
     putchar('\n');
 }
 
-static int show(const struct volume *volume, const void *picture)
+struct wish {
+    const char *picture;
+    bool all;
+};
+
+static int show(const struct volume *volume, const void *data)
 {
+    const struct wish *wish = data;
     struct assessment found;
     struct layout layouts[2];
     assess(volume, &found);
+    for (int side = INDEX; side <= DATA; side++)
+        layout_read(&layouts[side], volume, &found, side);
+    bool drawn = wish->picture == NULL || write_svg(wish->picture, volume, &found, layouts);
     print_head(volume, &found);
     for (int side = INDEX; side <= DATA; side++) {
-        layout_read(&layouts[side], volume, &found, side);
-        print_side(volume, &found, &layouts[side], side);
+        uint64_t kept = kept_elements(&found, side);
+        print_side_head(volume, &found, &layouts[side], side);
+        print_bar(&layouts[side], kept);
+        print_segments(&layouts[side], kept, wish->all);
+        layout_free(&layouts[side]);
     }
-    bool drawn = picture == NULL || write_svg(picture, volume, &found, layouts);
-    layout_free(&layouts[INDEX]);
-    layout_free(&layouts[DATA]);
     return !drawn ? FAILED : found.refusal != 0 ? NOT_SO : DONE;
 }
 
 int run_show(struct words *words)
 {
-    const char *picture = NULL;
-    const struct option options[] = { { "svg", &picture, NULL }, { NULL, NULL, NULL } };
+    struct wish wish = { .picture = NULL };
+    const struct option options[] = {
+        { "svg", &wish.picture, NULL }, { "all", NULL, &wish.all }, { NULL, NULL, NULL },
+    };
     int status = take_words(words, options, help, 1, "one folder wanted");
-    return status == GO_ON ? on_volume(words->words[0], show, picture) : status;
+    return status == GO_ON ? on_volume(words->words[0], show, &wish) : status;
 }

@@ -1,4 +1,4 @@
-/* sample KIND DIR: writes one of the sample volumes to a new folder. */
+/* make_sample KIND DIR: writes one of the sample volumes to a new folder. */
 #include <stdio.h>
 #include <stdlib.h>
 #include <string.h>
@@ -94,6 +94,21 @@ static void defect(struct sample *sample)
     sample_unmount(sample);
 }
 
+/* More generations than fit a screen, an unsound index among them. */
+static void long_one(struct sample *sample)
+{
+    for (int i = 0; i < 60; i++) {
+        sample->generation++;
+        put_run(sample, 5000, (uint8_t)i);
+        sample_unmount(sample);
+        if (i != 30)
+            continue;
+        tape_mark(&sample->sides[0]);
+        tape_filled_block(&sample->sides[0], '?', 100);
+        tape_mark(&sample->sides[0]);
+    }
+}
+
 /* Files with several extents, gaps and names that need references. */
 static void sparse(struct sample *sample)
 {
@@ -145,7 +160,7 @@ int main(int count, char **words)
 {
     static const struct { const char *name; void (*make)(struct sample *); } kinds[] = {
         { "fresh", fresh }, { "torn", torn }, { "nights", nights }, { "defect", defect },
-        { "sparse", sparse },
+        { "sparse", sparse }, { "long", long_one },
     };
     struct sample sample;
     for (size_t i = 0; count == 3 && i < sizeof kinds / sizeof kinds[0]; i++) {
@@ -157,6 +172,6 @@ int main(int count, char **words)
         sample_free(&sample);
         return 0;
     }
-    fputs("usage: sample fresh|torn|nights|defect|sparse DIR\n", stderr);
+    fputs("usage: make_sample fresh|torn|nights|defect|sparse|long DIR\n", stderr);
     return 2;
 }

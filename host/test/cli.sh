@@ -61,7 +61,7 @@ offset_of() {
         END { print sum }'
 }
 
-for kind in fresh torn nights defect sparse; do
+for kind in fresh torn nights defect sparse long; do
     "$SAMPLE" $kind $kind || exit 2
 done
 
@@ -123,7 +123,7 @@ says out "refused 8: labels disagree, or an index belongs to another volume (bot
 rm -rf missing && cp -r fresh missing && rm missing/data.list missing/data.store
 is 1 "$K" check missing
 says out "(data side: data.list)"
-head -c 16777217 /dev/zero > long && cp -r fresh bad15 && mv long bad15/index.store
+cp -r fresh bad15 && head -c 16777217 /dev/zero > bad15/index.store
 is 1 "$K" check bad15
 says out "refused 1: "
 
@@ -154,6 +154,12 @@ says out "76-77  index run  1 block, 1,200 bytes, no closing mark"
 says_not out $'\033'
 is 0 "$K" show defect
 says out "13  defect     a block longer than the block size"
+is 0 "$K" show long
+says out "46 runs more, 1 of them not sound; --all shows them"
+says_not out "index 30 "
+is 0 "$K" show long --all
+says out "index 30   generation 32, points back to b 157, 0 files"
+says out "index 31   refused 4: the text is not in the XML form"
 is 1 "$K" show empty
 says out "refused 9"
 is 1 "$K" show bad1
