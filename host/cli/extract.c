@@ -47,14 +47,14 @@ static bool find_name(const struct chosen *chosen, const char *name, uint64_t *n
     return found == 1;
 }
 
-static bool find_file(const struct chosen *chosen, const char *word, uint64_t *number)
+static bool find_file(const struct volume *volume, const struct chosen *chosen, const char *word,
+                      uint64_t *number)
 {
     if (!read_number(word, number))
         return find_name(chosen, word, number);
     if (*number < chosen->header[KLAPOUZEN_INDEX_FILES])
         return true;
-    complain("refused 2: %s (file %s of index construct %" PRIu64 ")",
-             klapouzen_refusal_text(KLAPOUZEN_MISSING), word, chosen->construct);
+    complain_construct(volume, chosen->side, chosen->construct, KLAPOUZEN_MISSING);
     return false;
 }
 
@@ -122,7 +122,7 @@ static int write_piece(const struct extraction *this, uint64_t *position)
                                          this->length, this->chosen->label.block_size, *position,
                                          place);
     if (refusal != 0) {
-        complain("refused %" PRIu64 ": %s", refusal, klapouzen_refusal_text(refusal));
+        complain_construct(this->volume, this->chosen->side, this->chosen->construct, refusal);
         return NOT_SO;
     }
     if (!place[KLAPOUZEN_BYTE_STORED]) {
@@ -147,7 +147,8 @@ static int write_file(const struct extraction *this)
         status = write_piece(this, &position);
     if (status == GO_ON && fflush(this->out) != 0)
         status = FAILED;
-    if (status == FAILED)
+    /* Of standard output the program says so itself at its end. */
+    if (status == FAILED && this->out != stdout)
         complain("writing: %s", strerror(errno));
     return status == GO_ON ? DONE : status;
 }
@@ -185,7 +186,7 @@ static int extract(const struct volume *volume, const void *data)
     int status = choose_index(volume, &wish->choice, &chosen);
     if (status != GO_ON)
         return status;
-    if (!find_file(&chosen, wish->file, &number) || !read_chosen_file(&chosen, number, file))
+    if (!find_file(volume, &chosen, wish->file, &number) || !read_chosen_file(&chosen, number, file))
         return NOT_SO;
     read_chosen_rows(&chosen, number, file, &rows);
     struct extraction extraction = {

@@ -11,6 +11,22 @@
 
 int LLVMFuzzerTestOneInput(const uint8_t *input, size_t size);
 
+/*
+ * The library's code counts nothing for a fuzzer, so the targets say what they
+ * saw: an answer that no input gave before makes the input one to go on from.
+ */
+enum { COUNTERS = 8192 };
+
+extern uint8_t fuzz_counters[COUNTERS];
+
+static inline void saw(unsigned what, uint64_t value)
+{
+    unsigned digits = 0;
+    for (uint64_t rest = value; rest > 15; rest /= 2)
+        digits++;
+    fuzz_counters[what % 64 * 128 + (value < 16 ? value : 16 + digits)] = 1;
+}
+
 struct slice {
     const uint8_t *start;
     size_t length;
@@ -51,16 +67,19 @@ static inline uint64_t *fill(uint64_t *out, size_t count)
     return out;
 }
 
-/* A refusal is a number of document 01, and leaves all outputs zero. */
-static inline uint64_t answered(uint64_t refusal, const uint64_t *out, size_t count)
+/* A refusal is a number of document 01, and leaves all outputs zero. `what` tells calls apart. */
+static inline uint64_t answered(unsigned what, uint64_t refusal, const uint64_t *out, size_t count)
 {
     must(refusal <= KLAPOUZEN_TOO_LONG);
-    for (size_t i = 0; refusal != 0 && i < count; i++)
-        must(out[i] == 0);
+    saw(what, refusal);
+    for (size_t i = 0; i < count; i++) {
+        must(refusal == 0 || out[i] == 0);
+        saw(what + 1 + (unsigned)i, out[i]);
+    }
     return refusal;
 }
 
 #define FILLED(out) fill(out, sizeof(out) / sizeof(out)[0])
-#define ANSWERED(call, out) answered((call), out, sizeof(out) / sizeof(out)[0])
+#define ANSWERED(call, out) answered(__LINE__, (call), out, sizeof(out) / sizeof(out)[0])
 
 #endif

@@ -1,11 +1,13 @@
 /*
  * A fuzzer for where libFuzzer isn't: TARGET FOLDER SECONDS [SEED]. Takes inputs of
  * the folder, changes them and calls the target, each input at the border of a
- * page that can't be touched. The input of a crash is written to ./crash-PID.
+ * page that can't be touched; an input with a new answer is one to go on from.
+ * The input of a crash is written to ./crash-PID.
  */
 #include <dirent.h>
 #include <inttypes.h>
 #include <signal.h>
+#include <stdbool.h>
 #include <stdio.h>
 #include <stdlib.h>
 #include <string.h>
@@ -134,12 +136,26 @@ static void on_crash(int number)
     _exit(1);
 }
 
-static void run_one(const struct buffer *input)
+/* Whether the last run counted something for the first time. */
+static bool is_new(void)
+{
+    static uint8_t seen[COUNTERS];
+    bool new = false;
+    for (size_t i = 0; i < COUNTERS; i++) {
+        new = new || (fuzz_counters[i] && !seen[i]);
+        seen[i] |= fuzz_counters[i];
+        fuzz_counters[i] = 0;
+    }
+    return new;
+}
+
+static bool run_one(const struct buffer *input)
 {
     current_length = input->length;
     current = guarded_copy(input->bytes, input->length);
     LLVMFuzzerTestOneInput(current, current_length);
     guarded_free(current, current_length);
+    return is_new();
 }
 
 static uint64_t run_for(double seconds)
@@ -152,8 +168,10 @@ static uint64_t run_for(double seconds)
         put_bytes(&input, base->bytes, base->length);
         for (size_t changes = below(5); changes > 0; changes--)
             change(&input);
-        run_one(&input);
-        buffer_free(&input);
+        if (run_one(&input) && inputs < MOST)
+            corpus[inputs++] = input;
+        else
+            buffer_free(&input);
         runs++;
     }
     return runs;
@@ -169,7 +187,9 @@ int main(int count, char **words)
     read_corpus(words[1]);
     for (size_t i = 0; i < inputs; i++)
         run_one(&corpus[i]);
-    printf("%zu inputs, %" PRIu64 " runs\n", inputs, run_for(strtod(words[2], NULL)));
+    size_t given = inputs;
+    uint64_t runs = run_for(strtod(words[2], NULL));
+    printf("%zu inputs, %" PRIu64 " runs, %zu new inputs\n", given, runs, inputs - given);
     for (size_t i = 0; i < inputs; i++)
         buffer_free(&corpus[i]);
     return inputs == 0;
