@@ -53,6 +53,7 @@ extern "C" {
 #define KLAPOUZEN_VOL1_LENGTH 80        /* bytes of a VOL1 label */
 #define KLAPOUZEN_CONSTRUCT_TABLE 87380 /* numbers of klapouzen_constructs' table */
 
+/* Bytes of stack that no call needs as many of; host/test/stack measures it. */
 #define KLAPOUZEN_STACK 2097152
 
 /* ---- Refusals ---- */
