@@ -33,7 +33,7 @@ struct bytes bytes_of(const char *text);
 /* Whether a text as spelled, decoded, is this one. */
 bool spells(struct bytes spelled, const char *text);
 
-/* 12,345,678: digits in threes; the text stands until the next four calls. */
+/* 12,345,678: digits in threes. The text stands until the fourth call after. */
 const char *grouped(uint64_t number);
 
 /* "1 block", "1,200 blocks": the plural is given whole. */

@@ -1,6 +1,6 @@
 /*
- * corpus DIR CASES: writes the inputs that fuzzing starts from, a folder for each
- * target: random volumes, labels, indexes and rows, and the texts of xml_cases.
+ * make_corpus DIR CASES: writes the inputs that fuzzing starts from, a folder for
+ * each target: the vectors in crates/, and random volumes, labels, indexes and rows.
  */
 #include <inttypes.h>
 #include <stdio.h>
@@ -96,6 +96,13 @@ static void write_rows(uint64_t seed)
     random_free(random);
 }
 
+static void write_label_text(const uint8_t *text, size_t length)
+{
+    struct buffer input = { 0 };
+    put_bytes(&input, text, length);
+    write_input("label", &input);
+}
+
 static void write_form(const uint8_t *text, size_t length, bool in_form)
 {
     struct buffer input = { 0 };
@@ -117,6 +124,8 @@ int main(int count, char **words)
         write_index(seed);
         write_rows(seed);
     }
-    return each_case_line("../crates/xml_cases/data/cases", write_form)
-            && each_case_line("../crates/xml_cases/data/vectors", write_form) ? 0 : 2;
+    bool read = each_case_line("../crates/xml_cases/data/cases", write_form)
+        && each_case_line("../crates/xml_cases/data/vectors", write_form);
+    each_case_text("../crates/label_cases/data/read_vectors", write_label_text);
+    return read ? 0 : 2;
 }

@@ -318,6 +318,7 @@ int main(int count, char **words)
 {
     bool read = each_case_line("../crates/xml_cases/data/cases", judge_line)
         && each_case_line("../crates/xml_cases/data/vectors", judge_line);
+    each_case_text("../crates/label_cases/data/read_vectors", judge);
     judge_restrictions();
     judge_random(count > 1 ? strtoull(words[1], NULL, 10) : 20000);
     xmlCleanupParser();

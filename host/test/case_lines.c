@@ -45,3 +45,38 @@ bool each_case_line(const char *path, void (*use)(const uint8_t *text, size_t le
     }
     return fclose(file) == 0;
 }
+
+/* The length before a text, low byte first. */
+static size_t length_before(const uint8_t *text)
+{
+    size_t length = 0;
+    for (int i = 1; i <= 8; i++)
+        length = length << 8 | text[-i];
+    return length;
+}
+
+static void use_texts(const uint8_t *bytes, size_t size, void (*use)(const uint8_t *text, size_t length))
+{
+    const uint8_t *end = bytes + size, *at = bytes + 8;
+    while (at < end && (at = memmem(at, (size_t)(end - at), "<?xml", 5)) != NULL) {
+        size_t length = length_before(at);
+        if (length <= (size_t)(end - at))
+            use(at, length);
+        at += 5;
+    }
+}
+
+bool each_case_text(const char *path, void (*use)(const uint8_t *text, size_t length))
+{
+    static uint8_t part[65536];
+    struct buffer bytes = { 0 };
+    FILE *file = fopen(path, "rb");
+    if (file == NULL)
+        return false;
+    for (size_t length = fread(part, 1, sizeof part, file); length > 0; length = fread(part, 1, sizeof part, file))
+        put_bytes(&bytes, part, length);
+    if (bytes.length > 8)
+        use_texts(bytes.bytes, bytes.length, use);
+    buffer_free(&bytes);
+    return fclose(file) == 0;
+}
