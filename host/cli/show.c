@@ -13,9 +13,8 @@ static const char help[] =
     "\n"
     "Draws both partitions of a cartridge: labels, data runs, index constructs with\n"
     "generation and back pointer, the first defect, and where the cut falls.\n"
-    "In the bars L is a label construct, = data, I an index that stands, ? an index\n"
-    "run that does not, ! the first defect; what a cut would drop is in small letters\n"
-    "or -.\n"
+    "In the bars L is a label construct, = data, I a sound index, ? an index run with\n"
+    "none, ! the first defect; what a cut would drop is in small letters or -.\n"
     "\n"
     "  --all       every run, also where there are many\n"
     "  --svg FILE  also writes the map as a picture to a new file\n"
@@ -33,41 +32,43 @@ static bool is_within(const struct segment *segment, uint64_t element)
 
 enum { BAR = 72 };
 
-struct mark {
+/* What a run shows as; where several share a cell, the highest does. */
+enum rank { SHOWS_DATA, SHOWS_LABELS, SHOWS_INDEX, SHOWS_UNSOUND, SHOWS_DEFECT };
+
+static const struct mark {
     char kept, dropped;
     enum colour colour;
+} marks[] = {
+    [SHOWS_DATA] = { '=', '-', BLUE },      [SHOWS_LABELS] = { 'L', 'l', CYAN },
+    [SHOWS_INDEX] = { 'I', 'i', GREEN },    [SHOWS_UNSOUND] = { '?', '?', YELLOW },
+    [SHOWS_DEFECT] = { '!', '!', RED },
 };
 
-static const struct mark marks[] = {
-    { '=', '-', BLUE }, { 'L', 'l', CYAN }, { 'I', 'i', GREEN }, { '?', '?', YELLOW }, { '!', '!', RED },
-};
-
-/* What a segment shows as; where several share a cell, the highest does. */
-static int rank(const struct segment *segment)
+static enum rank rank_of(const struct segment *segment)
 {
     switch (segment->kind) {
     case DATA_RUN:
-        return 0;
+        return SHOWS_DATA;
     case LABELS:
-        return 1;
+        return SHOWS_LABELS;
     default:
-        return segment->stands && segment->refusal == 0 ? 2 : 3;
+        return segment->stands && segment->refusal == 0 ? SHOWS_INDEX : SHOWS_UNSOUND;
     }
 }
 
 /* The highest rank of the segments within elements from..to. */
-static int rank_between(const struct layout *layout, uint64_t from, uint64_t to)
+static enum rank rank_between(const struct layout *layout, uint64_t from, uint64_t to)
 {
-    int highest = 0;
+    enum rank highest = SHOWS_DATA;
     for (size_t i = 0; i < layout->count; i++) {
         const struct segment *segment = &layout->segments[i];
         bool within = segment->first < to && segment->first + segment->elements > from;
-        if (within && rank(segment) > highest)
-            highest = rank(segment);
+        if (within && rank_of(segment) > highest)
+            highest = rank_of(segment);
     }
     bool defect = layout->defect.what != NULL && layout->defect.element >= from
         && layout->defect.element < to;
-    return defect ? 4 : highest;
+    return defect ? SHOWS_DEFECT : highest;
 }
 
 static void print_bar(const struct layout *layout, uint64_t kept)
@@ -143,7 +144,7 @@ static void print_range(uint64_t first, uint64_t elements)
 
 static void print_segment(const struct layout *layout, const struct segment *segment, bool is_kept)
 {
-    fputs(colour_code(stdout, is_kept ? marks[rank(segment)].colour : DIM), stdout);
+    fputs(colour_code(stdout, is_kept ? marks[rank_of(segment)].colour : DIM), stdout);
     print_range(segment->first, segment->elements);
     print_what(layout, segment);
     printf("%s\n", colour_code(stdout, PLAIN));
@@ -185,7 +186,7 @@ static size_t print_left_out(const struct layout *layout, size_t i, uint64_t kep
 {
     size_t count = 0, unsound = 0;
     while (i + count < layout->count && !is_shown(layout, i + count, kept, false)) {
-        unsound += rank(&layout->segments[i + count]) == 3;
+        unsound += rank_of(&layout->segments[i + count]) == SHOWS_UNSOUND;
         count++;
     }
     printf("%s  %11s  ", colour_code(stdout, DIM), "...");
