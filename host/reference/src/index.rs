@@ -227,7 +227,7 @@ fn entries<'a>(directory: &'a Element, found: &mut Vec<&'a Element>) {
     }
 }
 
-fn all_entries(root: &Element) -> Vec<&Element> {
+pub(crate) fn all_entries(root: &Element) -> Vec<&Element> {
     let mut found = Vec::new();
     entries(only(root, "directory"), &mut found);
     found

@@ -2,6 +2,8 @@
 //! specification function by function. It is meant for tests: it favours the
 //! shortest statement of a rule over speed.
 
+pub mod c_cases;
+pub mod c_functions;
 pub mod extents;
 pub mod index;
 pub mod label;

@@ -25,6 +25,8 @@ pub struct Element {
     pub attribute: Option<Attribute>,
     /// As spelled. White space only when there are children.
     pub raw_text: String,
+    /// Where in the whole text the start tag ends.
+    pub text_start: usize,
     pub children: Vec<Element>,
 }
 
@@ -49,6 +51,7 @@ pub fn parse(text: &[u8]) -> Option<Element> {
         return None;
     }
     let mut cursor = Cursor {
+        whole: text.len(),
         rest: text.strip_prefix(DECLARATION)?,
     };
     cursor.skip_white();
@@ -58,6 +61,8 @@ pub fn parse(text: &[u8]) -> Option<Element> {
 }
 
 struct Cursor<'a> {
+    /// The length of the whole text.
+    whole: usize,
     rest: &'a str,
 }
 
@@ -111,12 +116,17 @@ impl<'a> Cursor<'a> {
             name,
             attribute,
             raw_text: String::new(),
+            text_start: 0,
             children: Vec::new(),
         };
-        if self.eat("/>").is_some() {
+        let is_empty = self.eat("/>").is_some();
+        if !is_empty {
+            self.eat(">")?;
+        }
+        element.text_start = self.whole - self.rest.len();
+        if is_empty {
             return Some(element);
         }
-        self.eat(">")?;
         self.content(&mut element, depth)?;
         Some(element)
     }

@@ -1,0 +1,23 @@
+/* What the library says of a whole volume. */
+#ifndef ASSESS_H
+#define ASSESS_H
+
+#include "volume.h"
+
+struct assessment {
+    uint64_t refusal; /* of the labels; the rest holds where it is 0 */
+    struct label label;
+    uint64_t verdict[KLAPOUZEN_BREAK];
+    bool has_cut;
+    uint64_t cut[KLAPOUZEN_CUT];
+    uint64_t elements[2]; /* of each list, 0 where it is malformed */
+};
+
+void assess(const struct volume *volume, struct assessment *found);
+
+bool is_consistent(const struct assessment *found);
+
+/* What the cut does: "keeps all 7 + 7 elements, generation 1" or the like. */
+void print_cut(FILE *out, const struct assessment *found);
+
+#endif

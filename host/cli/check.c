@@ -1,0 +1,164 @@
+/* klapouzen check: a line for each cartridge, and a summary. */
+#include <inttypes.h>
+
+#include "assess.h"
+#include "commands.h"
+#include "common.h"
+#include "progress.h"
+#include "words.h"
+
+static const char help[] =
+    "usage: klapouzen check [--json] DIR..\n"
+    "\n"
+    "Judges each cartridge: its volume identifier and UUID, whether it is consistent,\n"
+    "and after which elements its partitions can be cut. A cartridge is a folder with\n"
+    "index.list, index.store, data.list and data.store; a missing file counts as empty.\n"
+    "\n"
+    "  --json  one object a line, and no summary\n"
+    "  --help  this text\n"
+    "\n"
+    "Exit status: 0 all are consistent, 1 some are not, 2 bad use or a file that\n"
+    "can't be read.\n";
+
+enum outcome { CONSISTENT, CUTTABLE, NO_CUT, REFUSED, UNREADABLE, OUTCOMES };
+
+static enum outcome outcome_of(const struct assessment *found)
+{
+    if (found->refusal != 0)
+        return REFUSED;
+    if (is_consistent(found))
+        return CONSISTENT;
+    return found->has_cut ? CUTTABLE : NO_CUT;
+}
+
+/* ---- Lines ---- */
+
+static void print_line(const struct volume *volume, const struct assessment *found)
+{
+    print_bytes(stdout, bytes_of(volume->folder));
+    if (found->refusal != 0) {
+        fprintf(stdout, "  %s", colour_code(stdout, RED));
+        print_refusal(stdout, volume, found->refusal);
+        fputs(colour_code(stdout, PLAIN), stdout);
+    } else {
+        printf("  %s", colour_code(stdout, BOLD));
+        print_bytes(stdout, found->label.identifier);
+        printf("%s  ", colour_code(stdout, PLAIN));
+        print_bytes(stdout, found->label.uuid);
+        fputs("  ", stdout);
+        print_verdict(stdout, found->verdict);
+        fputs("; cut ", stdout);
+        print_cut(stdout, found);
+    }
+    putchar('\n');
+}
+
+static void print_json_refusal(const struct volume *volume, uint64_t refusal)
+{
+    struct origin origin = origin_of(volume, refusal);
+    printf(",\"verdict\":\"refused\",\"refusal\":{\"number\":%" PRIu64 ",\"text\":\"%s\","
+           "\"side\":\"%s\",\"file\":\"%s\"}",
+           refusal, klapouzen_refusal_text(refusal), origin.side, origin.file);
+}
+
+static void print_json_labels(const struct label *label)
+{
+    fputs(",\"identifier\":", stdout);
+    print_json(stdout, label->identifier, false);
+    fputs(",\"uuid\":", stdout);
+    print_json(stdout, label->uuid, false);
+}
+
+static void print_json_verdict(const struct assessment *found)
+{
+    if (is_consistent(found)) {
+        fputs(",\"verdict\":\"consistent\"", stdout);
+        return;
+    }
+    printf(",\"verdict\":\"break\",\"break\":{\"which\":%" PRIu64 ",\"number\":%" PRIu64 ",\"text\":\"",
+           found->verdict[KLAPOUZEN_BREAK_WHICH], found->verdict[KLAPOUZEN_BREAK_NUMBER]);
+    print_break(stdout, found->verdict);
+    fputs("\"}", stdout);
+}
+
+static void print_json_cut(const struct assessment *found)
+{
+    static const char *const names[KLAPOUZEN_CUT] = {
+        "index_construct", "data_construct", "index_kept", "data_kept", "generation",
+    };
+    if (!found->has_cut) {
+        fputs(",\"cut\":null", stdout);
+        return;
+    }
+    for (int i = 0; i < KLAPOUZEN_CUT; i++)
+        printf("%s\"%s\":%" PRIu64, i == 0 ? ",\"cut\":{" : ",", names[i], found->cut[i]);
+    putchar('}');
+}
+
+static void print_object(const struct volume *volume, const struct assessment *found)
+{
+    fputs("{\"folder\":", stdout);
+    print_json(stdout, bytes_of(volume->folder), false);
+    if (found->refusal != 0) {
+        print_json_refusal(volume, found->refusal);
+    } else {
+        print_json_labels(&found->label);
+        print_json_verdict(found);
+        print_json_cut(found);
+    }
+    fputs("}\n", stdout);
+}
+
+static void print_unreadable(const char *folder)
+{
+    fputs("{\"folder\":", stdout);
+    print_json(stdout, bytes_of(folder), false);
+    fputs(",\"verdict\":\"unreadable\"}\n", stdout);
+}
+
+/* ---- The command ---- */
+
+static enum outcome check_one(const char *folder, bool json)
+{
+    struct volume volume;
+    struct assessment found;
+    if (!volume_open(&volume, folder)) {
+        if (json)
+            print_unreadable(folder);
+        return UNREADABLE;
+    }
+    assess(&volume, &found);
+    clear_progress();
+    (json ? print_object : print_line)(&volume, &found);
+    volume_close(&volume);
+    return outcome_of(&found);
+}
+
+static void print_summary(const int counts[OUTCOMES], int all)
+{
+    printf("%d cartridge%s: %d consistent, %d to cut, %d without a cut, %d refused, %d unreadable\n",
+           all, all == 1 ? "" : "s", counts[CONSISTENT], counts[CUTTABLE], counts[NO_CUT],
+           counts[REFUSED], counts[UNREADABLE]);
+}
+
+int run_check(struct words *words)
+{
+    bool json = false;
+    const struct option options[] = { { "json", NULL, &json }, { NULL, NULL, NULL } };
+    int status = take_options(words, options, help);
+    if (status != GO_ON)
+        return status;
+    if (words->count == 0)
+        return bad_use(help, "no folder given", "");
+    int counts[OUTCOMES] = { 0 };
+    for (int i = 0; i < words->count; i++) {
+        show_progress(i, words->count);
+        counts[check_one(words->words[i], json)]++;
+    }
+    clear_progress();
+    if (!json)
+        print_summary(counts, words->count);
+    if (counts[UNREADABLE] > 0)
+        return FAILED;
+    return counts[CONSISTENT] == words->count ? DONE : NOT_SO;
+}

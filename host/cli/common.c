@@ -1,0 +1,51 @@
+#include "common.h"
+
+#include <stdarg.h>
+#include <stdio.h>
+#include <stdlib.h>
+
+#include "progress.h"
+
+void complain(const char *format, ...)
+{
+    va_list arguments;
+    va_start(arguments, format);
+    clear_progress();
+    fflush(stdout);
+    fputs("klapouzen: ", stderr);
+    vfprintf(stderr, format, arguments);
+    fputc('\n', stderr);
+    va_end(arguments);
+}
+
+static void *given(void *start)
+{
+    if (start == NULL) {
+        complain("out of memory");
+        exit(FAILED);
+    }
+    return start;
+}
+
+void *allocate(size_t size)
+{
+    return given(malloc(size > 0 ? size : 1));
+}
+
+void *reallocate(void *start, size_t size)
+{
+    return given(realloc(start, size));
+}
+
+char *format_text(const char *format, ...)
+{
+    va_list arguments, again;
+    va_start(arguments, format);
+    va_copy(again, arguments);
+    int length = vsnprintf(NULL, 0, format, arguments);
+    char *text = allocate((size_t)length + 1);
+    vsnprintf(text, (size_t)length + 1, format, again);
+    va_end(again);
+    va_end(arguments);
+    return text;
+}

@@ -1,0 +1,25 @@
+/* Small things that every command uses: messages, memory, exit statuses. */
+#ifndef COMMON_H
+#define COMMON_H
+
+#include <stdbool.h>
+#include <stddef.h>
+
+/* Exit statuses. */
+enum {
+    DONE = 0,
+    NOT_SO = 1, /* the tape refuses, or is not consistent */
+    FAILED = 2  /* bad use, a file that can't be read or written */
+};
+
+/* A line on standard error, after the program's name. */
+void complain(const char *format, ...) __attribute__((format(printf, 1, 2)));
+
+/* Memory that is there; without it the program ends with FAILED. */
+void *allocate(size_t size);
+void *reallocate(void *start, size_t size);
+
+/* A new string, to be freed. */
+char *format_text(const char *format, ...) __attribute__((format(printf, 1, 2)));
+
+#endif

@@ -1,0 +1,294 @@
+/* klapouzen show: both partitions as a map. */
+#include <inttypes.h>
+#include <string.h>
+
+#include "commands.h"
+#include "common.h"
+#include "layout.h"
+#include "svg.h"
+#include "words.h"
+
+static const char help[] =
+    "usage: klapouzen show [--all] [--svg FILE] DIR\n"
+    "\n"
+    "Draws both partitions of a cartridge: labels, data runs, index constructs with\n"
+    "generation and back pointer, the first defect, and where the cut falls.\n"
+    "In the bars L is a label construct, = data, I a sound index, ? an index run with\n"
+    "none, ! the first defect; what a cut would drop is in small letters or -.\n"
+    "\n"
+    "  --all       every run, also where there are many\n"
+    "  --svg FILE  also writes the map as a picture to a new file\n"
+    "  --help      this text\n"
+    "\n"
+    "Exit status: 0 drawn, 1 the labels are refused, 2 bad use or a file that can't be\n"
+    "read or written.\n";
+
+static bool is_within(const struct segment *segment, uint64_t element)
+{
+    return segment->first <= element && element - segment->first < segment->elements;
+}
+
+/* ---- The bar ---- */
+
+enum { BAR = 72 };
+
+/* What a run shows as; where several share a cell, the highest does. */
+enum rank { SHOWS_DATA, SHOWS_LABELS, SHOWS_INDEX, SHOWS_UNSOUND, SHOWS_DEFECT };
+
+static const struct mark {
+    char kept, dropped;
+    enum colour colour;
+} marks[] = {
+    [SHOWS_DATA] = { '=', '-', BLUE },      [SHOWS_LABELS] = { 'L', 'l', CYAN },
+    [SHOWS_INDEX] = { 'I', 'i', GREEN },    [SHOWS_UNSOUND] = { '?', '?', YELLOW },
+    [SHOWS_DEFECT] = { '!', '!', RED },
+};
+
+static enum rank rank_of(const struct segment *segment)
+{
+    switch (segment->kind) {
+    case DATA_RUN:
+        return SHOWS_DATA;
+    case LABELS:
+        return SHOWS_LABELS;
+    default:
+        return segment->stands && segment->refusal == 0 ? SHOWS_INDEX : SHOWS_UNSOUND;
+    }
+}
+
+/* The highest rank of the segments within elements from..to. */
+static enum rank rank_between(const struct layout *layout, uint64_t from, uint64_t to)
+{
+    enum rank highest = SHOWS_DATA;
+    for (size_t i = 0; i < layout->count; i++) {
+        const struct segment *segment = &layout->segments[i];
+        bool within = segment->first < to && segment->first + segment->elements > from;
+        if (within && rank_of(segment) > highest)
+            highest = rank_of(segment);
+    }
+    bool defect = layout->defect.what != NULL && layout->defect.element >= from
+        && layout->defect.element < to;
+    return defect ? SHOWS_DEFECT : highest;
+}
+
+static void print_bar(const struct layout *layout, uint64_t kept)
+{
+    uint64_t cells = layout->elements < BAR ? layout->elements : BAR;
+    if (cells == 0)
+        return;
+    fputs("  [", stdout);
+    for (uint64_t cell = 0; cell < cells; cell++) {
+        uint64_t from = cell * layout->elements / cells, to = (cell + 1) * layout->elements / cells;
+        const struct mark *mark = &marks[rank_between(layout, from, to)];
+        bool is_kept = from < kept;
+        printf("%s%c", colour_code(stdout, is_kept ? mark->colour : DIM),
+               is_kept ? mark->kept : mark->dropped);
+    }
+    printf("%s]\n", colour_code(stdout, PLAIN));
+}
+
+/* ---- The lines ---- */
+
+static void print_index(const struct segment *segment)
+{
+    const uint64_t *header = segment->header;
+    if (segment->refusal != 0) {
+        printf("%srefused %" PRIu64 "%s: %s", colour_code(stdout, RED), segment->refusal,
+               colour_code(stdout, PLAIN), klapouzen_refusal_text(segment->refusal));
+        return;
+    }
+    printf("generation %" PRIu64 ", ", header[KLAPOUZEN_INDEX_GENERATION]);
+    if (header[KLAPOUZEN_INDEX_HAS_BACK])
+        printf("points back to %c %" PRIu64, (char)header[KLAPOUZEN_INDEX_BACK_LETTER],
+               header[KLAPOUZEN_INDEX_BACK_BLOCK]);
+    else
+        fputs("no back pointer", stdout);
+    fputs(", ", stdout);
+    print_counted(stdout, header[KLAPOUZEN_INDEX_FILES], "file", "files");
+}
+
+static void print_blocks(const char *what, const struct segment *segment)
+{
+    printf("%-9s  ", what);
+    print_counted(stdout, segment->blocks, "block", "blocks");
+    fputs(", ", stdout);
+    print_counted(stdout, segment->bytes, "byte", "bytes");
+}
+
+static void print_what(const struct layout *layout, const struct segment *segment)
+{
+    char name[32];
+    snprintf(name, sizeof name, "index %" PRIu64, segment->construct);
+    if (segment->kind == LABELS && layout->has_labels) {
+        fputs("labels     VOL1 and LTFS label", stdout);
+    } else if (segment->kind != INDEX_RUN) {
+        print_blocks(segment->kind == LABELS ? "labels?" : "data", segment);
+    } else if (!segment->stands) {
+        print_blocks("index run", segment);
+        fputs(segment->is_closed ? "" : ", no closing mark", stdout);
+    } else {
+        printf("%-9s  ", name);
+        print_index(segment);
+    }
+}
+
+static void print_range(uint64_t first, uint64_t elements)
+{
+    char range[48];
+    if (elements == 1)
+        snprintf(range, sizeof range, "%" PRIu64, first);
+    else
+        snprintf(range, sizeof range, "%" PRIu64 "-%" PRIu64, first, first + elements - 1);
+    printf("  %11s  ", range);
+}
+
+static void print_segment(const struct layout *layout, const struct segment *segment, bool is_kept)
+{
+    fputs(colour_code(stdout, is_kept ? marks[rank_of(segment)].colour : DIM), stdout);
+    print_range(segment->first, segment->elements);
+    print_what(layout, segment);
+    printf("%s\n", colour_code(stdout, PLAIN));
+    if (layout->defect.what != NULL && is_within(segment, layout->defect.element))
+        printf("%s  %11" PRIu64 "  defect     %s%s\n", colour_code(stdout, RED),
+               layout->defect.element, layout->defect.what, colour_code(stdout, PLAIN));
+}
+
+static void print_cut_line(uint64_t kept, uint64_t elements)
+{
+    printf("%s  ---- cut: %s kept, %s dropped ----%s\n", colour_code(stdout, MAGENTA), grouped(kept),
+           grouped(elements - kept), colour_code(stdout, PLAIN));
+}
+
+/* ---- Long partitions ---- */
+
+enum { FEW = 60, NEAR = 8 };
+
+/* Whether a run near this one has the element. */
+static bool is_near(const struct layout *layout, size_t i, uint64_t element)
+{
+    size_t from = i > NEAR ? i - NEAR : 0, to = i + NEAR;
+    for (size_t other = from; other <= to && other < layout->count; other++)
+        if (is_within(&layout->segments[other], element))
+            return true;
+    return false;
+}
+
+/* Where there are many runs: the first, the last, and those at the cut and the defect. */
+static bool is_shown(const struct layout *layout, size_t i, uint64_t kept, bool all)
+{
+    return all || layout->count <= FEW || i < NEAR || i + NEAR >= layout->count
+        || is_near(layout, i, kept)
+        || (layout->defect.what != NULL && is_near(layout, i, layout->defect.element));
+}
+
+/* The runs from i on that are left out; answers how many. */
+static size_t print_left_out(const struct layout *layout, size_t i, uint64_t kept)
+{
+    size_t count = 0, unsound = 0;
+    while (i + count < layout->count && !is_shown(layout, i + count, kept, false)) {
+        unsound += rank_of(&layout->segments[i + count]) == SHOWS_UNSOUND;
+        count++;
+    }
+    printf("%s  %11s  ", colour_code(stdout, DIM), "...");
+    print_counted(stdout, count, "run", "runs");
+    fputs(" more", stdout);
+    if (unsound > 0)
+        printf(", %s of them not sound", grouped(unsound));
+    printf("; --all shows them%s\n", colour_code(stdout, PLAIN));
+    return count;
+}
+
+/* ---- A side ---- */
+
+static void print_side_head(const struct volume *volume, const struct assessment *found,
+                            const struct layout *layout, int side)
+{
+    printf("\n%s%s partition%s", colour_code(stdout, BOLD), volume->sides[side].name,
+           colour_code(stdout, PLAIN));
+    if (layout->has_labels)
+        printf(" %c", found->label.letters[side]);
+    fputs(": ", stdout);
+    print_counted(stdout, layout->elements, "element", "elements");
+    fputs(", ", stdout);
+    print_counted(stdout, volume->sides[side].store.length, "byte", "bytes");
+    putchar('\n');
+}
+
+static void print_segments(const struct layout *layout, uint64_t kept, bool all)
+{
+    for (size_t i = 0; i < layout->count; i++) {
+        const struct segment *segment = &layout->segments[i];
+        if (segment->first == kept)
+            print_cut_line(kept, layout->elements);
+        if (is_shown(layout, i, kept, all))
+            print_segment(layout, segment, segment->first < kept);
+        else
+            i += print_left_out(layout, i, kept) - 1;
+    }
+}
+
+static void print_labels(const struct label *label)
+{
+    fputs(colour_code(stdout, BOLD), stdout);
+    print_bytes(stdout, label->identifier);
+    printf("%s  ", colour_code(stdout, PLAIN));
+    print_bytes(stdout, label->uuid);
+    printf("\nformat   2.0.%" PRIu64 ", ", label->release);
+    print_bytes(stdout, label->time);
+    fputs(", by ", stdout);
+    print_spelled(stdout, label->creator);
+    printf("\nblocks   %s bytes, compression %s\n", grouped(label->block_size),
+           label->compression ? "on" : "off");
+}
+
+static void print_head(const struct volume *volume, const struct assessment *found)
+{
+    print_bytes(stdout, bytes_of(volume->folder));
+    putchar('\n');
+    if (found->refusal != 0) {
+        print_refusal(stdout, volume, found->refusal);
+        putchar('\n');
+        return;
+    }
+    print_labels(&found->label);
+    fputs("verdict  ", stdout);
+    print_verdict(stdout, found->verdict);
+    fputs("\ncut      ", stdout);
+    print_cut(stdout, found);
+    putchar('\n');
+}
+
+struct wish {
+    const char *picture;
+    bool all;
+};
+
+static int show(const struct volume *volume, const void *data)
+{
+    const struct wish *wish = data;
+    struct assessment found;
+    struct layout layouts[2];
+    assess(volume, &found);
+    for (int side = INDEX; side <= DATA; side++)
+        layout_read(&layouts[side], volume, &found, side);
+    bool drawn = wish->picture == NULL || write_svg(wish->picture, volume, &found, layouts);
+    print_head(volume, &found);
+    for (int side = INDEX; side <= DATA; side++) {
+        uint64_t kept = kept_elements(&found, side);
+        print_side_head(volume, &found, &layouts[side], side);
+        print_bar(&layouts[side], kept);
+        print_segments(&layouts[side], kept, wish->all);
+        layout_free(&layouts[side]);
+    }
+    return !drawn ? FAILED : found.refusal != 0 ? NOT_SO : DONE;
+}
+
+int run_show(struct words *words)
+{
+    struct wish wish = { .picture = NULL };
+    const struct option options[] = {
+        { "svg", &wish.picture, NULL }, { "all", NULL, &wish.all }, { NULL, NULL, NULL },
+    };
+    int status = take_words(words, options, help, 1, "one folder wanted");
+    return status == GO_ON ? on_volume(words->words[0], show, &wish) : status;
+}

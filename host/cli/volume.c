@@ -1,0 +1,166 @@
+#include "volume.h"
+
+#include <errno.h>
+#include <stdlib.h>
+#include <string.h>
+#include <sys/stat.h>
+
+#include "common.h"
+
+/* ---- Reading files ---- */
+
+/* Reads at most `most` bytes of an open file; false where reading fails. */
+static bool read_front(FILE *file, size_t most, struct bytes *bytes)
+{
+    size_t room = 65536, length = 0;
+    uint8_t *start = allocate(room);
+    while (length < most) {
+        if (length == room)
+            start = reallocate(start, room *= 2);
+        size_t wanted = room < most ? room - length : most - length;
+        size_t got = fread(start + length, 1, wanted, file);
+        if (got == 0)
+            break;
+        length += got;
+    }
+    bytes->start = start;
+    bytes->length = length;
+    return !ferror(file);
+}
+
+/* One byte past a bound is enough for the library to refuse it. */
+static bool read_file(const char *folder, const char *side, const char *kind,
+                      size_t bound, struct bytes *bytes)
+{
+    char *path = format_text("%s/%s.%s", folder, side, kind);
+    FILE *file = fopen(path, "rb");
+    bool readable = file != NULL ? read_front(file, bound + 1, bytes) : errno == ENOENT;
+    if (!readable)
+        complain("%s: %s", path, strerror(errno));
+    if (file != NULL)
+        fclose(file);
+    free(path);
+    return readable;
+}
+
+static bool read_side(const char *folder, struct side *side)
+{
+    return read_file(folder, side->name, "list", KLAPOUZEN_MAX_LIST, &side->list)
+        && read_file(folder, side->name, "store", KLAPOUZEN_MAX_STORE, &side->store);
+}
+
+static bool is_folder(const char *path)
+{
+    struct stat status;
+    if (stat(path, &status) != 0) {
+        complain("%s: %s", path, strerror(errno));
+        return false;
+    }
+    if (!S_ISDIR(status.st_mode)) {
+        complain("%s: not a folder", path);
+        return false;
+    }
+    return true;
+}
+
+bool volume_open(struct volume *volume, const char *folder)
+{
+    *volume = (struct volume){
+        .folder = folder,
+        .sides = { { .name = "index" }, { .name = "data" } },
+    };
+    if (is_folder(folder) && read_side(folder, &volume->sides[INDEX])
+        && read_side(folder, &volume->sides[DATA]))
+        return true;
+    volume_close(volume);
+    return false;
+}
+
+void volume_close(struct volume *volume)
+{
+    for (int side = INDEX; side <= DATA; side++) {
+        free((void *)volume->sides[side].list.start);
+        free((void *)volume->sides[side].store.start);
+    }
+}
+
+int on_volume(const char *folder, int (*use)(const struct volume *volume, const void *wish),
+              const void *wish)
+{
+    struct volume volume;
+    if (!volume_open(&volume, folder))
+        return FAILED;
+    int status = use(&volume, wish);
+    volume_close(&volume);
+    return status;
+}
+
+/* ---- Asking the library ---- */
+
+struct bytes part_of(struct bytes whole, uint64_t offset, uint64_t length)
+{
+    return (struct bytes){ .start = whole.start + offset, .length = length };
+}
+
+struct bytes block_of(const struct volume *volume, int side, uint64_t number)
+{
+    /* The letters only name the sides here. */
+    uint64_t out[KLAPOUZEN_BLOCK];
+    if (klapouzen_block(VOLUME(volume), 'a', 'b', side == INDEX ? 'a' : 'b', number, out) != 0)
+        return (struct bytes){ NULL, 0 };
+    return part_of(volume->sides[side].store, out[KLAPOUZEN_BLOCK_OFFSET],
+                   out[KLAPOUZEN_BLOCK_LENGTH]);
+}
+
+static void read_vol1(const struct volume *volume, struct label *label)
+{
+    uint64_t out[KLAPOUZEN_VOL1];
+    struct bytes block = block_of(volume, INDEX, 0);
+    klapouzen_read_vol1(SLICE(block), out);
+    label->identifier = part_of(block, out[KLAPOUZEN_VOL1_IDENTIFIER],
+                                out[KLAPOUZEN_VOL1_IDENTIFIER_LENGTH]);
+    label->owner = part_of(block, out[KLAPOUZEN_VOL1_OWNER], out[KLAPOUZEN_VOL1_OWNER_LENGTH]);
+}
+
+uint64_t read_labels(const struct volume *volume, struct label *label)
+{
+    uint64_t out[KLAPOUZEN_LABEL];
+    uint64_t refusal = klapouzen_check_labels(VOLUME(volume), out);
+    *label = (struct label){ 0 };
+    if (refusal != 0)
+        return refusal;
+    struct bytes store = volume->sides[INDEX].store;
+    read_vol1(volume, label);
+    label->creator = part_of(store, out[KLAPOUZEN_LABEL_CREATOR],
+                             out[KLAPOUZEN_LABEL_CREATOR_LENGTH]);
+    label->time = part_of(store, out[KLAPOUZEN_LABEL_TIME], out[KLAPOUZEN_LABEL_TIME_LENGTH]);
+    label->uuid = part_of(store, out[KLAPOUZEN_LABEL_UUID], out[KLAPOUZEN_LABEL_UUID_LENGTH]);
+    label->block_size = out[KLAPOUZEN_LABEL_BLOCK_SIZE];
+    label->release = out[KLAPOUZEN_LABEL_RELEASE];
+    label->letters[INDEX] = (uint8_t)out[KLAPOUZEN_LABEL_INDEX_LETTER];
+    label->letters[DATA] = (uint8_t)out[KLAPOUZEN_LABEL_DATA_LETTER];
+    label->compression = out[KLAPOUZEN_LABEL_COMPRESSION] != 0;
+    return 0;
+}
+
+uint64_t read_constructs(const struct side *side, uint64_t block_size,
+                         struct constructs *constructs)
+{
+    return klapouzen_constructs(SIDE(side), block_size, constructs->table, &constructs->count);
+}
+
+const uint32_t *construct_row(const struct constructs *constructs, uint64_t number)
+{
+    return constructs->table + KLAPOUZEN_CONSTRUCT * number;
+}
+
+struct place construct_place(const struct volume *volume, const struct label *label,
+                             int side, const uint32_t *row)
+{
+    uint32_t begin = row[KLAPOUZEN_CONSTRUCT_BEGIN];
+    return (struct place){
+        .text = part_of(volume->sides[side].store, begin, row[KLAPOUZEN_CONSTRUCT_END] - begin),
+        .letter = label->letters[side],
+        .block = row[KLAPOUZEN_CONSTRUCT_FIRST_BLOCK],
+    };
+}

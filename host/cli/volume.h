@@ -1,0 +1,92 @@
+/* A cartridge's four files, and what its labels say. */
+#ifndef VOLUME_H
+#define VOLUME_H
+
+#include <stdbool.h>
+#include <stddef.h>
+#include <stdint.h>
+#include <stdio.h>
+
+#include "klapouzen.h"
+
+struct bytes {
+    const uint8_t *start;
+    size_t length;
+};
+
+struct side {
+    const char *name; /* "index" or "data" */
+    struct bytes list, store;
+};
+
+struct volume {
+    const char *folder;
+    struct side sides[2]; /* index, data */
+};
+
+enum { INDEX, DATA };
+
+/* A slice, a side and a volume as the library's functions take them. */
+#define SLICE(bytes) (bytes).start, (bytes).length
+#define SIDE(side) SLICE((side)->list), SLICE((side)->store)
+#define VOLUME(volume) SIDE(&(volume)->sides[INDEX]), SIDE(&(volume)->sides[DATA])
+
+/*
+ * Reads the four files of a folder, a missing one as empty. Where one can't be
+ * read, says so on standard error and answers false; there is nothing to close
+ * then.
+ */
+bool volume_open(struct volume *volume, const char *folder);
+void volume_close(struct volume *volume);
+
+/* Opens a volume for a function that answers the exit status; FAILED where it can't be read. */
+int on_volume(const char *folder, int (*use)(const struct volume *volume, const void *wish),
+              const void *wish);
+
+/* A part of a slice. */
+struct bytes part_of(struct bytes whole, uint64_t offset, uint64_t length);
+
+/* The block with this element number on one side; empty where there is none. */
+struct bytes block_of(const struct volume *volume, int side, uint64_t number);
+
+/* What the labels of a volume say. */
+struct label {
+    struct bytes identifier, owner; /* of VOL1 */
+    struct bytes creator, time, uuid;
+    uint64_t block_size, release;
+    uint8_t letters[2]; /* index, data */
+    bool compression;
+};
+
+/* The label check's refusal, or 0 and the labels. */
+uint64_t read_labels(const struct volume *volume, struct label *label);
+
+/* An index text and where it stands. */
+struct place {
+    struct bytes text;
+    uint8_t letter;
+    uint64_t block;
+};
+
+/* What the index readers take. */
+#define INDEX_AT(label, place) \
+    SLICE((place)->text), SLICE((label)->uuid), (label)->letters[INDEX], \
+        (label)->letters[DATA], (label)->block_size, (place)->letter, (place)->block
+
+/* The standing index constructs of one side. */
+struct constructs {
+    uint64_t count;
+    uint32_t table[KLAPOUZEN_CONSTRUCT_TABLE];
+};
+
+uint64_t read_constructs(const struct side *side, uint64_t block_size,
+                         struct constructs *constructs);
+
+/* A row of the table. */
+const uint32_t *construct_row(const struct constructs *constructs, uint64_t number);
+
+/* The text of a construct, with its place. */
+struct place construct_place(const struct volume *volume, const struct label *label,
+                             int side, const uint32_t *row);
+
+#endif

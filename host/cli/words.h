@@ -1,0 +1,68 @@
+/* What the library's numbers say, in words; texts made fit to print. */
+#ifndef WORDS_H
+#define WORDS_H
+
+#include "volume.h"
+
+/* ---- Colour ---- */
+
+enum colour { PLAIN, BOLD, DIM, RED, GREEN, YELLOW, BLUE, MAGENTA, CYAN };
+
+/* Colour goes to terminals only, and not where NO_COLOR is set. */
+bool takes_colour(FILE *out);
+
+/* The sequence that sets a colour; empty where none is wanted. */
+const char *colour_code(FILE *out, enum colour colour);
+
+/* ---- Texts from a tape ---- */
+
+/*
+ * A text as spelled, its references decoded. Control characters are shown as
+ * \xNN so that no tape writes to a terminal as it likes.
+ */
+void print_spelled(FILE *out, struct bytes text);
+
+/* The same for text without references. */
+void print_bytes(FILE *out, struct bytes text);
+
+/* A JSON string; bytes that are no UTF-8 become U+FFFD. `spelled`: decode references. */
+void print_json(FILE *out, struct bytes text, bool spelled);
+
+struct bytes bytes_of(const char *text);
+
+/* Whether a text as spelled, decoded, is this one. */
+bool spells(struct bytes spelled, const char *text);
+
+/* 12,345,678: digits in threes. The text stands until the fourth call after. */
+const char *grouped(uint64_t number);
+
+/* "1 block", "1,200 blocks": the plural is given whole. */
+void print_counted(FILE *out, uint64_t number, const char *one, const char *many);
+
+/* ---- Refusals and verdicts ---- */
+
+/* Where a refusal of the volume comes from. */
+struct origin {
+    const char *side; /* "index", "data", "both" */
+    const char *file;
+};
+
+struct origin origin_of(const struct volume *volume, uint64_t refusal);
+
+/* "refused 3: text (index side, index.store)" */
+void print_refusal(FILE *out, const struct volume *volume, uint64_t refusal);
+
+/* The same on standard error, after the folder. */
+void complain_refusal(const struct volume *volume, uint64_t refusal);
+
+/* "refused 6: text (side side, side.store, index construct n)" on standard error. */
+void complain_construct(const struct volume *volume, int side, uint64_t construct,
+                        uint64_t refusal);
+
+/* "consistent", or "break 3: ..". */
+void print_verdict(FILE *out, const uint64_t verdict[KLAPOUZEN_BREAK]);
+
+/* What a break means, in words; the number is the construct's or the file's. */
+void print_break(FILE *out, const uint64_t verdict[KLAPOUZEN_BREAK]);
+
+#endif

@@ -1,0 +1,4 @@
+/* Where libFuzzer looks for counters that it did not put in itself. */
+#include "fuzz.h"
+
+__attribute__((section("__libfuzzer_extra_counters"))) uint8_t fuzz_counters[COUNTERS];

@@ -1,0 +1,17 @@
+#!/usr/bin/env bash
+# Each target for so many seconds: by libFuzzer where clang has it, else by fuzz/mutate.c. Called by make fuzz.
+set -eu
+cd "$(dirname "$0")/.."
+T=target/fuzz
+seconds=$1
+for target in volume label index form rows; do
+    # shellcheck disable=SC2086
+    if clang -std=c11 -D_GNU_SOURCE $CFLAGS -Iinclude -fsanitize=fuzzer,address,undefined fuzz/$target.c fuzz/counters.c \
+        $LIBRARIES -o $T/${target}_libfuzzer 2> $T/clang.log; then
+        mkdir -p $T/found/$target
+        $T/${target}_libfuzzer -max_total_time="$seconds" -max_len=1000000 -print_final_stats=1 \
+            -artifact_prefix=$T/ $T/found/$target $T/corpus/$target 2>&1 | tail -n 9
+    else
+        $T/${target}_mutate $T/corpus/$target "$seconds"
+    fi
+done

@@ -1,0 +1,87 @@
+/* Four slices as a volume: every volume function, and what their answers owe each other. */
+#include "fuzz.h"
+
+#define SIDE(volume, side) SLICE((volume)->parts[2 * (side)]), SLICE((volume)->parts[2 * (side) + 1])
+#define VOLUME(volume) SIDE(volume, 0), SIDE(volume, 1)
+
+struct volume {
+    struct slice parts[4];
+};
+
+static uint32_t table[KLAPOUZEN_CONSTRUCT_TABLE];
+
+/* Keeping fewer elements keeps fewer bytes, and the kept front is well formed. */
+static void try_list(const struct volume *volume, int side, uint64_t n)
+{
+    uint64_t count[1], kept[KLAPOUZEN_KEPT], all[1], standing[1];
+    const struct slice *list = &volume->parts[2 * side], *store = &volume->parts[2 * side + 1];
+    uint64_t refusal = ANSWERED(klapouzen_check_list(SIDE(volume, side), FILLED(all)), all);
+    must(ANSWERED(klapouzen_keep(SIDE(volume, side), n, FILLED(kept)), kept) == refusal);
+    must(ANSWERED(klapouzen_constructs(SIDE(volume, side), 4096, table, FILLED(standing)), standing) == refusal);
+    if (refusal != 0)
+        return;
+    must(kept[0] <= list->length && kept[1] <= store->length);
+    must(klapouzen_check_list(list->start, kept[0], store->start, kept[1], FILLED(count)) == 0);
+    must(count[0] == (n < all[0] ? n : all[0]));
+    for (uint64_t i = 0; i < standing[0]; i++) {
+        const uint32_t *row = table + KLAPOUZEN_CONSTRUCT * i;
+        must(row[KLAPOUZEN_CONSTRUCT_BEGIN] < row[KLAPOUZEN_CONSTRUCT_END]
+             && row[KLAPOUZEN_CONSTRUCT_END] <= store->length && row[KLAPOUZEN_CONSTRUCT_KEPT] <= all[0]);
+    }
+}
+
+/* The fronts of a cut. */
+static struct volume cut_volume(const struct volume *volume, const uint64_t cut[KLAPOUZEN_CUT])
+{
+    struct volume front = *volume;
+    for (int side = 0; side < 2; side++) {
+        uint64_t kept[KLAPOUZEN_KEPT], elements = cut[KLAPOUZEN_CUT_INDEX_KEPT + side];
+        must(klapouzen_keep(SIDE(volume, side), elements, kept) == 0);
+        front.parts[2 * side].length = kept[KLAPOUZEN_KEPT_LIST];
+        front.parts[2 * side + 1].length = kept[KLAPOUZEN_KEPT_STORE];
+    }
+    return front;
+}
+
+/* The cut leaves a consistent volume, and cutting that again drops nothing. */
+static void try_cut(const struct volume *volume, const uint64_t cut[KLAPOUZEN_CUT], int is_consistent)
+{
+    uint64_t verdict[KLAPOUZEN_BREAK], again[KLAPOUZEN_CUT];
+    struct volume front = cut_volume(volume, cut);
+    must(klapouzen_verdict(VOLUME(&front), verdict) == 0 && verdict[0] == 0);
+    must(klapouzen_rescue(VOLUME(&front), again) == 0);
+    must(memcmp(cut, again, sizeof again) == 0);
+    int drops = 0;
+    for (int i = 0; i < 4; i += 2)
+        drops |= front.parts[i].length != volume->parts[i].length;
+    must(drops == !is_consistent);
+}
+
+static void try_volume(const struct volume *volume)
+{
+    uint64_t label[KLAPOUZEN_LABEL], verdict[KLAPOUZEN_BREAK], cut[KLAPOUZEN_CUT];
+    uint64_t refusal = ANSWERED(klapouzen_check_labels(VOLUME(volume), FILLED(label)), label);
+    must(ANSWERED(klapouzen_verdict(VOLUME(volume), FILLED(verdict)), verdict) == refusal);
+    uint64_t no_cut = ANSWERED(klapouzen_rescue(VOLUME(volume), FILLED(cut)), cut);
+    must(refusal == 0 ? no_cut == 0 || no_cut == KLAPOUZEN_NO_CUT : no_cut == refusal);
+    if (refusal == 0)
+        must(no_cut == 0 || verdict[0] != 0);
+    if (no_cut == 0)
+        try_cut(volume, cut, verdict[0] == 0);
+}
+
+int LLVMFuzzerTestOneInput(const uint8_t *input, size_t size)
+{
+    struct slice rest = { input, size };
+    uint64_t block[KLAPOUZEN_BLOCK], n = take_number(&rest, 1);
+    struct volume volume;
+    for (int i = 0; i < 4; i++)
+        volume.parts[i] = take_slice(&rest);
+    try_list(&volume, 0, n);
+    try_list(&volume, 1, n);
+    if (ANSWERED(klapouzen_block(VOLUME(&volume), 'a', 'b', n % 2 ? 'a' : 'b', n, FILLED(block)), block) == 0)
+        must(block[KLAPOUZEN_BLOCK_OFFSET] + block[KLAPOUZEN_BLOCK_LENGTH]
+             <= volume.parts[2 * block[KLAPOUZEN_BLOCK_SIDE] + 1].length);
+    try_volume(&volume);
+    return 0;
+}

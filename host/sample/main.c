@@ -1,0 +1,177 @@
+/* make_sample KIND DIR: writes one of the sample volumes to a new folder. */
+#include <stdio.h>
+#include <stdlib.h>
+#include <string.h>
+#include <sys/stat.h>
+
+#include "sample.h"
+
+enum { BLOCK_SIZE = 4096 };
+
+/* Bytes that can be told apart by their position. */
+static uint8_t *made_bytes(size_t length, uint8_t seed)
+{
+    uint8_t *bytes = malloc(length);
+    if (bytes == NULL)
+        abort();
+    for (size_t i = 0; i < length; i++)
+        bytes[i] = (uint8_t)(seed + i + i / 251);
+    return bytes;
+}
+
+/* A data run of made bytes on the data side; answers its first element. */
+static uint64_t put_run(struct sample *sample, size_t length, uint8_t seed)
+{
+    uint8_t *bytes = made_bytes(length, seed);
+    uint64_t first = sample_data(sample, 1, bytes, length);
+    free(bytes);
+    return first;
+}
+
+/* ---- The kinds ---- */
+
+static void fresh(struct sample *sample)
+{
+    sample_unmount(sample);
+}
+
+/* The data side stops after element 5: nothing to cut to. */
+static void torn(struct sample *sample)
+{
+    fresh(sample);
+    struct tape *data = &sample->sides[1];
+    data->list.length -= 1;
+    data->elements--;
+}
+
+/* Files in an index: one for each run written so far. */
+struct run {
+    const char *name;
+    uint64_t first, length;
+};
+
+static void put_files(struct sample *sample, int side, const struct run *runs, size_t count)
+{
+    struct index_head head = sample_head(sample, side);
+    struct index_text index;
+    index_begin(&index, &head);
+    for (size_t i = 0; i < count; i++) {
+        struct extent extent = { 'b', runs[i].first, 0, runs[i].length, 0 };
+        index_file(&index, runs[i].name, runs[i].length, &extent, 1);
+    }
+    index_end(&index);
+    sample_index(sample, side, &index);
+}
+
+/* Recordings of some nights; the last was cut off while its data was written. */
+static void nights(struct sample *sample)
+{
+    struct run runs[] = {
+        { "monday.wav", 0, 61000 }, { "tuesday.wav", 0, 9000 }, { "wednesday.wav", 0, 150000 },
+    };
+    sample_unmount(sample);
+    for (size_t i = 0; i < 3; i++) {
+        sample->generation++;
+        runs[i].first = put_run(sample, (size_t)runs[i].length, (uint8_t)(40 * i));
+        put_files(sample, 1, runs, i + 1);
+        if (i != 1)
+            put_files(sample, 0, runs, i + 1);
+    }
+    put_run(sample, 20000, 7);
+    tape_mark(&sample->sides[1]);
+    tape_filled_block(&sample->sides[1], '<', 1200);
+}
+
+/* A defect in the middle of the data side, and later constructs that stand no more. */
+static void defect(struct sample *sample)
+{
+    sample_unmount(sample);
+    sample->generation++;
+    put_run(sample, 12000, 1);
+    sample_unmount(sample);
+    sample->generation++;
+    tape_filled_block(&sample->sides[1], 'x', BLOCK_SIZE + 1);
+    sample_unmount(sample);
+}
+
+/* More generations than fit a screen, an unsound index among them. */
+static void long_one(struct sample *sample)
+{
+    for (int i = 0; i < 60; i++) {
+        sample->generation++;
+        put_run(sample, 5000, (uint8_t)i);
+        sample_unmount(sample);
+        if (i != 30)
+            continue;
+        tape_mark(&sample->sides[0]);
+        tape_filled_block(&sample->sides[0], '?', 100);
+        tape_mark(&sample->sides[0]);
+    }
+}
+
+/* Files with several extents, gaps and names that need references. */
+static void sparse(struct sample *sample)
+{
+    sample_empty_index(sample, 1);
+    sample->generation++;
+    uint64_t first = put_run(sample, 10000, 9);
+    sample_empty_index(sample, 1);
+    struct index_head head = sample_head(sample, 0);
+    struct extent gaps[] = {
+        { 'b', first, 100, 5000, 70000 }, { 'b', first + 2, 0, 10, 3 }, { 'b', first + 1, 0, 4096, 20 },
+    };
+    struct extent past = { 'b', first + 2, 2000, 10, 0 };
+    struct index_text index;
+    index_begin(&index, &head);
+    index_file(&index, "gaps &amp; &lt;more&gt;", 80000, gaps, 3);
+    index_file(&index, "nothing stored", 100000, NULL, 0);
+    index_file(&index, "empty", 0, NULL, 0);
+    index_file(&index, "twice", 0, NULL, 0);
+    index_file(&index, "twice", 1, NULL, 0);
+    index_file(&index, "past the block", 10, &past, 1);
+    index_end(&index);
+    sample_index(sample, 0, &index);
+}
+
+/* ---- Writing ---- */
+
+static void write_part(const char *folder, const char *name, const struct buffer *bytes)
+{
+    char path[4096];
+    snprintf(path, sizeof path, "%s/%s", folder, name);
+    FILE *file = fopen(path, "wbx");
+    if (file == NULL || fwrite(bytes->bytes, 1, bytes->length, file) != bytes->length
+        || fclose(file) != 0) {
+        perror(path);
+        exit(2);
+    }
+}
+
+static void write_sample(const struct sample *sample, const char *folder)
+{
+    mkdir(folder, 0777);
+    write_part(folder, "index.list", &sample->sides[0].list);
+    write_part(folder, "index.store", &sample->sides[0].store);
+    write_part(folder, "data.list", &sample->sides[1].list);
+    write_part(folder, "data.store", &sample->sides[1].store);
+}
+
+int main(int count, char **words)
+{
+    static const struct { const char *name; void (*make)(struct sample *); } kinds[] = {
+        { "fresh", fresh }, { "torn", torn }, { "nights", nights }, { "defect", defect },
+        { "sparse", sparse }, { "long", long_one },
+    };
+    struct sample sample;
+    for (size_t i = 0; count == 3 && i < sizeof kinds / sizeof kinds[0]; i++) {
+        if (strcmp(words[1], kinds[i].name) != 0)
+            continue;
+        sample_begin(&sample, BLOCK_SIZE);
+        kinds[i].make(&sample);
+        write_sample(&sample, words[2]);
+        sample_free(&sample);
+        return 0;
+    }
+    fputs("usage: make_sample fresh|torn|nights|defect|sparse|long DIR\n", stderr);
+    return 2;
+}

@@ -1,0 +1,293 @@
+#include "sample.h"
+
+#include <inttypes.h>
+#include <stdarg.h>
+#include <stdio.h>
+#include <stdlib.h>
+#include <string.h>
+
+#include "klapouzen.h"
+
+/* ---- A buffer that grows ---- */
+
+static uint8_t *make_room(struct buffer *buffer, size_t length)
+{
+    if (buffer->length + length > buffer->room) {
+        buffer->room = 2 * (buffer->length + length) + 64;
+        buffer->bytes = realloc(buffer->bytes, buffer->room);
+        if (buffer->bytes == NULL)
+            abort();
+    }
+    uint8_t *end = buffer->bytes + buffer->length;
+    buffer->length += length;
+    return end;
+}
+
+void put_bytes(struct buffer *buffer, const void *bytes, size_t length)
+{
+    uint8_t *end = make_room(buffer, length);
+    if (length > 0)
+        memcpy(end, bytes, length);
+}
+
+void put_byte(struct buffer *buffer, uint8_t byte, size_t times)
+{
+    memset(make_room(buffer, times), byte, times);
+}
+
+void put(struct buffer *buffer, const char *format, ...)
+{
+    char text[1024];
+    va_list arguments;
+    va_start(arguments, format);
+    int length = vsnprintf(text, sizeof text, format, arguments);
+    va_end(arguments);
+    if (length < 0 || (size_t)length >= sizeof text)
+        abort();
+    put_bytes(buffer, text, (size_t)length);
+}
+
+void buffer_free(struct buffer *buffer)
+{
+    free(buffer->bytes);
+    *buffer = (struct buffer){ 0 };
+}
+
+/* ---- Index texts ---- */
+
+static void new_line(struct index_text *index, int depth)
+{
+    if (!index->indented)
+        return;
+    put_byte(&index->text, '\n', 1);
+    put_byte(&index->text, ' ', 4 * (size_t)depth);
+}
+
+static void tag(struct index_text *index, int depth, const char *tag)
+{
+    new_line(index, depth);
+    put(&index->text, "%s", tag);
+}
+
+static void value(struct index_text *index, int depth, const char *name, const char *text)
+{
+    new_line(index, depth);
+    put(&index->text, "<%s>%s</%s>", name, text, name);
+}
+
+static void number(struct index_text *index, int depth, const char *name, uint64_t number)
+{
+    char text[24];
+    snprintf(text, sizeof text, "%" PRIu64, number);
+    value(index, depth, name, text);
+}
+
+static void letter(struct index_text *index, int depth, char letter)
+{
+    value(index, depth, "partition", (char[]){ letter, '\0' });
+}
+
+static void place(struct index_text *index, const char *name, char of, uint64_t block)
+{
+    new_line(index, 1);
+    put(&index->text, "<%s>", name);
+    letter(index, 2, of);
+    number(index, 2, "startblock", block);
+    new_line(index, 1);
+    put(&index->text, "</%s>", name);
+}
+
+/* What directories and files have alike. */
+static void entry(struct index_text *index, int depth, const char *name)
+{
+    static const char *const times[] = {
+        "creationtime", "changetime", "modifytime", "accesstime", "backuptime",
+    };
+    number(index, depth, "fileuid", ++index->last_uid);
+    value(index, depth, "name", name);
+    value(index, depth, "readonly", "false");
+    for (size_t i = 0; i < sizeof times / sizeof times[0]; i++)
+        value(index, depth, times[i], SAMPLE_TIME);
+}
+
+void index_begin(struct index_text *index, const struct index_head *head)
+{
+    *index = (struct index_text){ .indented = head->indented };
+    put(&index->text, "<?xml version=\"1.0\" encoding=\"UTF-8\"?>\n<ltfsindex version=\"2.0.1\">");
+    value(index, 1, "creator", "klapouzen sample");
+    value(index, 1, "volumeuuid", SAMPLE_UUID);
+    number(index, 1, "generationnumber", head->generation);
+    value(index, 1, "updatetime", SAMPLE_TIME);
+    place(index, "location", head->letter, head->block);
+    if (head->back_letter != 0)
+        place(index, "previousgenerationlocation", head->back_letter, head->back_block);
+    value(index, 1, "allowpolicyupdate", "true");
+    number(index, 1, "highestfileuid", 4096);
+    tag(index, 1, "<directory>");
+    entry(index, 2, "sample");
+    tag(index, 2, "<contents>");
+}
+
+static void put_extent(struct index_text *index, const struct extent *extent)
+{
+    tag(index, 5, "<extent>");
+    letter(index, 6, extent->letter);
+    number(index, 6, "startblock", extent->block);
+    number(index, 6, "byteoffset", extent->offset);
+    number(index, 6, "bytecount", extent->count);
+    number(index, 6, "fileoffset", extent->position);
+    tag(index, 5, "</extent>");
+}
+
+void index_file(struct index_text *index, const char *name, uint64_t length,
+                const struct extent *extents, size_t count)
+{
+    tag(index, 3, "<file>");
+    entry(index, 4, name);
+    number(index, 4, "length", length);
+    tag(index, 4, "<extentinfo>");
+    for (size_t i = 0; i < count; i++)
+        put_extent(index, &extents[i]);
+    tag(index, 4, "</extentinfo>");
+    tag(index, 3, "</file>");
+}
+
+void index_end(struct index_text *index)
+{
+    tag(index, 2, "</contents>");
+    tag(index, 1, "</directory>");
+    tag(index, 0, "</ltfsindex>");
+    put(&index->text, "\n");
+}
+
+struct buffer index_of_size(size_t size, bool indented)
+{
+    struct index_head head = { .generation = 7, .letter = 'a', .block = 5, .back_letter = 'b',
+                               .back_block = 5, .indented = indented };
+    struct index_text index;
+    index_begin(&index, &head);
+    size_t before = 0;
+    for (uint64_t i = 0; index.text.length + 2 * (index.text.length - before) + 256 < size; i++) {
+        char name[32];
+        struct extent extent = { 'b', 5 + i, 0, 4096, 0 };
+        snprintf(name, sizeof name, "recording %05" PRIu64 ".wav", i);
+        before = index.text.length;
+        index_file(&index, name, 4096, &extent, 1);
+    }
+    index_end(&index);
+    return index.text;
+}
+
+/* ---- Volumes ---- */
+
+void tape_mark(struct tape *tape)
+{
+    put_byte(&tape->list, 1, 1);
+    tape->elements++;
+}
+
+static void list_block(struct tape *tape, size_t length)
+{
+    uint8_t element[] = { 2, (uint8_t)(length >> 24), (uint8_t)(length >> 16),
+                          (uint8_t)(length >> 8), (uint8_t)length };
+    put_bytes(&tape->list, element, sizeof element);
+    tape->elements++;
+}
+
+void tape_block(struct tape *tape, const void *bytes, size_t length)
+{
+    list_block(tape, length);
+    put_bytes(&tape->store, bytes, length);
+}
+
+void tape_filled_block(struct tape *tape, uint8_t byte, size_t length)
+{
+    list_block(tape, length);
+    put_byte(&tape->store, byte, length);
+}
+
+static void put_labels(struct tape *tape, uint8_t letter, uint64_t block_size)
+{
+#define TEXT(text) (const uint8_t *)(text), sizeof(text) - 1
+    uint8_t vol1[KLAPOUZEN_VOL1_LENGTH], label[KLAPOUZEN_MAX_LABEL];
+    uint64_t vol1_length, label_length;
+    if (klapouzen_write_vol1(vol1, sizeof vol1, TEXT("KLA001"), TEXT("Klapouzen     "), &vol1_length) != 0
+        || klapouzen_write_label(label, sizeof label, TEXT("klapouzen sample"), TEXT(SAMPLE_TIME),
+                                 TEXT(SAMPLE_UUID), letter, 'a', 'b', block_size, 1, &label_length) != 0)
+        abort();
+#undef TEXT
+    tape_block(tape, vol1, vol1_length);
+    tape_mark(tape);
+    tape_block(tape, label, label_length);
+    tape_mark(tape);
+}
+
+void sample_begin(struct sample *sample, uint64_t block_size)
+{
+    *sample = (struct sample){ .block_size = block_size, .generation = 1 };
+    put_labels(&sample->sides[0], 'a', block_size);
+    put_labels(&sample->sides[1], 'b', block_size);
+}
+
+void sample_free(struct sample *sample)
+{
+    for (int side = 0; side < 2; side++) {
+        buffer_free(&sample->sides[side].list);
+        buffer_free(&sample->sides[side].store);
+    }
+}
+
+static void put_blocks(struct sample *sample, int side, const uint8_t *bytes, size_t length)
+{
+    while (length > 0) {
+        size_t part = length < sample->block_size ? length : (size_t)sample->block_size;
+        tape_block(&sample->sides[side], bytes, part);
+        bytes += part;
+        length -= part;
+    }
+}
+
+uint64_t sample_data(struct sample *sample, int side, const void *bytes, size_t length)
+{
+    uint64_t first = sample->sides[side].elements;
+    put_blocks(sample, side, bytes, length);
+    return first;
+}
+
+struct index_head sample_head(const struct sample *sample, int side)
+{
+    uint64_t last = sample->last_data_index;
+    return (struct index_head){
+        .generation = sample->generation,
+        .letter = side == 0 ? 'a' : 'b',
+        .block = sample->sides[side].elements + 1,
+        .back_letter = last > 0 ? 'b' : 0,
+        .back_block = last,
+    };
+}
+
+void sample_index(struct sample *sample, int side, struct index_text *index)
+{
+    struct tape *tape = &sample->sides[side];
+    tape_mark(tape);
+    if (side == 1)
+        sample->last_data_index = tape->elements;
+    put_blocks(sample, side, index->text.bytes, index->text.length);
+    tape_mark(tape);
+    buffer_free(&index->text);
+}
+
+void sample_empty_index(struct sample *sample, int side)
+{
+    struct index_head head = sample_head(sample, side);
+    struct index_text index;
+    index_begin(&index, &head);
+    index_end(&index);
+    sample_index(sample, side, &index);
+}
+
+void sample_unmount(struct sample *sample)
+{
+    sample_empty_index(sample, 1);
+    sample_empty_index(sample, 0);
+}

@@ -1,0 +1,402 @@
+/*
+ * Every exported function with the smallest sizes (NULL with length 0), with the
+ * largest that document 01 names, and with one more.
+ */
+#include <inttypes.h>
+#include <stdbool.h>
+#include <stdio.h>
+#include <stdlib.h>
+#include <string.h>
+
+#include "guard.h"
+#include "klapouzen.h"
+#include "sample.h"
+
+static int failures;
+
+static void expect(const char *what, uint64_t found, uint64_t wanted)
+{
+    if (found == wanted)
+        return;
+    fprintf(stderr, "%s: %" PRIu64 " and not %" PRIu64 "\n", what, found, wanted);
+    failures++;
+}
+
+/* Outputs are filled before each call and must be zero after a refusal. */
+static uint64_t out[KLAPOUZEN_CONSTRUCT_NUMBERS];
+
+static uint64_t *filled(void)
+{
+    memset(out, 0xa5, sizeof out);
+    return out;
+}
+
+static void expect_zeros(const char *what, int count)
+{
+    for (int i = 0; i < count; i++)
+        expect(what, out[i], 0);
+}
+
+#define TEXT(text) (const uint8_t *)(text), sizeof(text) - 1
+#define NONE NULL, 0
+#define NO_VOLUME NONE, NONE, NONE, NONE
+#define UUID TEXT(SAMPLE_UUID)
+#define GIVEN UUID, 'a', 'b', 4096
+
+static uint32_t table[KLAPOUZEN_CONSTRUCT_TABLE];
+
+/* A slice of a buffer that borders a guard page. */
+struct slice {
+    uint8_t *start;
+    size_t length;
+};
+
+static struct slice guarded(struct buffer *buffer)
+{
+    struct slice slice = { guarded_copy(buffer->bytes, buffer->length), buffer->length };
+    buffer_free(buffer);
+    return slice;
+}
+
+#define SLICE(slice) (slice).start, (slice).length
+
+static void drop(struct slice slice)
+{
+    guarded_free(slice.start, slice.length);
+}
+
+/* ---- The smallest ---- */
+
+static void smallest_lists(void)
+{
+    expect("check_list of nothing", klapouzen_check_list(NONE, NONE, filled()), 0);
+    expect("its count", out[0], 0);
+    expect("keep of nothing", klapouzen_keep(NONE, NONE, UINT64_MAX, filled()), 0);
+    expect_zeros("its fronts", KLAPOUZEN_KEPT);
+    expect("block of nothing", klapouzen_block(NO_VOLUME, 'a', 'b', 'a', 0, filled()), 2);
+    expect_zeros("its place", KLAPOUZEN_BLOCK);
+    expect("block of letter c", klapouzen_block(NO_VOLUME, 'a', 'b', 'c', 0, filled()), 14);
+    expect("block of equal letters", klapouzen_block(NO_VOLUME, 'a', 'a', 'a', 0, filled()), 14);
+    memset(table, 0xa5, sizeof table);
+    expect("constructs of nothing", klapouzen_constructs(NONE, NONE, 0, table, filled()), 0);
+    expect("their count", out[0], 0);
+    expect("their table", table[0], 0xa5a5a5a5);
+    expect("check_labels of nothing", klapouzen_check_labels(NO_VOLUME, filled()), 9);
+    expect_zeros("its label", KLAPOUZEN_LABEL);
+    expect("verdict on nothing", klapouzen_verdict(NO_VOLUME, filled()), 9);
+    expect_zeros("its break", KLAPOUZEN_BREAK);
+    expect("rescue of nothing", klapouzen_rescue(NO_VOLUME, filled()), 9);
+    expect_zeros("its cut", KLAPOUZEN_CUT);
+}
+
+static void smallest_texts(void)
+{
+    expect("check_form of nothing", klapouzen_check_form(NONE), 4);
+    expect("read_vol1 of nothing", klapouzen_read_vol1(NONE, filled()), 3);
+    expect_zeros("its fields", KLAPOUZEN_VOL1);
+    expect("write_vol1 to nothing",
+           klapouzen_write_vol1(NONE, TEXT("KLA001"), TEXT("Klapouzen     "), filled()), 10);
+    expect_zeros("its length", 1);
+    expect("write_vol1 of nothing", klapouzen_write_vol1(NONE, NONE, NONE, filled()), 14);
+    expect("read_label of nothing", klapouzen_read_label(NONE, filled()), 4);
+    expect_zeros("its fields", KLAPOUZEN_LABEL);
+    expect("write_label to nothing",
+           klapouzen_write_label(NONE, TEXT("c"), TEXT(SAMPLE_TIME), UUID, 'a', 'a', 'b', 4096, 0, filled()),
+           10);
+    expect_zeros("its length", 1);
+    expect("write_label of nothing",
+           klapouzen_write_label(NONE, NONE, NONE, NONE, 'a', 'a', 'b', 4096, 0, filled()), 14);
+    expect("write_label, compression 2",
+           klapouzen_write_label(NONE, TEXT("c"), TEXT(SAMPLE_TIME), UUID, 'a', 'a', 'b', 4096, 2, filled()),
+           14);
+}
+
+static void smallest_indexes(void)
+{
+    uint64_t rows[KLAPOUZEN_ROW] = { 'b', 10, 100, 8000, 0 };
+    expect("read_index of nothing", klapouzen_read_index(NONE, GIVEN, 'a', 5, filled()), 4);
+    expect_zeros("its header", KLAPOUZEN_INDEX);
+    expect("read_index, no UUID", klapouzen_read_index(NONE, NONE, 'a', 'b', 4096, 'a', 5, filled()), 14);
+    expect("read_file of nothing", klapouzen_read_file(NONE, GIVEN, 'a', 5, 0, filled()), 4);
+    expect_zeros("its file", KLAPOUZEN_FILE);
+    expect("read_rows of nothing", klapouzen_read_rows(NONE, GIVEN, 'a', 5, 0, NONE, filled()), 4);
+    expect_zeros("its count", 1);
+    expect("index of nothing", klapouzen_index(NONE, NONE, GIVEN, 'a', 0, filled()), 2);
+    expect_zeros("its header", KLAPOUZEN_CONSTRUCT_NUMBERS);
+    expect("byte_at without rows", klapouzen_byte_at(NONE, 1, 4096, 0, filled()), 0);
+    expect_zeros("its place", KLAPOUZEN_BYTE);
+    expect("byte_at past the end", klapouzen_byte_at(NONE, 0, 4096, 0, filled()), 2);
+    expect_zeros("its place", KLAPOUZEN_BYTE);
+    expect("byte_at 3996", klapouzen_byte_at(rows, KLAPOUZEN_ROW, 9000, 4096, 3996, filled()), 0);
+    expect("its block", out[KLAPOUZEN_BYTE_BLOCK], 11);
+    expect("its byte", out[KLAPOUZEN_BYTE_OFFSET], 0);
+    expect("byte_at 9000", klapouzen_byte_at(rows, KLAPOUZEN_ROW, 9000, 4096, 9000, filled()), 2);
+}
+
+/* ---- The largest lists ---- */
+
+static void list_of(const char *what, uint64_t blocks, size_t length, uint64_t marks, uint64_t wanted)
+{
+    struct tape tape = { 0 };
+    for (uint64_t i = 0; i < blocks; i++)
+        tape_filled_block(&tape, 'x', length);
+    for (uint64_t i = 0; i < marks; i++)
+        tape_mark(&tape);
+    struct slice list = guarded(&tape.list), store = guarded(&tape.store);
+    expect(what, klapouzen_check_list(SLICE(list), SLICE(store), filled()), wanted);
+    expect(what, out[0], wanted == 0 ? tape.elements : 0);
+    expect(what, klapouzen_keep(SLICE(list), SLICE(store), UINT64_MAX, filled()), wanted);
+    expect(what, out[KLAPOUZEN_KEPT_LIST], wanted == 0 ? list.length : 0);
+    expect(what, out[KLAPOUZEN_KEPT_STORE], wanted == 0 ? store.length : 0);
+    drop(list);
+    drop(store);
+}
+
+static void largest_lists(void)
+{
+    list_of("65,536 marks", 0, 0, 65536, 0);
+    list_of("65,537 marks", 0, 0, 65537, 1);
+    list_of("65,536 blocks, 16 MiB", 65536, 256, 0, 0);
+    list_of("65,537 blocks", 65537, 1, 0, 1);
+    list_of("16 blocks of 1 MiB", 16, 1048576, 0, 0);
+    list_of("17 blocks of 1 MiB", 17, 1048576, 0, 1);
+    list_of("a block of 1 MiB and a byte", 1, 1048577, 0, 1);
+}
+
+/* As many constructs as a list can hold, each with an index of a byte. */
+static void most_constructs(void)
+{
+    struct tape tape = { 0 };
+    for (int i = 0; i < 4; i++)
+        tape_mark(&tape);
+    while (tape.elements + 3 <= KLAPOUZEN_MAX_ELEMENTS) {
+        tape_mark(&tape);
+        tape_filled_block(&tape, 'x', 1);
+        tape_mark(&tape);
+    }
+    struct slice list = guarded(&tape.list), store = guarded(&tape.store);
+    uint32_t *room = guarded_room(sizeof table);
+    memset(room, 0xa5, sizeof table);
+    expect("most constructs", klapouzen_constructs(SLICE(list), SLICE(store), 4096, room, filled()), 0);
+    expect("their count", out[0], 21844);
+    const uint32_t *last = room + (size_t)KLAPOUZEN_CONSTRUCT * 21843;
+    expect("the last's first block", last[KLAPOUZEN_CONSTRUCT_FIRST_BLOCK], 65534);
+    expect("its elements", last[KLAPOUZEN_CONSTRUCT_KEPT], 65536);
+    expect("its text's end", last[KLAPOUZEN_CONSTRUCT_END], 21844);
+    expect("the table's rest", last[KLAPOUZEN_CONSTRUCT], 0xa5a5a5a5);
+    expect("the last index", klapouzen_index(SLICE(list), SLICE(store), GIVEN, 'a', 21843, filled()), 4);
+    expect("one more", klapouzen_index(SLICE(list), SLICE(store), GIVEN, 'a', 21844, filled()), 2);
+    guarded_free(room, sizeof table);
+    drop(list);
+    drop(store);
+}
+
+/* ---- The largest texts ---- */
+
+static const char declaration[] = "<?xml version=\"1.0\" encoding=\"UTF-8\"?>";
+
+/* A text in the form of this length. */
+static struct slice text_of(size_t length)
+{
+    struct buffer text = { 0 };
+    put(&text, "%s<a>", declaration);
+    put_byte(&text, 'x', length - text.length - 4);
+    put(&text, "</a>");
+    return guarded(&text);
+}
+
+static struct slice nested(int depth)
+{
+    struct buffer text = { 0 };
+    put(&text, "%s", declaration);
+    for (int i = 0; i < depth; i++)
+        put(&text, "<a>");
+    for (int i = 0; i < depth; i++)
+        put(&text, "</a>");
+    return guarded(&text);
+}
+
+static void expect_form(const char *what, struct slice text, uint64_t wanted)
+{
+    expect(what, klapouzen_check_form(SLICE(text)), wanted);
+    drop(text);
+}
+
+/* A written label, filled up with white space to this length. */
+static void label_of(size_t length, uint64_t wanted)
+{
+    struct buffer text = { 0 };
+    uint8_t label[KLAPOUZEN_MAX_LABEL];
+    uint64_t written;
+    klapouzen_write_label(label, sizeof label, TEXT("LTFS"), TEXT(SAMPLE_TIME), UUID, 'a', 'a', 'b', 524288,
+                          1, &written);
+    expect("the written label", written, 378);
+    put_bytes(&text, label, written);
+    put_byte(&text, ' ', length - written);
+    struct slice slice = guarded(&text);
+    expect("a long label", klapouzen_read_label(SLICE(slice), filled()), wanted);
+    expect("its block size", out[KLAPOUZEN_LABEL_BLOCK_SIZE], wanted == 0 ? 524288 : 0);
+    drop(slice);
+}
+
+/* The writer into exactly its room, and into a byte less. */
+static void label_room(void)
+{
+    uint8_t *room = guarded_room(378);
+    memset(room, 7, 378);
+    expect("377 bytes", klapouzen_write_label(room, 377, TEXT("LTFS"), TEXT(SAMPLE_TIME), UUID, 'a', 'a', 'b',
+                                              524288, 1, filled()), 10);
+    for (int i = 0; i < 378; i++)
+        expect("an unchanged byte", room[i], 7);
+    expect("378 bytes", klapouzen_write_label(room, 378, TEXT("LTFS"), TEXT(SAMPLE_TIME), UUID, 'a', 'a', 'b',
+                                              524288, 1, filled()), 0);
+    guarded_free(room, 378);
+}
+
+static void creator_of(size_t length, uint64_t wanted)
+{
+    uint8_t label[KLAPOUZEN_MAX_LABEL], creator[300];
+    memset(creator, '&', sizeof creator);
+    expect("a long creator", klapouzen_write_label(label, sizeof label, creator, length, TEXT(SAMPLE_TIME),
+                                                   UUID, 'a', 'a', 'b', 4096, 0, filled()), wanted);
+}
+
+static void largest_texts(void)
+{
+    expect_form("a text of 16 MiB", text_of(KLAPOUZEN_MAX_STORE), 0);
+    expect_form("nesting 64", nested(64), 0);
+    expect_form("nesting 65", nested(65), 4);
+    label_of(KLAPOUZEN_MAX_LABEL, 0);
+    label_of(KLAPOUZEN_MAX_LABEL + 1, 15);
+    label_room();
+    creator_of(255, 0);
+    creator_of(256, 14);
+}
+
+/* ---- The largest indexes ---- */
+
+static const struct index_head head = { .generation = 7, .letter = 'a', .block = 5 };
+
+static void expect_index(const char *what, struct index_text *index, size_t length, uint64_t wanted)
+{
+    index_end(index);
+    if (length > index->text.length)
+        put_byte(&index->text, ' ', length - index->text.length);
+    struct slice text = guarded(&index->text);
+    expect(what, klapouzen_read_index(SLICE(text), GIVEN, 'a', 5, filled()), wanted);
+    expect(what, out[KLAPOUZEN_INDEX_GENERATION], wanted == 0 ? 7 : 0);
+    drop(text);
+}
+
+/* Files without values are refused 6, after they were counted: lawful ones are too long for 4,096. */
+static void index_of(const char *what, size_t files, size_t length, uint64_t wanted)
+{
+    struct index_text index;
+    index_begin(&index, &head);
+    for (size_t i = 0; i < files; i++)
+        put(&index.text, "<file><fileuid/><name/><readonly/><creationtime/><changetime/><modifytime/>"
+                         "<accesstime/><backuptime/><length/></file>");
+    expect_index(what, &index, length, wanted);
+}
+
+static void rows_of(const char *what, size_t count, uint64_t wanted)
+{
+    struct extent *extents = calloc(count, sizeof *extents);
+    struct index_text index;
+    for (size_t i = 0; i < count; i++)
+        extents[i] = (struct extent){ 'b', i, 0, 1, i };
+    index_begin(&index, &head);
+    index_file(&index, "f", count, extents, count);
+    expect_index(what, &index, 0, wanted);
+    free(extents);
+}
+
+/* All rows of a file into exactly their room, and into a number less. */
+static void row_room(void)
+{
+    enum { NUMBERS = KLAPOUZEN_ROW * KLAPOUZEN_MAX_ROWS };
+    struct extent extents[KLAPOUZEN_MAX_ROWS];
+    struct index_text index;
+    for (size_t i = 0; i < KLAPOUZEN_MAX_ROWS; i++)
+        extents[i] = (struct extent){ 'b', i, 0, 1, i };
+    index_begin(&index, &head);
+    index_file(&index, "f", KLAPOUZEN_MAX_ROWS, extents, KLAPOUZEN_MAX_ROWS);
+    index_end(&index);
+    struct slice text = guarded(&index.text);
+    uint64_t *rows = guarded_room(NUMBERS * sizeof *rows);
+    memset(rows, 0xa5, NUMBERS * sizeof *rows);
+    expect("short rows", klapouzen_read_rows(SLICE(text), GIVEN, 'a', 5, 0, rows, NUMBERS - 1, filled()), 10);
+    expect("an unchanged number", rows[0], 0xa5a5a5a5a5a5a5a5);
+    expect("all rows", klapouzen_read_rows(SLICE(text), GIVEN, 'a', 5, 0, rows, NUMBERS, filled()), 0);
+    expect("their count", out[0], KLAPOUZEN_MAX_ROWS);
+    expect("the last position", rows[NUMBERS - 1], KLAPOUZEN_MAX_ROWS - 1);
+    expect("its byte", klapouzen_byte_at(rows, NUMBERS, 1024, 4096, 1023, filled()), 0);
+    expect("its block", out[KLAPOUZEN_BYTE_BLOCK], 1023);
+    guarded_free(rows, NUMBERS * sizeof *rows);
+    drop(text);
+}
+
+static void map_of(size_t count, uint64_t wanted)
+{
+    size_t size = KLAPOUZEN_ROW * count * sizeof(uint64_t);
+    uint64_t *rows = guarded_room(size);
+    for (size_t i = 0; i < count; i++)
+        memcpy(rows + KLAPOUZEN_ROW * i, (uint64_t[]){ 'z', UINT64_MAX, 0, 1, i }, 5 * sizeof *rows);
+    expect("many rows", klapouzen_byte_at(rows, KLAPOUZEN_ROW * count, UINT64_MAX, 1048576, count - 1, filled()),
+           wanted);
+    guarded_free(rows, size);
+}
+
+static void largest_indexes(void)
+{
+    index_of("an index of 1 MiB", 0, KLAPOUZEN_MAX_INDEX, 0);
+    index_of("an index of 1 MiB and a byte", 0, KLAPOUZEN_MAX_INDEX + 1, 15);
+    index_of("4,096 entries", KLAPOUZEN_MAX_ENTRIES - 1, 0, 6);
+    index_of("4,097 entries", KLAPOUZEN_MAX_ENTRIES, 0, 15);
+    rows_of("1,024 extents", 1024, 0);
+    rows_of("1,025 extents", 1025, 15);
+    row_room();
+    map_of(1024, 0);
+    map_of(1025, 15);
+}
+
+/* ---- The largest volume ---- */
+
+/* 65,536 elements on each side and a store of nearly 16 MiB. */
+static void largest_volume(void)
+{
+    struct sample sample;
+    sample_begin(&sample, 4096);
+    for (int side = 1; side >= 0; side--) {
+        struct tape *tape = &sample.sides[side];
+        while (tape->elements + 3 < KLAPOUZEN_MAX_ELEMENTS)
+            tape_filled_block(tape, 'x', 255);
+        sample_empty_index(&sample, side);
+    }
+    struct slice parts[4] = { guarded(&sample.sides[0].list), guarded(&sample.sides[0].store),
+                              guarded(&sample.sides[1].list), guarded(&sample.sides[1].store) };
+#define PARTS SLICE(parts[0]), SLICE(parts[1]), SLICE(parts[2]), SLICE(parts[3])
+    expect("labels", klapouzen_check_labels(PARTS, filled()), 0);
+    expect("verdict", klapouzen_verdict(PARTS, filled()), 0);
+    expect("break", out[KLAPOUZEN_BREAK_WHICH], 0);
+    expect("rescue", klapouzen_rescue(PARTS, filled()), 0);
+    expect("kept", out[KLAPOUZEN_CUT_DATA_KEPT], KLAPOUZEN_MAX_ELEMENTS);
+    expect("block", klapouzen_block(PARTS, 'a', 'b', 'b', 65534, filled()), 0);
+    expect("mark", klapouzen_block(PARTS, 'a', 'b', 'b', 65535, filled()), 2);
+    expect("past", klapouzen_block(PARTS, 'a', 'b', 'b', 65536, filled()), 2);
+    for (int i = 0; i < 4; i++)
+        drop(parts[i]);
+}
+
+int main(void)
+{
+    smallest_lists();
+    smallest_texts();
+    smallest_indexes();
+    largest_lists();
+    most_constructs();
+    largest_texts();
+    largest_indexes();
+    largest_volume();
+    return failures > 0;
+}

@@ -1,0 +1,336 @@
+/*
+ * The library against the reference, through the same C functions with the same
+ * arguments: differential [CASES [FIRST]]. Outputs and lent buffers are filled
+ * with other data first and compared whole afterwards. Inputs are read-only and
+ * border pages that can't be touched.
+ */
+#include <inttypes.h>
+#include <stdio.h>
+#include <stdlib.h>
+#include <string.h>
+
+#include "cases.h"
+#include "guard.h"
+#include "klapouzen.h"
+
+/* ---- Both sides' functions ---- */
+
+#define FUNCTIONS(X) \
+    X(check_list) X(keep) X(block) X(constructs) X(check_form) X(read_vol1) X(write_vol1) \
+    X(read_label) X(write_label) X(check_labels) X(read_index) X(read_file) X(read_rows) \
+    X(index) X(byte_at) X(verdict) X(rescue)
+
+#define DECLARE(name) extern __typeof__(klapouzen_##name) reference_##name;
+#define MEMBER(name) __typeof__(klapouzen_##name) *name;
+#define OF_LIBRARY(name) .name = klapouzen_##name,
+#define OF_REFERENCE(name) .name = reference_##name,
+
+FUNCTIONS(DECLARE)
+
+struct functions {
+    FUNCTIONS(MEMBER)
+};
+
+static const struct functions sides[2] = {
+    { FUNCTIONS(OF_LIBRARY) },
+    { FUNCTIONS(OF_REFERENCE) },
+};
+
+/* ---- Answers ---- */
+
+enum { NUMBERS = 20, LENT = 4096, ROWS = 64 };
+
+struct answer {
+    uint64_t refusal;
+    uint64_t out[NUMBERS];
+    uint8_t lent[LENT];
+    uint64_t rows[ROWS];
+};
+
+static struct answer answers[2];
+static uint32_t tables[2][KLAPOUZEN_CONSTRUCT_TABLE];
+static uint64_t seed, differences, calls, refusals[16];
+
+/* The same other data on both sides. */
+static void fill(struct answer *answer)
+{
+    memset(answer, (int)(0x5a + calls % 97), sizeof *answer);
+}
+
+static void print_numbers(const char *who, const struct answer *answer)
+{
+    fprintf(stderr, "  %s: refusal %" PRIu64 ",", who, answer->refusal);
+    for (int i = 0; i < NUMBERS; i++)
+        fprintf(stderr, " %" PRIu64, answer->out[i]);
+    fputc('\n', stderr);
+}
+
+static void differ(const char *what)
+{
+    differences++;
+    fprintf(stderr, "seed %" PRIu64 ": %s differs\n", seed, what);
+    print_numbers("library", &answers[0]);
+    print_numbers("reference", &answers[1]);
+}
+
+static void compare(const char *what)
+{
+    calls++;
+    if (answers[1].refusal < 16)
+        refusals[answers[1].refusal]++;
+    if (memcmp(&answers[0], &answers[1], sizeof answers[0]) != 0)
+        differ(what);
+}
+
+/* The call, on both sides: `f` is the side's functions, `a` its answer. */
+#define BOTH(what, call) \
+    do { \
+        for (int side = 0; side < 2; side++) { \
+            const struct functions *f = &sides[side]; \
+            struct answer *a = &answers[side]; \
+            fill(a); \
+            a->refusal = (call); \
+        } \
+        compare(what); \
+    } while (0)
+
+/* ---- Slices ---- */
+
+struct slice {
+    uint8_t *start;
+    size_t length;
+};
+
+#define SLICE(slice) (slice).start, (slice).length
+#define SIDE(list, store) SLICE(list), SLICE(store)
+#define VOLUME(parts) SIDE((parts)[0], (parts)[1]), SIDE((parts)[2], (parts)[3])
+
+static void guard_case(const struct random_case *random, struct slice parts[4])
+{
+    for (int i = 0; i < 4; i++) {
+        parts[i].length = random->lengths[i];
+        parts[i].start = guarded_copy(random->bytes[i], random->lengths[i]);
+    }
+}
+
+static void drop_case(struct random_case random, struct slice parts[4])
+{
+    for (int i = 0; i < 4; i++)
+        guarded_free(parts[i].start, parts[i].length);
+    random_free(random);
+}
+
+/* Now and then a text filled up with white space to a bound, or a byte past it. */
+static struct slice stretched(struct slice text, uint64_t every, size_t bound)
+{
+    if (seed % every != 0 || text.length > bound)
+        return (struct slice){ NULL, 0 };
+    struct slice longer = { NULL, bound + seed / every % 2 };
+    uint8_t *bytes = malloc(longer.length);
+    if (text.length > 0)
+        memcpy(bytes, text.start, text.length);
+    memset(bytes + text.length, ' ', longer.length - text.length);
+    longer.start = guarded_copy(bytes, longer.length);
+    free(bytes);
+    return longer;
+}
+
+/* ---- Lists ---- */
+
+static void compare_tables(void)
+{
+    if (memcmp(tables[0], tables[1], sizeof tables[0]) != 0)
+        differ("constructs' table");
+}
+
+static void compare_list(struct slice list, struct slice store, const uint64_t *numbers,
+                         uint64_t block_size)
+{
+    BOTH("check_list", f->check_list(SIDE(list, store), a->out));
+    BOTH("keep", f->keep(SIDE(list, store), numbers[0], a->out));
+    BOTH("keep", f->keep(SIDE(list, store), numbers[1], a->out));
+    BOTH("keep", f->keep(SIDE(list, store), numbers[2], a->out));
+    BOTH("constructs", f->constructs(SIDE(list, store), block_size, tables[side], a->out));
+    compare_tables();
+    BOTH("constructs", f->constructs(SIDE(list, store), numbers[2] % 9000, tables[side], a->out));
+    compare_tables();
+}
+
+static void compare_blocks(const struct slice parts[4], const uint64_t *numbers, uint8_t index,
+                           uint8_t data)
+{
+    const uint8_t letters[] = { index, data, 'c', (uint8_t)numbers[2] };
+    for (int i = 0; i < 4; i++)
+        for (int j = 0; j < 3; j++)
+            BOTH("block", f->block(VOLUME(parts), index, data, letters[i], numbers[j], a->out));
+    BOTH("block", f->block(VOLUME(parts), index, index, index, numbers[0], a->out));
+    BOTH("block", f->block(VOLUME(parts), letters[3], data, letters[3], numbers[0], a->out));
+}
+
+/* ---- Indexes ---- */
+
+struct given {
+    struct slice uuid;
+    uint8_t index, data;
+    uint64_t block_size;
+};
+
+#define GIVEN(given) SLICE((given)->uuid), (given)->index, (given)->data, (given)->block_size
+
+static void compare_index(struct slice text, const struct given *given, uint8_t letter, uint64_t block)
+{
+    BOTH("read_index", f->read_index(SLICE(text), GIVEN(given), letter, block, a->out));
+    uint64_t files = answers[1].refusal == 0 ? answers[1].out[KLAPOUZEN_INDEX_FILES] : 0;
+    for (uint64_t file = 0; file <= files; file++) {
+        BOTH("read_file", f->read_file(SLICE(text), GIVEN(given), letter, block, file, a->out));
+        uint64_t rows = answers[1].refusal == 0 ? answers[1].out[KLAPOUZEN_FILE_ROWS] : 0;
+        size_t exact = rows < ROWS / KLAPOUZEN_ROW ? (size_t)rows * KLAPOUZEN_ROW : ROWS;
+        BOTH("read_rows", f->read_rows(SLICE(text), GIVEN(given), letter, block, file, a->rows, ROWS, a->out));
+        BOTH("read_rows", f->read_rows(SLICE(text), GIVEN(given), letter, block, file, a->rows, exact, a->out));
+        if (exact > 0)
+            BOTH("read_rows", f->read_rows(SLICE(text), GIVEN(given), letter, block, file, a->rows, exact - 1,
+                                           a->out));
+    }
+    BOTH("read_file", f->read_file(SLICE(text), GIVEN(given), letter, block, UINT64_MAX, a->out));
+}
+
+static void compare_constructs(struct slice list, struct slice store, const struct given *given,
+                               uint8_t letter)
+{
+    uint64_t number = 0;
+    do {
+        BOTH("index", f->index(SIDE(list, store), GIVEN(given), letter, number, a->out));
+        number++;
+    } while (answers[1].refusal != KLAPOUZEN_MISSING && number < 12);
+}
+
+static void index_case(void)
+{
+    struct random_case random = random_index(seed);
+    struct slice parts[4];
+    guard_case(&random, parts);
+    struct given given = { parts[1], (uint8_t)random.numbers[0], (uint8_t)random.numbers[1],
+                           random.numbers[2] };
+    compare_index(parts[0], &given, (uint8_t)random.numbers[3], random.numbers[4]);
+    BOTH("check_form", f->check_form(SLICE(parts[0])));
+    struct slice longer = stretched(parts[0], 100, KLAPOUZEN_MAX_INDEX);
+    BOTH("read_index", f->read_index(SLICE(longer), GIVEN(&given), (uint8_t)random.numbers[3],
+                                     random.numbers[4], a->out));
+    guarded_free(longer.start, longer.length);
+    drop_case(random, parts);
+}
+
+/* ---- Volumes ---- */
+
+static void volume_case(void)
+{
+    struct random_case random = random_volume(seed);
+    struct slice parts[4];
+    guard_case(&random, parts);
+    BOTH("check_labels", f->check_labels(VOLUME(parts), a->out));
+    struct given given = { { NULL, 0 }, 'a', 'b', 4096 };
+    if (answers[1].refusal == 0) {
+        const uint64_t *label = answers[1].out;
+        given.uuid = (struct slice){ parts[1].start + label[KLAPOUZEN_LABEL_UUID],
+                                     label[KLAPOUZEN_LABEL_UUID_LENGTH] };
+        given.index = (uint8_t)label[KLAPOUZEN_LABEL_INDEX_LETTER];
+        given.data = (uint8_t)label[KLAPOUZEN_LABEL_DATA_LETTER];
+        given.block_size = label[KLAPOUZEN_LABEL_BLOCK_SIZE];
+    }
+    BOTH("verdict", f->verdict(VOLUME(parts), a->out));
+    BOTH("rescue", f->rescue(VOLUME(parts), a->out));
+    compare_list(parts[0], parts[1], random.numbers, given.block_size);
+    compare_list(parts[2], parts[3], random.numbers, given.block_size);
+    compare_blocks(parts, random.numbers, given.index, given.data);
+    compare_constructs(parts[0], parts[1], &given, given.index);
+    compare_constructs(parts[2], parts[3], &given, given.data);
+    compare_constructs(parts[2], parts[3], &given, given.index);
+    drop_case(random, parts);
+}
+
+/* ---- Labels and rows ---- */
+
+/* Into a large buffer, one that fits, and one a byte short. */
+static void compare_label_writer(const struct slice parts[4], const uint64_t *n)
+{
+    size_t rooms[3] = { LENT, 0, 0 };
+    for (int i = 0; i < 3; i++) {
+        BOTH("write_label",
+             f->write_label(a->lent, rooms[i], SLICE(parts[1]), SLICE(parts[2]), SLICE(parts[3]),
+                            (uint8_t)n[0], (uint8_t)n[1], (uint8_t)n[2], n[3], n[4], a->out));
+        if (i == 0 && answers[1].refusal == 0) {
+            rooms[1] = answers[1].out[0];
+            rooms[2] = answers[1].out[0] - 1;
+        }
+    }
+}
+
+static void label_case(void)
+{
+    struct random_case random = random_label(seed);
+    struct slice parts[4];
+    guard_case(&random, parts);
+    BOTH("read_label", f->read_label(SLICE(parts[0]), a->out));
+    BOTH("check_form", f->check_form(SLICE(parts[0])));
+    compare_label_writer(parts, random.numbers);
+    struct slice longer = stretched(parts[0], 20, KLAPOUZEN_MAX_LABEL);
+    BOTH("read_label", f->read_label(SLICE(longer), a->out));
+    guarded_free(longer.start, longer.length);
+    drop_case(random, parts);
+}
+
+static void vol1_case(void)
+{
+    struct random_case random = random_vol1(seed);
+    struct slice parts[4];
+    guard_case(&random, parts);
+    BOTH("read_vol1", f->read_vol1(SLICE(parts[0]), a->out));
+    for (size_t room = 79; room <= 81; room++)
+        BOTH("write_vol1", f->write_vol1(a->lent, room, SLICE(parts[1]), SLICE(parts[2]), a->out));
+    drop_case(random, parts);
+}
+
+static void rows_case(void)
+{
+    struct random_case random = random_rows(seed);
+    size_t size = random.row_numbers * sizeof *random.rows;
+    uint64_t *rows = guarded_copy(random.rows, size);
+    const uint64_t *n = random.numbers;
+    BOTH("byte_at", f->byte_at(rows, random.row_numbers, n[0], n[1], n[2], a->out));
+    BOTH("byte_at", f->byte_at(rows, random.row_numbers, n[0], n[1], n[2] + 1, a->out));
+    BOTH("byte_at", f->byte_at(rows, random.row_numbers, n[0], n[1], n[0] - 1, a->out));
+    guarded_free(rows, size);
+    random_free(random);
+}
+
+/* As many rows as there may be, or one more; sometimes the last two share a position. */
+static void many_rows_case(void)
+{
+    static uint64_t rows[KLAPOUZEN_ROW * (KLAPOUZEN_MAX_ROWS + 1)];
+    uint64_t count = KLAPOUZEN_MAX_ROWS + seed % 2;
+    for (uint64_t i = 0; i < count; i++)
+        memcpy(rows + KLAPOUZEN_ROW * i, (uint64_t[]){ 'b', i, seed % 5000, 7, 7 * i - (seed % 3 == 0 && i == 1023) },
+               KLAPOUZEN_ROW * sizeof *rows);
+    BOTH("byte_at", f->byte_at(rows, KLAPOUZEN_ROW * count, 8000, 4096, seed % 8001, a->out));
+}
+
+int main(int count, char **words)
+{
+    uint64_t cases = count > 1 ? strtoull(words[1], NULL, 10) : 10000;
+    uint64_t first = count > 2 ? strtoull(words[2], NULL, 10) : 0;
+    memset(tables, 0xc3, sizeof tables);
+    for (seed = first; seed < first + cases && differences < 20; seed++) {
+        volume_case();
+        index_case();
+        label_case();
+        vol1_case();
+        rows_case();
+        many_rows_case();
+    }
+    printf("%" PRIu64 " cases, %" PRIu64 " calls, %" PRIu64 " differences; answers by refusal:", cases,
+           calls, differences);
+    for (int i = 0; i < 16; i++)
+        printf(" %d:%" PRIu64, i, refusals[i]);
+    putchar('\n');
+    return differences > 0;
+}
