@@ -45,7 +45,7 @@ int main(void)
 }
 END
     # shellcheck disable=SC2086
-    $CC -std=c11 "$at/one.c" $flags $LIBRARIES -o "$at/one" && "$at/one" > /dev/null \
+    $CC -std=c11 "$at/one.c" $flags -o "$at/one" && "$at/one" > /dev/null \
         && "$at/bin/klapouzen" --help > /dev/null && test -s "$at/share/man/man1/klapouzen.1"
 }
 
