@@ -1,0 +1,57 @@
+-- What the program writes for the four files of a volume (01, Bench examples). Each line ends with LF.
+use mathlib.Core.Bool.{Bool, cond, _&&_}
+use mathlib.Core.Option.{Option, none, some}
+use mathlib.Core.List.{List, [], _∷_, _++_}
+use Prim.Native.Nat.{ℕ}
+use lib.Dec.{leb}
+use lib.ListN.{length}
+use Rattle.refusals.specs.Refusals.{Answer, refused, answer, numberOf}
+use Rattle.refusals.specs.declared.Refusal.{Refusal}
+use Rattle.refusals.specs.declared.Refusal.the-variants.{TooMany}
+use Rattle.slices.specs.Words.{bytes}
+use Rattle.digits.specs.Decimal.{short}
+use Rattle.verdict.specs.Verdict.{Break}
+use Rattle.verdict.specs.Rescue.{Cut}
+use Rattle.volume.specs.Volume.{verdictIn, rescueIn}
+
+unfoldable pub refusedLine : Refusal → List ℕ
+refusedLine r = bytes "refused " ++ short (numberOf r) ++ (10 ∷ [])
+
+-- a word and two numbers
+unfoldable pub pair : List ℕ → ℕ → ℕ → List ℕ
+pair word a b = word ++ short a ++ bytes " " ++ short b
+
+unfoldable pub consistentLine : List ℕ
+consistentLine = bytes "verdict consistent" ++ (10 ∷ [])
+
+unfoldable pub breakLine : ℕ → ℕ → List ℕ
+breakLine which number = pair (bytes "verdict break ") which number ++ (10 ∷ [])
+
+abbrev pub verdictLine : Option Break → List ℕ
+verdictLine none = consistentLine
+verdictLine (some b) = breakLine (b .which) (b .number)
+
+unfoldable pub noneLine : List ℕ
+noneLine = bytes "cut none" ++ (10 ∷ [])
+
+unfoldable pub cutLine : Cut → List ℕ
+cutLine k =
+    pair (bytes "cut ") (k .indexConstruct) (k .dataConstruct) ++ pair (bytes " keep ") (k .indexKept) (k .dataKept)
+    ++ bytes " generation " ++ short (k .generation) ++ (10 ∷ [])
+
+-- where there is a verdict, 13 is the only refusal of the rescue
+abbrev pub rescueLine : Answer Cut → List ℕ
+rescueLine (refused r) = noneLine
+rescueLine (answer k) = cutLine k
+
+abbrev pub linesOf : Answer (Option Break) → Answer Cut → List ℕ
+linesOf (refused r) k = refusedLine r
+linesOf (answer b) k = verdictLine b ++ rescueLine k
+
+-- the bounds of the files: lists, then stores
+abbrev pub bounded : List ℕ → List ℕ → List ℕ → List ℕ → Bool
+bounded il is dl ds = leb (length il) 4096 && leb (length is) 24576 && leb (length dl) 4096 && leb (length ds) 24576
+
+-- a file past its bound is 15 before all else
+abbrev pub linesIn : List ℕ → List ℕ → List ℕ → List ℕ → List ℕ
+linesIn il is dl ds = cond (bounded il is dl ds) (linesOf (verdictIn il is dl ds) (rescueIn il is dl ds)) (refusedLine TooMany)
