@@ -19,34 +19,34 @@ use Rattle.index.specs.Entries.{numberSaid}
 use Rattle.index.specs.Tests.{rowsIn, rowsOf, lengthOf, few, lawful, given, RowsRead}
 use Rattle.index.specs.declared.tests.Volume.{Volume}
 
--- what judging an element answers
-abbrev Judges : Bool → Bool → ℕ → Forest → Volume → Type 0
-Judges f l sort c v = (f ≡ few sort c) × ((u : List ℕ) → l ≡ lawful (given u v) sort c)
+-- the two tests of an element
+abbrev Tells : Bool → Bool → ℕ → Forest → Volume → Type 0
+Tells f l sort c v = (f ≡ few sort c) × ((u : List ℕ) → l ≡ lawful (given u v) sort c)
 
 module _ (sort : ℕ) (c : Forest) (v : Volume) where
-  pub no-file : (sort ≡ file → ⊥) → Judges true true sort c v
+  pub no-file : (sort ≡ file → ⊥) → Tells true true sort c v
   unfolding few lawful
   no-file e = (simp (ne-eqb _ _ e), λ u. simp (ne-eqb _ _ e))
 
-  module _ (s : List ℕ) (row from : ℕ) (is : sort ≡ file) (er : rowAt s row ≡ c) (ef : rowAt s from ≡ rowIn (bytes "extentinfo") (rowAt s row))
+  module _ (s : List ℕ) (from : ℕ) (is : sort ≡ file) (ef : rowAt s from ≡ rowIn (bytes "extentinfo") c)
       (out : List ℕ) (k : ℕ) (read : RowsRead (rowsIn (rowAt s from)) out k) where
     rows-are : rowsIn (rowAt s from) ≡ rowsOf c
-    rows-are = ap rowsIn (ef ∙ ap (rowIn (bytes "extentinfo")) er)
+    rows-are = ap rowsIn ef
 
-    pub too-many : 1024 < k → Judges false false sort c v
+    pub too-many : 1024 < k → Tells false false sort c v
     unfolding few lawful
     too-many h =
         let m : 1024 < length (rowsOf c) = rw rows-are at (read .many h) in
         (sym (simp (eq-eqb _ _ is, lt-leb (length (rowsOf c)) 1024 m)), λ u. sym (simp (eq-eqb _ _ is, lt-leb (length (rowsOf c)) 1024 m)))
 
-    pub judged : k ≤ 1024 → (size : ℕ) → size ≡ numberSaid (textIn (bytes "length") (rowAt s row)) → (good : Bool)
-        → good ≡ extents.lawful size (v .size) (numbers.rowsOf (take (k * 5) out)) → Judges true good sort c v
+    pub judged : k ≤ 1024 → (size : ℕ) → size ≡ numberSaid (textIn (bytes "length") c) → (good : Bool)
+        → good ≡ extents.lawful size (v .size) (numbers.rowsOf (take (k * 5) out)) → Tells true good sort c v
     unfolding few lawful
     judged h size es good eg =
         let a = read .all h in
         let n : length (rowsOf c) ≡ k = ap length (sym rows-are) ∙ a .1 in
         let m : leb (length (rowsOf c)) 1024 ≡ true = le-leb (length (rowsOf c)) 1024 (omega arith) in
-        let z : size ≡ lengthOf c = es ∙ ap (λ (f : Forest). numberSaid (textIn (bytes "length") f)) er in
+        let z : size ≡ lengthOf c = es in
         let y : good ≡ extents.lawful (lengthOf c) (v .size) (rowsOf c) =
         eg ∙ ap (λ (n : ℕ). extents.lawful n (v .size) (numbers.rowsOf (take (k * 5) out))) z ∙ ap (extents.lawful (lengthOf c) (v .size)) (a .0 ∙ rows-are) in
         (sym (simp (eq-eqb _ _ is, m)), λ u. y ∙ sym (simp (eq-eqb _ _ is, m)))

@@ -1,5 +1,6 @@
 pub mod Found
 pub mod Below
+pub mod Later
 pub mod Steps
 pub mod Gathering
 pub mod RowTable

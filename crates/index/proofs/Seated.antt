@@ -11,8 +11,8 @@ use Rattle.slices.specs.Words.{bytes}
 use Rattle.xml.specs.Tree.{Forest, none, node}
 use Rattle.children.specs.Children.{textOf, childrenOf}
 use Rattle.children.specs.Rows.{seat}
-use Rattle.index_names.specs.Sorts.{file, extent}
-use Rattle.index_names.specs.Names.{names, numberIn, fileNames, extentNames}
+use Rattle.index_names.specs.Sorts.{index, file, extent}
+use Rattle.index_names.specs.Names.{names, numberIn, indexNames, fileNames, extentNames}
 use Rattle.index_rows.specs.Places.{firstIn, Placed}
 use Rattle.index_rows.proofs.Named.{own, number-own}
 use Rattle.index.specs.Elements.{textIn, rowIn}
@@ -74,3 +74,29 @@ module _ (s : List ℕ) (f : Forest) (t : List ℕ) (placed : Placed s extent f 
   pub bytecount-placed : textIn (bytes "bytecount") f ≡ textOf (seat s (getD t 4 0))
   unfolding names extentNames bytes own same
   bytecount-placed = text-placed extent 4 (bytes "bytecount") (λ n. number-own extentNames 4 n (omega arith) refl) s f t placed (omega arith)
+
+-- of an index: what its header says
+module _ (s : List ℕ) (f : Forest) (t : List ℕ) (placed : Placed s index f t) where
+  pub generation-placed : textIn (bytes "generationnumber") f ≡ textOf (seat s (getD t 2 0))
+  unfolding names indexNames bytes own same
+  generation-placed = text-placed index 2 (bytes "generationnumber") (λ n. number-own indexNames 2 n (omega arith) refl) s f t placed (omega arith)
+
+  pub updatetime-placed : textIn (bytes "updatetime") f ≡ textOf (seat s (getD t 3 0))
+  unfolding names indexNames bytes own same
+  updatetime-placed = text-placed index 3 (bytes "updatetime") (λ n. number-own indexNames 3 n (omega arith) refl) s f t placed (omega arith)
+
+  pub location-placed : rowIn (bytes "location") f ≡ childrenOf (seat s (getD t 4 0))
+  unfolding names indexNames bytes own same
+  location-placed = row-placed index 4 (bytes "location") (λ n. number-own indexNames 4 n (omega arith) refl) s f t placed (omega arith)
+
+  pub allow-placed : textIn (bytes "allowpolicyupdate") f ≡ textOf (seat s (getD t 5 0))
+  unfolding names indexNames bytes own same
+  allow-placed = text-placed index 5 (bytes "allowpolicyupdate") (λ n. number-own indexNames 5 n (omega arith) refl) s f t placed (omega arith)
+
+  pub highest-placed : textIn (bytes "highestfileuid") f ≡ textOf (seat s (getD t 6 0))
+  unfolding names indexNames bytes own same
+  highest-placed = text-placed index 6 (bytes "highestfileuid") (λ n. number-own indexNames 6 n (omega arith) refl) s f t placed (omega arith)
+
+  pub back-placed : rowIn (bytes "previousgenerationlocation") f ≡ childrenOf (seat s (getD t 9 0))
+  unfolding names indexNames bytes own same
+  back-placed = row-placed index 9 (bytes "previousgenerationlocation") (λ n. number-own indexNames 9 n (omega arith) refl) s f t placed (omega arith)

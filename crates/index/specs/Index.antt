@@ -19,6 +19,7 @@ use Rattle.elements.specs.Reading.{rowAt, isRow, partAt}
 use Rattle.values.specs.Values as is
 use Rattle.extents.specs.Rows.{Row}
 use Rattle.index_names.specs.Sorts.{index, file}
+use Rattle.index_rows.specs.Places.{Placed}
 use Rattle.index.specs.Elements.{Element, elements, textIn, rowIn}
 use Rattle.index.specs.Structure.{complete, rightly}
 use Rattle.index.specs.Entries.{orZero, numberSaid, entriesOf, uidsOf, many}
@@ -227,3 +228,7 @@ headed release k entries files =
       directories = entries - files;
       files = files;
     }
+
+-- the header of any index whose children stand at places t of the text s
+abbrev pub Heads : List ℕ → List ℕ → ℕ → ℕ → ℕ → Header → Type 0
+Heads s t release entries files r = (k : Forest) → Placed s index k t → saying s (Found r) ≡ answer (headed release k entries files)

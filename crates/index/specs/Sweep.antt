@@ -67,6 +67,35 @@ entered g s h c a =
       uids = cond (isEntry s) (set (a .uids) (a .sums .entries) (uidOf c)) (a .uids);
     }
 
+-- the same in two steps: its extents aside, and its extents
+unfoldable pub begun : Given → ℕ → Head → Forest → All → All
+begun g s h c a =
+    record {
+      sums =
+          record {
+            structure = a .sums .structure && fits s h c;
+            few = a .sums .few;
+            values = a .sums .values && valued s (h .text);
+            own = a .sums .own && own g s (h .text);
+            lawful = a .sums .lawful;
+            entries = cond (isEntry s) (more (a .sums .entries)) (a .sums .entries);
+            files = cond (eqb s file) (more (a .sums .files)) (a .sums .files);
+          };
+      uids = cond (isEntry s) (set (a .uids) (a .sums .entries) (uidOf c)) (a .uids);
+    }
+
+unfoldable pub settled : Bool → Bool → Sums → Sums
+settled isFew isLawful a =
+    record {
+      structure = a .structure;
+      few = a .few && isFew;
+      values = a .values;
+      own = a .own;
+      lawful = a .lawful && isLawful;
+      entries = a .entries;
+      files = a .files;
+    }
+
 -- the rest of a row in an element of that kind, of which m is seen
 unfoldable pub sweep : Given → ℕ → List ℕ → Forest → All → All
 sweep g kind m none a = ended kind m a

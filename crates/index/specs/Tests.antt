@@ -14,6 +14,7 @@ use Rattle.values.specs.Values as is
 use Rattle.extents.specs.Rows as numbers
 use Rattle.extents.specs.Rows.{Row}
 use Rattle.extents.specs.Lawful as extents
+use Rattle.index_rows.specs.Places.{Placed}
 use Rattle.index_names.specs.Sorts.{file, creator, uuid, generation, time, boolean, number, letter, name, rootName, uid, rootUid}
 use Rattle.index.specs.Elements.{textIn, rowIn}
 use Rattle.index.specs.Entries.{orZero, numberSaid}
@@ -81,19 +82,28 @@ rowsOf c = rowsIn (rowIn (bytes "extentinfo") c)
 abbrev pub lengthOf : Forest → ℕ
 lengthOf c = numberSaid (textIn (bytes "length") c)
 
--- 15: at most 1,024 extents of a file
+-- the most extents of a file
+abbrev pub most : ℕ
+most = 1024
+
+-- 15
 unfoldable pub few : ℕ → Forest → Bool
-few s c = not (eqb s file) || leb (length (rowsOf c)) 1024
+few s c = not (eqb s file) || leb (length (rowsOf c)) most
 
 -- 11: a file's extents, not too many, are lawful for its length and the block size
 unfoldable pub lawful : Given → ℕ → Forest → Bool
-lawful g s c = not (eqb s file) || (leb (length (rowsOf c)) 1024 && extents.lawful (lengthOf c) (g .size) (rowsOf c))
+lawful g s c = not (eqb s file) || (few s c && extents.lawful (lengthOf c) (g .size) (rowsOf c))
 
 -- the numbers of a row, and of rows one after the other
 abbrev pub five : Row → List ℕ
 five r = r .letter ∷ r .startblock ∷ r .byteoffset ∷ r .bytecount ∷ r .fileoffset ∷ []
 
--- n rows stand in the front of out, if there are at most 1,024 of them
+-- n rows stand in the front of out, if there are not too many
 pub record RowsRead (rows : List Row) (out : List ℕ) (n : ℕ) : Type 0 where
-  pub all : n ≤ 1024 → (numbers.rowsOf (take (n * 5) out) ≡ rows) × (length rows ≡ n)
-  pub many : 1024 < n → 1024 < length rows
+  pub all : n ≤ most → (numbers.rowsOf (take (n * 5) out) ≡ rows) × (length rows ≡ n)
+  pub many : most < n → most < length rows
+
+-- the two tests of the extents of an element of sort s, whose children stand at places t of the text x
+abbrev pub Judges : List ℕ → List ℕ → ℕ → Volume → Bool → Bool → Type 0
+Judges x t s v isFew isLawful =
+    (c : Forest) → (s ≡ file → Placed x file c t) → (isFew ≡ few s c) × ((u : List ℕ) → isLawful ≡ lawful (given u v) s c)

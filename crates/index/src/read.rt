@@ -19,9 +19,7 @@ ghost use Rattle.xml.specs.Form.{height};
 ghost use Rattle.xml.specs.Machine.{good, form};
 ghost use Rattle.elements.specs.Reading.{rowAt, headAt, childrenAt, isRow};
 ghost use Rattle.index.specs.Tests.{given};
-ghost use Rattle.refusals.specs.Refusals.{answer};
-ghost use Rattle.index.specs.declared.read.Read.the-variants.{Found};
-ghost use Rattle.index.specs.Index.{isTrue, placeIn, standsAt, callerRight, headed, childrenRead, tagRead, rootRead, indexOf, toldBy, saying};
+ghost use Rattle.index.specs.Index.{isTrue, placeIn, standsAt, callerRight, Heads, childrenRead, tagRead, rootRead, indexOf, toldBy, saying};
 
 // What an index says besides its files: the R of its version 2.0.R; its generation; where the update time stands in its text; its location;
 // its back pointer, if it has one; whether the policy may be updated; the highest fileuid; how many directories, with the root, and files it has.
@@ -119,24 +117,24 @@ fn has_row(text: &[u8], at: usize) -> bool
     }
 }
 
-// The header of the index whose children are the row at at.
-fn head_from(text: &[u8], at: usize, release: u64, entries: u64, files: u64) -> Header
+// The header of an index whose children have those places.
+fn head_from(text: &[u8], places: &[usize; 16], release: u64, entries: u64, files: u64) -> Header
     requires { ⌜ files ≤ entries ⌝ }
-    ensures { λ r. ⌜ saying (now (text .entry)) (Found r) ≡ answer (headed release (rowAt (now (text .entry)) at) entries files) ⌝ }
+    ensures { λ r. ⌜ Heads (now (text .entry)) (now (places .entry)) release entries files r ⌝ }
 {
-    let here = rows::row_in(text, at, b"location");
-    let back = rows::row_in(text, at, b"previousgenerationlocation");
+    let here = index_rows::row_at(text, places[4]);
+    let back = index_rows::row_at(text, places[9]);
     Header {
         release,
-        generation: Generation(tests::number_named(text, at, b"generationnumber")),
-        time: rows::span_in(text, at, b"updatetime"),
+        generation: Generation(tests::number_placed(text, places[2])),
+        time: index_rows::span_at(text, places[3]),
         letter: letter_named(text, here),
         block: block_named(text, here),
         back: has_row(text, back),
         back_letter: letter_named(text, back),
         back_block: block_named(text, back),
-        allow: is_true(rows::text_in(text, at, b"allowpolicyupdate")),
-        highest: tests::number_named(text, at, b"highestfileuid"),
+        allow: is_true(index_rows::text_at(text, places[5])),
+        highest: tests::number_placed(text, places[6]),
         directories: entries - files,
         files,
     }
@@ -155,7 +153,9 @@ fn read_children(
     requires { ⌜ (at ≤ length (now text)) × (height (rowAt (now text) at) ≤ 64) ⌝ }
     ensures { λ r. ⌜ saying (now (text .entry)) r ≡ toldBy (childrenRead (given (now (uuid .entry)) volume) letter block release (rowAt (now (text .entry)) at)) ⌝ }
 {
-    let s = survey::survey(text, uuid, at, volume);
+    let found = survey::survey(text, uuid, at, volume);
+    let s = found.sums;
+    let places = found.places;
     if !s.structure {
         return Read::Refused(Refusal::Structure);
     }
@@ -171,10 +171,10 @@ fn read_children(
     if !s.lawful {
         return Read::Refused(Refusal::Extents);
     }
-    if !is_place(text, rows::row_in(text, at, b"location"), letter, block) {
+    if !is_place(text, index_rows::row_at(text, places[4]), letter, block) {
         return Read::Refused(Refusal::Location);
     }
-    Read::Found(head_from(text, at, release, s.entries, s.files))
+    Read::Found(head_from(text, &places, release, s.entries, s.files))
 }
 
 // The index whose root's tag is at n.

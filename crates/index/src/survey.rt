@@ -8,8 +8,16 @@ ghost use Prim.Native.Nat.{_≤_};
 ghost use lib.ListN.{length};
 ghost use Rattle.xml.specs.Form.{height};
 ghost use Rattle.elements.specs.Reading.{rowAt};
+ghost use Rattle.index_names.specs.Sorts.{index};
+ghost use Rattle.index_rows.specs.Places.{Placed};
 ghost use Rattle.index.specs.Tests.{given};
 ghost use Rattle.index.specs.Index.{Surveyed};
+
+// What is gathered, and the places of the index's children.
+pub struct Gathered {
+    pub sums: Sums,
+    pub places: [usize; 16],
+}
 
 // What is gathered of the index whose children are the row at at, with tables for fileuids and rows; that the fileuids are all different is
 // one of the values.
@@ -20,9 +28,9 @@ fn survey_with(
     rows: &mut [u64; 5120],
     at: usize,
     volume: Volume,
-) -> Sums
+) -> Gathered
     requires { ⌜ (at ≤ length (now text)) × (height (rowAt (now text) at) ≤ 64) ⌝ }
-    ensures { λ r. ⌜ Surveyed (given (now (uuid .entry)) volume) (rowAt (now (text .entry)) at) r ⌝ }
+    ensures { λ r. ⌜ Surveyed (given (now (uuid .entry)) volume) (rowAt (now (text .entry)) at) (r .sums) × Placed (now (text .entry)) index (rowAt (now (text .entry)) at) (r .places) ⌝ }
 {
     let start = Sums {
         structure: true,
@@ -35,9 +43,10 @@ fn survey_with(
     };
     let w = walk::walk(text, uuid, table, rows, at, INDEX, 64, volume, start);
     let s = w.sums;
+    let places = w.places;
     let n = s.entries;
     if 4096 < n {
-        return Sums {
+        let sums = Sums {
             structure: s.structure,
             few: false,
             values: false,
@@ -46,9 +55,10 @@ fn survey_with(
             entries: 0,
             files: 0,
         };
+        return Gathered { sums, places };
     }
     let distinct = uids::unique(table, n as usize);
-    Sums {
+    let sums = Sums {
         structure: s.structure,
         few: s.few,
         values: walk::both(s.values, distinct),
@@ -56,13 +66,14 @@ fn survey_with(
         lawful: s.lawful,
         entries: n,
         files: s.files,
-    }
+    };
+    Gathered { sums, places }
 }
 
 // What is gathered of the index whose children are the row at at.
-pub fn survey(text: &[u8], uuid: &[u8], at: usize, volume: Volume) -> Sums
+pub fn survey(text: &[u8], uuid: &[u8], at: usize, volume: Volume) -> Gathered
     requires { ⌜ (at ≤ length (now text)) × (height (rowAt (now text) at) ≤ 64) ⌝ }
-    ensures { λ r. ⌜ Surveyed (given (now (uuid .entry)) volume) (rowAt (now (text .entry)) at) r ⌝ }
+    ensures { λ r. ⌜ Surveyed (given (now (uuid .entry)) volume) (rowAt (now (text .entry)) at) (r .sums) × Placed (now (text .entry)) index (rowAt (now (text .entry)) at) (r .places) ⌝ }
 {
     let mut table = [0u64; 4096];
     let mut rows = [0u64; 5120];

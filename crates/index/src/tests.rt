@@ -19,8 +19,7 @@ use values::Boolean;
 use values::Letter;
 ghost use mathlib.Core.Path.{_≡_};
 ghost use mathlib.Core.Bool.{_||_};
-ghost use mathlib.Core.List.{List};
-ghost use Prim.Native.Nat.{ℕ, _+_, _*_, _≤_};
+ghost use Prim.Native.Nat.{_+_, _*_, _≤_};
 ghost use lib.ListN.{length, take};
 ghost use Rattle.extents.specs.Rows as numbers;
 ghost use Rattle.extents.specs.Lawful as extents;
@@ -32,7 +31,7 @@ ghost use Rattle.children.specs.Children.{textOf};
 ghost use Rattle.children.specs.Rows.{seat};
 ghost use Rattle.index.specs.Elements.{textIn};
 ghost use Rattle.index.specs.Entries.{numberSaid};
-ghost use Rattle.index.specs.Tests.{isSome, valued, own, letterSaid, five, rowOf, rowsIn, few, lawful, RowsRead, given};
+ghost use Rattle.index.specs.Tests.{isSome, valued, own, letterSaid, five, rowOf, rowsIn, RowsRead, Judges, given};
 
 // The label's letters, and the block size.
 pub struct Volume {
@@ -149,7 +148,7 @@ pub fn number_named(text: &[u8], at: usize, name: &[u8]) -> u64
 }
 
 // The number that the element at a place says, 0 for the place 0.
-fn number_placed(text: &[u8], n: usize) -> u64
+pub fn number_placed(text: &[u8], n: usize) -> u64
     ensures { λ r. ⌜ r ≡ numberSaid (textOf (seat (now (text .entry)) n)) ⌝ }
 {
     rows::number_said(index_rows::text_at(text, n))
@@ -218,9 +217,15 @@ fn are_lawful(table: &[u64], count: usize, length: u64, size: u64) -> bool
     extents::lawful(&table[0..e], length, size)
 }
 
-// The extents of an element of a sort with the row of children at row, if it is a file; with out to read them into.
-pub fn judge(text: &[u8], out: &mut [u64; 5120], row: usize, sort: usize, volume: Volume) -> Judged
-    ensures { λ r. ⌜ (r .few ≡ few sort (rowAt (now (text .entry)) row)) × ((u : List ℕ) → r .lawful ≡ lawful (given u volume) sort (rowAt (now (text .entry)) row)) ⌝ }
+// The extents of an element of a sort whose children have those places, if it is a file; with out to read them into.
+pub fn judge(
+    text: &[u8],
+    places: &[usize; 16],
+    out: &mut [u64; 5120],
+    sort: usize,
+    volume: Volume,
+) -> Judged
+    ensures { λ r. ⌜ Judges (now (text .entry)) (now (places .entry)) sort volume (r .few) (r .lawful) ⌝ }
 {
     if sort != FILE {
         return Judged {
@@ -228,8 +233,6 @@ pub fn judge(text: &[u8], out: &mut [u64; 5120], row: usize, sort: usize, volume
             lawful: true,
         };
     }
-    let held = index_rows::read_row(text, row, FILE);
-    let places = held.places;
     let count = read_rows(text, index_rows::row_at(text, places[9]), out);
     if 1024 < count {
         return Judged {

@@ -1,6 +1,7 @@
 // The walk over an index's elements.
 use crate::rows;
 use crate::tests;
+use crate::tests::Judged;
 use crate::tests::Volume;
 use elements::Next;
 use elements::Start;
@@ -18,12 +19,13 @@ ghost use lib.ListN.{length, getD, set};
 ghost use Rattle.xml.specs.Form.{height};
 ghost use Rattle.elements.specs.Reading.{rowAt, headAt, childrenAt, Behind};
 ghost use Rattle.elements.specs.Starts.{Shape};
+ghost use Rattle.index_rows.specs.Places.{Placed};
 ghost use Rattle.index_names.specs.Sorts.{holds, must};
 ghost use Rattle.index.specs.Elements.{numberOf, sortOf};
 ghost use Rattle.index.specs.Structure.{fits, below, once};
 ghost use Rattle.index.specs.Entries.{isEntry, uidOf};
 ghost use Rattle.index.specs.Tests.{given};
-ghost use Rattle.index.specs.Sweep.{gathered, more, fresh, marked, done, endedSums, entered, sweep};
+ghost use Rattle.index.specs.Sweep.{gathered, more, fresh, marked, done, endedSums, begun, settled, sweep};
 
 // What the walk gathers besides the fileuids: whether the structure is right so far, how many directories and files there are, how many
 // of them files.
@@ -37,10 +39,11 @@ pub struct Sums {
     pub files: u64,
 }
 
-// Where reading goes on, and what was gathered.
+// Where reading goes on, what was gathered, and the places of the row's elements.
 pub struct Left {
     pub at: usize,
     pub sums: Sums,
+    pub places: [usize; 16],
 }
 
 fn bump(n: u64) -> u64
@@ -174,35 +177,47 @@ fn put_uid(text: &[u8], uids: &mut [u64; 4096], row: usize, entry: bool, at: u64
     }
 }
 
-// The start tag of an element of a sort; rows is a table to read extents into.
+// The start tag of an element of a sort, its extents aside.
 fn enter(
     text: &[u8],
     uuid: &[u8],
     uids: &mut [u64; 4096],
-    rows: &mut [u64; 5120],
     h: Start,
     sort: usize,
     volume: Volume,
     a: Sums,
 ) -> Sums
     requires { ⌜ Shape (now text) h ⌝ }
-    ensures { λ r. ⌜ gathered r (now (uids .exit)) ≡ entered (given (now (uuid .entry)) volume) sort (headAt (now (text .entry)) (h .at)) (childrenAt (now (text .entry)) (h .at)) (gathered a (now (uids .entry))) ⌝ }
+    ensures { λ r. ⌜ gathered r (now (uids .exit)) ≡ begun (given (now (uuid .entry)) volume) sort (headAt (now (text .entry)) (h .at)) (childrenAt (now (text .entry)) (h .at)) (gathered a (now (uids .entry))) ⌝ }
 {
     let entry = is_entry(sort);
     let entries = a.entries;
-    let row = rows::children_row(text, h);
-    put_uid(text, uids, row, entry, entries);
+    put_uid(text, uids, rows::children_row(text, h), entry, entries);
     let good = fits_at(text, h, sort);
-    let judged = tests::judge(text, rows, row, sort, volume);
     let raw = elements::part(text, h.text);
     Sums {
         structure: both(a.structure, good),
-        few: both(a.few, judged.few),
+        few: a.few,
         values: both(a.values, tests::is_valued(sort, raw)),
         own: both(a.own, tests::is_own(uuid, volume, sort, raw)),
-        lawful: both(a.lawful, judged.lawful),
+        lawful: a.lawful,
         entries: bump_if(entry, entries),
         files: bump_if(sort == FILE, a.files),
+    }
+}
+
+// What is gathered with the tests of a file's extents.
+fn settle(v: Judged, a: Sums) -> Sums
+    ensures { λ r. ⌜ r ≡ settled (v .few) (v .lawful) a ⌝ }
+{
+    Sums {
+        structure: a.structure,
+        few: both(a.few, v.few),
+        values: a.values,
+        own: a.own,
+        lawful: both(a.lawful, v.lawful),
+        entries: a.entries,
+        files: a.files,
     }
 }
 
@@ -237,37 +252,44 @@ pub fn walk(
     sums: Sums,
 ) -> Left
     requires { ⌜ (at ≤ length (now text)) × (height (rowAt (now text) at) ≤ depth) ⌝ }
-    ensures { λ r. ⌜ (gathered (r .sums) (now (uids .exit)) ≡ sweep (given (now (uuid .entry)) volume) kind fresh (rowAt (now (text .entry)) at) (gathered sums (now (uids .entry)))) × Behind (now (text .entry)) at (r .at) ⌝ }
+    ensures { λ r. ⌜ (gathered (r .sums) (now (uids .exit)) ≡ sweep (given (now (uuid .entry)) volume) kind fresh (rowAt (now (text .entry)) at) (gathered sums (now (uids .entry)))) × Behind (now (text .entry)) at (r .at) × Placed (now (text .entry)) kind (rowAt (now (text .entry)) at) (r .places) ⌝ }
 {
     let mut i = at;
     let mut a = sums;
     let mut seen = [0u64; 16];
+    let mut places = [0usize; 16];
     loop {
         match elements::next_start(text, i) {
             Next::End => {
                 return Left {
                     at: text.len(),
                     sums: finish(kind, &seen, a),
+                    places,
                 };
             }
             Next::Close(n) => {
                 return Left {
                     at: n,
                     sums: finish(kind, &seen, a),
+                    places,
                 };
             }
             Next::Opens(h) => {
                 let j = number_at(text, h, kind);
                 let sort = index_names::sort_in(kind, j);
                 mark(&mut seen, j);
-                a = enter(text, uuid, uids, rows, h, sort, volume, a);
+                index_rows::note(&mut places, j, h.at);
+                a = enter(text, uuid, uids, h, sort, volume, a);
                 if is_open(sort) {
                     if h.empty {
-                        a = finish(sort, &[0u64; 16], a);
+                        let v = tests::judge(text, &[0usize; 16], rows, sort, volume);
+                        a = settle(v, finish(sort, &[0u64; 16], a));
                         i = h.at;
                     } else {
                         let w = walk(text, uuid, uids, rows, h.at, sort, depth - 1, volume, a);
-                        a = w.sums;
+                        let held = w.places;
+                        let v = tests::judge(text, &held, rows, sort, volume);
+                        a = settle(v, w.sums);
                         i = w.at;
                     }
                 } else {

@@ -40,6 +40,10 @@ module _ (s : List ℕ) (kind : ℕ) where
       go true q = rw q (sym (seat-none s (getD t j 0) (eqb-true _ _ q)))
       go false q = rw q
 
+  -- a row with no element
+  pub placed-none : (f : Forest) (t : List ℕ) → f ≡ none → t ≡ replicate 16 0 → Placed s kind f t
+  placed-none f t e z = subst (Placed s kind f) (sym z) (noting-all f f (replicate 16 0) e (noting-none f))
+
 length-noted : (j n : ℕ) (t : List ℕ) → length (noted j n t) ≡ length t
 unfolding noted
 length-noted j n t = go (ltb j 16 && eqb (getD t j 0) 0)

@@ -1,9 +1,10 @@
 // A row of an index's elements read once: where the first element of each name stands.
 use elements::Next;
+use elements::Span;
 ghost use mathlib.Core.Path.{_≡_};
 ghost use Prim.Native.Nat.{_≤_};
 ghost use lib.ListN.{length};
-ghost use Rattle.elements.specs.Reading.{rowAt, Behind};
+ghost use Rattle.elements.specs.Reading.{rowAt, Behind, Spans};
 ghost use Rattle.children.specs.Children.{textOf, childrenOf};
 ghost use Rattle.children.specs.Rows.{seat};
 ghost use Rattle.index_rows.specs.Places.{noted, Placed};
@@ -15,7 +16,7 @@ pub struct Row {
 }
 
 // The element of number j stands at at, if none of that number came before.
-fn note(places: &mut [usize; 16], j: usize, at: usize)
+pub fn note(places: &mut [usize; 16], j: usize, at: usize)
     ensures { λ r. ⌜ now (places .exit) ≡ noted j at (now (places .entry)) ⌝ }
 {
     if j < 16 {
@@ -53,6 +54,16 @@ pub fn read_row(text: &[u8], at: usize, kind: usize) -> Row
             }
         }
     }
+}
+
+// Where the text of the element at a place stands.
+pub fn span_at(text: &[u8], n: usize) -> Span
+    ensures { λ r. ⌜ Spans (now (text .entry)) (r .from) (r .len) (textOf (seat (now (text .entry)) n)) ⌝ }
+{
+    if n == 0 {
+        return Span { from: 0, len: 0 };
+    }
+    elements::text_at(text, n)
 }
 
 // The text of the element at a place, empty for the place 0.

@@ -1,51 +1,42 @@
--- `head_from` meets its contract: part by part.
-use mathlib.Core.Path.{_≡_, refl, ap, sym, _∙_, subst}
-use native.Mathlib.Omega.{arith}
-use Prim.Native.Nat.{ℕ}
+-- `head_from` meets its contract: part by part, each by the place of its element.
+use mathlib.Core.Path.{_≡_, refl, ap, sym, _∙_}
 use mathlib.Core.List.{List}
-use Rattle.slices.specs.Words.{bytes}
+use Prim.Native.Nat.{ℕ}
+use native.Mathlib.Omega.{arith}
 use Rattle.xml.specs.Tree.{Forest}
-use Rattle.elements.specs.Reading.{rowAt, isRow}
+use Rattle.elements.specs.Reading.{isRow}
 use Rattle.values.specs.Values as is
+use Rattle.index.specs.Entries.{numberSaid}
 use Rattle.index.specs.Index.{isTrue, placeIn}
 use Rattle.index.proofs.Answers.{headed-parts}
+use Rattle.index.proofs.Seated.{generation-placed, updatetime-placed, location-placed, allow-placed, highest-placed, back-placed}
 use borrow.Author.Needs.{needs}
 use Rattle.index.proofs.read.head_from.Statement.{statement}
 use Rattle.index.proofs.read.head_from.Tie as tie
-use Rattle.index.proofs.read.head_from.Reads as reads
-use Rattle.index.proofs.read.head_from.Lts as lts
-use Rattle.index.proofs.read.block_named.Reads as block-named-reads
-use Rattle.index.proofs.read.has_row.Reads as has-row-reads
-use Rattle.index.proofs.read.is_true.Reads as is-true-reads
-use Rattle.index.proofs.read.letter_named.Reads as letter-named-reads
-use Rattle.index.proofs.rows.row_in.Reads as row-in-reads
-use Rattle.index.proofs.rows.span_in.Reads as span-in-reads
-use Rattle.index.proofs.rows.text_in.Reads as text-in-reads
-use Rattle.index.proofs.tests.number_named.Reads as number-named-reads
 
-slice-aggregate-row-in : tie.Need-slice-aggregate-row-in
-slice-aggregate-row-in c = search needs
+element-copy-out-row-at : tie.Need-element-copy-out-row-at
+element-copy-out-row-at c = search needs
 
-row-in-requires : tie.Need-row-in-requires
-row-in-requires c κs = search needs
+row-at-requires : tie.Need-row-at-requires
+row-at-requires c κs = search needs
 
-slice-aggregate-row-in-2 : tie.Need-slice-aggregate-row-in-2
-slice-aggregate-row-in-2 c = search needs
+element-copy-out-row-at-2 : tie.Need-element-copy-out-row-at-2
+element-copy-out-row-at-2 c = search needs
 
-row-in-requires-2 : tie.Need-row-in-requires-2
-row-in-requires-2 c κs = search needs
+row-at-requires-2 : tie.Need-row-at-requires-2
+row-at-requires-2 c κs = search needs
 
-slice-aggregate-number-named : tie.Need-slice-aggregate-number-named
-slice-aggregate-number-named c = search needs
+element-copy-out-number-placed : tie.Need-element-copy-out-number-placed
+element-copy-out-number-placed c = search needs
 
-number-named-requires : tie.Need-number-named-requires
-number-named-requires c κs = search needs
+number-placed-requires : tie.Need-number-placed-requires
+number-placed-requires c κs = search needs
 
-slice-aggregate-span-in : tie.Need-slice-aggregate-span-in
-slice-aggregate-span-in c = search needs
+element-copy-out-span-at : tie.Need-element-copy-out-span-at
+element-copy-out-span-at c = search needs
 
-span-in-requires : tie.Need-span-in-requires
-span-in-requires c κs = search needs
+span-at-requires : tie.Need-span-at-requires
+span-at-requires c κs = search needs
 
 letter-named-requires : tie.Need-letter-named-requires
 letter-named-requires c κs = search needs
@@ -62,55 +53,60 @@ letter-named-requires-2 c κs = search needs
 block-named-requires-2 : tie.Need-block-named-requires-2
 block-named-requires-2 c κs = search needs
 
-slice-aggregate-text-in : tie.Need-slice-aggregate-text-in
-slice-aggregate-text-in c = search needs
+element-copy-out-text-at : tie.Need-element-copy-out-text-at
+element-copy-out-text-at c = search needs
 
-text-in-requires : tie.Need-text-in-requires
-text-in-requires c κs = search needs
+text-at-requires : tie.Need-text-at-requires
+text-at-requires c κs = search needs
 
 is-true-requires : tie.Need-is-true-requires
 is-true-requires c κs = search needs
 
-slice-aggregate-number-named-2 : tie.Need-slice-aggregate-number-named-2
-slice-aggregate-number-named-2 c = search needs
+element-copy-out-number-placed-2 : tie.Need-element-copy-out-number-placed-2
+element-copy-out-number-placed-2 c = search needs
 
-number-named-requires-2 : tie.Need-number-named-requires-2
-number-named-requires-2 c κs = search needs
+number-placed-requires-2 : tie.Need-number-placed-requires-2
+number-placed-requires-2 c κs = search needs
 
-sub-t37 : tie.Need-sub-t37
-sub-t37 c = omega (arith, c .before .before .before .before .before .before .before .before .before .before .before .before .before .before .before .before .before .before .before .pre)
+sub-t35 : tie.Need-sub-t35
+sub-t35 c = omega (arith, c .before .before .before .before .before .before .before .before .before .before .before .before .before .before .before .before .before .before .before .pre)
 
 returns : tie.Need-returns
-unfolding bytes
-returns c =
-    headed-parts (c .before .before .before .before .before .before .before .before .before .before .before .before .before .before .before .before .before .before .before .args .release) (rowAt (c .before .before .before .before .before .before .before .before .before .before .before .before .before .before .before .before .before .before .before .args .text .now) (c .before .before .before .before .before .before .before .before .before .before .before .before .before .before .before .before .before .before .before .args .at)) (c .before .before .before .before .before .before .before .before .before .before .before .before .before .before .before .before .before .before .before .args .entries) (c .before .before .before .before .before .before .before .before .before .before .before .before .before .before .before .before .before .before .before .args .files) (c .before .before .before .before .before .before .before .before .before .before .before .before .number-named .result) (c .number-named2 .result) _ _ (c .before .before .before .before .before .before .before .before .before .letter-named .result) (c .before .before .before .before .before .before .before .before .block-named .result .0) (c .before .before .before .before .before .before .letter-named2 .result) (c .before .before .before .before .before .block-named2 .result .0) (c .before .before .before .before .before .before .before .has-row .result) (c .before .before .is-true .result)
-    (c .before .before .before .before .before .before .before .before .before .before .before .before .number-named .ensures) (c .before .before .before .before .before .before .before .before .before .before .span-in .ensures .part)
-    (c .before .before .before .before .before .before .before .before .before .letter-named .ensures ∙ ap (λ (f : Forest). placeIn f .letter) (c .before .before .before .before .before .before .before .before .before .before .before .before .before .before .before .before .row-in .ensures)) (c .before .before .before .before .before .before .before .before .block-named .ensures ∙ ap (λ (f : Forest). placeIn f .block) (c .before .before .before .before .before .before .before .before .before .before .before .before .before .before .before .before .row-in .ensures))
-    (c .before .before .before .before .before .before .before .has-row .ensures ∙ ap isRow (c .before .before .before .before .before .before .before .before .before .before .before .before .before .before .row-in2 .ensures))
-    (c .before .before .before .before .before .before .letter-named2 .ensures ∙ ap (λ (f : Forest). placeIn f .letter) (c .before .before .before .before .before .before .before .before .before .before .before .before .before .before .row-in2 .ensures)) (c .before .before .before .before .before .block-named2 .ensures ∙ ap (λ (f : Forest). placeIn f .block) (c .before .before .before .before .before .before .before .before .before .before .before .before .before .before .row-in2 .ensures))
-    (c .before .before .is-true .ensures ∙ ap (λ (t : List ℕ). isTrue (is.boolean t)) (c .before .before .before .text-in .ensures)) (c .number-named2 .ensures) refl
+returns c k p =
+    let s = c .before .before .before .before .before .before .before .before .before .before .before .before .before .before .before .before .before .before .before .args .text .now in
+    let t = c .before .before .before .before .before .before .before .before .before .before .before .before .before .before .before .before .before .before .before .args .places .now in
+    let here = c .before .before .before .before .before .before .before .before .before .before .before .before .before .before .before .before .row-at .ensures .0 ∙ sym (location-placed s k t p) in
+    let back = c .before .before .before .before .before .before .before .before .before .before .before .before .before .before .row-at2 .ensures .0 ∙ sym (back-placed s k t p) in
+    headed-parts (c .before .before .before .before .before .before .before .before .before .before .before .before .before .before .before .before .before .before .before .args .release) k (c .before .before .before .before .before .before .before .before .before .before .before .before .before .before .before .before .before .before .before .args .entries) (c .before .before .before .before .before .before .before .before .before .before .before .before .before .before .before .before .before .before .before .args .files) (c .before .before .before .before .before .before .before .before .before .before .before .before .number-placed .result) (c .number-placed2 .result) _ _ (c .before .before .before .before .before .before .before .before .before .letter-named .result) (c .before .before .before .before .before .before .before .before .block-named .result .0) (c .before .before .before .before .before .before .letter-named2 .result) (c .before .before .before .before .before .block-named2 .result .0) (c .before .before .before .before .before .before .before .has-row .result) (c .before .before .is-true .result)
+    (c .before .before .before .before .before .before .before .before .before .before .before .before .number-placed .ensures ∙ ap numberSaid (sym (generation-placed s k t p)))
+    (c .before .before .before .before .before .before .before .before .before .before .span-at .ensures .part ∙ sym (updatetime-placed s k t p))
+    (c .before .before .before .before .before .before .before .before .before .letter-named .ensures ∙ ap (λ (f : Forest). placeIn f .letter) here) (c .before .before .before .before .before .before .before .before .block-named .ensures ∙ ap (λ (f : Forest). placeIn f .block) here)
+    (c .before .before .before .before .before .before .before .has-row .ensures ∙ ap isRow back)
+    (c .before .before .before .before .before .before .letter-named2 .ensures ∙ ap (λ (f : Forest). placeIn f .letter) back) (c .before .before .before .before .before .block-named2 .ensures ∙ ap (λ (f : Forest). placeIn f .block) back)
+    (c .before .before .is-true .ensures ∙ ap (λ (x : List ℕ). isTrue (is.boolean x)) (c .before .before .before .text-at .ensures ∙ sym (allow-placed s k t p)))
+    (c .number-placed2 .ensures ∙ ap numberSaid (sym (highest-placed s k t p))) refl
 
 pub head-from-spec : {M : Type 1} → statement M
 head-from-spec =
     tie.close
     (tie.spec
-    slice-aggregate-row-in
-    row-in-requires
-    slice-aggregate-row-in-2
-    row-in-requires-2
-    slice-aggregate-number-named
-    number-named-requires
-    slice-aggregate-span-in
-    span-in-requires
+    element-copy-out-row-at
+    row-at-requires
+    element-copy-out-row-at-2
+    row-at-requires-2
+    element-copy-out-number-placed
+    number-placed-requires
+    element-copy-out-span-at
+    span-at-requires
     letter-named-requires
     block-named-requires
     has-row-requires
     letter-named-requires-2
     block-named-requires-2
-    slice-aggregate-text-in
-    text-in-requires
+    element-copy-out-text-at
+    text-at-requires
     is-true-requires
-    slice-aggregate-number-named-2
-    number-named-requires-2
-    sub-t37
+    element-copy-out-number-placed-2
+    number-placed-requires-2
+    sub-t35
     returns)

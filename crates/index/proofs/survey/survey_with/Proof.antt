@@ -12,16 +12,16 @@ walk-requires : tie.Need-walk-requires
 walk-requires c κs = search needs
 
 returns : tie.Need-returns
-returns c = surveyed-many (given (c .before .before .before .before .before .before .before .args .uuid .now) (c .before .before .before .before .before .before .before .args .volume)) (rowAt (c .before .before .before .before .before .before .before .args .text .now) (c .before .before .before .before .before .before .before .args .at)) (c .before .before .before .before .before .before .before .args .table .now) (c .before .before .walk .result .sums) (c .before .before .walk .last .1 .1 .0) (c .before .before .walk .ensures .0) (c .if1 .taken)
+returns c = (surveyed-many (given (c .before .before .before .before .before .before .before .before .args .uuid .now) (c .before .before .before .before .before .before .before .before .args .volume)) (rowAt (c .before .before .before .before .before .before .before .before .args .text .now) (c .before .before .before .before .before .before .before .before .args .at)) (c .before .before .before .before .before .before .before .before .args .table .now) (c .before .before .before .walk .result .sums) (c .before .before .before .walk .last .1 .1 .0) (c .before .before .before .walk .ensures .0) (c .if1 .taken), c .before .before .before .walk .ensures .2)
 
 unique-requires : tie.Need-unique-requires
-unique-requires c κs = table-fits (given (c .before .before .before .before .before .before .before .before .before .args .uuid .now) (c .before .before .before .before .before .before .before .before .before .args .volume)) (rowAt (c .before .before .before .before .before .before .before .before .before .args .text .now) (c .before .before .before .before .before .before .before .before .before .args .at)) (c .before .before .before .before .before .before .before .before .before .args .table .now) (c .before .before .before .before .walk .result .sums) (c .before .before .before .before .walk .last .1 .1 .0) (c .before .before .before .before .walk .ensures .0) (c .before .before .if1 .left) (omega (arith, c .unique-arg2 .given))
+unique-requires c κs = table-fits (given (c .before .before .before .before .before .before .before .before .before .before .args .uuid .now) (c .before .before .before .before .before .before .before .before .before .before .args .volume)) (rowAt (c .before .before .before .before .before .before .before .before .before .before .args .text .now) (c .before .before .before .before .before .before .before .before .before .before .args .at)) (c .before .before .before .before .before .before .before .before .before .before .args .table .now) (c .before .before .before .before .before .walk .result .sums) (c .before .before .before .before .before .walk .last .1 .1 .0) (c .before .before .before .before .before .walk .ensures .0) (c .before .before .if1 .left) (omega (arith, c .unique-arg2 .given))
 
 both-requires : tie.Need-both-requires
 both-requires c κs = search needs
 
 returns-2 : tie.Need-returns-2
-returns-2 c = surveyed-few (given (c .before .before .before .before .before .before .before .before .before .before .before .args .uuid .now) (c .before .before .before .before .before .before .before .before .before .before .before .args .volume)) (rowAt (c .before .before .before .before .before .before .before .before .before .before .before .args .text .now) (c .before .before .before .before .before .before .before .before .before .before .before .args .at)) (c .before .before .before .before .before .before .before .before .before .before .before .args .table .now) (c .before .before .before .before .before .before .walk .result .sums) (c .before .before .before .before .before .before .walk .last .1 .1 .0) (c .before .before .before .before .before .before .walk .ensures .0) (c .before .before .before .before .if1 .left) (omega (arith, c .before .before .unique-arg2 .given)) (c .before .unique .result) (c .both .result) (c .before .unique .ensures) (c .both .ensures)
+returns-2 c = (surveyed-few (given (c .before .before .before .before .before .before .before .before .before .before .before .before .args .uuid .now) (c .before .before .before .before .before .before .before .before .before .before .before .before .args .volume)) (rowAt (c .before .before .before .before .before .before .before .before .before .before .before .before .args .text .now) (c .before .before .before .before .before .before .before .before .before .before .before .before .args .at)) (c .before .before .before .before .before .before .before .before .before .before .before .before .args .table .now) (c .before .before .before .before .before .before .before .walk .result .sums) (c .before .before .before .before .before .before .before .walk .last .1 .1 .0) (c .before .before .before .before .before .before .before .walk .ensures .0) (c .before .before .before .before .if1 .left) (omega (arith, c .before .before .unique-arg2 .given)) (c .before .unique .result) (c .both .result) (c .before .unique .ensures) (c .both .ensures), c .before .before .before .before .before .before .before .walk .ensures .2)
 
 pub survey-with-spec : {M : Type 1} → statement M
 survey-with-spec =

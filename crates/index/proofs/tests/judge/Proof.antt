@@ -1,6 +1,5 @@
 -- `judge` meets its contract: by the rows that were read.
 use mathlib.Core.Path.{_≡_, refl, ap, sym, _∙_}
-use Rattle.elements.specs.Reading.{rowAt}
 use Rattle.index.specs.Entries.{numberSaid}
 use Rattle.index.proofs.Judging.{no-file, too-many, judged}
 use Rattle.index.proofs.Seated.{length-placed, extents-placed}
@@ -9,13 +8,10 @@ use Rattle.index.proofs.tests.judge.Statement.{statement}
 use Rattle.index.proofs.tests.judge.Tie as tie
 
 returns : tie.Need-returns
-returns c = no-file _ _ (c .before .before .args .volume) (c .if1 .taken)
+returns c f p = no-file _ f (c .before .before .args .volume) (c .if1 .taken)
 
-read-row-requires : tie.Need-read-row-requires
-read-row-requires c κs = search needs
-
-array-read-row-at : tie.Need-array-read-row-at
-array-read-row-at c = search needs
+element-copy-out-row-at : tie.Need-element-copy-out-row-at
+element-copy-out-row-at c = search needs
 
 row-at-requires : tie.Need-row-at-requires
 row-at-requires c κs = search needs
@@ -24,16 +20,14 @@ read-rows-requires : tie.Need-read-rows-requires
 read-rows-requires c κs = search needs
 
 returns-2 : tie.Need-returns-2
-returns-2 c =
-    let s = c .before .before .before .before .before .before .before .before .args .text .now in
-    let f = rowAt s (c .before .before .before .before .before .before .before .before .args .row) in
-    let t = c .before .before .before .before .before .read-row .result .places in
-    let placed = c .before .before .before .before .before .read-row .ensures .0 in
-    let q = c .before .before .before .before .before .before .if1 .left in
-    too-many (c .before .before .before .before .before .before .before .before .args .sort) f (c .before .before .before .before .before .before .before .before .args .volume) s (c .before .before .before .before .before .before .before .before .args .row) (c .before .before .before .row-at .result) q refl (c .before .before .before .row-at .ensures .0 ∙ sym (extents-placed s f t placed)) _ (c .before .read-rows .result) (c .before .read-rows .ensures) (c .if2 .taken)
+returns-2 c f p =
+    let s = c .before .before .before .before .before .before .before .args .text .now in
+    let t = c .before .before .before .before .before .before .before .args .places .now in
+    let placed = p (c .before .before .before .before .before .if1 .left) in
+    too-many (c .before .before .before .before .before .before .before .args .sort) f (c .before .before .before .before .before .before .before .args .volume) s (c .before .before .before .row-at .result) (c .before .before .before .before .before .if1 .left) (c .before .before .before .row-at .ensures .0 ∙ sym (extents-placed s f t placed)) _ (c .before .read-rows .result) (c .before .read-rows .ensures) (c .if2 .taken)
 
-array-read-number-placed : tie.Need-array-read-number-placed
-array-read-number-placed c = search needs
+element-copy-out-number-placed : tie.Need-element-copy-out-number-placed
+element-copy-out-number-placed c = search needs
 
 number-placed-requires : tie.Need-number-placed-requires
 number-placed-requires c κs = search needs
@@ -42,25 +36,22 @@ are-lawful-requires : tie.Need-are-lawful-requires
 are-lawful-requires c κs = search needs
 
 returns-3 : tie.Need-returns-3
-returns-3 c =
+returns-3 c f p =
     let s = c .before .before .before .before .before .before .before .before .before .before .before .before .args .text .now in
-    let f = rowAt s (c .before .before .before .before .before .before .before .before .before .before .before .before .args .row) in
-    let t = c .before .before .before .before .before .before .before .before .before .read-row .result .places in
-    let placed = c .before .before .before .before .before .before .before .before .before .read-row .ensures .0 in
-    let q = c .before .before .before .before .before .before .before .before .before .before .if1 .left in
-    judged (c .before .before .before .before .before .before .before .before .before .before .before .before .args .sort) f (c .before .before .before .before .before .before .before .before .before .before .before .before .args .volume) s (c .before .before .before .before .before .before .before .before .before .before .before .before .args .row) (c .before .before .before .before .before .before .before .row-at .result) q refl (c .before .before .before .before .before .before .before .row-at .ensures .0 ∙ sym (extents-placed s f t placed)) _ (c .before .before .before .before .before .read-rows .result) (c .before .before .before .before .before .read-rows .ensures) (c .before .before .before .before .if2 .left) (c .before .before .before .number-placed .result) (c .before .before .before .number-placed .ensures ∙ ap numberSaid (sym (length-placed s f t placed))) (c .are-lawful .result) (c .are-lawful .ensures)
+    let t = c .before .before .before .before .before .before .before .before .before .before .before .before .args .places .now in
+    let placed = p (c .before .before .before .before .before .before .before .before .before .before .if1 .left) in
+    judged (c .before .before .before .before .before .before .before .before .before .before .before .before .args .sort) f (c .before .before .before .before .before .before .before .before .before .before .before .before .args .volume) s (c .before .before .before .before .before .before .before .before .row-at .result) (c .before .before .before .before .before .before .before .before .before .before .if1 .left) (c .before .before .before .before .before .before .before .before .row-at .ensures .0 ∙ sym (extents-placed s f t placed)) _ (c .before .before .before .before .before .before .read-rows .result) (c .before .before .before .before .before .before .read-rows .ensures) (c .before .before .before .before .before .if2 .left) (c .before .before .before .number-placed .result) (c .before .before .before .number-placed .ensures ∙ ap numberSaid (sym (length-placed s f t placed))) (c .are-lawful .result) (c .are-lawful .ensures)
 
 pub judge-spec : {M : Type 1} → statement M
 judge-spec =
     tie.close
     (tie.spec
     returns
-    read-row-requires
-    array-read-row-at
+    element-copy-out-row-at
     row-at-requires
     read-rows-requires
     returns-2
-    array-read-number-placed
+    element-copy-out-number-placed
     number-placed-requires
     are-lawful-requires
     returns-3)

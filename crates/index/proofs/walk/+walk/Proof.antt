@@ -18,6 +18,10 @@ use Rattle.elements.proofs.Roots.{height-open, height-rest}
 use Rattle.index.specs.Tests.{given}
 use Rattle.index.specs.Sweep.{gathered, fresh, ended, endedSums, sweep}
 use Rattle.index.specs.declared.walk.Sums.{Sums}
+use Rattle.index_names.specs.Sorts.{file}
+use Rattle.index_rows.specs.Places.{Placed}
+use Rattle.index_rows.proofs.Placing.{Noting, noting-none, noting-more, noting-all, placed-none}
+use Rattle.index.proofs.Later.{meet-told}
 use Rattle.index.proofs.Steps.{row-over, step-holds, step-other}
 use borrow.Author.Needs.{needs}
 use borrow.Fn.Kinds.{In}
@@ -32,7 +36,10 @@ use Rattle.index.proofs.walk.finish.Reads as finish-reads
 use Rattle.index.proofs.walk.is_open.Reads as is-open-reads
 use Rattle.index.proofs.walk.mark.Reads as mark-reads
 use Rattle.index.proofs.walk.number_at.Reads as number-at-reads
+use Rattle.index.proofs.walk.settle.Reads as settle-reads
+use Rattle.index.proofs.tests.judge.Reads as judge-reads
 use Rattle.index_names.proofs.sort_in.Reads as sort-in-reads
+use Rattle.index_rows.proofs.note.Reads as note-reads
 use Rattle.index.proofs.walk.+walk.{statement}
 use Rattle.index.proofs.walk.+walk.Tie.{close}
 
@@ -57,10 +64,16 @@ claims t = (
   sort-in-reads.Learnt,
   mark-reads.Asked,
   mark-reads.Learnt,
+  note-reads.Asked,
+  note-reads.Learnt,
   enter-reads.Asked,
   enter-reads.Learnt,
   is-open-reads.Asked,
   is-open-reads.Learnt,
+  judge-reads.Asked,
+  judge-reads.Learnt,
+  settle-reads.Asked,
+  settle-reads.Learnt,
   walk-below t,
   walk.Post,
   leave-reads.Asked,
@@ -68,16 +81,16 @@ claims t = (
 )
 
 abbrev walk-Inv-loop : walk-lts.InvT-loop
-walk-Inv-loop text uuid uids₀ rows₀ at kind depth volume i₀ a₀ seen₀ t18 uids rows i a seen =
+walk-Inv-loop text uuid uids₀ rows₀ at kind depth volume i₀ a₀ seen₀ places₀ t22 t23 uids rows i a seen places =
     (at ≤ i) × (i ≤ length text) × (height (rowAt text i) ≤ depth) × (aroundAt text at ≡ aroundAt text i)
     × (sweep (given uuid volume) kind fresh (rowAt text at) (gathered a₀ uids₀) ≡ sweep (given uuid volume) kind seen (rowAt text i) (gathered a uids))
-    × (t18 ≡ fresh)
+    × (t22 ≡ fresh) × (t23 ≡ fresh) × Noting text kind (rowAt text at) (rowAt text i) places
 
 abbrev walk-μ-loop : walk-lts.MeasureT-loop
-walk-μ-loop text uuid uids₀ rows₀ at kind depth volume i₀ a₀ seen₀ t18 uids rows i a seen = length text - i
+walk-μ-loop text uuid uids₀ rows₀ at kind depth volume i₀ a₀ seen₀ places₀ t22 t23 uids rows i a seen places = length text - i
 
 walk-loop-holds : (t : ℕ) → walk-lts.Need-loop-holds (claims t) (walk-at t) walk.Post walk-Inv-loop walk-μ-loop
-walk-loop-holds t c = (search needs, search needs, c .before .before .pre .1 .1, refl, refl, refl)
+walk-loop-holds t c = (search needs, search needs, c .before .before .pre .1 .1, refl, refl, refl, refl, noting-none (c .before .before .args .text .now) (c .before .before .args .kind) (rowAt (c .before .before .args .text .now) (c .before .before .args .at)))
 
 walk-next-start-requires : (t : ℕ) → walk-lts.Need-next-start-requires (claims t) (walk-at t) walk.Post walk-Inv-loop walk-μ-loop
 walk-next-start-requires t c κs = search needs
@@ -98,6 +111,7 @@ walk-returns t c =
     let tag : NextStart s (l .i) End = subst (NextStart s (l .i)) (c .before .before .enum-told .given .1) (c .before .before .before .before .next-start .ensures) in (
       ap (λ (x : Sums). gathered x (l .uids)) (c .finish .ensures) ∙ sym (l .inv .4 ∙ row-over g (a .kind) (l .seen) (gathered (l .a) (l .uids)) (rowAt s (l .i)) (row-end tag)),
       record { left = left-end s (length s) (omega arith) ∙ sym (l .inv .3 ∙ around-end tag); ahead = search needs; inside = search needs },
+      noting-all s (a .kind) (rowAt s (a .at)) (rowAt s (l .i)) (l .places) (row-end tag) (l .inv .7),
     )
 
 walk-enum-known-n : (t : ℕ) → walk-lts.Need-enum-known-n (claims t) (walk-at t) walk.Post walk-Inv-loop walk-μ-loop
@@ -117,6 +131,7 @@ walk-returns-2 t c =
     let tag : NextStart s (l .i) (Close n) = subst (NextStart s (l .i)) (c .before .before .before .n .given .1) (c .before .before .before .before .before .next-start .ensures) in (
       ap (λ (x : Sums). gathered x (l .uids)) (c .finish2 .ensures) ∙ sym (l .inv .4 ∙ row-over g (a .kind) (l .seen) (gathered (l .a) (l .uids)) (rowAt s (l .i)) (row-close tag)),
       record { left = sym (l .inv .3 ∙ around-close tag); ahead = omega (arith, tag .place); inside = tag .place .1 },
+      noting-all s (a .kind) (rowAt s (a .at)) (rowAt s (l .i)) (l .places) (row-close tag) (l .inv .7),
     )
 
 walk-enum-known-h : (t : ℕ) → walk-lts.Need-enum-known-h (claims t) (walk-at t) walk.Post walk-Inv-loop walk-μ-loop
@@ -138,141 +153,171 @@ walk-sort-in-requires t c κs = search needs
 walk-mark-requires : (t : ℕ) → walk-lts.Need-mark-requires (claims t) (walk-at t) walk.Post walk-Inv-loop walk-μ-loop
 walk-mark-requires t c κs = search needs
 
+walk-note-requires : (t : ℕ) → walk-lts.Need-note-requires (claims t) (walk-at t) walk.Post walk-Inv-loop walk-μ-loop
+walk-note-requires t c κs = search needs
+
 walk-enter-requires : (t : ℕ) → walk-lts.Need-enter-requires (claims t) (walk-at t) walk.Post walk-Inv-loop walk-μ-loop
 walk-enter-requires t c κs =
-    let a = c .before .before .before .before .before .before .before .before .before .before .before .before .before .args in
+    let a = c .before .before .before .before .before .before .before .before .before .before .before .before .before .before .args in
     let s = a .text .now in
-    let l = c .before .before .before .before .before .before .before .before .before .before .loop in
+    let l = c .before .before .before .before .before .before .before .before .before .before .before .loop in
     let g = given (a .uuid .now) (a .volume) in
-    let x = c .before .before .before .before .before .before .before .h .given .0 .0 in
-    let o : NextStart s (l .i) (Opens x) = subst (NextStart s (l .i)) (c .before .before .before .before .before .before .before .h .given .1) (c .before .before .before .before .before .before .before .before .before .next-start .ensures) in
+    let x = c .before .before .before .before .before .before .before .before .h .given .0 .0 in
+    let o : NextStart s (l .i) (Opens x) = subst (NextStart s (l .i)) (c .before .before .before .before .before .before .before .before .h .given .1) (c .before .before .before .before .before .before .before .before .before .before .next-start .ensures) in
     o .shape
 
 walk-is-open-requires : (t : ℕ) → walk-lts.Need-is-open-requires (claims t) (walk-at t) walk.Post walk-Inv-loop walk-μ-loop
 walk-is-open-requires t c κs = search needs
 
+walk-judge-requires : (t : ℕ) → walk-lts.Need-judge-requires (claims t) (walk-at t) walk.Post walk-Inv-loop walk-μ-loop
+walk-judge-requires t c κs = search needs
+
 walk-finish-requires-3 : (t : ℕ) → walk-lts.Need-finish-requires-3 (claims t) (walk-at t) walk.Post walk-Inv-loop walk-μ-loop
 walk-finish-requires-3 t c κs = search needs
 
+walk-settle-requires : (t : ℕ) → walk-lts.Need-settle-requires (claims t) (walk-at t) walk.Post walk-Inv-loop walk-μ-loop
+walk-settle-requires t c κs = search needs
+
 walk-loop-less : (t : ℕ) → walk-lts.Need-loop-less (claims t) (walk-at t) walk.Post walk-Inv-loop walk-μ-loop
 walk-loop-less t c =
-    let a = c .before .before .before .before .before .before .before .before .before .before .before .before .before .before .before .before .before .before .before .args in
+    let a = c .before .before .before .before .before .before .before .before .before .before .before .before .before .before .before .before .before .before .before .before .before .before .before .before .args in
     let s = a .text .now in
-    let l = c .before .before .before .before .before .before .before .before .before .before .before .before .before .before .before .before .loop in
+    let l = c .before .before .before .before .before .before .before .before .before .before .before .before .before .before .before .before .before .before .before .before .before .loop in
     let g = given (a .uuid .now) (a .volume) in
-    let x = c .before .before .before .before .before .before .before .before .before .before .before .before .before .h .given .0 .0 in
-    let o : NextStart s (l .i) (Opens x) = subst (NextStart s (l .i)) (c .before .before .before .before .before .before .before .before .before .before .before .before .before .h .given .1) (c .before .before .before .before .before .before .before .before .before .before .before .before .before .before .before .next-start .ensures) in
-    let tag : NextTag s (l .i) (Empty (x .at)) = rw (c .before .before .if2 .taken) at (o .tag) in
+    let x = c .before .before .before .before .before .before .before .before .before .before .before .before .before .before .before .before .before .before .h .given .0 .0 in
+    let o : NextStart s (l .i) (Opens x) = subst (NextStart s (l .i)) (c .before .before .before .before .before .before .before .before .before .before .before .before .before .before .before .before .before .before .h .given .1) (c .before .before .before .before .before .before .before .before .before .before .before .before .before .before .before .before .before .before .before .before .next-start .ensures) in
+    let tag : NextTag s (l .i) (Empty (x .at)) = rw (c .before .before .before .before .before .before .if2 .taken) at (o .tag) in
     let first : FirstOf s (l .i) (x .at) (x .at) = first-empty tag in
     omega (arith, first .place, first .after)
 
 walk-loop-again : (t : ℕ) → walk-lts.Need-loop-again (claims t) (walk-at t) walk.Post walk-Inv-loop walk-μ-loop
 unfolding ended
 walk-loop-again t c =
-    let a = c .before .before .before .before .before .before .before .before .before .before .before .before .before .before .before .before .before .before .before .args in
+    let a = c .before .before .before .before .before .before .before .before .before .before .before .before .before .before .before .before .before .before .before .before .before .before .before .before .args in
     let s = a .text .now in
-    let l = c .before .before .before .before .before .before .before .before .before .before .before .before .before .before .before .before .loop in
+    let l = c .before .before .before .before .before .before .before .before .before .before .before .before .before .before .before .before .before .before .before .before .before .loop in
     let g = given (a .uuid .now) (a .volume) in
-    let x = c .before .before .before .before .before .before .before .before .before .before .before .before .before .h .given .0 .0 in
-    let o : NextStart s (l .i) (Opens x) = subst (NextStart s (l .i)) (c .before .before .before .before .before .before .before .before .before .before .before .before .before .h .given .1) (c .before .before .before .before .before .before .before .before .before .before .before .before .before .before .before .next-start .ensures) in
-    let tag : NextTag s (l .i) (Empty (x .at)) = rw (c .before .before .if2 .taken) at (o .tag) in
+    let x = c .before .before .before .before .before .before .before .before .before .before .before .before .before .before .before .before .before .before .h .given .0 .0 in
+    let o : NextStart s (l .i) (Opens x) = subst (NextStart s (l .i)) (c .before .before .before .before .before .before .before .before .before .before .before .before .before .before .before .before .before .before .h .given .1) (c .before .before .before .before .before .before .before .before .before .before .before .before .before .before .before .before .before .before .before .before .next-start .ensures) in
+    let tag : NextTag s (l .i) (Empty (x .at)) = rw (c .before .before .before .before .before .before .if2 .taken) at (o .tag) in
+    let k = childrenAt s (x .at) in
+    let v = c .before .before .before .judge .ensures k (λ q. placed-none s file k _ (children-empty tag) (l .inv .5)) in
+    let u = c .before .before .before .before .before .before .before .before .before .enter .last .1 .1 .0 in
     let first : FirstOf s (l .i) (x .at) (x .at) = first-empty tag in
     let low : height (rowAt s (x .at)) ≤ height (rowAt s (l .i)) = height-rest first in (
       omega (arith, first .place, first .after),
       first .after .1,
       omega arith,
       l .inv .3 ∙ first .around,
-      l .inv .4 ∙ step-holds g (a .kind) (l .seen) (gathered (l .a) (l .uids)) first (c .before .before .before .before .before .before .before .before .before .before .before .number-at .result) (c .before .before .before .before .before .before .before .before .before .before .sort-in .result) (c .before .before .before .before .before .before .before .before .mark .last .0) (gathered (c .before .before .before .before .before .enter .result) (c .before .before .before .before .before .enter .last .1 .1 .0)) (c .before .before .before .before .before .before .before .before .before .before .before .number-at .ensures) (c .before .before .before .before .before .before .before .before .before .before .sort-in .ensures) (c .before .before .before .before .before .before .before .before .mark .ensures) (c .before .before .before .before .before .enter .ensures) (gathered (c .finish3 .result) (c .before .before .before .before .before .enter .last .1 .1 .0)) (sym (c .before .before .before .before .is-open .ensures) ∙ c .before .before .before .if1 .taken)
-          (ap (λ (x : Sums). gathered x (c .before .before .before .before .before .enter .last .1 .1 .0)) (c .finish3 .ensures ∙ ap (λ (m : List ℕ). endedSums (c .before .before .before .before .before .before .before .before .before .before .sort-in .result) m (c .before .before .before .before .before .enter .result)) (l .inv .5))
-          ∙ sym (row-over g (c .before .before .before .before .before .before .before .before .before .before .sort-in .result) fresh (gathered (c .before .before .before .before .before .enter .result) (c .before .before .before .before .before .enter .last .1 .1 .0)) (childrenAt s (x .at)) (children-empty tag))),
+      l .inv .4 ∙ step-holds g (a .kind) (l .seen) (gathered (l .a) (l .uids)) first (c .before .before .before .before .before .before .before .before .before .before .before .before .before .before .before .before .number-at .result) (c .before .before .before .before .before .before .before .before .before .before .before .before .before .before .before .sort-in .result) (c .before .before .before .before .before .before .before .before .before .before .before .before .before .mark .last .0) (gathered (c .before .before .before .before .before .before .before .before .before .enter .result) (c .before .before .before .before .before .before .before .before .before .enter .last .1 .1 .0)) (c .before .before .before .before .before .before .before .before .before .before .before .before .before .before .before .before .number-at .ensures) (c .before .before .before .before .before .before .before .before .before .before .before .before .before .before .before .sort-in .ensures) (c .before .before .before .before .before .before .before .before .before .before .before .before .before .mark .ensures) (c .before .before .before .before .before .before .before .before .before .enter .ensures) (gathered (c .settle .result) u) (sym (c .before .before .before .before .before .before .before .before .is-open .ensures) ∙ c .before .before .before .before .before .before .before .if1 .taken)
+          (ap (λ (x : Sums). gathered x u) (c .settle .ensures)
+          ∙ meet-told (v .0) (v .1 (a .uuid .now)) (c .before .finish3 .result) u _ (ap (λ (x : Sums). gathered x u) (c .before .finish3 .ensures ∙ ap (λ (m : List ℕ). endedSums (c .before .before .before .before .before .before .before .before .before .before .before .before .before .before .before .sort-in .result) m (c .before .before .before .before .before .before .before .before .before .enter .result)) (l .inv .6))
+          ∙ sym (row-over g (c .before .before .before .before .before .before .before .before .before .before .before .before .before .before .before .sort-in .result) fresh (gathered (c .before .before .before .before .before .before .before .before .before .enter .result) u) k (children-empty tag)))),
       l .inv .5,
+      l .inv .6,
+      noting-more s (a .kind) (c .before .before .before .before .before .before .before .before .before .before .before .before .before .before .before .before .number-at .result) (l .places) (c .before .before .before .before .before .before .before .before .before .before .before .note .last .0) first (c .before .before .before .before .before .before .before .before .before .before .before .before .before .before .before .before .number-at .ensures) (c .before .before .before .before .before .before .before .before .before .before .before .note .ensures) (rowAt s (a .at)) (l .inv .7),
     )
 
 walk-sub-walk : (t : ℕ) → walk-lts.Need-sub-walk (claims t) (walk-at t) walk.Post walk-Inv-loop walk-μ-loop
 walk-sub-walk t c =
-    let a = c .before .before .before .before .before .before .before .before .before .before .before .before .before .before .before .before .before .before .before .args in
+    let a = c .before .before .before .before .before .before .before .before .before .before .before .before .before .before .before .before .before .before .before .before .args in
     let s = a .text .now in
-    let l = c .before .before .before .before .before .before .before .before .before .before .before .before .before .before .before .before .loop in
+    let l = c .before .before .before .before .before .before .before .before .before .before .before .before .before .before .before .before .before .loop in
     let g = given (a .uuid .now) (a .volume) in
-    let x = c .before .before .before .before .before .before .before .before .before .before .before .before .before .h .given .0 .0 in
-    let o : NextStart s (l .i) (Opens x) = subst (NextStart s (l .i)) (c .before .before .before .before .before .before .before .before .before .before .before .before .before .h .given .1) (c .before .before .before .before .before .before .before .before .before .before .before .before .before .before .before .next-start .ensures) in
+    let x = c .before .before .before .before .before .before .before .before .before .before .before .before .before .before .h .given .0 .0 in
+    let o : NextStart s (l .i) (Opens x) = subst (NextStart s (l .i)) (c .before .before .before .before .before .before .before .before .before .before .before .before .before .before .h .given .1) (c .before .before .before .before .before .before .before .before .before .before .before .before .before .before .before .before .next-start .ensures) in
     let tag : NextTag s (l .i) (Open (x .at)) = rw (c .before .before .if2 .left) at (o .tag) in
     let low = height-open tag in
     omega (arith, l .inv .2)
 
 walk-walk-requires : (t : ℕ) → walk-lts.Need-walk-requires (claims t) (walk-at t) walk.Post walk-Inv-loop walk-μ-loop
 walk-walk-requires t c κs =
-    let a = c .before .before .before .before .before .before .before .before .before .before .before .before .before .before .before .before .before .before .before .args in
+    let a = c .before .before .before .before .before .before .before .before .before .before .before .before .before .before .before .before .before .before .before .before .args in
     let s = a .text .now in
-    let l = c .before .before .before .before .before .before .before .before .before .before .before .before .before .before .before .before .loop in
+    let l = c .before .before .before .before .before .before .before .before .before .before .before .before .before .before .before .before .before .loop in
     let g = given (a .uuid .now) (a .volume) in
-    let x = c .before .before .before .before .before .before .before .before .before .before .before .before .before .h .given .0 .0 in
-    let o : NextStart s (l .i) (Opens x) = subst (NextStart s (l .i)) (c .before .before .before .before .before .before .before .before .before .before .before .before .before .h .given .1) (c .before .before .before .before .before .before .before .before .before .before .before .before .before .before .before .next-start .ensures) in
+    let x = c .before .before .before .before .before .before .before .before .before .before .before .before .before .before .h .given .0 .0 in
+    let o : NextStart s (l .i) (Opens x) = subst (NextStart s (l .i)) (c .before .before .before .before .before .before .before .before .before .before .before .before .before .before .h .given .1) (c .before .before .before .before .before .before .before .before .before .before .before .before .before .before .before .before .next-start .ensures) in
     let tag : NextTag s (l .i) (Open (x .at)) = rw (c .before .before .if2 .left) at (o .tag) in
     let low = height-open tag in
-    let e : a .depth ≡ t = c .before .before .before .before .before .before .before .before .before .before .before .before .before .before .before .before .before .before .before .pre .0 in
+    let e : a .depth ≡ t = c .before .before .before .before .before .before .before .before .before .before .before .before .before .before .before .before .before .before .before .before .pre .0 in
     let y : a .depth - 1 < t = omega arith in
     (y, (tag .place .1, omega arith))
 
+walk-judge-requires-2 : (t : ℕ) → walk-lts.Need-judge-requires-2 (claims t) (walk-at t) walk.Post walk-Inv-loop walk-μ-loop
+walk-judge-requires-2 t c κs = search needs
+
+walk-settle-requires-2 : (t : ℕ) → walk-lts.Need-settle-requires-2 (claims t) (walk-at t) walk.Post walk-Inv-loop walk-μ-loop
+walk-settle-requires-2 t c κs = search needs
+
 walk-loop-less-2 : (t : ℕ) → walk-lts.Need-loop-less-2 (claims t) (walk-at t) walk.Post walk-Inv-loop walk-μ-loop
 walk-loop-less-2 t c =
-    let a = c .before .before .before .before .before .before .before .before .before .before .before .before .before .before .before .before .before .before .before .before .before .args in
+    let a = c .before .before .before .before .before .before .before .before .before .before .before .before .before .before .before .before .before .before .before .before .before .before .before .before .before .before .args in
     let s = a .text .now in
-    let l = c .before .before .before .before .before .before .before .before .before .before .before .before .before .before .before .before .before .before .loop in
+    let l = c .before .before .before .before .before .before .before .before .before .before .before .before .before .before .before .before .before .before .before .before .before .before .before .loop in
     let g = given (a .uuid .now) (a .volume) in
-    let x = c .before .before .before .before .before .before .before .before .before .before .before .before .before .before .before .h .given .0 .0 in
-    let o : NextStart s (l .i) (Opens x) = subst (NextStart s (l .i)) (c .before .before .before .before .before .before .before .before .before .before .before .before .before .before .before .h .given .1) (c .before .before .before .before .before .before .before .before .before .before .before .before .before .before .before .before .before .next-start .ensures) in
-    let tag : NextTag s (l .i) (Open (x .at)) = rw (c .before .before .before .before .if2 .left) at (o .tag) in
-    let first : FirstOf s (l .i) (x .at) (c .before .walk .result .at) = first-open tag (c .before .walk .ensures .1) in
+    let x = c .before .before .before .before .before .before .before .before .before .before .before .before .before .before .before .before .before .before .before .before .h .given .0 .0 in
+    let o : NextStart s (l .i) (Opens x) = subst (NextStart s (l .i)) (c .before .before .before .before .before .before .before .before .before .before .before .before .before .before .before .before .before .before .before .before .h .given .1) (c .before .before .before .before .before .before .before .before .before .before .before .before .before .before .before .before .before .before .before .before .before .before .next-start .ensures) in
+    let tag : NextTag s (l .i) (Open (x .at)) = rw (c .before .before .before .before .before .before .before .before .if2 .left) at (o .tag) in
+    let first : FirstOf s (l .i) (x .at) (c .before .before .before .before .before .walk .result .at) = first-open tag (c .before .before .before .before .before .walk .ensures .1) in
     omega (arith, first .place, first .after)
 
 walk-loop-again-2 : (t : ℕ) → walk-lts.Need-loop-again-2 (claims t) (walk-at t) walk.Post walk-Inv-loop walk-μ-loop
 walk-loop-again-2 t c =
-    let a = c .before .before .before .before .before .before .before .before .before .before .before .before .before .before .before .before .before .before .before .before .before .args in
+    let a = c .before .before .before .before .before .before .before .before .before .before .before .before .before .before .before .before .before .before .before .before .before .before .before .before .before .before .args in
     let s = a .text .now in
-    let l = c .before .before .before .before .before .before .before .before .before .before .before .before .before .before .before .before .before .before .loop in
+    let l = c .before .before .before .before .before .before .before .before .before .before .before .before .before .before .before .before .before .before .before .before .before .before .before .loop in
     let g = given (a .uuid .now) (a .volume) in
-    let x = c .before .before .before .before .before .before .before .before .before .before .before .before .before .before .before .h .given .0 .0 in
-    let o : NextStart s (l .i) (Opens x) = subst (NextStart s (l .i)) (c .before .before .before .before .before .before .before .before .before .before .before .before .before .before .before .h .given .1) (c .before .before .before .before .before .before .before .before .before .before .before .before .before .before .before .before .before .next-start .ensures) in
-    let tag : NextTag s (l .i) (Open (x .at)) = rw (c .before .before .before .before .if2 .left) at (o .tag) in
-    let first : FirstOf s (l .i) (x .at) (c .before .walk .result .at) = first-open tag (c .before .walk .ensures .1) in
-    let low : height (rowAt s (c .before .walk .result .at)) ≤ height (rowAt s (l .i)) = height-rest first in (
+    let x = c .before .before .before .before .before .before .before .before .before .before .before .before .before .before .before .before .before .before .before .before .h .given .0 .0 in
+    let o : NextStart s (l .i) (Opens x) = subst (NextStart s (l .i)) (c .before .before .before .before .before .before .before .before .before .before .before .before .before .before .before .before .before .before .before .before .h .given .1) (c .before .before .before .before .before .before .before .before .before .before .before .before .before .before .before .before .before .before .before .before .before .before .next-start .ensures) in
+    let tag : NextTag s (l .i) (Open (x .at)) = rw (c .before .before .before .before .before .before .before .before .if2 .left) at (o .tag) in
+    let k = childrenAt s (x .at) in
+    let held : Placed s (c .before .before .before .before .before .before .before .before .before .before .before .before .before .before .before .before .before .sort-in .result) k (c .before .before .before .before .before .walk .result .places) = subst (λ (f : Forest). Placed s (c .before .before .before .before .before .before .before .before .before .before .before .before .before .before .before .before .before .sort-in .result) f (c .before .before .before .before .before .walk .result .places)) (sym (children-open tag)) (c .before .before .before .before .before .walk .ensures .2) in
+    let v = c .before .judge2 .ensures k (λ q. subst (λ (n : ℕ). Placed s n k (c .before .before .before .before .before .walk .result .places)) q held) in
+    let u = c .before .before .before .before .before .walk .last .1 .1 .0 in
+    let first : FirstOf s (l .i) (x .at) (c .before .before .before .before .before .walk .result .at) = first-open tag (c .before .before .before .before .before .walk .ensures .1) in
+    let low : height (rowAt s (c .before .before .before .before .before .walk .result .at)) ≤ height (rowAt s (l .i)) = height-rest first in (
       omega (arith, first .place, first .after),
       first .after .1,
       omega arith,
       l .inv .3 ∙ first .around,
-      l .inv .4 ∙ step-holds g (a .kind) (l .seen) (gathered (l .a) (l .uids)) first (c .before .before .before .before .before .before .before .before .before .before .before .before .before .number-at .result) (c .before .before .before .before .before .before .before .before .before .before .before .before .sort-in .result) (c .before .before .before .before .before .before .before .before .before .before .mark .last .0) (gathered (c .before .before .before .before .before .before .before .enter .result) (c .before .before .before .before .before .before .before .enter .last .1 .1 .0)) (c .before .before .before .before .before .before .before .before .before .before .before .before .before .number-at .ensures) (c .before .before .before .before .before .before .before .before .before .before .before .before .sort-in .ensures) (c .before .before .before .before .before .before .before .before .before .before .mark .ensures) (c .before .before .before .before .before .before .before .enter .ensures) (gathered (c .before .walk .result .sums) (c .before .walk .last .1 .1 .0)) (sym (c .before .before .before .before .before .before .is-open .ensures) ∙ c .before .before .before .before .before .if1 .taken)
-          (c .before .walk .ensures .0 ∙ ap (λ (f : Forest). sweep g (c .before .before .before .before .before .before .before .before .before .before .before .before .sort-in .result) fresh f (gathered (c .before .before .before .before .before .before .before .enter .result) (c .before .before .before .before .before .before .before .enter .last .1 .1 .0))) (sym (children-open tag))),
+      l .inv .4 ∙ step-holds g (a .kind) (l .seen) (gathered (l .a) (l .uids)) first (c .before .before .before .before .before .before .before .before .before .before .before .before .before .before .before .before .before .before .number-at .result) (c .before .before .before .before .before .before .before .before .before .before .before .before .before .before .before .before .before .sort-in .result) (c .before .before .before .before .before .before .before .before .before .before .before .before .before .before .before .mark .last .0) (gathered (c .before .before .before .before .before .before .before .before .before .before .before .enter .result) (c .before .before .before .before .before .before .before .before .before .before .before .enter .last .1 .1 .0)) (c .before .before .before .before .before .before .before .before .before .before .before .before .before .before .before .before .before .before .number-at .ensures) (c .before .before .before .before .before .before .before .before .before .before .before .before .before .before .before .before .before .sort-in .ensures) (c .before .before .before .before .before .before .before .before .before .before .before .before .before .before .before .mark .ensures) (c .before .before .before .before .before .before .before .before .before .before .before .enter .ensures) (gathered (c .settle2 .result) u) (sym (c .before .before .before .before .before .before .before .before .before .before .is-open .ensures) ∙ c .before .before .before .before .before .before .before .before .before .if1 .taken)
+          (ap (λ (x : Sums). gathered x u) (c .settle2 .ensures)
+          ∙ meet-told (v .0) (v .1 (a .uuid .now)) (c .before .before .before .before .before .walk .result .sums) u _ (c .before .before .before .before .before .walk .ensures .0 ∙ ap (λ (f : Forest). sweep g (c .before .before .before .before .before .before .before .before .before .before .before .before .before .before .before .before .before .sort-in .result) fresh f (gathered (c .before .before .before .before .before .before .before .before .before .before .before .enter .result) (c .before .before .before .before .before .before .before .before .before .before .before .enter .last .1 .1 .0))) (sym (children-open tag)))),
       l .inv .5,
+      l .inv .6,
+      noting-more s (a .kind) (c .before .before .before .before .before .before .before .before .before .before .before .before .before .before .before .before .before .before .number-at .result) (l .places) (c .before .before .before .before .before .before .before .before .before .before .before .before .before .note .last .0) first (c .before .before .before .before .before .before .before .before .before .before .before .before .before .before .before .before .before .before .number-at .ensures) (c .before .before .before .before .before .before .before .before .before .before .before .before .before .note .ensures) (rowAt s (a .at)) (l .inv .7),
     )
 
 walk-loop-less-3 : (t : ℕ) → walk-lts.Need-loop-less-3 (claims t) (walk-at t) walk.Post walk-Inv-loop walk-μ-loop
 walk-loop-less-3 t c =
-    let a = c .before .before .before .before .before .before .before .before .before .before .before .before .before .before .before .before .before .args in
+    let a = c .before .before .before .before .before .before .before .before .before .before .before .before .before .before .before .before .before .before .args in
     let s = a .text .now in
-    let l = c .before .before .before .before .before .before .before .before .before .before .before .before .before .before .loop in
+    let l = c .before .before .before .before .before .before .before .before .before .before .before .before .before .before .before .loop in
     let g = given (a .uuid .now) (a .volume) in
-    let x = c .before .before .before .before .before .before .before .before .before .before .before .h .given .0 .0 in
-    let o : NextStart s (l .i) (Opens x) = subst (NextStart s (l .i)) (c .before .before .before .before .before .before .before .before .before .before .before .h .given .1) (c .before .before .before .before .before .before .before .before .before .before .before .before .before .next-start .ensures) in
+    let x = c .before .before .before .before .before .before .before .before .before .before .before .before .h .given .0 .0 in
+    let o : NextStart s (l .i) (Opens x) = subst (NextStart s (l .i)) (c .before .before .before .before .before .before .before .before .before .before .before .before .h .given .1) (c .before .before .before .before .before .before .before .before .before .before .before .before .before .before .next-start .ensures) in
     let first : FirstOf s (l .i) (x .at) (x .next) = o .next (c .if3 .taken) in
     omega (arith, first .place, first .after)
 
 walk-loop-again-3 : (t : ℕ) → walk-lts.Need-loop-again-3 (claims t) (walk-at t) walk.Post walk-Inv-loop walk-μ-loop
 walk-loop-again-3 t c =
-    let a = c .before .before .before .before .before .before .before .before .before .before .before .before .before .before .before .before .before .args in
+    let a = c .before .before .before .before .before .before .before .before .before .before .before .before .before .before .before .before .before .before .args in
     let s = a .text .now in
-    let l = c .before .before .before .before .before .before .before .before .before .before .before .before .before .before .loop in
+    let l = c .before .before .before .before .before .before .before .before .before .before .before .before .before .before .before .loop in
     let g = given (a .uuid .now) (a .volume) in
-    let x = c .before .before .before .before .before .before .before .before .before .before .before .h .given .0 .0 in
-    let o : NextStart s (l .i) (Opens x) = subst (NextStart s (l .i)) (c .before .before .before .before .before .before .before .before .before .before .before .h .given .1) (c .before .before .before .before .before .before .before .before .before .before .before .before .before .next-start .ensures) in
+    let x = c .before .before .before .before .before .before .before .before .before .before .before .before .h .given .0 .0 in
+    let o : NextStart s (l .i) (Opens x) = subst (NextStart s (l .i)) (c .before .before .before .before .before .before .before .before .before .before .before .before .h .given .1) (c .before .before .before .before .before .before .before .before .before .before .before .before .before .before .next-start .ensures) in
     let first : FirstOf s (l .i) (x .at) (x .next) = o .next (c .if3 .taken) in
     let low : height (rowAt s (x .next)) ≤ height (rowAt s (l .i)) = height-rest first in (
       omega (arith, first .place, first .after),
       first .after .1,
       omega arith,
       l .inv .3 ∙ first .around,
-      l .inv .4 ∙ step-other g (a .kind) (l .seen) (gathered (l .a) (l .uids)) first (c .before .before .before .before .before .before .before .before .before .number-at .result) (c .before .before .before .before .before .before .before .before .sort-in .result) (c .before .before .before .before .before .before .mark .last .0) (gathered (c .before .before .before .enter .result) (c .before .before .before .enter .last .1 .1 .0)) (c .before .before .before .before .before .before .before .before .before .number-at .ensures) (c .before .before .before .before .before .before .before .before .sort-in .ensures) (c .before .before .before .before .before .before .mark .ensures) (c .before .before .before .enter .ensures) (sym (c .before .before .is-open .ensures) ∙ c .before .if1 .left),
+      l .inv .4 ∙ step-other g (a .kind) (l .seen) (gathered (l .a) (l .uids)) first (c .before .before .before .before .before .before .before .before .before .before .number-at .result) (c .before .before .before .before .before .before .before .before .before .sort-in .result) (c .before .before .before .before .before .before .before .mark .last .0) (gathered (c .before .before .before .enter .result) (c .before .before .before .enter .last .1 .1 .0)) (c .before .before .before .before .before .before .before .before .before .before .number-at .ensures) (c .before .before .before .before .before .before .before .before .before .sort-in .ensures) (c .before .before .before .before .before .before .before .mark .ensures) (c .before .before .before .enter .ensures) (sym (c .before .before .is-open .ensures) ∙ c .before .if1 .left),
       l .inv .5,
+      l .inv .6,
+      noting-more s (a .kind) (c .before .before .before .before .before .before .before .before .before .before .number-at .result) (l .places) (c .before .before .before .before .before .note .last .0) first (c .before .before .before .before .before .before .before .before .before .before .number-at .ensures) (c .before .before .before .before .before .note .ensures) (rowAt s (a .at)) (l .inv .7),
     )
 
 walk-leave-requires : (t : ℕ) → walk-lts.Need-leave-requires (claims t) (walk-at t) walk.Post walk-Inv-loop walk-μ-loop
@@ -280,31 +325,33 @@ walk-leave-requires t c κs = search needs
 
 walk-loop-less-4 : (t : ℕ) → walk-lts.Need-loop-less-4 (claims t) (walk-at t) walk.Post walk-Inv-loop walk-μ-loop
 walk-loop-less-4 t c =
-    let a = c .before .before .before .before .before .before .before .before .before .before .before .before .before .before .before .before .before .before .args in
+    let a = c .before .before .before .before .before .before .before .before .before .before .before .before .before .before .before .before .before .before .before .args in
     let s = a .text .now in
-    let l = c .before .before .before .before .before .before .before .before .before .before .before .before .before .before .before .loop in
+    let l = c .before .before .before .before .before .before .before .before .before .before .before .before .before .before .before .before .loop in
     let g = given (a .uuid .now) (a .volume) in
-    let x = c .before .before .before .before .before .before .before .before .before .before .before .before .h .given .0 .0 in
-    let o : NextStart s (l .i) (Opens x) = subst (NextStart s (l .i)) (c .before .before .before .before .before .before .before .before .before .before .before .before .h .given .1) (c .before .before .before .before .before .before .before .before .before .before .before .before .before .before .next-start .ensures) in
+    let x = c .before .before .before .before .before .before .before .before .before .before .before .before .before .h .given .0 .0 in
+    let o : NextStart s (l .i) (Opens x) = subst (NextStart s (l .i)) (c .before .before .before .before .before .before .before .before .before .before .before .before .before .h .given .1) (c .before .before .before .before .before .before .before .before .before .before .before .before .before .before .before .next-start .ensures) in
     let first : FirstOf s (l .i) (x .at) (c .leave .result) = inner-first o (c .before .if3 .left) (c .leave .ensures) in
     omega (arith, first .place, first .after)
 
 walk-loop-again-4 : (t : ℕ) → walk-lts.Need-loop-again-4 (claims t) (walk-at t) walk.Post walk-Inv-loop walk-μ-loop
 walk-loop-again-4 t c =
-    let a = c .before .before .before .before .before .before .before .before .before .before .before .before .before .before .before .before .before .before .args in
+    let a = c .before .before .before .before .before .before .before .before .before .before .before .before .before .before .before .before .before .before .before .args in
     let s = a .text .now in
-    let l = c .before .before .before .before .before .before .before .before .before .before .before .before .before .before .before .loop in
+    let l = c .before .before .before .before .before .before .before .before .before .before .before .before .before .before .before .before .loop in
     let g = given (a .uuid .now) (a .volume) in
-    let x = c .before .before .before .before .before .before .before .before .before .before .before .before .h .given .0 .0 in
-    let o : NextStart s (l .i) (Opens x) = subst (NextStart s (l .i)) (c .before .before .before .before .before .before .before .before .before .before .before .before .h .given .1) (c .before .before .before .before .before .before .before .before .before .before .before .before .before .before .next-start .ensures) in
+    let x = c .before .before .before .before .before .before .before .before .before .before .before .before .before .h .given .0 .0 in
+    let o : NextStart s (l .i) (Opens x) = subst (NextStart s (l .i)) (c .before .before .before .before .before .before .before .before .before .before .before .before .before .h .given .1) (c .before .before .before .before .before .before .before .before .before .before .before .before .before .before .before .next-start .ensures) in
     let first : FirstOf s (l .i) (x .at) (c .leave .result) = inner-first o (c .before .if3 .left) (c .leave .ensures) in
     let low : height (rowAt s (c .leave .result)) ≤ height (rowAt s (l .i)) = height-rest first in (
       omega (arith, first .place, first .after),
       first .after .1,
       omega arith,
       l .inv .3 ∙ first .around,
-      l .inv .4 ∙ step-other g (a .kind) (l .seen) (gathered (l .a) (l .uids)) first (c .before .before .before .before .before .before .before .before .before .before .number-at .result) (c .before .before .before .before .before .before .before .before .before .sort-in .result) (c .before .before .before .before .before .before .before .mark .last .0) (gathered (c .before .before .before .before .enter .result) (c .before .before .before .before .enter .last .1 .1 .0)) (c .before .before .before .before .before .before .before .before .before .before .number-at .ensures) (c .before .before .before .before .before .before .before .before .before .sort-in .ensures) (c .before .before .before .before .before .before .before .mark .ensures) (c .before .before .before .before .enter .ensures) (sym (c .before .before .before .is-open .ensures) ∙ c .before .before .if1 .left),
+      l .inv .4 ∙ step-other g (a .kind) (l .seen) (gathered (l .a) (l .uids)) first (c .before .before .before .before .before .before .before .before .before .before .before .number-at .result) (c .before .before .before .before .before .before .before .before .before .before .sort-in .result) (c .before .before .before .before .before .before .before .before .mark .last .0) (gathered (c .before .before .before .before .enter .result) (c .before .before .before .before .enter .last .1 .1 .0)) (c .before .before .before .before .before .before .before .before .before .before .before .number-at .ensures) (c .before .before .before .before .before .before .before .before .before .before .sort-in .ensures) (c .before .before .before .before .before .before .before .before .mark .ensures) (c .before .before .before .before .enter .ensures) (sym (c .before .before .before .is-open .ensures) ∙ c .before .before .if1 .left),
       l .inv .5,
+      l .inv .6,
+      noting-more s (a .kind) (c .before .before .before .before .before .before .before .before .before .before .before .number-at .result) (l .places) (c .before .before .before .before .before .before .note .last .0) first (c .before .before .before .before .before .before .before .before .before .before .before .number-at .ensures) (c .before .before .before .before .before .before .note .ensures) (rowAt s (a .at)) (l .inv .7),
     )
 
 pub +walk-spec : {M : Type 1} → statement M
@@ -325,13 +372,18 @@ pub +walk-spec : {M : Type 1} → statement M
     (walk-number-at-requires t)
     (walk-sort-in-requires t)
     (walk-mark-requires t)
+    (walk-note-requires t)
     (walk-enter-requires t)
     (walk-is-open-requires t)
+    (walk-judge-requires t)
     (walk-finish-requires-3 t)
+    (walk-settle-requires t)
     (walk-loop-less t)
     (walk-loop-again t)
     (walk-sub-walk t)
     (walk-walk-requires t)
+    (walk-judge-requires-2 t)
+    (walk-settle-requires-2 t)
     (walk-loop-less-2 t)
     (walk-loop-again-2 t)
     (walk-loop-less-3 t)

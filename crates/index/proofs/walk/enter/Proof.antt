@@ -5,11 +5,11 @@ use Prim.Native.Nat.{ℕ}
 use mathlib.Core.List.{List}
 use lib.ListN.{set}
 use Rattle.index.specs.Sweep.{more}
-use Rattle.index.specs.Tests.{given, valued, own, few, lawful}
+use Rattle.index.specs.Tests.{given, valued, own}
 use Rattle.index.specs.Entries.{uidOf}
 use Rattle.xml.specs.Tree.{Forest}
 use Rattle.elements.specs.Reading.{headAt, childrenAt}
-use Rattle.index.proofs.Gathering.{entered-parts}
+use Rattle.index.proofs.Gathering.{begun-parts}
 use borrow.Author.Needs.{needs}
 use Rattle.index.proofs.walk.enter.Statement.{statement}
 use Rattle.index.proofs.walk.enter.Tie as tie
@@ -18,7 +18,7 @@ is-entry-requires : tie.Need-is-entry-requires
 is-entry-requires c κs = search needs
 
 children-row-requires : tie.Need-children-row-requires
-children-row-requires c κs = c .before .before .before .pre
+children-row-requires c κs = c .before .before .before .before .pre
 
 put-uid-requires : tie.Need-put-uid-requires
 put-uid-requires c κs = search needs
@@ -26,32 +26,23 @@ put-uid-requires c κs = search needs
 fits-at-requires : tie.Need-fits-at-requires
 fits-at-requires c κs = c .before .before .before .before .before .before .pre
 
-judge-requires : tie.Need-judge-requires
-judge-requires c κs = search needs
-
 part-requires : tie.Need-part-requires
 part-requires c κs = search needs
 
 both-requires : tie.Need-both-requires
 both-requires c κs = search needs
 
-both-requires-2 : tie.Need-both-requires-2
-both-requires-2 c κs = search needs
-
 is-valued-requires : tie.Need-is-valued-requires
 is-valued-requires c κs = search needs
 
-both-requires-3 : tie.Need-both-requires-3
-both-requires-3 c κs = search needs
+both-requires-2 : tie.Need-both-requires-2
+both-requires-2 c κs = search needs
 
 is-own-requires : tie.Need-is-own-requires
 is-own-requires c κs = search needs
 
-both-requires-4 : tie.Need-both-requires-4
-both-requires-4 c κs = search needs
-
-both-requires-5 : tie.Need-both-requires-5
-both-requires-5 c κs = search needs
+both-requires-3 : tie.Need-both-requires-3
+both-requires-3 c κs = search needs
 
 bump-if-requires : tie.Need-bump-if-requires
 bump-if-requires c κs = search needs
@@ -61,23 +52,22 @@ bump-if-requires-2 c κs = search needs
 
 returns : tie.Need-returns
 returns c =
-    let a = c .before .before .before .before .before .before .before .before .before .before .before .before .before .before .before .before .before .before .before .args .a in
-    let s = c .before .before .before .before .before .before .before .before .before .before .before .before .before .before .before .before .before .before .before .args .text .now in
-    let n = c .before .before .before .before .before .before .before .before .before .before .before .before .before .before .before .before .before .before .before .args .h .at in
-    let q = c .before .before .before .before .before .before .before .before .before .before .before .before .before .before .before .before .before .before .before .args .sort in
-    let g = given (c .before .before .before .before .before .before .before .before .before .before .before .before .before .before .before .before .before .before .before .args .uuid .now) (c .before .before .before .before .before .before .before .before .before .before .before .before .before .before .before .before .before .before .before .args .volume) in
-    let u = c .before .before .before .before .before .before .before .before .before .before .before .before .before .before .before .before .before .before .before .args .uids .now in
-    let row = c .before .before .before .before .before .before .before .before .before .before .before .before .before .before .before .children-row .ensures in
-    let raw = c .before .before .before .before .before .before .before .before .before .part .ensures ∙ c .before .before .before .before .before .before .before .before .before .before .before .before .before .before .before .before .before .before .before .pre .text .part in
-    entered-parts g q (headAt s n) (childrenAt s n) a _ u _
-    (c .before .before .before .before .before .before .before .before .both .ensures ∙ ap (λ (b : Bool). a .structure && b) (c .before .before .before .before .before .before .before .before .before .before .before .before .fits-at .ensures))
-    (c .before .before .before .before .before .before .before .both2 .ensures ∙ ap (λ (b : Bool). a .few && b) (c .before .before .before .before .before .before .before .before .before .before .judge .ensures .0 ∙ ap (few q) row))
-    (c .before .before .before .before .before .both3 .ensures ∙ ap (λ (b : Bool). a .values && b) (c .before .before .before .before .before .before .is-valued .ensures ∙ ap (valued q) raw))
-    (c .before .before .before .both4 .ensures ∙ ap (λ (b : Bool). a .own && b) (c .before .before .before .before .is-own .ensures ∙ ap (own g q) raw))
-    (c .before .before .both5 .ensures ∙ ap (λ (b : Bool). a .lawful && b) (c .before .before .before .before .before .before .before .before .before .before .judge .ensures .1 (c .before .before .before .before .before .before .before .before .before .before .before .before .before .before .before .before .before .before .before .args .uuid .now) ∙ ap (lawful g q) row))
-    (c .before .bump-if .ensures ∙ ap (λ (b : Bool). cond b (more (a .entries)) (a .entries)) (c .before .before .before .before .before .before .before .before .before .before .before .before .before .before .before .before .is-entry .ensures))
+    let a = c .before .before .before .before .before .before .before .before .before .before .before .before .before .before .before .args .a in
+    let s = c .before .before .before .before .before .before .before .before .before .before .before .before .before .before .before .args .text .now in
+    let n = c .before .before .before .before .before .before .before .before .before .before .before .before .before .before .before .args .h .at in
+    let q = c .before .before .before .before .before .before .before .before .before .before .before .before .before .before .before .args .sort in
+    let g = given (c .before .before .before .before .before .before .before .before .before .before .before .before .before .before .before .args .uuid .now) (c .before .before .before .before .before .before .before .before .before .before .before .before .before .before .before .args .volume) in
+    let u = c .before .before .before .before .before .before .before .before .before .before .before .before .before .before .before .args .uids .now in
+    let raw = c .before .before .before .before .before .before .before .part .ensures ∙ c .before .before .before .before .before .before .before .before .before .before .before .before .before .before .before .pre .text .part in
+    begun-parts g q (headAt s n) (childrenAt s n) a _ u _
+    (c .before .before .before .before .before .before .both .ensures ∙ ap (λ (b : Bool). a .structure && b) (c .before .before .before .before .before .before .before .before .fits-at .ensures))
+    refl
+    (c .before .before .before .before .both2 .ensures ∙ ap (λ (b : Bool). a .values && b) (c .before .before .before .before .before .is-valued .ensures ∙ ap (valued q) raw))
+    (c .before .before .both3 .ensures ∙ ap (λ (b : Bool). a .own && b) (c .before .before .before .is-own .ensures ∙ ap (own g q) raw))
+    refl
+    (c .before .bump-if .ensures ∙ ap (λ (b : Bool). cond b (more (a .entries)) (a .entries)) (c .before .before .before .before .before .before .before .before .before .before .before .before .is-entry .ensures))
     (c .bump-if2 .ensures)
-    (c .before .before .before .before .before .before .before .before .before .before .before .before .before .put-uid .ensures ∙ ap (λ (f : Forest). cond (c .before .before .before .before .before .before .before .before .before .before .before .before .before .before .before .before .is-entry .result) (set u (a .entries) (uidOf f)) u) row ∙ ap (λ (b : Bool). cond b (set u (a .entries) (uidOf (childrenAt s n))) u) (c .before .before .before .before .before .before .before .before .before .before .before .before .before .before .before .before .is-entry .ensures))
+    (c .before .before .before .before .before .before .before .before .before .put-uid .ensures ∙ ap (λ (f : Forest). cond (c .before .before .before .before .before .before .before .before .before .before .before .before .is-entry .result) (set u (a .entries) (uidOf f)) u) (c .before .before .before .before .before .before .before .before .before .before .children-row .ensures) ∙ ap (λ (b : Bool). cond b (set u (a .entries) (uidOf (childrenAt s n))) u) (c .before .before .before .before .before .before .before .before .before .before .before .before .is-entry .ensures))
 
 pub enter-spec : {M : Type 1} → statement M
 enter-spec =
@@ -87,15 +77,12 @@ enter-spec =
     children-row-requires
     put-uid-requires
     fits-at-requires
-    judge-requires
     part-requires
     both-requires
-    both-requires-2
     is-valued-requires
-    both-requires-3
+    both-requires-2
     is-own-requires
-    both-requires-4
-    both-requires-5
+    both-requires-3
     bump-if-requires
     bump-if-requires-2
     returns)
