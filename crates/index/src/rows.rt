@@ -7,7 +7,7 @@ ghost use mathlib.Core.Path.{_≡_};
 ghost use lib.ListN.{getD, set};
 ghost use Rattle.elements.specs.Reading.{rowAt, childrenAt, Spans};
 ghost use Rattle.elements.specs.Starts.{Shape};
-ghost use Rattle.index.specs.Elements.{textIn};
+ghost use Rattle.index.specs.Elements.{textIn, rowIn};
 ghost use Rattle.index.specs.Entries.{numberSaid};
 
 // Where the text of the first element of a name in the row at at stands.
@@ -46,6 +46,26 @@ pub fn children_row(text: &[u8], h: Start) -> usize
         return text.len();
     }
     h.at
+}
+
+// Where the row of the first element of a name in the row at at begins.
+pub fn row_in(text: &[u8], at: usize, name: &[u8]) -> usize
+    ensures { λ r. ⌜ rowAt (now (text .entry)) r ≡ rowIn (now (name .entry)) (rowAt (now (text .entry)) at) ⌝ }
+{
+    let mut i = at;
+    loop {
+        match elements::next_item(text, i) {
+            Item::Done => {
+                return text.len();
+            }
+            Item::At(h, next) => {
+                if slices::same(elements::part(text, h.name), name) {
+                    return children_row(text, h);
+                }
+                i = next;
+            }
+        }
+    }
 }
 
 // The number that a text says, 0 where it says none.

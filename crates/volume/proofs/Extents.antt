@@ -47,7 +47,7 @@ files-lawful g (x ∷ l) e =
     let a = and-left (tests.lawful g (x .sort) (x .kids)) (allLawful g l) e in
     let b = files-lawful g l (and-right (tests.lawful g (x .sort) (x .kids)) (allLawful g l) e) in
     split (λ t. eqb (x .sort) file ≡ t → AllLawful (g .size) (cond t (fileOf (x .kids) ∷ filesOf l) (filesOf l))) (eqb (x .sort) file)
-    (λ u q. (and-right (leb (length (rowsOf (x .kids))) 1024) (lawful (lengthOf (x .kids)) (g .size) (rowsOf (x .kids))) (rw q at a), b))
+    (λ u q. (and-right (tests.few (x .sort) (x .kids)) (lawful (lengthOf (x .kids)) (g .size) (rowsOf (x .kids))) (rw q at a), b))
     (λ u q. b) refl
 
 -- a lawful row has a byte
