@@ -21,7 +21,7 @@ fresh [] k = false
 fresh (r ∷ rs) zero = true
 fresh (r ∷ rs) (suc k) = cond (same (r .name) (nameOf rs k)) false (fresh rs k)
 
-placed : (rs : List Rule) (k : ℕ) (n : List ℕ) → fresh rs k ≡ true → eqb (placeOf rs n) k ≡ same (nameOf rs k) n
+pub placed : (rs : List Rule) (k : ℕ) (n : List ℕ) → fresh rs k ≡ true → eqb (placeOf rs n) k ≡ same (nameOf rs k) n
 unfolding placeOf
 placed [] k n e = absurd (false≢true e)
 placed (r ∷ rs) zero n e = go (same (r .name) n)

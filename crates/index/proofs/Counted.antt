@@ -13,7 +13,8 @@ use lib.Seq.{getD-set-same, getD-set-other}
 use Rattle.xml.specs.Tree.{Forest, none, node}
 use Rattle.index_names.specs.Sorts.{must, repeats}
 use Rattle.index.specs.Elements.{numberOf}
-use Rattle.index.specs.Structure.{count, below, once, complete}
+use Rattle.children.specs.Children.{below}
+use Rattle.index.specs.Structure.{count, once, complete}
 use Rattle.index.specs.Sweep.{more, fresh, marked, done}
 
 -- a count, up to the limit
@@ -75,7 +76,7 @@ tally-at kind (node x c r) j m n h e =
     sum true = omega arith
     sum false = refl
 
-below-ext : (t u : ℕ → Bool) (n : ℕ) → ((j : ℕ) → j < n → t j ≡ u j) → below n t ≡ below n u
+pub below-ext : (t u : ℕ → Bool) (n : ℕ) → ((j : ℕ) → j < n → t j ≡ u j) → below n t ≡ below n u
 unfolding below
 below-ext t u zero e = refl
 below-ext t u (suc n) e = ap (λ (b : Bool). b && below n t) (e n (omega arith)) ∙ ap (λ (b : Bool). u n && b) (below-ext t u n (λ j h. e j (omega arith)))

@@ -1,5 +1,4 @@
 pub mod Found
-pub mod Below
 pub mod Later
 pub mod Steps
 pub mod Gathering
@@ -12,3 +11,4 @@ pub mod Surveying
 pub mod Answers
 pub mod Shapes
 pub mod Seated
+pub mod Lawful

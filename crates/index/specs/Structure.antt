@@ -1,12 +1,13 @@
 -- Structure of an index (01, Index and Refusal numbers: 5): which elements stand in which, how often, and what they hold.
-use mathlib.Core.Bool.{Bool, true, cond, not, _&&_, _||_}
-use Prim.Native.Nat.{ℕ, zero, suc}
+use mathlib.Core.Bool.{Bool, cond, not, _&&_, _||_}
+use Prim.Native.Nat.{ℕ, suc}
 use lib.Dec.{eqb, leb, ltb}
 use lib.ListN.{length}
 use Rattle.slices.specs.Slices.{every}
 use Rattle.xml.specs.Bytes.{isSpace}
 use Rattle.xml.specs.Tree.{Head, Forest, none, node}
 use Rattle.elements.specs.Reading.{isRow}
+use Rattle.children.specs.Children.{below}
 use Rattle.index_names.specs.Sorts.{unknown, skipped, holds, must, repeats}
 use Rattle.index.specs.Elements.{Element, numberOf}
 
@@ -21,15 +22,11 @@ unfoldable pub count : ℕ → ℕ → Forest → ℕ
 count j kind none = 0
 count j kind (node h c r) = cond (eqb (numberOf kind h) j) (suc (count j kind r)) (count j kind r)
 
--- of each number below n
-unfoldable pub below : ℕ → (ℕ → Bool) → Bool
-below zero test = true
-below (suc n) test = test n && below n test
-
 -- the elements that must be there come once, the others at most once
 abbrev pub once : ℕ → ℕ → ℕ → Bool
 once needed j n = cond (ltb j needed) (eqb n 1) (leb n 1)
 
+-- with `fits` of each of its elements, this is `lawful` of children's specs/Children by the table of the kind's names: proofs/Lawful, row-lawful
 unfoldable pub complete : ℕ → Forest → Bool
 complete kind f = repeats kind || below 16 (λ j. once (must kind) j (count j kind f))
 

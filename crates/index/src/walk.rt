@@ -22,7 +22,7 @@ ghost use Rattle.elements.specs.Starts.{Shape};
 ghost use Rattle.index_rows.specs.Places.{Placed};
 ghost use Rattle.index_names.specs.Sorts.{holds, must};
 ghost use Rattle.index.specs.Elements.{numberOf, sortOf};
-ghost use Rattle.index.specs.Structure.{fits, below, once};
+ghost use Rattle.index.specs.Structure.{fits, once};
 ghost use Rattle.index.specs.Entries.{isEntry, uidOf};
 ghost use Rattle.index.specs.Tests.{given};
 ghost use Rattle.index.specs.Sweep.{gathered, more, fresh, marked, done, endedSums, begun, settled, sweep};

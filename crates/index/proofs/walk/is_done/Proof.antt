@@ -6,9 +6,10 @@ use borrow.Author.Tests.{eq-eqb, ne-eqb, lt-ltb, le-ltb, le-leb, lt-leb, not-tru
 use mathlib.Core.Bool.{Bool, true, _||_}
 use lib.ListN.{getD}
 use Rattle.index_names.specs.Sorts.{must}
-use Rattle.index.specs.Structure.{below, once}
+use Rattle.children.specs.Children.{below}
+use Rattle.index.specs.Structure.{once}
 use Rattle.index.specs.Sweep.{done}
-use Rattle.index.proofs.Below.{below-on, below-off}
+use Rattle.children.proofs.Below.{below-step, below-false}
 use borrow.Author.Needs.{needs}
 use Rattle.index.proofs.walk.is_done.Statement.{statement}
 use Rattle.index.proofs.walk.is_done.Tie as tie
@@ -51,7 +52,7 @@ returns-2 c =
     let q = c .before .before .before .before .before .must-in .result in
     let t : ℕ → Bool = λ (i : ℕ). once q i (getD w i 0) in
     let l = c .before .before .before .before .loop in
-    sym (rw (← c .before .before .before .before .before .before .before .may-repeat .ensures, c .before .before .before .before .before .before .if1 .left, ← c .before .before .before .before .before .must-in .ensures) (l .inv .1 ∙ below-off t (l .j) (search needs) (sym (c .before .is-once .ensures) ∙ not-true _ (c .if2 .taken))))
+    sym (rw (← c .before .before .before .before .before .before .before .may-repeat .ensures, c .before .before .before .before .before .before .if1 .left, ← c .before .before .before .before .before .must-in .ensures) (l .inv .1 ∙ below-false t (l .j) (l .j - 1) (search needs) (sym (c .before .is-once .ensures) ∙ not-true _ (c .if2 .taken))))
 
 loop-less : tie.Need-loop-less Inv-loop μ-loop
 loop-less c = search needs
@@ -62,7 +63,7 @@ loop-again c =
     let q = c .before .before .before .before .before .must-in .result in
     let t : ℕ → Bool = λ (i : ℕ). once q i (getD w i 0) in
     let l = c .before .before .before .before .loop in
-    (search needs, l .inv .1 ∙ below-on t (l .j) (search needs) (sym (c .before .is-once .ensures) ∙ not-false _ (c .if2 .left)))
+    (search needs, l .inv .1 ∙ below-step t (l .j) (search needs) (sym (c .before .is-once .ensures) ∙ not-false _ (c .if2 .left)))
 
 returns-3 : tie.Need-returns-3 Inv-loop μ-loop
 unfolding done below
