@@ -34,7 +34,7 @@ fn main() {
         &mut lines,
     ) {
         Written::To(n) => {
-            io::write_all(1, tables::part(&lines, 0, n));
+            io::write_all(1, slices::part(&lines, 0, n));
         }
         Written::Refused(_) => {}
     }

@@ -23,7 +23,7 @@ fn one(fd: i32) -> bool {
         &data_store[..ds],
         &mut lines,
     ) {
-        Written::To(n) => slices::same(tables::part(&lines, 0, n), &expected[..e]),
+        Written::To(n) => slices::same(slices::part(&lines, 0, n), &expected[..e]),
         Written::Refused(_) => false,
     }
 }

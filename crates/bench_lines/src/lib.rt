@@ -37,10 +37,10 @@ pub fn write(
     let mut text = [0u8; 256];
     if !is_bounded(index_list, index_store, data_list, data_store) {
         let n = composing::add_refusal(&mut text, 0, Refusal::TooMany);
-        return slices::put(out, 0, tables::part(&text, 0, n));
+        return slices::put(out, 0, slices::part(&text, 0, n));
     }
     let verdict = volume::find_break(index_list, index_store, data_list, data_store);
     let rescue = volume::find_cut(index_list, index_store, data_list, data_store);
     let n = composing::add_lines(&mut text, 0, verdict, rescue);
-    slices::put(out, 0, tables::part(&text, 0, n))
+    slices::put(out, 0, slices::part(&text, 0, n))
 }

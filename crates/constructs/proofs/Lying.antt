@@ -11,6 +11,7 @@ use lib.Seq.{getD-drop, getD-take, take-nil, take-take}
 use borrow.Author.Tests.{eqb-true, eqb-false, leb-true, leb-false, le-leb, lt-leb, eq-eqb, ne-eqb, ltb-true, ltb-false, le-ltb}
 use Rattle.slices.specs.Slices.{every}
 use Rattle.slices.proofs.Booleans.{split, same-leb}
+use Rattle.slices.proofs.Parts.{drop-front}
 use Rattle.extents.specs.Rows.{Row}
 use Rattle.extents.specs.Tape.{liesOnTape}
 use Rattle.constructs.specs.Reach.{reachOne, reaches, liesBy}
@@ -64,12 +65,6 @@ lies-reach lengths B r hB hE =
     rw (g, reach-at B (r .startblock) lengths)
     (covered B (drop (r .startblock) lengths) ((r .byteoffset + r .bytecount - 1) / B) ((r .byteoffset + r .bytecount - 1) % B + 1) (omega arith) (omega arith)
     ∙ ap (λ (k : ℕ). leb k (getD (reaches B (drop (r .startblock) lengths)) 0 0)) w)
-
-drop-front : (s n : ℕ) (l : List ℕ) → drop s (take n l) ≡ take (n - s) (drop s l)
-drop-front zero n l = let e : n - 0 ≡ n = omega arith in rw e
-drop-front (suc s) zero l = let e : 0 - suc s ≡ 0 = omega arith in rw e
-drop-front (suc s) (suc n) [] = sym (take-nil {A = ℕ} (suc n - suc s))
-drop-front (suc s) (suc n) (x ∷ l) = let e : suc n - suc s ≡ n - s = omega arith in rw e (drop-front s n l)
 
 -- on a front of n elements an extent lies where it lies on the whole tape and its last block is one of them
 pub lies-front : (lengths : List ℕ) (B n : ℕ) (r : Row)

@@ -286,13 +286,3 @@ module _ {s : List ℕ} {i : ℕ} {x : Start} (t : Starts s i x) (inner : x .lea
 
   pub inner-first : {j : ℕ} → Behind s (x .at) j → FirstOf s i (x .at) j
   inner-first b = first-open inner-open b
-
--- the part of a text that a span names, from a, where the same bytes follow
-module _ (s : List ℕ) (from len a : ℕ) where
-  pub part-whole : drop a s ≡ drop from s → take (a + len - a) (drop a s) ≡ take len (drop from s)
-  part-whole here = let z : a + len - a ≡ len = omega arith in ap (λ (k : ℕ). take k (drop a s)) z ∙ ap (take len) here
-
-  pub part-rest : a ≡ min from (length s) → drop a s ≡ drop from s → length s - a < len → take (length s - a) (drop a s) ≡ take len (drop from s)
-  part-rest e here h =
-      let z : length (drop a s) ≡ length s - a = length-drop a s in
-      take-all (length s - a) (drop a s) (omega arith) ∙ sym (take-all len (drop a s) (omega arith)) ∙ ap (take len) here

@@ -40,13 +40,7 @@ pub enum Item {
 pub fn part(text: &[u8], span: Span) -> &[u8]
     ensures { λ r. ⌜ now r ≡ partAt (now (text .entry)) span ⌝ }
 {
-    let a = scan::inside(text, span.from);
-    let n = span.len;
-    if text.len() - a < n {
-        return &text[a..];
-    }
-    let e = a + n;
-    &text[a..e]
+    slices::part(text, span.from, span.len)
 }
 
 // The byte at i, 0 past the end.

@@ -4,7 +4,6 @@ use elements::Item;
 use elements::Span;
 use elements::Start;
 ghost use mathlib.Core.Path.{_≡_};
-ghost use lib.ListN.{getD, set};
 ghost use Rattle.elements.specs.Reading.{rowAt, childrenAt, Spans};
 ghost use Rattle.elements.specs.Starts.{Shape};
 ghost use Rattle.index.specs.Elements.{textIn, rowIn};
@@ -76,23 +75,4 @@ pub fn number_said(raw: &[u8]) -> u64
         Number::Value(n) => n,
         Number::Nothing => 0,
     }
-}
-
-// v at n, if the table has that place.
-pub fn put(table: &mut [u64], n: usize, v: u64)
-    ensures { λ r. ⌜ now (table .exit) ≡ set (now (table .entry)) n v ⌝ }
-{
-    if n < table.len() {
-        table[n] = v;
-    }
-}
-
-// What is at n, 0 past the end.
-pub fn item(table: &[u64], n: usize) -> u64
-    ensures { λ r. ⌜ r ≡ getD (now (table .entry)) n 0 ⌝ }
-{
-    if n < table.len() {
-        return table[n];
-    }
-    0
 }

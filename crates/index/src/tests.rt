@@ -162,11 +162,11 @@ fn put_row(text: &[u8], from: usize, out: &mut [u64], at: usize) -> usize
     let row = index_rows::read_row(text, from, EXTENT);
     let places = row.places;
     let letter = letter_said(index_rows::text_at(text, places[1]));
-    rows::put(out, at, letter as u64);
-    rows::put(out, at + 1, number_placed(text, places[2]));
-    rows::put(out, at + 2, number_placed(text, places[3]));
-    rows::put(out, at + 3, number_placed(text, places[4]));
-    rows::put(out, at + 4, number_placed(text, places[0]));
+    tables::put(out, at, letter as u64);
+    tables::put(out, at + 1, number_placed(text, places[2]));
+    tables::put(out, at + 2, number_placed(text, places[3]));
+    tables::put(out, at + 3, number_placed(text, places[4]));
+    tables::put(out, at + 4, number_placed(text, places[0]));
     row.at
 }
 

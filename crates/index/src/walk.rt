@@ -59,8 +59,8 @@ fn bump(n: u64) -> u64
 fn mark(seen: &mut [u64; 16], j: usize)
     ensures { λ r. ⌜ now (seen .exit) ≡ marked j (now (seen .entry)) ⌝ }
 {
-    let n = rows::item(seen, j);
-    rows::put(seen, j, bump(n));
+    let n = tables::item(seen, j);
+    tables::put(seen, j, bump(n));
 }
 
 // Whether a name of number j that was seen n times comes as often as it must.
@@ -169,7 +169,7 @@ fn put_uid(text: &[u8], uids: &mut [u64; 4096], row: usize, entry: bool, at: u64
     ensures { λ r. ⌜ now (uids .exit) ≡ cond entry (set (now (uids .entry)) at (uidOf (rowAt (now (text .entry)) row))) (now (uids .entry)) ⌝ }
 {
     if entry {
-        rows::put(
+        tables::put(
             uids,
             at as usize,
             tests::number_named(text, row, b"fileuid"),

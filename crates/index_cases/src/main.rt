@@ -448,7 +448,7 @@ fn entries(files: u64, refusal: u64) -> u64
 {
     let mut text = text_room();
     let n = add_files(&mut text, files);
-    shown_good(refused_as(tables::part(&text, 0, n), refusal), files)
+    shown_good(refused_as(slices::part(&text, 0, n), refusal), files)
 }
 
 fn main() {

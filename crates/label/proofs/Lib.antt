@@ -5,7 +5,7 @@ pub mod Blocks
 pub mod Escaping
 pub mod Lengths
 pub mod Fields
-pub mod Cut
+pub mod Tests
 pub mod Plain
 pub mod Elements
 pub mod RoundTrip

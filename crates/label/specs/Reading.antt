@@ -3,11 +3,9 @@ use mathlib.Core.Path.{_≡_}
 use mathlib.Core.Bool.{true}
 use mathlib.Core.List.{List}
 use Prim.Native.Nat.{ℕ}
-use lib.ListN.{take, drop}
 use Rattle.refusals.specs.Refusals.{Answer, refused, answer}
-use Rattle.elements.specs.Reading.{headAt}
+use Rattle.elements.specs.Reading.{headAt, partAt}
 use Rattle.elements.specs.Decoded.{decoded}
-use Rattle.elements.specs.declared.heads.Span.{Span}
 use Rattle.xml.specs.Tree.{Forest}
 use Rattle.label.specs.Label.{Label, Texts, isShaped, textsIn}
 use Rattle.label.specs.declared.reader.Places.{Places}
@@ -34,18 +32,14 @@ pub record Finds (s : List ℕ) (f : Forest) (p : Places) : Type 0 where
   pub shaped : p .ok ≡ isShaped f
   pub texts : p .ok ≡ true → textsAt s p ≡ textsIn f
 
--- a part of a text
-abbrev pub part : List ℕ → Span → List ℕ
-part s w = take (w .len) (drop (w .from) s)
-
 -- the label that a reader's fields say of the text
 abbrev pub fieldsIn : List ℕ → Fields → Label
 fieldsIn s f =
     record {
       release = f .release;
-      creator = decoded (part s (f .creator));
-      time = part s (f .time);
-      uuid = part s (f .uuid);
+      creator = decoded (partAt s (f .creator));
+      time = partAt s (f .time);
+      uuid = partAt s (f .uuid);
       location = f .location;
       indexLetter = f .«index_letter»;
       dataLetter = f .«data_letter»;

@@ -1,27 +1,9 @@
 // Whether the labels of the two sides agree.
 use super::reader::Fields;
-use elements::Span;
 ghost use mathlib.Core.Path.{_≡_};
 ghost use mathlib.Core.List.{[]};
-ghost use Rattle.label.specs.Reading.{part, fieldsIn};
+ghost use Rattle.label.specs.Reading.{fieldsIn};
 ghost use Rattle.label.specs.Agreement.{sameBool, sameTexts, sameNumbers, ownLetters, agree};
-
-// The part of a text, cut off at the text's end.
-fn part_of(text: &[u8], w: Span) -> &[u8]
-    ensures { λ r. ⌜ now r ≡ part (now (text .entry)) w ⌝ }
-{
-    let from = w.from;
-    let len = w.len;
-    let end = text.len();
-    if end < from {
-        return &text[end..end];
-    }
-    if end - from < len {
-        return &text[from..end];
-    }
-    let to = from + len;
-    &text[from..to]
-}
 
 fn same_bool(a: bool, b: bool) -> bool
     ensures { λ r. ⌜ r ≡ sameBool a b ⌝ }
@@ -36,13 +18,13 @@ fn same_bool(a: bool, b: bool) -> bool
 fn same_texts(s: &[u8], f: Fields, t: &[u8], g: Fields) -> bool
     ensures { λ r. ⌜ r ≡ sameTexts (fieldsIn (now (s .entry)) f) (fieldsIn (now (t .entry)) g) ⌝ }
 {
-    if !elements::same_decoded(part_of(s, f.creator), part_of(t, g.creator)) {
+    if !elements::same_decoded(elements::part(s, f.creator), elements::part(t, g.creator)) {
         return false;
     }
-    if !slices::same(part_of(s, f.time), part_of(t, g.time)) {
+    if !slices::same(elements::part(s, f.time), elements::part(t, g.time)) {
         return false;
     }
-    values::same_uuid(part_of(s, f.uuid), part_of(t, g.uuid))
+    values::same_uuid(elements::part(s, f.uuid), elements::part(t, g.uuid))
 }
 
 // Whether the numbers are the same.

@@ -1,20 +1,15 @@
 -- A part of a part of a store is a part of the store.
 use mathlib.Core.Path.{_≡_, sym, _∙_, ap}
-use mathlib.Core.List.{List, [], _∷_}
-use Prim.Native.Nat.{ℕ, zero, suc, _+_, _-_, _<_, _≤_}
+use mathlib.Core.List.{List}
+use Prim.Native.Nat.{ℕ, _+_, _-_, _<_, _≤_}
 use native.Mathlib.Omega.{arith}
 use lib.ListN.{length, take, drop, length-take}
 use lib.Seq.{take-all, take-nil, take-take, drop-drop}
+use Rattle.slices.proofs.Parts.{drop-front}
 use Rattle.elements.specs.declared.heads.Span.{Span}
 use Rattle.label.specs.Reading.{fieldsIn}
 use Rattle.label.specs.declared.reader.Fields.{Fields}
 use Rattle.labels.specs.Reading.{Moves}
-
-drop-front : (i n : ℕ) (l : List ℕ) → drop i (take n l) ≡ take (n - i) (drop i l)
-drop-front zero n l = let e : n - 0 ≡ n = omega arith in rw e
-drop-front (suc i) zero l = let e : 0 - suc i ≡ 0 = omega arith in rw e
-drop-front (suc i) (suc n) [] = sym (take-nil {A = ℕ} (suc n - suc i))
-drop-front (suc i) (suc n) (x ∷ l) = let e : suc n - suc i ≡ n - i = omega arith in rw e (drop-front i n l)
 
 module _ (from len n by : ℕ) (s : List ℕ) where
   -- a part of the n bytes from `by` on, in the store

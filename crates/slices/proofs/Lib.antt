@@ -4,3 +4,4 @@ pub mod Every
 pub mod Equal
 pub mod Writing
 pub mod Writers
+pub mod Parts

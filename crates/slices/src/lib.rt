@@ -1,6 +1,7 @@
-// Slices of bytes: compared, and written into.
+// Slices of bytes: compared, taken in part, and written into.
 use refusals::Refusal;
 ghost use mathlib.Core.Path.{_≡_};
+ghost use lib.ListN.{take, drop};
 ghost use Rattle.slices.specs.Slices as slices;
 ghost use Rattle.slices.specs.Writers.{Puts};
 
@@ -19,6 +20,21 @@ pub fn same(a: &[u8], b: &[u8]) -> bool
         i += 1;
     }
     true
+}
+
+// So many bytes from a place on, as far as there are any.
+pub fn part(s: &[u8], from: usize, len: usize) -> &[u8]
+    ensures { λ r. ⌜ now r ≡ take len (drop from (now (s .entry))) ⌝ }
+{
+    let end = s.len();
+    if end < from {
+        return &s[end..end];
+    }
+    if end - from < len {
+        return &s[from..end];
+    }
+    let to = from + len;
+    &s[from..to]
 }
 
 // What a writer answers.

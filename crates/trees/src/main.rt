@@ -22,7 +22,7 @@ fn room() -> [u8; 1048576]
 fn put_spelled(raw: &[u8]) {
     let mut out = io::large_buffer();
     match elements::decode(raw, &mut out, 0) {
-        Written::To(n) => put(tables::part(&out, 0, n)),
+        Written::To(n) => put(slices::part(&out, 0, n)),
         Written::Refused(_) => put(b"too long"),
     }
 }

@@ -87,7 +87,7 @@ pub fn find_cut(
     match labels::check(index_list, index_store, data_list, data_store) {
         Label::Refused(r) => Rescue::Refused(r),
         Label::Says(f) => {
-            let uuid = tables::part(index_store, f.uuid.from, f.uuid.len);
+            let uuid = slices::part(index_store, f.uuid.from, f.uuid.len);
             match rescue_with(
                 index_list,
                 index_store,
@@ -115,7 +115,7 @@ pub fn find_break(
     match labels::check(index_list, index_store, data_list, data_store) {
         Label::Refused(r) => Verdict::Refused(r),
         Label::Says(f) => {
-            let uuid = tables::part(index_store, f.uuid.from, f.uuid.len);
+            let uuid = slices::part(index_store, f.uuid.from, f.uuid.len);
             match judge::judge(
                 index_list,
                 index_store,

@@ -74,5 +74,5 @@ pub fn between(from: usize, to: usize) -> usize
 pub fn text_at(store: &[u8], place: Place) -> &[u8]
     ensures { λ r. ⌜ now r ≡ textIn (now (store .entry)) place ⌝ }
 {
-    tables::part(store, place.from, between(place.from, place.to))
+    slices::part(store, place.from, between(place.from, place.to))
 }

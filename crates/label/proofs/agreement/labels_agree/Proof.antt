@@ -4,7 +4,7 @@ use Rattle.slices.specs.Slices as slices
 use Rattle.label.specs.Reading.{fieldsIn}
 use mathlib.Core.Path.{sym, _∙_}
 use borrow.Author.Tests.{not-true, not-false}
-use Rattle.label.proofs.Cut.{first-off, second-off, third-off, fourth}
+use Rattle.label.proofs.Tests.{first-off, second-off, third-off, fourth}
 use borrow.Author.Needs.{needs}
 use Rattle.label.proofs.agreement.labels_agree.Statement.{statement}
 use Rattle.label.proofs.agreement.labels_agree.Tie as tie

@@ -1,10 +1,10 @@
 -- `part` meets its contract: nothing past the end, what is left, or as many bytes as asked for.
-use Rattle.tables.proofs.Cut.{cut-none, cut-rest, cut-whole}
+use Rattle.slices.proofs.Parts.{cut-none, cut-rest, cut-whole}
 use borrow.Author.Needs.{needs}
-use Rattle.tables.proofs.part.Statement.{statement}
-use Rattle.tables.proofs.part.Tie as tie
-use Rattle.tables.proofs.part.Reads as reads
-use Rattle.tables.proofs.part.Lts as lts
+use Rattle.slices.proofs.part.Statement.{statement}
+use Rattle.slices.proofs.part.Tie as tie
+use Rattle.slices.proofs.part.Reads as reads
+use Rattle.slices.proofs.part.Lts as lts
 
 sub-result : tie.Need-sub-result
 sub-result c = search needs
