@@ -1,7 +1,6 @@
 // Cases of what the program writes, read from files beside this one: vectors, document 01's examples, and volumes of our own with each break,
 // cuts that are not the first or the obvious ones, and files at and past their bounds.
 use slices::Written;
-ghost use Prim.Native.Nat.{_≤_};
 
 // Four files; the lines expected.
 fn one(fd: i32) -> bool {
@@ -28,34 +27,14 @@ fn one(fd: i32) -> bool {
     }
 }
 
-fn shown_good(good: bool, case: u64) -> u64
-    ensures { λ r. ⌜ r ≤ 1 ⌝ }
-{
-    if good {
-        return 1;
-    }
-    io::write_all(1, b"not as expected: case ");
-    io::print_decimal(1, case);
-    io::write_all(1, b"\n");
-    0
-}
-
 // The cases of one file.
 fn run(path: &[u8]) {
-    let fd = os::open_read(path);
-    if fd < 0 {
-        os::fail(path);
-        return;
+    let mut cases = case_files::open(path);
+    while cases.left > 0 {
+        let good = one(cases.fd);
+        cases = case_files::judged(cases, good);
     }
-    let cases = case_files::number(fd);
-    let mut good: u64 = 0;
-    let mut i: u64 = 0;
-    while i < cases {
-        good += shown_good(one(fd), i);
-        i += 1;
-    }
-    libc::close(fd);
-    case_files::report(path, good, cases);
+    case_files::close(path, cases);
 }
 
 fn main() {

@@ -350,34 +350,14 @@ fn construct_case(fd: i32) -> bool {
     chosen_as(fd, &store[..s], chosen, refusal)
 }
 
-fn shown_good(good: bool, case: u64) -> u64
-    ensures { λ r. ⌜ r ≤ 1 ⌝ }
-{
-    if good {
-        return 1;
-    }
-    io::write_all(1, b"not as expected: case ");
-    io::print_decimal(1, case);
-    io::write_all(1, b"\n");
-    0
-}
-
 // The cases of one file.
 fn run(path: &[u8], kind: u64) {
-    let fd = os::open_read(path);
-    if fd < 0 {
-        os::fail(path);
-        return;
+    let mut cases = case_files::open(path);
+    while cases.left > 0 {
+        let good = one(kind, cases.fd);
+        cases = case_files::judged(cases, good);
     }
-    let cases = case_files::number(fd);
-    let mut good: u64 = 0;
-    let mut i: u64 = 0;
-    while i < cases {
-        good += shown_good(one(kind, fd), i);
-        i += 1;
-    }
-    libc::close(fd);
-    case_files::report(path, good, cases);
+    case_files::close(path, cases);
 }
 
 // Writes w from at on, if there is room, and answers the place behind it.
@@ -448,7 +428,7 @@ fn entries(files: u64, refusal: u64) -> u64
 {
     let mut text = text_room();
     let n = add_files(&mut text, files);
-    shown_good(refused_as(slices::part(&text, 0, n), refusal), files)
+    case_files::shown_good(refused_as(slices::part(&text, 0, n), refusal), files)
 }
 
 fn main() {
@@ -460,5 +440,9 @@ fn main() {
     case_files::report(b"entries", good, 3);
     // A text too long is refused before its bytes are looked at.
     let text = text_room();
-    case_files::report(b"too long", shown_good(refused_as(&text, 15), 0), 1);
+    case_files::report(
+        b"too long",
+        case_files::shown_good(refused_as(&text, 15), 0),
+        1,
+    );
 }

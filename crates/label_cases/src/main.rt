@@ -4,8 +4,6 @@ mod labels;
 mod parts;
 mod volumes;
 
-ghost use Prim.Native.Nat.{_≤_};
-
 fn one(kind: u64, fd: i32) -> bool {
     match kind {
         0 => labels::read_case(fd),
@@ -19,34 +17,14 @@ fn one(kind: u64, fd: i32) -> bool {
     }
 }
 
-fn shown_good(good: bool, case: u64) -> u64
-    ensures { λ r. ⌜ r ≤ 1 ⌝ }
-{
-    if good {
-        return 1;
-    }
-    io::write_all(1, b"not as expected: case ");
-    io::print_decimal(1, case);
-    io::write_all(1, b"\n");
-    0
-}
-
 // The cases of one file.
 fn run(path: &[u8], kind: u64) {
-    let fd = os::open_read(path);
-    if fd < 0 {
-        os::fail(path);
-        return;
+    let mut cases = case_files::open(path);
+    while cases.left > 0 {
+        let good = one(kind, cases.fd);
+        cases = case_files::judged(cases, good);
     }
-    let cases = case_files::number(fd);
-    let mut good: u64 = 0;
-    let mut i: u64 = 0;
-    while i < cases {
-        good += shown_good(one(kind, fd), i);
-        i += 1;
-    }
-    libc::close(fd);
-    case_files::report(path, good, cases);
+    case_files::close(path, cases);
 }
 
 fn main() {

@@ -1,6 +1,5 @@
 // Cases of the block list, read from files beside the program: checks, elements kept, blocks asked for.
 use quantities::BlockNumber;
-ghost use Prim.Native.Nat.{_≤_};
 
 // A list and a store; the refusal and the number of elements expected.
 fn check_case(fd: i32) -> bool {
@@ -108,34 +107,14 @@ fn one(kind: u64, fd: i32) -> bool {
     block_case(fd)
 }
 
-fn shown_good(good: bool, case: u64) -> u64
-    ensures { λ r. ⌜ r ≤ 1 ⌝ }
-{
-    if good {
-        return 1;
-    }
-    io::write_all(1, b"not as expected: case ");
-    io::print_decimal(1, case);
-    io::write_all(1, b"\n");
-    0
-}
-
 // The cases of one file.
 fn run(path: &[u8], kind: u64) {
-    let fd = os::open_read(path);
-    if fd < 0 {
-        os::fail(path);
-        return;
+    let mut cases = case_files::open(path);
+    while cases.left > 0 {
+        let good = one(kind, cases.fd);
+        cases = case_files::judged(cases, good);
     }
-    let cases = case_files::number(fd);
-    let mut good: u64 = 0;
-    let mut i: u64 = 0;
-    while i < cases {
-        good += shown_good(one(kind, fd), i);
-        i += 1;
-    }
-    libc::close(fd);
-    case_files::report(path, good, cases);
+    case_files::close(path, cases);
 }
 
 fn main() {
