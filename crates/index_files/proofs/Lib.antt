@@ -4,3 +4,4 @@ pub mod Names
 pub mod Accepted
 pub mod AllFiles
 pub mod Asking
+pub mod Buffers
