@@ -21,7 +21,7 @@ use Rattle.volume.specs.declared.chosen.Chosen.the-variants as chosenIs
 use Rattle.api.specs.Outputs.{Told, Shown, bit, one}
 use Rattle.api.specs.Indexes.{backNumbers, SaysHeader, SaysIndex, SaysConstruct, headerNumbers, constructNumbers, howMany, FillsOut}
 use Rattle.api.proofs.Showing.{told as tells}
-use Rattle.api.proofs.Mapped.{mapped}
+use Rattle.index_files.proofs.Mapped.{mapped}
 
 back-numbers : (b : Bool) (l k : ℕ) → bit b ∷ cond b l 0 ∷ cond b k 0 ∷ [] ≡ backNumbers (cond b (some (record { letter = l; block = k })) none)
 back-numbers true l k = refl

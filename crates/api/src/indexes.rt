@@ -12,7 +12,7 @@ use volume::Chosen;
 ghost use mathlib.Core.Path.{_≡_};
 ghost use lib.ListN.{length};
 ghost use Rattle.index_files.specs.Asked.{fileIn};
-ghost use Rattle.index_files.specs.Filling.{countSaid, SaysFile, rowsFor, filesFor, HoldsRows, HoldsFiles};
+ghost use Rattle.index_files.specs.Filling.{countSaid, SaysFile, rowsFor, filesFor, allRowsFor, HoldsRows, HoldsFiles};
 ghost use Rattle.api.specs.Outputs.{Shown, Told, one};
 ghost use Rattle.api.specs.Indexes.{indexIn, constructIn, headerNumbers, constructNumbers, SaysIndex, SaysConstruct, FillsOut};
 
@@ -162,6 +162,30 @@ pub extern "C" fn klapouzen_read_files(
         size: block_size,
     };
     let filled = index_files::all_files(text, uuid, volume, letter, BlockNumber(block), files);
+    counted(filled, count)
+}
+
+// The rows of all files of an index's text, file after file, five numbers each, into the front of rows.
+#[no_mangle]
+pub extern "C" fn klapouzen_read_all_rows(
+    text: &[u8],
+    uuid: &[u8],
+    index_letter: u8,
+    data_letter: u8,
+    block_size: u64,
+    letter: u8,
+    block: u64,
+    rows: &mut [u64],
+    count: &mut u64,
+) -> u64
+    ensures { λ r. ⌜ FillsOut HoldsRows (allRowsFor (length (now (rows .entry))) (indexIn (now (text .entry)) (now (uuid .entry)) «index_letter» «data_letter» «block_size» letter block)) (now (rows .entry)) (now (rows .exit)) r (now (count .exit)) ⌝ }
+{
+    let volume = Volume {
+        first: index_letter,
+        other: data_letter,
+        size: block_size,
+    };
+    let filled = index_files::all_rows(text, uuid, volume, letter, BlockNumber(block), rows);
     counted(filled, count)
 }
 

@@ -14,6 +14,7 @@ use Rattle.index.specs.Index.{Index, File, Told, told, fileOf, toldBy, indexOf}
 use Rattle.index_files.specs.Files.{filesLeft, filesFrom}
 use Rattle.index_files.specs.Asked.{nth, fileIn, Shown, shown, HeadOf}
 use Rattle.index_files.specs.declared.asked.FileHead.{FileHead}
+use Rattle.index_files.proofs.Mapped.{mapped, mapped-refused}
 use Rattle.index_files.proofs.Meeting.{rows-first}
 use Rattle.index_files.proofs.AllFiles.{files-left}
 
@@ -40,25 +41,17 @@ module _ {A : Type 0} where
 module _ (g : Given) (letter block : ℕ) (text : List ℕ) where
   module _ {B : Type 0} (next : List File → Answer B) where
     pub index-refused : (r : Refusal) → refused r ≡ toldBy (indexOf g letter block text) → refused r ≡ andThen (indexOf g letter block text) (λ x. next (x .files))
-    index-refused r e = go (indexOf g letter block text) e
-      where
-        go : (a : Answer Index) → refused r ≡ toldBy a → refused r ≡ andThen a (λ x. next (x .files))
-        go (refused q) e = let z : r ≡ q = cc in ap refused z
-        go (answer x) e = let z : _≡_ {A = ℕ} 0 1 = cc in absurd (omega arith)
+    index-refused r e = ap (λ (a : Answer Index). andThen a (λ x. next (x .files))) (mapped-refused told (indexOf g letter block text) r e)
 
     pub index-found : (t : Told) → answer t ≡ toldBy (indexOf g letter block text) → next (filesFrom text 38) ≡ andThen (indexOf g letter block text) (λ x. next (x .files))
-    index-found t e = go (indexOf g letter block text) refl e
-      where
-        go : (a : Answer Index) → indexOf g letter block text ≡ a → answer t ≡ toldBy a → next (filesFrom text 38) ≡ andThen a (λ x. next (x .files))
-        go (refused q) w e = let z : _≡_ {A = ℕ} 0 1 = cc in absurd (omega arith)
-        go (answer x) w e = ap next (files-left g letter block text x w)
+    index-found t e =
+        let (x, w, z) = mapped told (indexOf g letter block text) t e in
+        ap next (files-left g letter block text x (sym w)) ∙ ap (λ (a : Answer Index). andThen a (λ x. next (x .files))) w
 
   pub files-counted : (t : Told) → answer t ≡ toldBy (indexOf g letter block text) → t .files ≡ length (filesFrom text 38)
-  files-counted t e = go (indexOf g letter block text) refl e
-    where
-      go : (a : Answer Index) → indexOf g letter block text ≡ a → answer t ≡ toldBy a → t .files ≡ length (filesFrom text 38)
-      go (refused q) w e = let z : _≡_ {A = ℕ} 0 1 = cc in absurd (omega arith)
-      go (answer x) w e = let z : t ≡ told x = cc in ap (λ (h : Told). h .files) z ∙ sym (ap length (files-left g letter block text x w))
+  files-counted t e =
+      let (x, w, z) = mapped told (indexOf g letter block text) t e in
+      ap (λ (h : Told). h .files) z ∙ sym (ap length (files-left g letter block text x (sym w)))
 
   pub file-found : (k : ℕ) (t : Told) → answer t ≡ toldBy (indexOf g letter block text)
       → andThen (nth k (filesLeft (leftAt text 38))) (λ c. answer (fileOf c)) ≡ fileIn k (indexOf g letter block text)

@@ -1,22 +1,27 @@
 -- Numbers into a buffer: stores one after the other, rows from a place on, files from the front on, and what is said of filling it.
 use mathlib.Core.Path.{_≡_, refl, ap, sym, _∙_, subst}
-use mathlib.Core.List.{List, [], _∷_, _++_, append-assoc}
+use mathlib.Core.Bool.{Bool, true, false}
+use mathlib.Core.List.{List, [], _∷_, _++_, map, append-assoc}
 use Prim.Native.Nat.{ℕ, _+_, _*_, _≤_, _<_}
 use native.Mathlib.Omega.{arith}
-use borrow.Author.Tests.{le-leb, lt-leb}
+use borrow.Author.Tests.{le-leb, lt-leb, leb-true}
+use lib.Dec.{leb}
 use lib.ListN.{length, take, drop, set, length-append, take-append-drop}
 use lib.Seq.{drop-drop}
-use Rattle.refusals.specs.Refusals.{Answer, refused, answer}
+use Rattle.refusals.specs.Refusals.{Answer, refused, answer, require}
 use Rattle.refusals.specs.declared.Refusal.{Refusal}
 use Rattle.refusals.specs.declared.Refusal.the-variants.{Short}
 use Rattle.slices.specs.Slices.{written}
 use Rattle.slices.proofs.Writing.{written-set, written-snoc, written-then, written-nil, length-written, front-written, drop-written}
 use Rattle.xml.specs.Tree.{Forest}
 use Rattle.extents.specs.Rows.{Row}
-use Rattle.index.specs.Tests.{five}
+use Rattle.elements.specs.Reading.{leftAt, rowAt}
+use Rattle.index.specs.Tests.{five, rowsIn}
 use Rattle.index.specs.Index.{File, fileOf}
+use Rattle.index_files.specs.Files.{filesLeft, filesFrom, FileAt}
+use Rattle.index_files.specs.Rows.{RowsFrom}
 use Rattle.index_files.specs.Asked.{HeadOf}
-use Rattle.index_files.specs.Filling.{numbersOf, fitting, Puts, WritesRows, SaysFiles, HoldsFiles, headNumbers}
+use Rattle.index_files.specs.Filling.{fitting, counted, Puts, numbersOf, WritesRows, SaysFiles, HoldsFiles, headNumbers, allRows}
 use Rattle.index_files.specs.declared.asked.FileHead.{FileHead}
 use Rattle.index_files.specs.declared.filling.Filled.{Filled}
 use Rattle.index_files.specs.declared.filling.Filled.the-variants.{Count, Refused}
@@ -68,11 +73,11 @@ module _ {end : List ℕ} {last : ℕ} {before o : List ℕ} {k : ℕ} {l : List
     pub writing-fits : k + length a * 5 ≤ length o
     writing-fits = omega (arith, w .upTo, w .room, ap length e ∙ length-append a r)
 
-    pub writing-on : (o′ : List ℕ) → o′ ≡ written k (numbersOf a) o → Writing end last before o′ (k + length a * 5) r
-    writing-on o′ q =
-        let n : k + length (numbersOf a) ≡ k + length a * 5 = ap (λ (m : ℕ). k + m) (length-numbers a) in
+    pub writing-on : {o′ : List ℕ} {k′ : ℕ} → WritesRows k a o o′ k′ → Writing end last before o′ k′ r
+    writing-on {o′} {k′} q =
+        let n : k + length (numbersOf a) ≡ k′ = ap (λ (m : ℕ). k + m) (length-numbers a) ∙ sym (q .upTo) in
         let f : k + length (numbersOf a) ≤ length o = omega (arith, writing-fits, length-numbers a) in
-        let z : length o′ ≡ length o = ap length q ∙ length-written k (numbersOf a) o f in
+        let z : length o′ ≡ length o = ap length (q .holds) ∙ length-written k (numbersOf a) o f in
         record {
           left =
               w .left
@@ -80,8 +85,8 @@ module _ {end : List ℕ} {last : ℕ} {before o : List ℕ} {k : ℕ} {l : List
               ∙ ap (λ (y : List ℕ). written k y o) (numbers-append a r)
               ∙ sym (written-then k (numbersOf a) (numbersOf r) o (omega (arith, f)))
               ∙ ap (λ (m : ℕ). written m (numbersOf r) (written k (numbersOf a) o)) n
-              ∙ sym (ap (written (k + length a * 5) (numbersOf r)) q);
-          upTo = omega (arith, w .upTo, ap length e ∙ length-append a r);
+              ∙ sym (ap (written k′ (numbersOf r)) (q .holds));
+          upTo = omega (arith, w .upTo, q .upTo, ap length e ∙ length-append a r);
           room = omega (arith, w .room, z);
           long = z ∙ w .long;
         }
@@ -91,9 +96,9 @@ module _ {end : List ℕ} {last : ℕ} {before o : List ℕ} {k : ℕ} {l : List
     pub row-fits : k + 5 ≤ length o
     row-fits = writing-fits (x ∷ []) r e
 
-    pub row-on : (o′ : List ℕ) → o′ ≡ written k (five x) o → Writing end last before o′ (k + 5) r
+    pub row-on : {o′ : List ℕ} → o′ ≡ written k (five x) o → Writing end last before o′ (k + 5) r
     unfolding numbersOf
-    row-on o′ q = writing-on (x ∷ []) r e o′ q
+    row-on q = writing-on (x ∷ []) r e record { holds = q; upTo = refl }
 
 -- files written one after the other: those still to be told from k on
 pub record Telling (s : List ℕ) (fs : List File) (before o : List ℕ) (k : ℕ) (l : List File) : Type 0 where
@@ -146,23 +151,48 @@ module _ {s : List ℕ} {fs : List File} {before o : List ℕ} {k : ℕ} {l : Li
           long = z ∙ t .long;
         }
 
-module _ {A : Type 0} {holds : List A → List ℕ → List ℕ → Type 0} where
-  -- nothing is written where it is refused
-  pub put-refused : (out : List ℕ) (r : Refusal) {a : Answer (List A)} → refused r ≡ a → Puts holds a out out (Refused r)
-  put-refused out r e = subst (λ (a : Answer (List A)). Puts holds a out out (Refused r)) e record { says = refl; stored = refl }
+module _ {A : Type 0} where
+  -- room for all, or not
+  module _ (each room : ℕ) (l : List A) where
+    pub fits : length l * each ≤ room → answer l ≡ fitting each room l
+    fits h = rw (le-leb (length l * each) room h)
 
-  pub put-as : {out o : List ℕ} {a b : Answer (List A)} {r : Filled} → a ≡ b → Puts holds a out o r → Puts holds b out o r
-  put-as {out} {o} {r = r} e p = subst (λ (a : Answer (List A)). Puts holds a out o r) e p
+    pub fits-not : room < length l * each → refused Short ≡ fitting each room l
+    fits-not h = rw (lt-leb (length l * each) room h)
 
-  -- a buffer with room for all, or not
-  module _ (each : ℕ) (l : List A) (n : ℕ) (out : List ℕ) (e : n ≡ length l) where
-    pub put-short : length out < n * each → Puts holds (fitting each (length out) l) out out (Refused Short)
-    put-short h =
-        let k : length out < length l * each = subst (λ (m : ℕ). length out < m * each) e h in
-        put-refused out Short (rw (lt-leb (length l * each) (length out) k))
+    pub fitted : (n : ℕ) → answer n ≡ counted (fitting each room l) → (n ≡ length l) × (length l * each ≤ room)
+    fitted n e = go (leb (length l * each) room) refl e
+      where
+        go : (b : Bool) → leb (length l * each) room ≡ b → answer n ≡ counted (require b Short (answer l)) → (n ≡ length l) × (length l * each ≤ room)
+        go true w e = let z : n ≡ length l = cc in (z, leb-true (length l * each) room w)
+        go false w e = let z : _≡_ {A = ℕ} 0 1 = cc in absurd (omega arith)
 
-    pub put-all : n * each ≤ length out → (o : List ℕ) → holds l out o → Puts holds (fitting each (length out) l) out o (Count n)
-    put-all h o w =
-        let k : length l * each ≤ length out = subst (λ (m : ℕ). m * each ≤ length out) e h in
-        let z : answer l ≡ fitting each (length out) l = rw (le-leb (length l * each) (length out) k) in
-        put-as z record { says = ap answer e; stored = w }
+  module _ {holds : List A → List ℕ → List ℕ → Type 0} where
+    -- nothing is written where it is refused
+    pub put-refused : (out : List ℕ) (r : Refusal) {a : Answer (List A)} → refused r ≡ a → Puts holds a out out (Refused r)
+    put-refused out r e = subst (λ (a : Answer (List A)). Puts holds a out out (Refused r)) e record { says = refl; stored = refl }
+
+    pub put-as : {out o : List ℕ} {a b : Answer (List A)} {r : Filled} → a ≡ b → Puts holds a out o r → Puts holds b out o r
+    put-as {out} {o} {r = r} e p = subst (λ (a : Answer (List A)). Puts holds a out o r) e p
+
+    -- a buffer with room for all, or not
+    module _ (each : ℕ) (l : List A) (n : ℕ) (out : List ℕ) (e : n ≡ length l) where
+      pub put-short : length out < n * each → Puts holds (fitting each (length out) l) out out (Refused Short)
+      put-short h = put-refused out Short (fits-not each (length out) l (subst (λ (m : ℕ). length out < m * each) e h))
+
+      pub put-all : n * each ≤ length out → (o : List ℕ) → holds l out o → Puts holds (fitting each (length out) l) out o (Count n)
+      put-all h o w = put-as (fits each (length out) l (subst (λ (m : ℕ). m * each ≤ length out) e h)) record { says = ap answer e; stored = w }
+
+-- the rows of all files, along a text
+module _ (s : List ℕ) (i : ℕ) where
+  pub rows-none : filesLeft (leftAt s i) ≡ [] → allRows (filesFrom s i) ≡ []
+  unfolding allRows
+  rows-none e = ap (λ (l : List Forest). allRows (map fileOf l)) e
+
+  module _ {n j at : ℕ} (f : FileAt s i n j) (r : RowsFrom s n at) where
+    pub rows-file : allRows (filesFrom s i) ≡ rowsIn (rowAt s at) ++ allRows (filesFrom s j)
+    unfolding allRows
+    rows-file = ap (λ (l : List Forest). allRows (map fileOf l)) (f .left) ∙ sym (ap (λ (c : Forest). rowsIn c ++ allRows (filesFrom s j)) (r .row))
+
+    pub rows-more : length (allRows (filesFrom s i)) ≡ length (rowsIn (rowAt s at)) + length (allRows (filesFrom s j))
+    rows-more = ap length rows-file ∙ length-append (rowsIn (rowAt s at)) (allRows (filesFrom s j))

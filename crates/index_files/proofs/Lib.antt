@@ -1,3 +1,4 @@
+pub mod Mapped
 pub mod Passing
 pub mod Meeting
 pub mod Names

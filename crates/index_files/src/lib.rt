@@ -17,3 +17,4 @@ pub use files::NextFile;
 pub use files::next_file;
 pub use filling::Filled;
 pub use whole::all_files;
+pub use whole::all_rows;

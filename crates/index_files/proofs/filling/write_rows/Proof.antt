@@ -75,7 +75,7 @@ loop-again c =
     let l = c .before .before .before .before .before .before .before .before .loop in
     let g = c .before .before .before .before .before .row .given in
     let f : RowAhead s (l .i) (Found (g .0 .0) (g .0 .1 .0)) = subst (RowAhead s (l .i)) (g .1) (c .before .before .before .before .before .before .before .next-row .ensures) in
-    row-on (l .inv) (rowIs (g .0 .0)) (rowsIn (rowAt s (g .0 .1 .0))) (f .rows) _ (c .before .before .put-row .ensures)
+    row-on (l .inv) (rowIs (g .0 .0)) (rowsIn (rowAt s (g .0 .1 .0))) (f .rows) (c .before .before .put-row .ensures)
 
 pub write-rows-spec : {M : Type 1} → statement M
 write-rows-spec =
