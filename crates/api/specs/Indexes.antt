@@ -3,14 +3,17 @@ use mathlib.Core.Path.{_≡_}
 use mathlib.Core.Bool.{cond}
 use mathlib.Core.List.{List, [], _∷_}
 use mathlib.Core.Option.{Option, none, some}
-use Prim.Native.Nat.{ℕ, _-_}
+use Prim.Native.Nat.{ℕ}
 use lib.ListN.{length, take, drop, getD}
 use Rattle.refusals.specs.Refusals.{Answer}
 use Rattle.quantities.specs.Places.{Place}
-use Rattle.index.specs.Index.{Index, Told, told, indexOf}
+use Rattle.elements.specs.Reading.{partAt}
+use Rattle.elements.specs.declared.heads.Span.{Span}
+use Rattle.index.specs.Index.{Index, Told, told, indexOf, placeOf, backOf}
 use Rattle.index.specs.declared.read.Header.{Header}
-use Rattle.index_files.specs.Filling.{partTold, Stored}
+use Rattle.index_files.specs.Filling.{TellsPart, Stored}
 use Rattle.constructs.specs.declared.Place.{Place as Spot}
+use Rattle.volume.specs.Steps.{textIn}
 use Rattle.volume.specs.Chosen.{Told·Construct, chosenIn}
 use Rattle.api.specs.Outputs.{Shown, bit, one}
 
@@ -28,7 +31,7 @@ backNumbers (some p) = 1 ∷ p .letter ∷ p .block ∷ []
 pub record SaysHeader (s : List ℕ) (x : Told) (out : List ℕ) : Type 0 where
   pub release : getD out 0 0 ≡ x .release
   pub generation : getD out 1 0 ≡ x .generation
-  pub updatetime : partTold s out 2 ≡ x .updatetime
+  pub updatetime : TellsPart s out 2 (x .updatetime)
   pub letter : getD out 4 0 ≡ x .location .letter
   pub block : getD out 5 0 ≡ x .location .block
   pub back : take 3 (drop 6 out) ≡ backNumbers (x .back)
@@ -45,23 +48,38 @@ SaysIndex s x out = SaysHeader s (told x) out
 pub record SaysConstruct (s : List ℕ) (c : Told·Construct) (out : List ℕ) : Type 0 where
   pub first : getD out 0 0 ≡ c .construct .first
   pub end : getD out 1 0 ≡ c .construct .upTo
-  pub text : partTold s out 2 ≡ c .construct .text
+  pub text : TellsPart s out 2 (c .construct .text)
   pub header : SaysHeader (c .construct .text) (c .told) (drop 4 out)
 
 -- the index of a construct of a partition, by its number
 abbrev pub constructIn : List ℕ → List ℕ → List ℕ → ℕ → ℕ → ℕ → ℕ → ℕ → Answer Told·Construct
 constructIn l s uuid index other size letter number = chosenIn (record { uuid = uuid; first = index; other = other; size = size }) letter number l s
 
--- a header that a reader read, in those numbers
-abbrev pub headerNumbers : Header → List ℕ
-headerNumbers h =
-    h .release ∷ h .generation .0 ∷ h .time .from ∷ h .time .len ∷ h .letter ∷ h .block .0
+-- what a header that a reader read says of a text
+abbrev pub toldOf : List ℕ → Header → Told
+toldOf s h =
+    record {
+      release = h .release;
+      generation = h .generation .0;
+      updatetime = partAt s (h .time);
+      location = placeOf (h .letter) (h .block);
+      back = backOf h;
+      allowpolicyupdate = h .allow;
+      highestfileuid = h .highest;
+      directories = h .directories;
+      files = h .files;
+    }
+
+-- it in numbers, its time at that place
+abbrev pub headerNumbers : Header → Span → List ℕ
+headerNumbers h time =
+    h .release ∷ h .generation .0 ∷ time .from ∷ time .len ∷ h .letter ∷ h .block .0
     ∷ bit (h .back) ∷ cond (h .back) (h .«back_letter») 0 ∷ cond (h .back) (h .«back_block» .0) 0
     ∷ bit (h .allow) ∷ h .highest ∷ h .directories ∷ h .files ∷ []
 
--- and where its text lies
-abbrev pub constructNumbers : Spot → Header → List ℕ
-constructNumbers p h = p .first ∷ p .end ∷ p .from ∷ (p .to - p .from) ∷ headerNumbers h
+-- a construct that was found in a store, with its header
+abbrev pub constructOf : List ℕ → Spot → Header → Told·Construct
+constructOf s p h = record { construct = record { first = p .first; upTo = p .end; text = textIn s p }; told = toldOf (textIn s p) h }
 
 module _ {A : Type 0} where
   abbrev pub howMany : List A → List ℕ

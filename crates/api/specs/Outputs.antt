@@ -2,12 +2,14 @@
 use mathlib.Core.Path.{_≡_}
 use mathlib.Core.Bool.{Bool, true, false, cond}
 use mathlib.Core.List.{List, [], _∷_}
-use Prim.Native.Nat.{ℕ}
+use Prim.Native.Nat.{ℕ, _+_, _≤_}
 use lib.Dec.{leb}
 use lib.ListN.{length, replicate}
 use Rattle.refusals.specs.declared.Refusal.the-variants.{Caller, Short}
 use Rattle.refusals.specs.Refusals.{Answer, refused, answer, require, shownNumber}
 use Rattle.slices.specs.Writers.{stored}
+use Rattle.elements.specs.Reading.{partAt}
+use Rattle.elements.specs.declared.heads.Span.{Span}
 
 module _ {A : Type 0} where
   -- n numbers: what is shown of the value, or zeros
@@ -50,3 +52,8 @@ bufferAfter given w buffer = cond given (stored 0 w buffer) buffer
 pub record WritesOut (given : Bool) (w before after : List ℕ) (returned told : ℕ) : Type 0 where
   pub answers : Shown 1 one (writing given w before) returned (one told)
   pub holds : after ≡ bufferAfter given w before
+
+-- a place r that names the same part as w of any text that long, and lies in it
+pub record CutOff (end : ℕ) (w r : Span) : Type 0 where
+  pub same : (s : List ℕ) → length s ≡ end → partAt s r ≡ partAt s w
+  pub inside : r .from + r .len ≤ end

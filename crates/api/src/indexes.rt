@@ -1,7 +1,9 @@
 // Indexes: an index's text read, its files, and their rows.
 use crate::numbers::flag;
+use crate::numbers::inside;
 use crate::numbers::present;
 use constructs::Place;
+use elements::Span;
 use index::Header;
 use index::Read;
 use index::Volume;
@@ -10,20 +12,23 @@ use index_files::Filled;
 use quantities::BlockNumber;
 use volume::Chosen;
 ghost use mathlib.Core.Path.{_≡_};
+ghost use mathlib.Core.List.{List};
+ghost use Prim.Native.Nat.{ℕ};
 ghost use lib.ListN.{length};
 ghost use Rattle.index_files.specs.Asked.{fileIn};
 ghost use Rattle.index_files.specs.Filling.{countSaid, SaysFile, rowsFor, filesFor, allRowsFor, HoldsRows, HoldsFiles};
 ghost use Rattle.api.specs.Outputs.{Shown, Told, one};
-ghost use Rattle.api.specs.Indexes.{indexIn, constructIn, headerNumbers, constructNumbers, SaysIndex, SaysConstruct, FillsOut};
+ghost use Rattle.api.specs.Indexes.{indexIn, constructIn, headerNumbers, constructOf, SaysIndex, SaysConstruct, FillsOut};
 
-fn in_numbers(h: Header) -> [u64; 13]
-    ensures { λ r. ⌜ r ≡ headerNumbers h ⌝ }
+// A header, its update time at that place.
+fn in_numbers(h: Header, time: Span) -> [u64; 13]
+    ensures { λ r. ⌜ r ≡ headerNumbers h time ⌝ }
 {
     [
         h.release,
         h.generation.0,
-        h.time.from as u64,
-        h.time.len as u64,
+        time.from as u64,
+        time.len as u64,
         h.letter as u64,
         h.block.0,
         flag(h.back),
@@ -58,7 +63,8 @@ pub extern "C" fn klapouzen_read_index(
     };
     match index::read_index(text, uuid, volume, letter, BlockNumber(block)) {
         Read::Found(h) => {
-            *out = in_numbers(h);
+            let time = inside(h.time, text.len());
+            *out = in_numbers(h, time);
             0
         }
         Read::Refused(r) => {
@@ -189,16 +195,22 @@ pub extern "C" fn klapouzen_read_all_rows(
     counted(filled, count)
 }
 
-fn in_place(p: Place, h: Header) -> [u64; 17]
-    ensures { λ r. ⌜ r ≡ constructNumbers p h ⌝ }
+// A construct's place in a store that long, and its header.
+fn in_place(p: Place, h: Header, end: usize) -> [u64; 17]
+    ensures { λ r. ⌜ ((s : List ℕ) → length s ≡ end → SaysConstruct s (constructOf s p h) r) ⌝ }
 {
-    let a = in_numbers(h);
-    let len = volume::between(p.from, p.to);
+    let whole = Span {
+        from: p.from,
+        len: volume::between(p.from, p.to),
+    };
+    let text = inside(whole, end);
+    let time = inside(h.time, text.len);
+    let a = in_numbers(h, time);
     [
         p.first as u64,
         p.end as u64,
-        p.from as u64,
-        len as u64,
+        text.from as u64,
+        text.len as u64,
         a[0],
         a[1],
         a[2],
@@ -237,7 +249,7 @@ pub extern "C" fn klapouzen_index(
     };
     match volume::read_construct(list, store, uuid, letters, letter, number) {
         Chosen::Found(p, h) => {
-            *out = in_place(p, h);
+            *out = in_place(p, h, store.len());
             0
         }
         Chosen::Refused(r) => {

@@ -139,7 +139,7 @@ module _ {s : List ℕ} {fs : List File} {before o : List ℕ} {k : ℕ} {l : Li
               (subst (SaysFiles s fs) (sym (append-assoc (take k o) (headNumbers h) v))
               (t .says (headNumbers h ++ v)
               (subst (λ (y : List File). SaysFiles s y (headNumbers h ++ v)) (sym e)
-              (record { length = w .length; name = w .name .part; rows = w .rows }, p))));
+              (record { length = w .length; name = record { part = w .name .part; inside = w .name .inside }; rows = w .rows }, p))));
           rest =
               ap (drop (k + 4)) q
               ∙ drop-written k (headNumbers h) o i

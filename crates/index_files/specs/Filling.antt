@@ -2,7 +2,7 @@
 -- Refusals: those of what is asked for, then 10 for a buffer too short, which is left as it was.
 use mathlib.Core.Path.{_≡_}
 use mathlib.Core.List.{List, [], _∷_, _++_}
-use Prim.Native.Nat.{ℕ, _+_, _*_}
+use Prim.Native.Nat.{ℕ, _+_, _*_, _≤_}
 use lib.Dec.{leb}
 use lib.ListN.{length, take, drop, getD}
 use Rattle.refusals.specs.Refusals.{Answer, refused, answer, require, andThen}
@@ -55,10 +55,15 @@ HoldsRows l before after = after ≡ written 0 (numbersOf l) before
 abbrev pub partTold : List ℕ → List ℕ → ℕ → List ℕ
 partTold s out k = take (getD out (k + 1) 0) (drop (getD out k 0) s)
 
+-- they tell of a part that lies in the text
+pub record TellsPart (s out : List ℕ) (k : ℕ) (w : List ℕ) : Type 0 where
+  pub part : partTold s out k ≡ w
+  pub inside : getD out k 0 + getD out (k + 1) 0 ≤ length s
+
 -- four numbers say what a file says: its length, the place of its name, as spelled, in s and its length, and how many rows it has
 pub record SaysFile (s : List ℕ) (f : File) (out : List ℕ) : Type 0 where
   pub length : getD out 0 0 ≡ f .length
-  pub name : partTold s out 1 ≡ f .name
+  pub name : TellsPart s out 1 (f .name)
   pub rows : getD out 3 0 ≡ lib.ListN.length (f .rows)
 
 -- each four numbers from the front on say a file

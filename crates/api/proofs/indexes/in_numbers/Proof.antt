@@ -3,8 +3,8 @@ use borrow.Author.Needs.{needs}
 use Rattle.api.proofs.indexes.in_numbers.Statement.{statement}
 use Rattle.api.proofs.indexes.in_numbers.Tie as tie
 
-cast-t4 : tie.Need-cast-t4
-cast-t4 c = search needs
+cast-t5 : tie.Need-cast-t5
+cast-t5 c = search needs
 
 flag-requires : tie.Need-flag-requires
 flag-requires c κs = search needs
@@ -28,7 +28,7 @@ pub in-numbers-spec : {M : Type 1} → statement M
 in-numbers-spec =
     tie.close
     (tie.spec
-    cast-t4
+    cast-t5
     flag-requires
     cast-present
     present-requires

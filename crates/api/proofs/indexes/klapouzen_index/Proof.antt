@@ -2,7 +2,7 @@
 use Rattle.api.proofs.Headers.{says-construct}
 use Rattle.api.proofs.Showing.{not-told}
 use Rattle.volume.specs.Chosen.{chosenBy}
-use mathlib.Core.Path.{sym, ap, _∙_}
+use mathlib.Core.Path.{refl, sym, ap, _∙_}
 use borrow.Author.Needs.{needs}
 use Rattle.api.proofs.indexes.klapouzen_index.Statement.{statement}
 use Rattle.api.proofs.indexes.klapouzen_index.Tie as tie
@@ -23,7 +23,7 @@ number-requires : tie.Need-number-requires
 number-requires c κs = search needs
 
 returns : tie.Need-returns
-returns c = says-construct (c .before .before .before .before .before .before .before .before .args .store .now) _ (c .before .before .p .given .0 .0) (c .before .before .p .given .0 .1 .0) (ap (chosenBy (c .before .before .before .before .before .before .before .before .args .store .now)) (sym (c .before .before .p .given .1)) ∙ c .before .before .before .before .read-construct .ensures) (c .in-place .ensures)
+returns c = says-construct (c .before .before .before .before .before .before .before .before .args .store .now) _ (c .before .before .p .given .0 .0) (c .before .before .p .given .0 .1 .0) (ap (chosenBy (c .before .before .before .before .before .before .before .before .args .store .now)) (sym (c .before .before .p .given .1)) ∙ c .before .before .before .before .read-construct .ensures) (c .in-place .ensures (c .before .before .before .before .before .before .before .before .args .store .now) refl)
 
 returns-2 : tie.Need-returns-2
 returns-2 c = not-told (c .before .before .before .r .given .0 .0) (ap (chosenBy (c .before .before .before .before .before .before .before .before .before .args .store .now)) (sym (c .before .before .before .r .given .1)) ∙ c .before .before .before .before .before .read-construct .ensures) (c .number .ensures)

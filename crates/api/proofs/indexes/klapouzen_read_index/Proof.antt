@@ -14,6 +14,9 @@ read-index-requires c κs = search needs
 enum-known-h : tie.Need-enum-known-h
 enum-known-h c = search needs
 
+inside-requires : tie.Need-inside-requires
+inside-requires c κs = search needs
+
 in-numbers-requires : tie.Need-in-numbers-requires
 in-numbers-requires c κs = search needs
 
@@ -24,7 +27,7 @@ number-requires : tie.Need-number-requires
 number-requires c κs = search needs
 
 returns : tie.Need-returns
-returns c = says-index (c .before .before .before .before .before .before .before .args .text .now) _ (c .before .before .h .given .0 .0) (ap (saying (c .before .before .before .before .before .before .before .args .text .now)) (sym (c .before .before .h .given .1)) ∙ c .before .before .before .before .read-index .ensures) (c .in-numbers .ensures)
+returns c = says-index (c .before .before .before .before .before .before .before .before .args .text .now) _ (c .before .before .before .h .given .0 .0) (c .before .inside .result) (ap (saying (c .before .before .before .before .before .before .before .before .args .text .now)) (sym (c .before .before .before .h .given .1)) ∙ c .before .before .before .before .before .read-index .ensures) (c .before .inside .ensures) (c .in-numbers .ensures)
 
 returns-2 : tie.Need-returns-2
 returns-2 c = not-told (c .before .before .before .r .given .0 .0) (mapped-refused told _ _ (ap (saying (c .before .before .before .before .before .before .before .before .args .text .now)) (sym (c .before .before .before .r .given .1)) ∙ c .before .before .before .before .before .read-index .ensures)) (c .number .ensures)
@@ -35,6 +38,7 @@ klapouzen-read-index-spec =
     (tie.spec
     read-index-requires
     enum-known-h
+    inside-requires
     in-numbers-requires
     enum-known-r
     number-requires
