@@ -64,6 +64,7 @@ abbrev pub constructNumbers : Spot → Header → List ℕ
 constructNumbers p h = p .first ∷ p .end ∷ p .from ∷ (p .to - p .from) ∷ headerNumbers h
 
 module _ {A : Type 0} where
+  -- how many there are
   abbrev pub howMany : List A → List ℕ
   howMany l = length l ∷ []
 
