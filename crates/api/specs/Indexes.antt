@@ -82,6 +82,7 @@ abbrev pub constructOf : List ℕ → Spot → Header → Told·Construct
 constructOf s p h = record { construct = record { first = p .first; upTo = p .end; text = textIn s p }; told = toldOf (textIn s p) h }
 
 module _ {A : Type 0} where
+  -- how many there are
   abbrev pub howMany : List A → List ℕ
   howMany l = length l ∷ []
 

@@ -1,30 +1,19 @@
--- Numbers into a buffer: stores one after the other, rows from a place on, files from the front on, and what is said of filling it.
+-- Numbers into a buffer: stores one after the other, rows from a place on, files from the front on.
 use mathlib.Core.Path.{_≡_, refl, ap, sym, _∙_, subst}
-use mathlib.Core.Bool.{Bool, true, false}
-use mathlib.Core.List.{List, [], _∷_, _++_, map, append-assoc}
-use Prim.Native.Nat.{ℕ, _+_, _*_, _≤_, _<_}
+use mathlib.Core.List.{List, [], _∷_, _++_, append-assoc}
+use Prim.Native.Nat.{ℕ, _+_, _*_, _≤_}
 use native.Mathlib.Omega.{arith}
-use borrow.Author.Tests.{le-leb, lt-leb, leb-true}
-use lib.Dec.{leb}
 use lib.ListN.{length, take, drop, set, length-append, take-append-drop}
 use lib.Seq.{drop-drop}
-use Rattle.refusals.specs.Refusals.{Answer, refused, answer, require}
-use Rattle.refusals.specs.declared.Refusal.{Refusal}
-use Rattle.refusals.specs.declared.Refusal.the-variants.{Short}
 use Rattle.slices.specs.Slices.{written}
 use Rattle.slices.proofs.Writing.{written-set, written-snoc, written-then, written-nil, length-written, front-written, drop-written}
 use Rattle.xml.specs.Tree.{Forest}
 use Rattle.extents.specs.Rows.{Row}
-use Rattle.elements.specs.Reading.{leftAt, rowAt}
-use Rattle.index.specs.Tests.{five, rowsIn}
+use Rattle.index.specs.Tests.{five}
 use Rattle.index.specs.Index.{File, fileOf}
-use Rattle.index_files.specs.Files.{filesLeft, filesFrom, FileAt}
-use Rattle.index_files.specs.Rows.{RowsFrom}
 use Rattle.index_files.specs.Asked.{HeadOf}
-use Rattle.index_files.specs.Filling.{fitting, counted, Puts, numbersOf, WritesRows, SaysFiles, HoldsFiles, headNumbers, allRows}
+use Rattle.index_files.specs.Filling.{numbersOf, WritesRows, SaysFiles, HoldsFiles, headNumbers}
 use Rattle.index_files.specs.declared.asked.FileHead.{FileHead}
-use Rattle.index_files.specs.declared.filling.Filled.{Filled}
-use Rattle.index_files.specs.declared.filling.Filled.the-variants.{Count, Refused}
 
 -- four and five numbers, one after the other
 pub four-written : (at a b c d : ℕ) (o0 o1 o2 o3 o4 : List ℕ) → at + 4 ≤ length o0 → o1 ≡ set o0 at a → o2 ≡ set o1 (at + 1) b
@@ -150,49 +139,3 @@ module _ {s : List ℕ} {fs : List File} {before o : List ℕ} {k : ℕ} {l : Li
           room = omega (arith, t .room, z);
           long = z ∙ t .long;
         }
-
-module _ {A : Type 0} where
-  -- room for all, or not
-  module _ (each room : ℕ) (l : List A) where
-    pub fits : length l * each ≤ room → answer l ≡ fitting each room l
-    fits h = rw (le-leb (length l * each) room h)
-
-    pub fits-not : room < length l * each → refused Short ≡ fitting each room l
-    fits-not h = rw (lt-leb (length l * each) room h)
-
-    pub fitted : (n : ℕ) → answer n ≡ counted (fitting each room l) → (n ≡ length l) × (length l * each ≤ room)
-    fitted n e = go (leb (length l * each) room) refl e
-      where
-        go : (b : Bool) → leb (length l * each) room ≡ b → answer n ≡ counted (require b Short (answer l)) → (n ≡ length l) × (length l * each ≤ room)
-        go true w e = let z : n ≡ length l = cc in (z, leb-true (length l * each) room w)
-        go false w e = let z : _≡_ {A = ℕ} 0 1 = cc in absurd (omega arith)
-
-  module _ {holds : List A → List ℕ → List ℕ → Type 0} where
-    -- nothing is written where it is refused
-    pub put-refused : (out : List ℕ) (r : Refusal) {a : Answer (List A)} → refused r ≡ a → Puts holds a out out (Refused r)
-    put-refused out r e = subst (λ (a : Answer (List A)). Puts holds a out out (Refused r)) e record { says = refl; stored = refl }
-
-    pub put-as : {out o : List ℕ} {a b : Answer (List A)} {r : Filled} → a ≡ b → Puts holds a out o r → Puts holds b out o r
-    put-as {out} {o} {r = r} e p = subst (λ (a : Answer (List A)). Puts holds a out o r) e p
-
-    -- a buffer with room for all, or not
-    module _ (each : ℕ) (l : List A) (n : ℕ) (out : List ℕ) (e : n ≡ length l) where
-      pub put-short : length out < n * each → Puts holds (fitting each (length out) l) out out (Refused Short)
-      put-short h = put-refused out Short (fits-not each (length out) l (subst (λ (m : ℕ). length out < m * each) e h))
-
-      pub put-all : n * each ≤ length out → (o : List ℕ) → holds l out o → Puts holds (fitting each (length out) l) out o (Count n)
-      put-all h o w = put-as (fits each (length out) l (subst (λ (m : ℕ). m * each ≤ length out) e h)) record { says = ap answer e; stored = w }
-
--- the rows of all files, along a text
-module _ (s : List ℕ) (i : ℕ) where
-  pub rows-none : filesLeft (leftAt s i) ≡ [] → allRows (filesFrom s i) ≡ []
-  unfolding allRows
-  rows-none e = ap (λ (l : List Forest). allRows (map fileOf l)) e
-
-  module _ {n j at : ℕ} (f : FileAt s i n j) (r : RowsFrom s n at) where
-    pub rows-file : allRows (filesFrom s i) ≡ rowsIn (rowAt s at) ++ allRows (filesFrom s j)
-    unfolding allRows
-    rows-file = ap (λ (l : List Forest). allRows (map fileOf l)) (f .left) ∙ sym (ap (λ (c : Forest). rowsIn c ++ allRows (filesFrom s j)) (r .row))
-
-    pub rows-more : length (allRows (filesFrom s i)) ≡ length (rowsIn (rowAt s at)) + length (allRows (filesFrom s j))
-    rows-more = ap length rows-file ∙ length-append (rowsIn (rowAt s at)) (allRows (filesFrom s j))

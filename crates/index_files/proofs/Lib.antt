@@ -6,3 +6,5 @@ pub mod Accepted
 pub mod AllFiles
 pub mod Asking
 pub mod Buffers
+pub mod Putting
+pub mod AllRows

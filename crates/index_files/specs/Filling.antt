@@ -48,6 +48,7 @@ pub record WritesRows (k : ℕ) (l : List Row) (before after : List ℕ) (end : 
   pub holds : after ≡ written k (numbersOf l) before
   pub upTo : end ≡ k + length l * 5
 
+-- the buffer after: rows at its front, and the rest as it was
 abbrev pub HoldsRows : List Row → List ℕ → List ℕ → Type 0
 HoldsRows l before after = after ≡ written 0 (numbersOf l) before
 
@@ -71,6 +72,7 @@ unfoldable pub SaysFiles : List ℕ → List File → List ℕ → Type 0
 SaysFiles s [] out = Unit {0}
 SaysFiles s (f ∷ fs) out = SaysFile s f out × SaysFiles s fs (drop 4 out)
 
+-- the buffer after: files at its front, and the rest as it was
 pub record HoldsFiles (s : List ℕ) (fs : List File) (before after : List ℕ) : Type 0 where
   pub says : SaysFiles s fs after
   pub rest : drop (length fs * 4) after ≡ drop (length fs * 4) before

@@ -2,7 +2,7 @@
 use native.Mathlib.Omega.{arith}
 use Rattle.elements.specs.Reading.{rowAt}
 use Rattle.index.specs.Tests.{rowsIn}
-use Rattle.index_files.proofs.Buffers.{put-short, put-all}
+use Rattle.index_files.proofs.Putting.{put-short, put-all}
 use borrow.Author.Needs.{needs}
 use Rattle.index_files.proofs.asked.put_rows.Statement.{statement}
 use Rattle.index_files.proofs.asked.put_rows.Tie as tie

@@ -5,7 +5,7 @@ use Rattle.xml.specs.Tree.{Forest}
 use Rattle.index.specs.Tests.{rowsIn}
 use Rattle.index_files.specs.Asked.{fileFound}
 use Rattle.index_files.specs.Filling.{fitting, rowsFor}
-use Rattle.index_files.proofs.Buffers.{put-refused, put-as}
+use Rattle.index_files.proofs.Putting.{put-refused, put-as}
 use borrow.Author.Needs.{needs}
 use Rattle.index_files.proofs.asked.rows.Statement.{statement}
 use Rattle.index_files.proofs.asked.rows.Tie as tie

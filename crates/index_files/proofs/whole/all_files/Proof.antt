@@ -7,7 +7,7 @@ use Rattle.index.specs.Tests.{given}
 use Rattle.index_files.specs.Files.{filesFrom}
 use Rattle.index_files.specs.Filling.{fitting}
 use Rattle.index_files.proofs.Asking.{index-refused, index-found, files-counted}
-use Rattle.index_files.proofs.Buffers.{put-refused, put-as, put-short, put-all}
+use Rattle.index_files.proofs.Putting.{put-refused, put-as, put-short, put-all}
 use borrow.Author.Needs.{needs}
 use Rattle.index_files.proofs.whole.all_files.Statement.{statement}
 use Rattle.index_files.proofs.whole.all_files.Tie as tie

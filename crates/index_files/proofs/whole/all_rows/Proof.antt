@@ -5,7 +5,7 @@ use Rattle.index.specs.Index.{saying}
 use Rattle.index.specs.Tests.{given}
 use Rattle.index_files.specs.Filling.{fitting, allRows}
 use Rattle.index_files.proofs.Asking.{index-refused, index-found}
-use Rattle.index_files.proofs.Buffers.{put-refused, put-as}
+use Rattle.index_files.proofs.Putting.{put-refused, put-as}
 use borrow.Author.Needs.{needs}
 use Rattle.index_files.proofs.whole.all_rows.Statement.{statement}
 use Rattle.index_files.proofs.whole.all_rows.Tie as tie

@@ -7,7 +7,8 @@ use Rattle.refusals.specs.Refusals.{answer}
 use Rattle.index_files.specs.declared.files.NextFile.the-variants.{Done, File}
 use Rattle.index_files.specs.Files.{filesFrom, FileFrom}
 use Rattle.index_files.specs.Filling.{counted, allRows}
-use Rattle.index_files.proofs.Buffers.{fits, fits-not, rows-none, rows-more}
+use Rattle.index_files.proofs.Putting.{fits, fits-not}
+use Rattle.index_files.proofs.AllRows.{rows-none, rows-more}
 use borrow.Author.Needs.{needs}
 use Rattle.index_files.proofs.whole.count_all.Statement.{statement}
 use Rattle.index_files.proofs.whole.count_all.Tie as tie

@@ -5,7 +5,7 @@ use lib.ListN.{length}
 use Rattle.index_files.specs.Files.{filesFrom}
 use Rattle.index_files.specs.Filling.{countSaid, fitting, allRows}
 use Rattle.index_files.proofs.Mapped.{mapped-refused}
-use Rattle.index_files.proofs.Buffers.{fitted, put-refused, put-all}
+use Rattle.index_files.proofs.Putting.{fitted, put-refused, put-all}
 use borrow.Author.Needs.{needs}
 use Rattle.index_files.proofs.whole.put_all.Statement.{statement}
 use Rattle.index_files.proofs.whole.put_all.Tie as tie

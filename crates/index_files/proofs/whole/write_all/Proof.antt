@@ -9,7 +9,8 @@ use Rattle.index.specs.Tests.{rowsIn}
 use Rattle.index_files.specs.declared.files.NextFile.the-variants.{Done, File}
 use Rattle.index_files.specs.Files.{filesFrom, FileFrom}
 use Rattle.index_files.specs.Filling.{numbersOf, allRows}
-use Rattle.index_files.proofs.Buffers.{Writing, writing-first, writing-done, writing-fits, writing-on, rows-none, rows-file}
+use Rattle.index_files.proofs.Buffers.{Writing, writing-first, writing-done, writing-fits, writing-on}
+use Rattle.index_files.proofs.AllRows.{rows-none, rows-file}
 use borrow.Author.Needs.{needs}
 use Rattle.index_files.proofs.whole.write_all.Statement.{statement}
 use Rattle.index_files.proofs.whole.write_all.Tie as tie
