@@ -9,12 +9,12 @@ use lib.ListN.{length, take, length-append, length-take}
 use lib.Seq.{take-nil, take-append-add}
 use Rattle.refusals.specs.declared.Refusal.{Refusal}
 use Rattle.refusals.specs.declared.Refusal.the-variants as refusal
-use Rattle.refusals.specs.Refusals.{Answer, refused, answer, andThen}
+use Rattle.refusals.specs.Refusals.{Answer, refused, answer, andThen, Shows}
 use Rattle.tape.specs.declared.Front.{Front}
 use Rattle.tape.specs.Tape.{Tape, Element, mark, block, list, store, entry, content, cellOf, Encodes}
 use Rattle.tape.specs.Reading.{tapeOf}
 use Rattle.tape.specs.Walks.{reach}
-use Rattle.tape.specs.Answers.{listPart, storePart, orRefused, tapeIn, elementCount, Fronts, kept, keeping, Lengths, lengths}
+use Rattle.tape.specs.Answers.{listKept, storeKept, orRefused, tapeIn, elementCount, Fronts, kept, keeping, Lengths, lengths}
 use Rattle.tape.proofs.Encoding.{Bytes, encodes-read}
 use Rattle.tape.proofs.Walking.{reach-tape}
 
@@ -85,8 +85,8 @@ keeping-absent n l s r e = rw (absent l s r e)
 
 -- the parts of those lengths
 pub record Parts (n : ℕ) (l s : List ℕ) (a b : ℕ) : Type 0 where
-  pub list : take a l ≡ listPart (keeping n l s)
-  pub store : take b s ≡ storePart (keeping n l s)
+  pub list : Shows (listKept (keeping n l s)) (take a l) 0
+  pub store : Shows (storeKept (keeping n l s)) (take b s) 0
   pub inList : a ≤ length l
   pub inStore : b ≤ length s
 
@@ -104,8 +104,8 @@ parts-of n a b l s (some t) w q e =
     let x : a ≡ length (list (take n t)) = ap (λ (m : Lengths). m .list) p in
     let y : b ≡ length (store (take n t)) = ap (λ (m : Lengths). m .store) p in
     record {
-      list = rw (x, q, d .lists) (list-front n t);
-      store = rw (y, q, d .stores) (store-front n t);
+      list = rw (x, q, d .lists) record { part = list-front n t; refusal = refl };
+      store = rw (y, q, d .stores) record { part = store-front n t; refusal = refl };
       inList = rw (x, d .lists) (front-within _ _ (list-front n t));
       inStore = rw (y, d .stores) (front-within _ _ (store-front n t));
     }
@@ -114,14 +114,14 @@ pub parts : (n a b : ℕ) (l s : List ℕ) → Bytes l → answer (record { list
 unfolding keeping
 parts n a b l s w e = parts-of n a b l s (tapeOf l s) w refl e
 
--- where keeping is refused, both parts are empty
-pub record NoParts (n : ℕ) (l s : List ℕ) : Type 0 where
-  pub list : [] ≡ listPart (keeping n l s)
-  pub store : [] ≡ storePart (keeping n l s)
+-- where keeping is refused, so are both parts
+pub record NoParts (n : ℕ) (l s : List ℕ) (r : Refusal) : Type 0 where
+  pub list : listKept (keeping n l s) ≡ refused r
+  pub store : storeKept (keeping n l s) ≡ refused r
 
-no-parts-of : (n : ℕ) (r : Refusal) (l s : List ℕ) (a : Answer Fronts) → keeping n l s ≡ a → refused r ≡ andThen a (λ f. answer (lengths f)) → NoParts n l s
-no-parts-of n r l s (refused x) q e = record { list = rw q; store = rw q }
+no-parts-of : (n : ℕ) (r : Refusal) (l s : List ℕ) (a : Answer Fronts) → keeping n l s ≡ a → refused r ≡ andThen a (λ f. answer (lengths f)) → NoParts n l s r
+no-parts-of n r l s (refused x) q e = let z : x ≡ r = cc in record { list = rw (q, z); store = rw (q, z) }
 no-parts-of n r l s (answer f) q e = let z : _≡_ {A = ℕ} 0 1 = cc in absurd (omega arith)
 
-pub no-parts : (n : ℕ) (r : Refusal) (l s : List ℕ) → refused r ≡ andThen (keeping n l s) (λ f. answer (lengths f)) → NoParts n l s
+pub no-parts : (n : ℕ) (r : Refusal) (l s : List ℕ) → refused r ≡ andThen (keeping n l s) (λ f. answer (lengths f)) → NoParts n l s r
 no-parts n r l s e = no-parts-of n r l s (keeping n l s) refl e

@@ -58,14 +58,12 @@ abbrev pub keptLengths : Kept → Answer Lengths
 keptLengths (keptIs.Lengths l s) = answer (record { list = l; store = s })
 keptLengths (keptIs.Refused r) = refused r
 
--- the parts themselves, empty where refused
-abbrev pub listPart : Answer Fronts → List ℕ
-listPart (refused r) = []
-listPart (answer f) = f .list
+-- the parts themselves
+abbrev pub listKept : Answer Fronts → Answer (List ℕ)
+listKept a = andThen a (λ f. answer (f .list))
 
-abbrev pub storePart : Answer Fronts → List ℕ
-storePart (refused r) = []
-storePart (answer f) = f .store
+abbrev pub storeKept : Answer Fronts → Answer (List ℕ)
+storeKept a = andThen a (λ f. answer (f .store))
 
 -- two different partition letters, and a letter that is one of them
 abbrev pub areLetters : ℕ → ℕ → ℕ → Bool

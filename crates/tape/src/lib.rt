@@ -7,7 +7,7 @@ ghost use lib.ListN.{length};
 ghost use Rattle.refusals.specs.Refusals.{answer, andThen, Shows};
 ghost use Rattle.tape.specs.Reading.{numberAt, entryAt, cells, kind};
 ghost use Rattle.tape.specs.Walks.{totalsFrom, reach, spotAt, spotBelow};
-ghost use Rattle.tape.specs.Answers.{elementCount, counted, keeping, keptLengths, lengths, listPart, storePart, areLetters, tapeIn, blockOf, placeOf, located};
+ghost use Rattle.tape.specs.Answers.{elementCount, counted, keeping, keptLengths, lengths, listKept, storeKept, areLetters, tapeIn, blockOf, placeOf, located};
 
 // What stands at a place of a list, with the place of the next entry: a file mark, a block with its length, nothing since the list
 // ends, or no entry of a list.
@@ -192,23 +192,35 @@ pub fn keep(list: &[u8], store: &[u8], n: usize) -> Kept
     }
 }
 
-// The front of the list that keeping n elements keeps; empty where the list or its store is refused.
-pub fn kept_list<'a>(list: &'a [u8], store: &[u8], n: usize) -> &'a [u8]
-    ensures { λ r. ⌜ now r ≡ listPart (keeping n (now (list .entry)) (now (store .entry))) ⌝ }
+// The front of the list that keeping n elements keeps, empty where refused; the refusal's number, or 0, beside it.
+pub fn kept_list<'a>(list: &'a [u8], store: &[u8], n: usize, refusal: &mut u64) -> &'a [u8]
+    ensures { λ r. ⌜ Shows (listKept (keeping n (now (list .entry)) (now (store .entry)))) (now r) (now (refusal .exit)) ⌝ }
 {
     match keep(list, store, n) {
-        Kept::Lengths(l, _) => &list[..l],
-        Kept::Refused(_) => &list[..0],
+        Kept::Lengths(l, _) => {
+            *refusal = 0;
+            &list[..l]
+        }
+        Kept::Refused(r) => {
+            *refusal = refusals::number(r);
+            &list[..0]
+        }
     }
 }
 
 // The front of the store, likewise.
-pub fn kept_store<'a>(list: &[u8], store: &'a [u8], n: usize) -> &'a [u8]
-    ensures { λ r. ⌜ now r ≡ storePart (keeping n (now (list .entry)) (now (store .entry))) ⌝ }
+pub fn kept_store<'a>(list: &[u8], store: &'a [u8], n: usize, refusal: &mut u64) -> &'a [u8]
+    ensures { λ r. ⌜ Shows (storeKept (keeping n (now (list .entry)) (now (store .entry)))) (now r) (now (refusal .exit)) ⌝ }
 {
     match keep(list, store, n) {
-        Kept::Lengths(_, s) => &store[..s],
-        Kept::Refused(_) => &store[..0],
+        Kept::Lengths(_, s) => {
+            *refusal = 0;
+            &store[..s]
+        }
+        Kept::Refused(r) => {
+            *refusal = refusals::number(r);
+            &store[..0]
+        }
     }
 }
 

@@ -35,16 +35,19 @@ fn keep_case(fd: i32) -> bool {
     if !lengths_as(&list[..l], &store[..s], n, refusal, a, b) {
         return false;
     }
-    if !slices::same(
-        tape::kept_list(&list[..l], &store[..s], n),
-        &list_front[..a],
-    ) {
+    let mut told: u64 = 0;
+    let list_kept = tape::kept_list(&list[..l], &store[..s], n, &mut told);
+    if !slices::same(list_kept, &list_front[..a]) {
         return false;
     }
-    slices::same(
-        tape::kept_store(&list[..l], &store[..s], n),
-        &store_front[..b],
-    )
+    if told != refusal {
+        return false;
+    }
+    let store_kept = tape::kept_store(&list[..l], &store[..s], n, &mut told);
+    if !slices::same(store_kept, &store_front[..b]) {
+        return false;
+    }
+    told == refusal
 }
 
 fn lengths_as(list: &[u8], store: &[u8], n: usize, refusal: u64, a: usize, b: usize) -> bool {
