@@ -5,7 +5,11 @@ use mathlib.Core.List.{List}
 use Prim.Native.Nat.{ℕ}
 use Rattle.slices.specs.Slices.{every}
 use Rattle.digits.specs.Runs.{value}
-use Rattle.digits.specs.Decimal.{number, isNumber, plain}
+use Rattle.digits.specs.Decimal as decimal
+use Rattle.digits.specs.Decimal.{isNumber, plain}
+use Rattle.values.specs.Values.{number}
+use Rattle.constructs.specs.Constructs.{standing, scan, step, runAfter, closedBy, pastLabel}
+use Rattle.slices.specs.Words.{bytes}
 use Rattle.tape.specs.Tape.{list, entry}
 use Rattle.extents.specs.Rows.{rowsOf}
 use Rattle.extents.specs.Lawful.{lawful, rowLawful, apart}
@@ -15,5 +19,5 @@ use Rattle.worked.specs.Cases.{cases}
 use Rattle.worked.proofs.Labels.{one, lengths, shorts}
 
 pub worked : (f : Label) (b : List ℕ) → every (λ b. b) (cases f b) ≡ true
-unfolding every cases number isNumber plain value list entry byteMap placeOf rowsOf lawful rowLawful apart
+unfolding every cases bytes standing scan step runAfter closedBy pastLabel number decimal.number isNumber plain value list entry byteMap placeOf rowsOf lawful rowLawful apart
 worked f b = rw (one, lengths f, shorts f b)

@@ -1,19 +1,21 @@
 -- Document 01's starred cases (01, Bench examples), each a test of the definitions: one table.
 use mathlib.Core.Bool.{Bool, true, false, not, _&&_, _||_}
 use mathlib.Core.List.{List, [], _∷_}
-use mathlib.Core.Option.{Option, none, some}
 use Prim.Native.Nat.{ℕ}
+use Prim.Native.String.{String}
 use lib.Dec.{eqb}
-use lib.ListN.{length, getElem?, replicate}
+use lib.ListN.{length, replicate}
+use Rattle.refusals.specs.declared.Refusal.the-variants.{Value}
 use Rattle.refusals.specs.Refusals.{Answer, refused, answer, numberOf, shownNumber}
 use Rattle.slices.specs.Slices.{same}
 use Rattle.slices.specs.Words.{bytes}
 use Rattle.slices.specs.declared.Written.{Written}
 use Rattle.slices.specs.declared.Written.the-variants.{To, Refused}
-use Rattle.digits.specs.Decimal.{number}
+use Rattle.values.specs.Values.{number}
 use Rattle.extents.specs.Map.{Place, stored, unstored, byteMap}
-use Rattle.tape.specs.Tape.{Tape, Element, mark, block, list}
-use Rattle.label.specs.Label.{Label}
+use Rattle.tape.specs.Tape.{Tape, mark, block, list}
+use Rattle.constructs.specs.Constructs.{Construct, standing}
+use Rattle.label.specs.Label.{Label, told}
 use Rattle.label.specs.Text.{escaped, textOf, isGiven}
 use Rattle.label.specs.Writing.{answered}
 
@@ -21,19 +23,19 @@ use Rattle.label.specs.Writing.{answered}
 abbrev pub fresh : Tape
 fresh = block (replicate 80 0) ∷ mark ∷ block (replicate 378 0) ∷ mark ∷ mark ∷ block (replicate 900 0) ∷ mark ∷ []
 
--- a block of n bytes
-abbrev pub isBlock : ℕ → Option Element → Bool
-isBlock n none = false
-isBlock n (some mark) = false
-isBlock n (some (block x)) = eqb (length x) n
+-- one construct stands, with its first block at n
+abbrev pub standsAt : ℕ → List Construct → Bool
+standsAt n [] = false
+standsAt n (c ∷ []) = eqb (c .first) n
+standsAt n (c ∷ d ∷ cs) = false
 
-abbrev pub says : Option ℕ → ℕ → Bool
-says none n = false
-says (some m) n = eqb m n
+-- a number's text as a reader takes it, 6 for none
+abbrev pub numberIn : String → Answer ℕ
+numberIn s = told (number (bytes s)) Value answer
 
-abbrev pub isNone : Option ℕ → Bool
-isNone none = true
-isNone (some n) = false
+abbrev pub says : ℕ → Answer ℕ → Bool
+says n (refused r) = false
+says n (answer m) = eqb m n
 
 -- the row (b, 10, 100, 8000, 0), for a file of 9000 bytes and blocks of 4096
 abbrev pub bytesAt : ℕ → Answer Place
@@ -49,8 +51,9 @@ isUnstored (refused r) = false
 isUnstored (answer unstored) = true
 isUnstored (answer (stored l b m)) = false
 
-abbrev pub isRefused : ℕ → Answer Place → Bool
-isRefused n a = eqb (shownNumber a) n
+module _ {A : Type 0} where
+  abbrev pub isRefused : ℕ → Answer A → Bool
+  isRefused n a = eqb (shownNumber a) n
 
 -- a row of n bytes from file position p on
 abbrev pub rowOf : ℕ → ℕ → List ℕ → List ℕ
@@ -94,13 +97,12 @@ cases f b =
     -- its list has 19 bytes
     ∷ eqb (length (list fresh)) 19
     -- its index is at 5
-    ∷ isBlock 900 (getElem? fresh 5)
+    ∷ standsAt 5 (standing 4096 fresh)
     -- 18446744073709551615 reads
-    ∷ says (number (49 ∷ 56 ∷ 52 ∷ 52 ∷ 54 ∷ 55 ∷ 52 ∷ 52 ∷ 48 ∷ 55 ∷ 51 ∷ 55 ∷ 48 ∷ 57 ∷ 53 ∷ 53 ∷ 49 ∷ 54 ∷ 49 ∷ 53 ∷ [])) 18446744073709551615
-    -- 18446744073709551616 doesn't
-    ∷ isNone (number (49 ∷ 56 ∷ 52 ∷ 52 ∷ 54 ∷ 55 ∷ 52 ∷ 52 ∷ 48 ∷ 55 ∷ 51 ∷ 55 ∷ 48 ∷ 57 ∷ 53 ∷ 53 ∷ 49 ∷ 54 ∷ 49 ∷ 54 ∷ []))
-    -- nor does 007
-    ∷ isNone (number (48 ∷ 48 ∷ 55 ∷ []))
+    ∷ says 18446744073709551615 (numberIn "18446744073709551615")
+    -- 18446744073709551616 and 007 are 6
+    ∷ isRefused 6 (numberIn "18446744073709551616")
+    ∷ isRefused 6 (numberIn "007")
     -- a label such as the bench's, of which there is one, has 378 bytes
     ∷ isBench sample
     ∷ benchLength f
