@@ -18,7 +18,7 @@
 #include "guard.h"
 #include "sample.h"
 
-enum { MOST = 4096, LARGEST = 1 << 20 };
+enum { MOST = 4096, LARGEST = 2000000 };
 
 static struct buffer corpus[MOST];
 static size_t inputs;

@@ -12,10 +12,9 @@
 #include <stdlib.h>
 #include <string.h>
 
-#include "case_lines.h"
-#include "cases.h"
 #include "collect.h"
 #include "klapouzen.h"
+#include "vectors.h"
 
 static uint64_t texts, accepted, refused_by_both, failures;
 
@@ -302,13 +301,35 @@ static void judge_restrictions(void)
         judge_line((const uint8_t *)whole[i], strlen(whole[i]), false);
 }
 
+static void judge_spelled(const struct random_case *text)
+{
+    judge_line(text->bytes[0], text->lengths[0], text->numbers[0] == 1);
+}
+
+static void judge_label(const struct random_case *label)
+{
+    judge(label->bytes[0], label->lengths[0]);
+}
+
+static void judge_whole_index(const struct random_case *index)
+{
+    judge(index->bytes[0], index->lengths[0]);
+    judge_index(index);
+}
+
+static void judge_vectors(void)
+{
+    each_vector(TEXTS, judge_spelled);
+    each_vector(LABELS, judge_label);
+    each_vector(INDEXES, judge_whole_index);
+}
+
 static void judge_random(uint64_t cases)
 {
     for (uint64_t seed = 0; seed < cases; seed++) {
         struct random_case label = random_label(seed), index = random_index(seed);
-        judge(label.bytes[0], label.lengths[0]);
-        judge(index.bytes[0], index.lengths[0]);
-        judge_index(&index);
+        judge_label(&label);
+        judge_whole_index(&index);
         random_free(label);
         random_free(index);
     }
@@ -316,9 +337,7 @@ static void judge_random(uint64_t cases)
 
 int main(int count, char **words)
 {
-    bool read = each_case_line("../crates/xml_cases/data/cases", judge_line)
-        && each_case_line("../crates/xml_cases/data/vectors", judge_line);
-    each_case_text("../crates/label_cases/data/read_vectors", judge);
+    judge_vectors();
     judge_restrictions();
     judge_random(count > 1 ? strtoull(words[1], NULL, 10) : 20000);
     xmlCleanupParser();
@@ -330,5 +349,5 @@ int main(int count, char **words)
             failures++;
     }
     printf("%" PRIu64 " indexes say the same to expat and libxml2; %" PRIu64 " failures\n", indexes, failures);
-    return failures > 0 || !read;
+    return failures > 0;
 }
