@@ -1,4 +1,6 @@
-// Cases of reading an index, of its files and of their rows, read from files beside the program.
+// Cases of reading an index, of its files and of their rows, and of the index of a construct, read from files beside the program.
+use constructs::Place;
+use elements::Span;
 use index::Header;
 use index::Read;
 use index::Volume;
@@ -6,6 +8,7 @@ use index_files::FileRead;
 use index_files::RowsRead;
 use quantities::BlockNumber;
 use slices::Written;
+use volume::Chosen;
 ghost use mathlib.Core.Path.{_≡_};
 ghost use Prim.Native.Nat.{_≤_};
 ghost use lib.ListN.{length};
@@ -59,13 +62,15 @@ fn flag(b: bool) -> u64 {
     0
 }
 
-// The nine numbers expected of a header.
-fn header_as(fd: i32, h: Header) -> bool {
-    let mut expected = [0u64; 9];
+// The numbers expected of a header.
+fn numbers_as(fd: i32, h: Header) -> bool {
+    let mut expected = [0u64; 11];
     let n = numbers(fd, &mut expected);
     let found = [
         h.release,
         h.generation.0,
+        h.letter as u64,
+        h.block.0,
         flag(h.back),
         h.back_letter as u64,
         h.back_block.0,
@@ -77,14 +82,25 @@ fn header_as(fd: i32, h: Header) -> bool {
     same_numbers(&found, &expected[..n])
 }
 
-fn read_as(fd: i32, read: Read, refusal: u64) -> bool {
+// Those numbers, and the update time in the text.
+fn header_as(fd: i32, text: &[u8], h: Header) -> bool {
+    let time = h.time;
+    if !numbers_as(fd, h) {
+        return false;
+    }
+    let mut expected = [0u8; 64];
+    let n = case_files::bytes(fd, &mut expected);
+    slices::same(elements::part(text, time), &expected[..n])
+}
+
+fn read_as(fd: i32, text: &[u8], read: Read, refusal: u64) -> bool {
     match read {
         Read::Refused(r) => refusals::number(r) == refusal,
         Read::Found(h) => {
             if refusal != 0 {
                 return false;
             }
-            header_as(fd, h)
+            header_as(fd, text, h)
         }
     }
 }
@@ -235,8 +251,16 @@ fn length_as(read: FileRead, refusal: u64, bytes: u64) -> bool {
     }
 }
 
-// A text, the label's UUID, letters and block size, a place; then the header and files expected.
+// The next case.
 fn one(kind: u64, fd: i32) -> bool {
+    if kind == 2 {
+        return construct_case(fd);
+    }
+    text_case(kind, fd)
+}
+
+// A text, the label's UUID, letters and block size, a place; then the header and files expected.
+fn text_case(kind: u64, fd: i32) -> bool {
     let mut text = text_room();
     let n = case_files::bytes(fd, &mut text);
     let mut uuid = [0u8; 64];
@@ -256,7 +280,7 @@ fn one(kind: u64, fd: i32) -> bool {
 fn index_case(fd: i32, text: &[u8], uuid: &[u8], volume: Volume, letter: u8, block: u64) -> bool {
     let refusal = case_files::number(fd);
     let read = index::read_index(text, uuid, volume, letter, BlockNumber(block));
-    if !read_as(fd, read, refusal) {
+    if !read_as(fd, text, read, refusal) {
         return false;
     }
     files_as(fd, text, uuid, volume, letter, block)
@@ -272,6 +296,58 @@ fn rows_case(fd: i32, text: &[u8], uuid: &[u8], volume: Volume, letter: u8, bloc
         return false;
     }
     rows_as(fd, text, uuid, volume, letter, block, k)
+}
+
+// Where a construct lies: its first block and its closing mark; then its header.
+fn construct_as(fd: i32, store: &[u8], place: Place, h: Header) -> bool {
+    let first = case_files::number(fd) as usize;
+    let mark = case_files::number(fd) as usize;
+    if place.first != first {
+        return false;
+    }
+    if place.end != std::num::wrapping_add_usize(mark, 1) {
+        return false;
+    }
+    let len = volume::between(place.from, place.to);
+    let text = elements::part(
+        store,
+        Span {
+            from: place.from,
+            len,
+        },
+    );
+    header_as(fd, text, h)
+}
+
+fn chosen_as(fd: i32, store: &[u8], chosen: Chosen, refusal: u64) -> bool {
+    match chosen {
+        Chosen::Refused(r) => refusals::number(r) == refusal,
+        Chosen::Found(place, h) => {
+            if refusal != 0 {
+                return false;
+            }
+            construct_as(fd, store, place, h)
+        }
+    }
+}
+
+// A partition, the label's UUID, letters and block size, the partition's letter, a construct's number; then what is expected.
+fn construct_case(fd: i32) -> bool {
+    let mut list = [0u8; 4096];
+    let l = case_files::bytes(fd, &mut list);
+    let mut store = [0u8; 65536];
+    let s = case_files::bytes(fd, &mut store);
+    let mut uuid = [0u8; 64];
+    let u = case_files::bytes(fd, &mut uuid);
+    let first = byte(fd);
+    let other = byte(fd);
+    let size = case_files::number(fd);
+    let letters = Volume { first, other, size };
+    let letter = byte(fd);
+    let k = case_files::number(fd);
+    let refusal = case_files::number(fd);
+    let chosen = volume::read_construct(&list[..l], &store[..s], &uuid[..u], letters, letter, k);
+    chosen_as(fd, &store[..s], chosen, refusal)
 }
 
 fn shown_good(good: bool, case: u64) -> u64
@@ -304,24 +380,85 @@ fn run(path: &[u8], kind: u64) {
     case_files::report(path, good, cases);
 }
 
-// A text too long is refused before its bytes are looked at.
-fn too_long() -> bool {
-    let text = text_room();
+// Writes w from at on, if there is room, and answers the place behind it.
+fn add(out: &mut [u8], at: usize, w: &[u8]) -> usize {
+    match slices::put(out, at, w) {
+        Written::To(n) => n,
+        Written::Refused(_) => at,
+    }
+}
+
+fn begin(out: &mut [u8]) -> usize {
+    let at = add(
+        out,
+        0,
+        b"<?xml version=\"1.0\" encoding=\"UTF-8\"?><ltfsindex version=\"2.0.1\"><creator/>",
+    );
+    let at = add(out, at, b"<volumeuuid/><generationnumber/><updatetime/>");
+    let at = add(out, at, b"<location><partition/><startblock/></location>");
+    let at = add(out, at, b"<allowpolicyupdate/><highestfileuid/><directory>");
+    let at = add(
+        out,
+        at,
+        b"<fileuid/><name/><creationtime/><changetime/><modifytime/>",
+    );
+    add(out, at, b"<accesstime/><backuptime/><readonly/><contents>")
+}
+
+// A file whose values are all empty: 4,096 files with lawful values don't fit in an index's text.
+fn add_file(out: &mut [u8], at: usize) -> usize {
+    let at = add(
+        out,
+        at,
+        b"<file><fileuid/><name/><length/><creationtime/><changetime/>",
+    );
+    add(
+        out,
+        at,
+        b"<modifytime/><accesstime/><backuptime/><readonly/></file>",
+    )
+}
+
+fn add_files(out: &mut [u8], files: u64) -> usize {
+    let mut at = begin(out);
+    let mut k: u64 = 0;
+    while k < files {
+        at = add_file(out, at);
+        k += 1;
+    }
+    add(out, at, b"</contents></directory></ltfsindex>")
+}
+
+fn refused_as(text: &[u8], refusal: u64) -> bool {
     let volume = Volume {
         first: 97,
         other: 98,
         size: 4096,
     };
     let uuid = b"30a91a08-daae-48d1-ae75-69804e61d2ea";
-    match index::read_index(&text, uuid, volume, 97, BlockNumber(6)) {
+    match index::read_index(text, uuid, volume, 97, BlockNumber(6)) {
         Read::Found(_) => false,
-        Read::Refused(r) => refusals::number(r) == 15,
+        Read::Refused(r) => refusals::number(r) == refusal,
     }
+}
+
+// The refusal of an index with a root and so many files, whose values are all empty.
+fn entries(files: u64, refusal: u64) -> u64
+    ensures { λ r. ⌜ r ≤ 1 ⌝ }
+{
+    let mut text = text_room();
+    let n = add_files(&mut text, files);
+    shown_good(refused_as(tables::part(&text, 0, n), refusal), files)
 }
 
 fn main() {
     run(b"index", 0);
     run(b"rows", 1);
     run(b"own", 0);
-    case_files::report(b"too long", shown_good(too_long(), 0), 1);
+    run(b"constructs", 2);
+    let good = entries(3999, 6) + entries(4095, 6) + entries(4096, 15);
+    case_files::report(b"entries", good, 3);
+    // A text too long is refused before its bytes are looked at.
+    let text = text_room();
+    case_files::report(b"too long", shown_good(refused_as(&text, 15), 0), 1);
 }
