@@ -76,12 +76,14 @@ static void skip_file(struct case_file *file)
     skip_rows(file);
 }
 
-/* What is given; the refusal and, without one, the header expected; the files. */
+/* What is given; the refusal and, without one, the header and its time expected; the files. */
 static bool read_index(struct case_file *file, struct random_case *vector)
 {
     read_given(file, vector);
-    if (next_number(file) == 0)
+    if (next_number(file) == 0) {
         skip_list(file);
+        skip_bytes(file, 1);
+    }
     for (uint64_t files = next_number(file); files > 0; files--)
         skip_file(file);
     return true;
