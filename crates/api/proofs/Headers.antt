@@ -1,27 +1,27 @@
--- An index's header and a file in numbers say what was read; so does a number of rows.
+-- An index's header and a file in numbers say what was read; so does a buffer that was filled.
 use mathlib.Core.Path.{_≡_, refl, subst, sym, _∙_, ap}
 use mathlib.Core.Bool.{Bool, true, false, cond}
 use mathlib.Core.List.{List, [], _∷_}
 use mathlib.Core.Option.{none, some}
 use Prim.Native.Nat.{ℕ}
-use lib.ListN.{length}
-use Rattle.refusals.specs.Refusals.{Answer, answer, andThen}
-use Rattle.extents.specs.Rows.{Row}
+use Rattle.refusals.specs.Refusals.{Answer, refused, answer, andThen}
 use Rattle.elements.specs.Reading.{partAt}
 use Rattle.constructs.specs.declared.Place.{Place as Spot}
 use Rattle.index.specs.Index.{Index, File, Told as Header, told, toldBy, saying, placeOf, backOf}
 use Rattle.index.specs.declared.read.Header.{Header as Read}
 use Rattle.index.specs.declared.read.Read.the-variants.{Found}
 use Rattle.index_files.specs.Asked.{Shown as Head, shown as headOf, fileSaid}
+use Rattle.index_files.specs.Filling.{countSaid, counted, Puts, SaysFile}
 use Rattle.index_files.specs.declared.asked.FileHead.{FileHead}
 use Rattle.index_files.specs.declared.asked.FileRead.the-variants as file
+use Rattle.index_files.specs.declared.filling.Filled.{Filled}
 use Rattle.volume.specs.Steps.{textIn}
 use Rattle.volume.specs.Chosen.{Told·Construct, chosenBy}
 use Rattle.volume.specs.declared.chosen.Chosen.the-variants as chosenIs
 use Rattle.api.specs.Outputs.{Told, Shown, bit, one}
-use Rattle.api.specs.Indexes.{backNumbers, SaysHeader, SaysIndex, SaysConstruct, SaysFile, headerNumbers, constructNumbers, rowCount}
-use Rattle.api.proofs.Showing.{told as tells, shown}
-use Rattle.api.proofs.Mapped.{mapped}
+use Rattle.api.specs.Indexes.{backNumbers, SaysHeader, SaysIndex, SaysConstruct, headerNumbers, constructNumbers, howMany, FillsOut}
+use Rattle.api.proofs.Showing.{told as tells}
+use Rattle.index_files.proofs.Mapped.{mapped}
 
 back-numbers : (b : Bool) (l k : ℕ) → bit b ∷ cond b l 0 ∷ cond b k 0 ∷ [] ≡ backNumbers (cond b (some (record { letter = l; block = k })) none)
 back-numbers true l k = refl
@@ -80,5 +80,13 @@ says-file s a h e =
       rows = ap (λ (t : Head). t .rows) p;
     }
 
-pub says-count : (a : Answer (List Row)) (n : ℕ) → answer n ≡ andThen a (λ l. answer (length l)) → Shown 1 rowCount a 0 (one n)
-says-count a n e = let (l, g, p) = mapped length a n e in rw p (shown l g)
+-- a buffer filled, and the number of what was written
+module _ {A : Type 0} where
+  shown-counted : (a : Answer (List A)) {returned : ℕ} {out : List ℕ} → Shown 1 one (counted a) returned out → Shown 1 howMany a returned out
+  shown-counted (refused r) s = record { refusal = s .refusal; holds = s .holds }
+  shown-counted (answer l) s = record { refusal = s .refusal; holds = s .holds }
+
+  pub fills-out : {holds : List A → List ℕ → List ℕ → Type 0} {a : Answer (List A)} {before after : List ℕ} {r : Filled} {returned told : ℕ}
+      → Puts holds a before after r → Shown 1 one (countSaid r) returned (one told) → FillsOut holds a before after returned told
+  fills-out {a = a} {returned = returned} {told = told} p s =
+      record { answers = shown-counted a (subst (λ (n : Answer ℕ). Shown 1 one n returned (one told)) (p .says) s); stored = p .stored }

@@ -1,5 +1,4 @@
 pub mod Showing
-pub mod Mapped
 pub mod Saying
 pub mod Writing
 pub mod Headers

@@ -1,19 +1,18 @@
--- What is shown of an index: its header, a file, a file's rows.
+-- What is shown of an index: its header, its files, their rows.
 use mathlib.Core.Path.{_≡_}
 use mathlib.Core.Bool.{cond}
 use mathlib.Core.List.{List, [], _∷_}
 use mathlib.Core.Option.{Option, none, some}
 use Prim.Native.Nat.{ℕ, _-_}
 use lib.ListN.{length, take, drop, getD}
-use Rattle.refusals.specs.Refusals.{Answer, andThen}
+use Rattle.refusals.specs.Refusals.{Answer}
 use Rattle.quantities.specs.Places.{Place}
-use Rattle.extents.specs.Rows.{Row}
-use Rattle.index.specs.Index.{Index, File, Told, told, indexOf}
+use Rattle.index.specs.Index.{Index, Told, told, indexOf}
 use Rattle.index.specs.declared.read.Header.{Header}
-use Rattle.index_files.specs.Asked.{fitting}
+use Rattle.index_files.specs.Filling.{partTold, Stored}
 use Rattle.constructs.specs.declared.Place.{Place as Spot}
 use Rattle.volume.specs.Chosen.{Told·Construct, chosenIn}
-use Rattle.api.specs.Outputs.{bit, partTold}
+use Rattle.api.specs.Outputs.{Shown, bit, one}
 
 -- the index that a text is: of the volume with that UUID, those letters and that block size, at a partition letter and a block number
 abbrev pub indexIn : List ℕ → List ℕ → ℕ → ℕ → ℕ → ℕ → ℕ → Answer Index
@@ -64,15 +63,11 @@ headerNumbers h =
 abbrev pub constructNumbers : Spot → Header → List ℕ
 constructNumbers p h = p .first ∷ p .end ∷ p .from ∷ (p .to - p .from) ∷ headerNumbers h
 
--- four numbers say what a file says: its length, the place of its name, as spelled, in s and its length, and how many rows it has
-pub record SaysFile (s : List ℕ) (f : File) (out : List ℕ) : Type 0 where
-  pub length : getD out 0 0 ≡ f .length
-  pub name : partTold s out 1 ≡ f .name
-  pub rows : getD out 3 0 ≡ lib.ListN.length (f .rows)
+module _ {A : Type 0} where
+  abbrev pub howMany : List A → List ℕ
+  howMany l = length l ∷ []
 
--- the rows of a file, where a buffer of so many numbers has room for them
-abbrev pub rowsFor : ℕ → Answer File → Answer (List Row)
-rowsFor room a = andThen a (λ f. fitting room (f .rows))
-
-abbrev pub rowCount : List Row → List ℕ
-rowCount l = length l ∷ []
+  -- what filling a buffer returns, the number that it tells, and what the buffer holds after
+  pub record FillsOut (holds : List A → List ℕ → List ℕ → Type 0) (a : Answer (List A)) (before after : List ℕ) (returned told : ℕ) : Type 0 where
+    pub answers : Shown 1 howMany a returned (one told)
+    pub stored : Stored holds a before after

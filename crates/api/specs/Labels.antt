@@ -10,7 +10,8 @@ use Rattle.label.specs.Vol1.{Fields}
 use Rattle.label.specs.Label.{Label}
 use Rattle.label.specs.Text.{isGiven, labelOfGiven}
 use Rattle.label.specs.declared.reader.Fields.{Fields as Read}
-use Rattle.api.specs.Outputs.{bit, partTold}
+use Rattle.index_files.specs.Filling.{partTold}
+use Rattle.api.specs.Outputs.{bit}
 
 -- the places and lengths of VOL1's identifier and owner
 abbrev pub vol1Places : Fields → List ℕ

@@ -2,9 +2,9 @@
 use mathlib.Core.Path.{_≡_}
 use mathlib.Core.Bool.{Bool, true, false, cond}
 use mathlib.Core.List.{List, [], _∷_}
-use Prim.Native.Nat.{ℕ, _+_}
+use Prim.Native.Nat.{ℕ}
 use lib.Dec.{leb}
-use lib.ListN.{length, take, drop, getD, replicate}
+use lib.ListN.{length, replicate}
 use Rattle.refusals.specs.declared.Refusal.the-variants.{Caller, Short}
 use Rattle.refusals.specs.Refusals.{Answer, refused, answer, require, shownNumber}
 use Rattle.slices.specs.Writers.{stored}
@@ -37,10 +37,6 @@ one n = n ∷ []
 abbrev pub bit : Bool → ℕ
 bit true = 1
 bit false = 0
-
--- the part of a text whose place and length are the outputs k and k + 1
-abbrev pub partTold : List ℕ → List ℕ → ℕ → List ℕ
-partTold s out k = take (getD out (k + 1) 0) (drop (getD out k 0) s)
 
 -- writing w to a buffer, if what the caller gives is in its rule: 14, then 10; how many bytes were written
 abbrev pub writing : Bool → List ℕ → List ℕ → Answer ℕ

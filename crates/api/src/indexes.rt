@@ -1,4 +1,4 @@
-// Indexes: an index's text read, a file of it, and a file's rows.
+// Indexes: an index's text read, its files, and their rows.
 use crate::numbers::flag;
 use crate::numbers::present;
 use constructs::Place;
@@ -6,14 +6,15 @@ use index::Header;
 use index::Read;
 use index::Volume;
 use index_files::FileRead;
-use index_files::RowsRead;
+use index_files::Filled;
 use quantities::BlockNumber;
 use volume::Chosen;
 ghost use mathlib.Core.Path.{_≡_};
 ghost use lib.ListN.{length};
-ghost use Rattle.index_files.specs.Asked.{fileIn, rowsStored};
+ghost use Rattle.index_files.specs.Asked.{fileIn};
+ghost use Rattle.index_files.specs.Filling.{countSaid, SaysFile, rowsFor, filesFor, allRowsFor, HoldsRows, HoldsFiles};
 ghost use Rattle.api.specs.Outputs.{Shown, Told, one};
-ghost use Rattle.api.specs.Indexes.{indexIn, constructIn, headerNumbers, constructNumbers, SaysIndex, SaysConstruct, SaysFile, rowsFor, rowCount};
+ghost use Rattle.api.specs.Indexes.{indexIn, constructIn, headerNumbers, constructNumbers, SaysIndex, SaysConstruct, FillsOut};
 
 fn in_numbers(h: Header) -> [u64; 13]
     ensures { λ r. ⌜ r ≡ headerNumbers h ⌝ }
@@ -99,6 +100,22 @@ pub extern "C" fn klapouzen_read_file(
     }
 }
 
+// How many were written; 0 where refused.
+fn counted(filled: Filled, count: &mut u64) -> u64
+    ensures { λ r. ⌜ Shown 1 one (countSaid filled) r (one (now (count .exit))) ⌝ }
+{
+    match filled {
+        Filled::Count(n) => {
+            *count = n;
+            0
+        }
+        Filled::Refused(r) => {
+            *count = 0;
+            refusals::number(r)
+        }
+    }
+}
+
 // The rows of a file of an index's text, five numbers each, into the front of rows.
 #[no_mangle]
 pub extern "C" fn klapouzen_read_rows(
@@ -113,23 +130,63 @@ pub extern "C" fn klapouzen_read_rows(
     rows: &mut [u64],
     count: &mut u64,
 ) -> u64
-    ensures { λ r. ⌜ Shown 1 rowCount (rowsFor (length (now (rows .entry))) (fileIn file (indexIn (now (text .entry)) (now (uuid .entry)) «index_letter» «data_letter» «block_size» letter block))) r (one (now (count .exit))) × (now (rows .exit) ≡ rowsStored (now (rows .entry)) (rowsFor (length (now (rows .entry))) (fileIn file (indexIn (now (text .entry)) (now (uuid .entry)) «index_letter» «data_letter» «block_size» letter block)))) ⌝ }
+    ensures { λ r. ⌜ FillsOut HoldsRows (rowsFor (length (now (rows .entry))) (fileIn file (indexIn (now (text .entry)) (now (uuid .entry)) «index_letter» «data_letter» «block_size» letter block))) (now (rows .entry)) (now (rows .exit)) r (now (count .exit)) ⌝ }
 {
     let volume = Volume {
         first: index_letter,
         other: data_letter,
         size: block_size,
     };
-    match index_files::rows(text, uuid, volume, letter, BlockNumber(block), file, rows) {
-        RowsRead::Count(n) => {
-            *count = n;
-            0
-        }
-        RowsRead::Refused(r) => {
-            *count = 0;
-            refusals::number(r)
-        }
-    }
+    let filled = index_files::rows(text, uuid, volume, letter, BlockNumber(block), file, rows);
+    counted(filled, count)
+}
+
+// All files of an index's text, four numbers each, into the front of files.
+#[no_mangle]
+pub extern "C" fn klapouzen_read_files(
+    text: &[u8],
+    uuid: &[u8],
+    index_letter: u8,
+    data_letter: u8,
+    block_size: u64,
+    letter: u8,
+    block: u64,
+    files: &mut [u64],
+    count: &mut u64,
+) -> u64
+    ensures { λ r. ⌜ FillsOut (HoldsFiles (now (text .entry))) (filesFor (length (now (files .entry))) (indexIn (now (text .entry)) (now (uuid .entry)) «index_letter» «data_letter» «block_size» letter block)) (now (files .entry)) (now (files .exit)) r (now (count .exit)) ⌝ }
+{
+    let volume = Volume {
+        first: index_letter,
+        other: data_letter,
+        size: block_size,
+    };
+    let filled = index_files::all_files(text, uuid, volume, letter, BlockNumber(block), files);
+    counted(filled, count)
+}
+
+// The rows of all files of an index's text, file after file, five numbers each, into the front of rows.
+#[no_mangle]
+pub extern "C" fn klapouzen_read_all_rows(
+    text: &[u8],
+    uuid: &[u8],
+    index_letter: u8,
+    data_letter: u8,
+    block_size: u64,
+    letter: u8,
+    block: u64,
+    rows: &mut [u64],
+    count: &mut u64,
+) -> u64
+    ensures { λ r. ⌜ FillsOut HoldsRows (allRowsFor (length (now (rows .entry))) (indexIn (now (text .entry)) (now (uuid .entry)) «index_letter» «data_letter» «block_size» letter block)) (now (rows .entry)) (now (rows .exit)) r (now (count .exit)) ⌝ }
+{
+    let volume = Volume {
+        first: index_letter,
+        other: data_letter,
+        size: block_size,
+    };
+    let filled = index_files::all_rows(text, uuid, volume, letter, BlockNumber(block), rows);
+    counted(filled, count)
 }
 
 fn in_place(p: Place, h: Header) -> [u64; 17]

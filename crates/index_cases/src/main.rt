@@ -5,7 +5,7 @@ use index::Header;
 use index::Read;
 use index::Volume;
 use index_files::FileRead;
-use index_files::RowsRead;
+use index_files::Filled;
 use quantities::BlockNumber;
 use slices::Written;
 use volume::Chosen;
@@ -155,10 +155,10 @@ fn rows_as(
     )
 }
 
-fn count_as(read: RowsRead, refusal: u64, count: u64) -> bool {
+fn count_as(read: Filled, refusal: u64, count: u64) -> bool {
     match read {
-        RowsRead::Refused(r) => refusals::number(r) == refusal,
-        RowsRead::Count(n) => {
+        Filled::Refused(r) => refusals::number(r) == refusal,
+        Filled::Count(n) => {
             if refusal != 0 {
                 return false;
             }

@@ -1,27 +1,22 @@
--- A file asked for by its number (01, Index: files number from 0 in text order), and its rows in a lent buffer (01, Extents). Refusals:
--- those of reading the index, then 2 for no such file, then 10 for a buffer too short.
+-- A file asked for by its number (01, Index: files number from 0 in text order). Refusals: those of reading the index, then 2 for no such
+-- file.
 use mathlib.Core.Path.{_≡_}
-use mathlib.Core.List.{List, [], _∷_, _++_}
-use Prim.Native.Nat.{ℕ, zero, suc, _+_, _*_, _≤_}
-use lib.Dec.{leb}
+use mathlib.Core.List.{List, [], _∷_}
+use Prim.Native.Nat.{ℕ, zero, suc, _+_, _≤_}
 use lib.ListN.{length, take, drop}
-use Rattle.refusals.specs.Refusals.{Answer, refused, answer, require, andThen}
-use Rattle.refusals.specs.declared.Refusal.the-variants.{Missing, Short}
-use Rattle.slices.specs.Slices.{written}
+use Rattle.refusals.specs.Refusals.{Answer, refused, answer, andThen}
+use Rattle.refusals.specs.declared.Refusal.the-variants.{Missing}
 use Rattle.slices.specs.Words.{bytes}
 use Rattle.xml.specs.Tree.{Forest}
 use Rattle.elements.specs.Reading.{childrenAt, Spans}
-use Rattle.extents.specs.Rows.{Row}
 use Rattle.index.specs.Elements.{textIn}
-use Rattle.index.specs.Tests.{five, rowsOf, lengthOf}
+use Rattle.index.specs.Tests.{rowsOf, lengthOf}
 use Rattle.index.specs.Index.{Index, File, fileOf}
 use Rattle.index_files.specs.declared.asked.Located.{Located}
 use Rattle.index_files.specs.declared.asked.Located.the-variants as located
 use Rattle.index_files.specs.declared.asked.FileHead.{FileHead}
 use Rattle.index_files.specs.declared.asked.FileRead.{FileRead}
 use Rattle.index_files.specs.declared.asked.FileRead.the-variants as file
-use Rattle.index_files.specs.declared.asked.RowsRead.{RowsRead}
-use Rattle.index_files.specs.declared.asked.RowsRead.the-variants as rows
 
 module _ {A : Type 0} where
   -- that of number k, refused 2 where there is none
@@ -70,26 +65,3 @@ nameInside s (file.Refused r) = Unit {0}
 pub record ReadsFile (s : List ℕ) (a : Answer File) (r : FileRead) : Type 0 where
   pub says : fileSaid s r ≡ andThen a (λ f. answer (shown f))
   pub inside : nameInside s r
-
--- the numbers of rows, one row after the other
-unfoldable pub numbersOf : List Row → List ℕ
-numbersOf [] = []
-numbersOf (r ∷ l) = five r ++ numbersOf l
-
--- 10: a buffer of that length is too short for five numbers of each row
-abbrev pub fitting : ℕ → List Row → Answer (List Row)
-fitting room l = require (leb (length l * 5) room) Short (answer l)
-
--- what writing rows says: how many there are
-abbrev pub rowsSaid : RowsRead → Answer ℕ
-rowsSaid (rows.Count n) = answer n
-rowsSaid (rows.Refused r) = refused r
-
--- the buffer with the rows at its front, or as it was
-abbrev pub rowsStored : List ℕ → Answer (List Row) → List ℕ
-rowsStored buffer (refused r) = buffer
-rowsStored buffer (answer l) = written 0 (numbersOf l) buffer
-
-pub record PutsRows (a : Answer (List Row)) (before after : List ℕ) (r : RowsRead) : Type 0 where
-  pub says : rowsSaid r ≡ andThen a (λ l. answer (length l))
-  pub holds : after ≡ rowsStored before a

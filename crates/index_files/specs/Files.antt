@@ -2,13 +2,14 @@
 -- element is a file by its name alone; proofs/AllFiles has the theorem.
 use mathlib.Core.Path.{_≡_}
 use mathlib.Core.Bool.{Bool, cond, _||_}
-use mathlib.Core.List.{List, [], _∷_, _++_}
+use mathlib.Core.List.{List, [], _∷_, _++_, map}
 use Prim.Native.Nat.{ℕ, _<_, _≤_}
 use lib.ListN.{length}
 use Rattle.slices.specs.Slices.{same}
 use Rattle.slices.specs.Words.{bytes}
 use Rattle.xml.specs.Tree.{Forest, none, node}
 use Rattle.elements.specs.Reading.{leftAt, childrenAt}
+use Rattle.index.specs.Index.{File as Said, fileOf}
 use Rattle.index_files.specs.declared.files.NextFile.{NextFile}
 use Rattle.index_files.specs.declared.files.NextFile.the-variants.{File, Done}
 
@@ -29,6 +30,10 @@ filesIn (node h c r) = cond (namesFile (h .name)) (c ∷ []) (cond (namesSkipped
 unfoldable pub filesLeft : List Forest → List Forest
 filesLeft [] = []
 filesLeft (f ∷ fs) = filesIn f ++ filesLeft fs
+
+-- the files that are read from i on
+abbrev pub filesFrom : List ℕ → ℕ → List Said
+filesFrom s i = map fileOf (filesLeft (leftAt s i))
 
 -- the next file from i on has its tag at n, and reading goes on at j
 pub record FileAt (s : List ℕ) (i n j : ℕ) : Type 0 where

@@ -2,3 +2,4 @@ pub mod Files
 pub mod Rows
 pub mod Met
 pub mod Asked
+pub mod Filling

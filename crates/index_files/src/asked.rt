@@ -1,9 +1,9 @@
 // A file asked for by its number, and its rows.
 use crate::extent_rows;
-use crate::extent_rows::NextRow;
-use crate::extent_rows::Row;
 use crate::files;
 use crate::files::NextFile;
+use crate::filling;
+use crate::filling::Filled;
 use elements::Child;
 use elements::Span;
 use index::Read;
@@ -12,17 +12,14 @@ use quantities::BlockNumber;
 use quantities::ByteCount;
 use refusals::Refusal;
 ghost use mathlib.Core.Path.{_≡_};
-ghost use Prim.Native.Nat.{_+_, _*_, _≤_, _<_};
-ghost use lib.ListN.{length, set};
-ghost use Rattle.refusals.specs.Refusals.{andThen};
-ghost use Rattle.slices.specs.Slices.{written};
+ghost use lib.ListN.{length};
 ghost use Rattle.elements.specs.Reading.{leftAt, rowAt, childrenAt, Spans};
 ghost use Rattle.index.specs.Elements.{textIn};
-ghost use Rattle.index.specs.Tests.{given, five, rowsIn};
+ghost use Rattle.index.specs.Tests.{given, rowsIn};
 ghost use Rattle.index.specs.Index.{indexOf};
 ghost use Rattle.index_files.specs.Files.{filesLeft};
-ghost use Rattle.index_files.specs.Rows.{rowIs};
-ghost use Rattle.index_files.specs.Asked.{nth, fileIn, childrenFound, fileFound, HeadOf, ReadsFile, numbersOf, fitting, PutsRows};
+ghost use Rattle.index_files.specs.Asked.{nth, fileIn, childrenFound, fileFound, HeadOf, ReadsFile};
+ghost use Rattle.index_files.specs.Filling.{fitting, rowsFor, HoldsRows, Puts};
 
 // The place of a file's tag.
 enum Located {
@@ -39,12 +36,6 @@ pub struct FileHead {
 
 pub enum FileRead {
     Found(FileHead),
-    Refused(Refusal),
-}
-
-// How many rows were written.
-pub enum RowsRead {
-    Count(u64),
     Refused(Refusal),
 }
 
@@ -108,7 +99,7 @@ fn span_in(text: &[u8], at: usize, name: &[u8]) -> Span
 }
 
 // How many rows there are from at on.
-fn count_rows(text: &[u8], at: usize) -> u64
+pub(crate) fn count_rows(text: &[u8], at: usize) -> u64
     ensures { λ r. ⌜ r ≡ length (rowsIn (rowAt (now (text .entry)) at)) ⌝ }
 {
     let mut i = at;
@@ -127,7 +118,7 @@ fn count_rows(text: &[u8], at: usize) -> u64
 }
 
 // What the file whose tag is at n says.
-fn head_at(text: &[u8], n: usize) -> FileHead
+pub(crate) fn head_at(text: &[u8], n: usize) -> FileHead
     ensures { λ r. ⌜ HeadOf (now (text .entry)) (childrenAt (now (text .entry)) n) r ⌝ }
 {
     let at = elements::first_child(text, n);
@@ -155,56 +146,16 @@ pub fn file(
     }
 }
 
-fn store(out: &mut [u64], at: usize, v: u64)
-    requires { ⌜ at < length (now out) ⌝ }
-    ensures { λ r. ⌜ now (out .exit) ≡ set (now (out .entry)) at v ⌝ }
-{
-    out[at] = v;
-}
-
-// The five numbers of a row, into out from at on.
-fn put_row(out: &mut [u64], at: usize, row: Row)
-    requires { ⌜ at + 5 ≤ length (now out) ⌝ }
-    ensures { λ r. ⌜ now (out .exit) ≡ written at (five (rowIs row)) (now (out .entry)) ⌝ }
-{
-    store(out, at, row.letter);
-    store(out, at + 1, row.startblock.0);
-    store(out, at + 2, row.byteoffset.0);
-    store(out, at + 3, row.bytecount.0);
-    store(out, at + 4, row.fileoffset.0);
-}
-
-// The rows from at on, into the front of out.
-fn write_rows(text: &[u8], at: usize, out: &mut [u64])
-    requires { ⌜ length (rowsIn (rowAt (now text) at)) * 5 ≤ length (now out) ⌝ }
-    ensures { λ r. ⌜ now (out .exit) ≡ written 0 (numbersOf (rowsIn (rowAt (now (text .entry)) at))) (now (out .entry)) ⌝ }
-{
-    let mut i = at;
-    let mut k: usize = 0;
-    loop {
-        match extent_rows::next_row(text, i) {
-            NextRow::Done => {
-                return;
-            }
-            NextRow::Found(row, next) => {
-                put_row(out, k, row);
-                k += 5;
-                i = next;
-            }
-        }
-    }
-}
-
 // The rows from at on, into the front of out if it has room for all of them.
-fn put_rows(text: &[u8], at: usize, out: &mut [u64]) -> RowsRead
-    ensures { λ r. ⌜ PutsRows (fitting (length (now (out .entry))) (rowsIn (rowAt (now (text .entry)) at))) (now (out .entry)) (now (out .exit)) r ⌝ }
+fn put_rows(text: &[u8], at: usize, out: &mut [u64]) -> Filled
+    ensures { λ r. ⌜ Puts HoldsRows (fitting 5 (length (now (out .entry))) (rowsIn (rowAt (now (text .entry)) at))) (now (out .entry)) (now (out .exit)) r ⌝ }
 {
     let n = count_rows(text, at);
     if ((out.len() / 5) as u64) < n {
-        return RowsRead::Refused(Refusal::Short);
+        return Filled::Refused(Refusal::Short);
     }
-    write_rows(text, at, out);
-    RowsRead::Count(n)
+    filling::write_rows(text, at, 0, out);
+    Filled::Count(n)
 }
 
 // The rows of the k-th file of an index's text, five numbers each, into the front of out; the other parameters are those of reading it.
@@ -216,11 +167,11 @@ pub fn rows(
     block: BlockNumber,
     k: u64,
     out: &mut [u64],
-) -> RowsRead
-    ensures { λ r. ⌜ PutsRows (andThen (fileIn k (indexOf (given (now (uuid .entry)) volume) letter (block .0) (now (text .entry)))) (λ f. fitting (length (now (out .entry))) (f .rows))) (now (out .entry)) (now (out .exit)) r ⌝ }
+) -> Filled
+    ensures { λ r. ⌜ Puts HoldsRows (rowsFor (length (now (out .entry))) (fileIn k (indexOf (given (now (uuid .entry)) volume) letter (block .0) (now (text .entry))))) (now (out .entry)) (now (out .exit)) r ⌝ }
 {
     match locate(text, uuid, volume, letter, block, k) {
-        Located::Refused(r) => RowsRead::Refused(r),
+        Located::Refused(r) => Filled::Refused(r),
         Located::At(n) => put_rows(text, extent_rows::first_row(text, n), out),
     }
 }

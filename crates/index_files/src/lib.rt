@@ -1,11 +1,12 @@
-// The files of an index's text and their rows (01, Index and Extents), one after the other, and by their numbers.
+// The files of an index's text and their rows (01, Index and Extents), one after the other, by their numbers, and all at once.
 mod asked;
 mod extent_rows;
 mod files;
+mod filling;
+mod whole;
 
 pub use asked::FileHead;
 pub use asked::FileRead;
-pub use asked::RowsRead;
 pub use asked::file;
 pub use asked::rows;
 pub use extent_rows::NextRow;
@@ -14,3 +15,6 @@ pub use extent_rows::first_row;
 pub use extent_rows::next_row;
 pub use files::NextFile;
 pub use files::next_file;
+pub use filling::Filled;
+pub use whole::all_files;
+pub use whole::all_rows;

@@ -4,7 +4,8 @@ use Rattle.refusals.specs.Refusals.{Answer, answer, andThen}
 use Rattle.xml.specs.Tree.{Forest}
 use Rattle.index.specs.Index.{fileOf, saying}
 use Rattle.index.specs.Tests.{given}
-use Rattle.index_files.proofs.Asking.{file-refused, file-found}
+use Rattle.index_files.specs.Asked.{nth}
+use Rattle.index_files.proofs.Asking.{index-refused, file-found}
 use borrow.Author.Needs.{needs}
 use Rattle.index_files.proofs.asked.locate.Statement.{statement}
 use Rattle.index_files.proofs.asked.locate.Tie as tie
@@ -24,7 +25,7 @@ find-requires c κs = search needs
 returns : tie.Need-returns
 returns c =
     let g = given (c .before .before .before .before .before .before .args .uuid .now) (c .before .before .before .before .before .before .args .volume) in
-    file-refused g (c .before .before .before .before .before .before .args .letter) (c .before .before .before .before .before .before .args .block .0) (c .before .before .before .before .before .before .args .text .now) (c .before .before .before .before .before .before .args .k) (c .before .r .given .0 .0) (ap (saying (c .before .before .before .before .before .before .args .text .now)) (sym (c .before .r .given .1)) ∙ c .before .before .before .read-index .ensures)
+    index-refused g (c .before .before .before .before .before .before .args .letter) (c .before .before .before .before .before .before .args .block .0) (c .before .before .before .before .before .before .args .text .now) (nth (c .before .before .before .before .before .before .args .k)) (c .before .r .given .0 .0) (ap (saying (c .before .before .before .before .before .before .args .text .now)) (sym (c .before .r .given .1)) ∙ c .before .before .before .read-index .ensures)
 
 returns-2 : tie.Need-returns-2
 returns-2 c =

@@ -2,7 +2,7 @@
 use native.Mathlib.Omega.{arith}
 use Rattle.elements.specs.Reading.{rowAt}
 use Rattle.index.specs.Tests.{rowsIn}
-use Rattle.index_files.proofs.Asking.{rows-short, rows-put}
+use Rattle.index_files.proofs.Buffers.{put-short, put-all}
 use borrow.Author.Needs.{needs}
 use Rattle.index_files.proofs.asked.put_rows.Statement.{statement}
 use Rattle.index_files.proofs.asked.put_rows.Tie as tie
@@ -12,7 +12,7 @@ count-rows-requires c κs = search needs
 
 returns : tie.Need-returns
 returns c =
-    rows-short (rowsIn (rowAt (c .before .before .before .before .args .text .now) (c .before .before .before .before .args .at))) (c .before .count-rows .result) (c .before .before .before .before .args .out .now) (c .before .count-rows .ensures) (omega (arith, c .if1 .taken))
+    put-short 5 (rowsIn (rowAt (c .before .before .before .before .args .text .now) (c .before .before .before .before .args .at))) (c .before .count-rows .result) (c .before .before .before .before .args .out .now) (c .before .count-rows .ensures) (omega (arith, c .if1 .taken))
 
 write-rows-requires : tie.Need-write-rows-requires
 write-rows-requires c κs = omega (arith, c .before .if1 .left, c .before .before .count-rows .ensures)
@@ -22,7 +22,7 @@ same-length c = search needs
 
 returns-2 : tie.Need-returns-2
 returns-2 c =
-    rows-put (rowsIn (rowAt (c .before .before .before .before .before .before .before .before .args .text .now) (c .before .before .before .before .before .before .before .before .args .at))) (c .before .before .before .before .before .count-rows .result) (c .before .before .before .before .before .before .before .before .args .out .now) (c .before .before .before .before .before .count-rows .ensures) (omega (arith, c .before .before .before .before .if1 .left)) _ (c .before .before .write-rows .ensures)
+    put-all 5 (rowsIn (rowAt (c .before .before .before .before .before .before .before .before .args .text .now) (c .before .before .before .before .before .before .before .before .args .at))) (c .before .before .before .before .before .count-rows .result) (c .before .before .before .before .before .before .before .before .args .out .now) (c .before .before .before .before .before .count-rows .ensures) (omega (arith, c .before .before .before .before .if1 .left)) _ (c .before .before .write-rows .ensures .holds)
 
 pub put-rows-spec : {M : Type 1} → statement M
 put-rows-spec =

@@ -1,12 +1,11 @@
 -- `rows` meets its contract: the refusal, or the rows of the file that is found.
 use mathlib.Core.Path.{ap, sym, _∙_}
 use lib.ListN.{length}
-use Rattle.refusals.specs.Refusals.{Answer, andThen}
 use Rattle.xml.specs.Tree.{Forest}
 use Rattle.index.specs.Tests.{rowsIn}
-use Rattle.index.specs.Index.{File}
-use Rattle.index_files.specs.Asked.{fileFound, fitting}
-use Rattle.index_files.proofs.Asking.{rows-refused, rows-found}
+use Rattle.index_files.specs.Asked.{fileFound}
+use Rattle.index_files.specs.Filling.{fitting, rowsFor}
+use Rattle.index_files.proofs.Buffers.{put-refused, put-as}
 use borrow.Author.Needs.{needs}
 use Rattle.index_files.proofs.asked.rows.Statement.{statement}
 use Rattle.index_files.proofs.asked.rows.Tie as tie
@@ -28,16 +27,16 @@ put-rows-requires c κs = search needs
 
 returns : tie.Need-returns
 returns c =
-    rows-refused (c .before .before .before .before .before .before .before .args .out .now) (c .before .r .given .0 .0) (ap (λ (a : Answer File). andThen a (λ f. fitting (length (c .before .before .before .before .before .before .before .args .out .now)) (f .rows))) (ap (fileFound (c .before .before .before .before .before .before .before .args .text .now)) (sym (c .before .r .given .1)) ∙ c .before .before .before .locate .ensures))
+    put-refused (c .before .before .before .before .before .before .before .args .out .now) (c .before .r .given .0 .0) (ap (rowsFor (length (c .before .before .before .before .before .before .before .args .out .now))) (ap (fileFound (c .before .before .before .before .before .before .before .args .text .now)) (sym (c .before .r .given .1)) ∙ c .before .before .before .locate .ensures))
 
 same-length : tie.Need-same-length
 same-length c = search needs
 
 returns-2 : tie.Need-returns-2
 returns-2 c =
-    rows-found (c .before .before .before .before .before .before .before .before .before .before .before .before .args .out .now)
-    (ap (λ (f : Forest). fitting (length (c .before .before .before .before .before .before .before .before .before .before .before .before .args .out .now)) (rowsIn f)) (c .before .before .before .before .first-row .ensures .row)
-    ∙ ap (λ (a : Answer File). andThen a (λ f. fitting (length (c .before .before .before .before .before .before .before .before .before .before .before .before .args .out .now)) (f .rows))) (ap (fileFound (c .before .before .before .before .before .before .before .before .before .before .before .before .args .text .now)) (sym (c .before .before .before .before .before .before .n .given .1)) ∙ c .before .before .before .before .before .before .before .before .locate .ensures))
+    put-as
+    (ap (λ (f : Forest). fitting 5 (length (c .before .before .before .before .before .before .before .before .before .before .before .before .args .out .now)) (rowsIn f)) (c .before .before .before .before .first-row .ensures .row)
+    ∙ ap (rowsFor (length (c .before .before .before .before .before .before .before .before .before .before .before .before .args .out .now))) (ap (fileFound (c .before .before .before .before .before .before .before .before .before .before .before .before .args .text .now)) (sym (c .before .before .before .before .before .before .n .given .1)) ∙ c .before .before .before .before .before .before .before .before .locate .ensures))
     (c .before .before .put-rows .ensures)
 
 pub rows-spec : {M : Type 1} → statement M

@@ -1,6 +1,6 @@
--- `write_rows` meets its contract. Invariant: with the rows of the rest written behind k, the buffer holds all.
-use mathlib.Core.Path.{refl, subst}
-use Prim.Native.Nat.{_-_}
+-- `write_rows` meets its contract. Invariant: with the rows of the rest written from j on, the buffer holds all.
+use mathlib.Core.Path.{subst}
+use Prim.Native.Nat.{_+_, _-_, _*_}
 use native.Mathlib.Omega.{arith}
 use lib.ListN.{length}
 use Rattle.slices.specs.Slices.{written}
@@ -8,20 +8,21 @@ use Rattle.elements.specs.Reading.{rowAt}
 use Rattle.index.specs.Tests.{rowsIn}
 use Rattle.index_files.specs.declared.extent_rows.NextRow.the-variants.{Done, Found}
 use Rattle.index_files.specs.Rows.{rowIs, RowAhead}
-use Rattle.index_files.specs.Asked.{numbersOf}
-use Rattle.index_files.proofs.Asking.{Writing, writing-done, writing-fits, writing-on}
+use Rattle.index_files.specs.Filling.{numbersOf}
+use Rattle.index_files.proofs.Buffers.{Writing, writing-first, writing-done, row-fits, row-on}
 use borrow.Author.Needs.{needs}
-use Rattle.index_files.proofs.asked.write_rows.Statement.{statement}
-use Rattle.index_files.proofs.asked.write_rows.Tie as tie
+use Rattle.index_files.proofs.filling.write_rows.Statement.{statement}
+use Rattle.index_files.proofs.filling.write_rows.Tie as tie
 
 abbrev Inv-loop : tie.InvT-loop
-Inv-loop text at out₀ i₀ k₀ out i k = Writing (written 0 (numbersOf (rowsIn (rowAt text at))) out₀) out k (rowsIn (rowAt text i)) out₀
+Inv-loop text at k out₀ i₀ j₀ out i j =
+    Writing (written k (numbersOf (rowsIn (rowAt text at))) out₀) (k + length (rowsIn (rowAt text at)) * 5) out₀ out j (rowsIn (rowAt text i))
 
 abbrev μ-loop : tie.MeasureT-loop
-μ-loop text at out₀ i₀ k₀ out i k = length text - i
+μ-loop text at k out₀ i₀ j₀ out i j = length text - i
 
 loop-holds : tie.Need-loop-holds Inv-loop μ-loop
-loop-holds c = (refl, omega (arith, c .before .before .pre), refl)
+loop-holds c = writing-first (c .before .before .args .k) (rowsIn (rowAt (c .before .before .args .text .now) (c .before .before .args .at))) (c .before .before .args .out .now) (c .before .before .pre)
 
 next-row-requires : tie.Need-next-row-requires Inv-loop μ-loop
 next-row-requires c κs = search needs
@@ -30,14 +31,15 @@ enum-told : tie.Need-enum-told Inv-loop μ-loop
 enum-told c = search needs
 
 same-length : tie.Need-same-length Inv-loop μ-loop
-same-length c = c .before .before .before .loop .inv .2
+same-length c = c .before .before .before .loop .inv .long
 
 returns : tie.Need-returns Inv-loop μ-loop
 returns c =
     let s = c .before .before .before .before .before .before .args .text .now in
     let l = c .before .before .before .loop in
     let e : RowAhead s (l .i) Done = subst (RowAhead s (l .i)) (c .enum-told .given .1) (c .before .before .next-row .ensures) in
-    writing-done _ (c .before .before .before .before .before .before .args .out .now) (l .k) (rowsIn (rowAt s (l .i))) (l .out) (l .inv) e
+    let (h, z) = writing-done (l .inv) e in
+    record { holds = h; upTo = z }
 
 enum-known-row : tie.Need-enum-known-row Inv-loop μ-loop
 enum-known-row c = search needs
@@ -48,15 +50,15 @@ put-row-requires c κs =
     let l = c .before .before .before .before .before .loop in
     let g = c .before .before .row .given in
     let f : RowAhead s (l .i) (Found (g .0 .0) (g .0 .1 .0)) = subst (RowAhead s (l .i)) (g .1) (c .before .before .before .before .next-row .ensures) in
-    writing-fits _ (c .before .before .before .before .before .before .before .before .args .out .now) (l .k) (rowsIn (rowAt s (l .i))) (l .out) (l .inv) (rowIs (g .0 .0)) (rowsIn (rowAt s (g .0 .1 .0))) (f .rows)
+    row-fits (l .inv) (rowIs (g .0 .0)) (rowsIn (rowAt s (g .0 .1 .0))) (f .rows)
 
-add-k : tie.Need-add-k Inv-loop μ-loop
-add-k c =
+add-j : tie.Need-add-j Inv-loop μ-loop
+add-j c =
     let s = c .before .before .before .before .before .before .before .before .before .before .before .args .text .now in
     let l = c .before .before .before .before .before .before .before .before .loop in
     let g = c .before .before .before .before .before .row .given in
     let f : RowAhead s (l .i) (Found (g .0 .0) (g .0 .1 .0)) = subst (RowAhead s (l .i)) (g .1) (c .before .before .before .before .before .before .before .next-row .ensures) in
-    let p = writing-fits _ (c .before .before .before .before .before .before .before .before .before .before .before .args .out .now) (l .k) (rowsIn (rowAt s (l .i))) (l .out) (l .inv) (rowIs (g .0 .0)) (rowsIn (rowAt s (g .0 .1 .0))) (f .rows) in
+    let p = row-fits (l .inv) (rowIs (g .0 .0)) (rowsIn (rowAt s (g .0 .1 .0))) (f .rows) in
     search needs
 
 loop-less : tie.Need-loop-less Inv-loop μ-loop
@@ -73,7 +75,7 @@ loop-again c =
     let l = c .before .before .before .before .before .before .before .before .loop in
     let g = c .before .before .before .before .before .row .given in
     let f : RowAhead s (l .i) (Found (g .0 .0) (g .0 .1 .0)) = subst (RowAhead s (l .i)) (g .1) (c .before .before .before .before .before .before .before .next-row .ensures) in
-    writing-on _ (c .before .before .before .before .before .before .before .before .before .before .before .args .out .now) (l .k) (rowsIn (rowAt s (l .i))) (l .out) (l .inv) (rowIs (g .0 .0)) (rowsIn (rowAt s (g .0 .1 .0))) (f .rows) _ (c .before .before .put-row .ensures)
+    row-on (l .inv) (rowIs (g .0 .0)) (rowsIn (rowAt s (g .0 .1 .0))) (f .rows) (c .before .before .put-row .ensures)
 
 pub write-rows-spec : {M : Type 1} → statement M
 write-rows-spec =
@@ -88,6 +90,6 @@ write-rows-spec =
     returns
     enum-known-row
     put-row-requires
-    add-k
+    add-j
     loop-less
     loop-again)

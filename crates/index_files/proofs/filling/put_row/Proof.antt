@@ -1,9 +1,9 @@
 -- `put_row` meets its contract: five stores, one behind the other.
 use Rattle.index_files.specs.Rows.{rowIs}
-use Rattle.index_files.proofs.Asking.{five-written}
+use Rattle.index_files.proofs.Buffers.{five-written}
 use borrow.Author.Needs.{needs}
-use Rattle.index_files.proofs.asked.put_row.Statement.{statement}
-use Rattle.index_files.proofs.asked.put_row.Tie as tie
+use Rattle.index_files.proofs.filling.put_row.Statement.{statement}
+use Rattle.index_files.proofs.filling.put_row.Tie as tie
 
 store-requires : tie.Need-store-requires
 store-requires c κs = search needs

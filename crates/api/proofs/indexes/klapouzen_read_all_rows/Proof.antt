@@ -1,0 +1,21 @@
+-- `klapouzen_read_all_rows` meets its contract: how many rows all files have, and the buffer that they were put into.
+use Rattle.api.proofs.Headers.{fills-out}
+use borrow.Author.Needs.{needs}
+use Rattle.api.proofs.indexes.klapouzen_read_all_rows.Statement.{statement}
+use Rattle.api.proofs.indexes.klapouzen_read_all_rows.Tie as tie
+
+all-rows-requires : tie.Need-all-rows-requires
+all-rows-requires c κs = search needs
+
+counted-requires : tie.Need-counted-requires
+counted-requires c κs = search needs
+
+same-length : tie.Need-same-length
+same-length c = search needs
+
+returns : tie.Need-returns
+returns c = fills-out (c .before .before .before .before .all-rows .ensures) (c .counted .ensures)
+
+pub klapouzen-read-all-rows-spec : {M : Type 1} → statement M
+klapouzen-read-all-rows-spec =
+    tie.close (tie.spec all-rows-requires counted-requires same-length returns)

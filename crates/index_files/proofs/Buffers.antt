@@ -1,0 +1,198 @@
+-- Numbers into a buffer: stores one after the other, rows from a place on, files from the front on, and what is said of filling it.
+use mathlib.Core.Path.{_≡_, refl, ap, sym, _∙_, subst}
+use mathlib.Core.Bool.{Bool, true, false}
+use mathlib.Core.List.{List, [], _∷_, _++_, map, append-assoc}
+use Prim.Native.Nat.{ℕ, _+_, _*_, _≤_, _<_}
+use native.Mathlib.Omega.{arith}
+use borrow.Author.Tests.{le-leb, lt-leb, leb-true}
+use lib.Dec.{leb}
+use lib.ListN.{length, take, drop, set, length-append, take-append-drop}
+use lib.Seq.{drop-drop}
+use Rattle.refusals.specs.Refusals.{Answer, refused, answer, require}
+use Rattle.refusals.specs.declared.Refusal.{Refusal}
+use Rattle.refusals.specs.declared.Refusal.the-variants.{Short}
+use Rattle.slices.specs.Slices.{written}
+use Rattle.slices.proofs.Writing.{written-set, written-snoc, written-then, written-nil, length-written, front-written, drop-written}
+use Rattle.xml.specs.Tree.{Forest}
+use Rattle.extents.specs.Rows.{Row}
+use Rattle.elements.specs.Reading.{leftAt, rowAt}
+use Rattle.index.specs.Tests.{five, rowsIn}
+use Rattle.index.specs.Index.{File, fileOf}
+use Rattle.index_files.specs.Files.{filesLeft, filesFrom, FileAt}
+use Rattle.index_files.specs.Rows.{RowsFrom}
+use Rattle.index_files.specs.Asked.{HeadOf}
+use Rattle.index_files.specs.Filling.{fitting, counted, Puts, numbersOf, WritesRows, SaysFiles, HoldsFiles, headNumbers, allRows}
+use Rattle.index_files.specs.declared.asked.FileHead.{FileHead}
+use Rattle.index_files.specs.declared.filling.Filled.{Filled}
+use Rattle.index_files.specs.declared.filling.Filled.the-variants.{Count, Refused}
+
+-- four and five numbers, one after the other
+pub four-written : (at a b c d : ℕ) (o0 o1 o2 o3 o4 : List ℕ) → at + 4 ≤ length o0 → o1 ≡ set o0 at a → o2 ≡ set o1 (at + 1) b
+    → o3 ≡ set o2 (at + 2) c → o4 ≡ set o3 (at + 3) d → o4 ≡ written at (a ∷ b ∷ c ∷ d ∷ []) o0
+four-written at a b c d o0 o1 o2 o3 o4 h e1 e2 e3 e4 =
+    let w1 = e1 ∙ sym (written-set at a o0 (omega arith)) in
+    let w2 = e2 ∙ ap (λ (o : List ℕ). set o (at + 1) b) w1 ∙ written-snoc at b (a ∷ []) o0 (omega arith) in
+    let w3 = e3 ∙ ap (λ (o : List ℕ). set o (at + 2) c) w2 ∙ written-snoc at c (a ∷ b ∷ []) o0 (omega arith) in
+    e4 ∙ ap (λ (o : List ℕ). set o (at + 3) d) w3 ∙ written-snoc at d (a ∷ b ∷ c ∷ []) o0 (omega arith)
+
+pub five-written : (at : ℕ) (x : Row) (o0 o1 o2 o3 o4 o5 : List ℕ) → at + 5 ≤ length o0 → o1 ≡ set o0 at (x .letter) → o2 ≡ set o1 (at + 1) (x .startblock)
+    → o3 ≡ set o2 (at + 2) (x .byteoffset) → o4 ≡ set o3 (at + 3) (x .bytecount) → o5 ≡ set o4 (at + 4) (x .fileoffset)
+    → o5 ≡ written at (five x) o0
+five-written at x o0 o1 o2 o3 o4 o5 h e1 e2 e3 e4 e5 =
+    e5
+    ∙ ap (λ (o : List ℕ). set o (at + 4) (x .fileoffset)) (four-written at (x .letter) (x .startblock) (x .byteoffset) (x .bytecount) o0 o1 o2 o3 o4 (omega arith) e1 e2 e3 e4)
+    ∙ written-snoc at (x .fileoffset) (x .letter ∷ x .startblock ∷ x .byteoffset ∷ x .bytecount ∷ []) o0 (omega arith)
+
+length-numbers : (l : List Row) → length (numbersOf l) ≡ length l * 5
+unfolding numbersOf
+length-numbers [] = refl
+length-numbers (x ∷ l) = omega (arith, length-numbers l)
+
+numbers-append : (a b : List Row) → numbersOf (a ++ b) ≡ numbersOf a ++ numbersOf b
+unfolding numbersOf
+numbers-append [] b = refl
+numbers-append (x ∷ a) b = ap (λ (l : List ℕ). five x ++ l) (numbers-append a b)
+
+-- rows written one after the other: those still to be written from k on, up to last
+pub record Writing (end : List ℕ) (last : ℕ) (before o : List ℕ) (k : ℕ) (l : List Row) : Type 0 where
+  pub left : end ≡ written k (numbersOf l) o
+  pub upTo : last ≡ k + length l * 5
+  pub room : last ≤ length o
+  pub long : length o ≡ length before
+
+pub writing-first : (k : ℕ) (l : List Row) (o : List ℕ) → k + length l * 5 ≤ length o → Writing (written k (numbersOf l) o) (k + length l * 5) o o k l
+writing-first k l o h = record { left = refl; upTo = refl; room = h; long = refl }
+
+module _ {end : List ℕ} {last : ℕ} {before o : List ℕ} {k : ℕ} {l : List Row} (w : Writing end last before o k l) where
+  pub writing-done : l ≡ [] → (o ≡ end) × (k ≡ last)
+  unfolding numbersOf
+  writing-done e =
+      (sym (w .left ∙ ap (λ (r : List Row). written k (numbersOf r) o) e ∙ written-nil k o), omega (arith, w .upTo, ap length e))
+
+  module _ (a r : List Row) (e : l ≡ a ++ r) where
+    pub writing-fits : k + length a * 5 ≤ length o
+    writing-fits = omega (arith, w .upTo, w .room, ap length e ∙ length-append a r)
+
+    pub writing-on : {o′ : List ℕ} {k′ : ℕ} → WritesRows k a o o′ k′ → Writing end last before o′ k′ r
+    writing-on {o′} {k′} q =
+        let n : k + length (numbersOf a) ≡ k′ = ap (λ (m : ℕ). k + m) (length-numbers a) ∙ sym (q .upTo) in
+        let f : k + length (numbersOf a) ≤ length o = omega (arith, writing-fits, length-numbers a) in
+        let z : length o′ ≡ length o = ap length (q .holds) ∙ length-written k (numbersOf a) o f in
+        record {
+          left =
+              w .left
+              ∙ ap (λ (y : List Row). written k (numbersOf y) o) e
+              ∙ ap (λ (y : List ℕ). written k y o) (numbers-append a r)
+              ∙ sym (written-then k (numbersOf a) (numbersOf r) o (omega (arith, f)))
+              ∙ ap (λ (m : ℕ). written m (numbersOf r) (written k (numbersOf a) o)) n
+              ∙ sym (ap (written k′ (numbersOf r)) (q .holds));
+          upTo = omega (arith, w .upTo, q .upTo, ap length e ∙ length-append a r);
+          room = omega (arith, w .room, z);
+          long = z ∙ w .long;
+        }
+
+  -- one row
+  module _ (x : Row) (r : List Row) (e : l ≡ x ∷ r) where
+    pub row-fits : k + 5 ≤ length o
+    row-fits = writing-fits (x ∷ []) r e
+
+    pub row-on : {o′ : List ℕ} → o′ ≡ written k (five x) o → Writing end last before o′ (k + 5) r
+    unfolding numbersOf
+    row-on q = writing-on (x ∷ []) r e record { holds = q; upTo = refl }
+
+-- files written one after the other: those still to be told from k on
+pub record Telling (s : List ℕ) (fs : List File) (before o : List ℕ) (k : ℕ) (l : List File) : Type 0 where
+  pub says : (v : List ℕ) → SaysFiles s l v → SaysFiles s fs (take k o ++ v)
+  pub rest : drop k o ≡ drop k before
+  pub upTo : length fs * 4 ≡ k + length l * 4
+  pub room : length fs * 4 ≤ length o
+  pub long : length o ≡ length before
+
+pub telling-first : (s : List ℕ) (fs : List File) (o : List ℕ) → length fs * 4 ≤ length o → Telling s fs o o 0 fs
+telling-first s fs o h = record { says = λ v q. q; rest = refl; upTo = omega arith; room = h; long = refl }
+
+module _ {s : List ℕ} {fs : List File} {before o : List ℕ} {k : ℕ} {l : List File} (t : Telling s fs before o k l) where
+  pub telling-done : l ≡ [] → HoldsFiles s fs before o
+  unfolding SaysFiles
+  telling-done e =
+      let n : length fs * 4 ≡ k = omega (arith, t .upTo, ap length e) in
+      record {
+        says = subst (SaysFiles s fs) (take-append-drop k o) (t .says (drop k o) (subst (λ (y : List File). SaysFiles s y (drop k o)) (sym e) tt));
+        rest = subst (λ (m : ℕ). drop m o ≡ drop m before) (sym n) (t .rest);
+        long = t .long;
+      }
+
+  module _ (c : Forest) (r : List File) (e : l ≡ fileOf c ∷ r) where
+    pub telling-fits : k + 4 ≤ length o
+    telling-fits = omega (arith, t .upTo, t .room, ap length e)
+
+    pub telling-on : (h : FileHead) → HeadOf s c h → (o′ : List ℕ) → o′ ≡ written k (headNumbers h) o → Telling s fs before o′ (k + 4) r
+    unfolding SaysFiles
+    telling-on h w o′ q =
+        let i : k ≤ length o = omega (arith, telling-fits) in
+        let z : length o′ ≡ length o = ap length q ∙ length-written k (headNumbers h) o telling-fits in
+        let f : take k o ++ headNumbers h ≡ take (k + 4) o′ = sym (ap (take (k + 4)) q ∙ front-written k (headNumbers h) o i) in
+        record {
+          says =
+              λ v p.
+              subst (λ (y : List ℕ). SaysFiles s fs (y ++ v)) f
+              (subst (SaysFiles s fs) (sym (append-assoc (take k o) (headNumbers h) v))
+              (t .says (headNumbers h ++ v)
+              (subst (λ (y : List File). SaysFiles s y (headNumbers h ++ v)) (sym e)
+              (record { length = w .length; name = w .name .part; rows = w .rows }, p))));
+          rest =
+              ap (drop (k + 4)) q
+              ∙ drop-written k (headNumbers h) o i
+              ∙ sym (drop-drop 4 k o)
+              ∙ ap (drop 4) (t .rest)
+              ∙ drop-drop 4 k before;
+          upTo = omega (arith, t .upTo, ap length e);
+          room = omega (arith, t .room, z);
+          long = z ∙ t .long;
+        }
+
+module _ {A : Type 0} where
+  -- room for all, or not
+  module _ (each room : ℕ) (l : List A) where
+    pub fits : length l * each ≤ room → answer l ≡ fitting each room l
+    fits h = rw (le-leb (length l * each) room h)
+
+    pub fits-not : room < length l * each → refused Short ≡ fitting each room l
+    fits-not h = rw (lt-leb (length l * each) room h)
+
+    pub fitted : (n : ℕ) → answer n ≡ counted (fitting each room l) → (n ≡ length l) × (length l * each ≤ room)
+    fitted n e = go (leb (length l * each) room) refl e
+      where
+        go : (b : Bool) → leb (length l * each) room ≡ b → answer n ≡ counted (require b Short (answer l)) → (n ≡ length l) × (length l * each ≤ room)
+        go true w e = let z : n ≡ length l = cc in (z, leb-true (length l * each) room w)
+        go false w e = let z : _≡_ {A = ℕ} 0 1 = cc in absurd (omega arith)
+
+  module _ {holds : List A → List ℕ → List ℕ → Type 0} where
+    -- nothing is written where it is refused
+    pub put-refused : (out : List ℕ) (r : Refusal) {a : Answer (List A)} → refused r ≡ a → Puts holds a out out (Refused r)
+    put-refused out r e = subst (λ (a : Answer (List A)). Puts holds a out out (Refused r)) e record { says = refl; stored = refl }
+
+    pub put-as : {out o : List ℕ} {a b : Answer (List A)} {r : Filled} → a ≡ b → Puts holds a out o r → Puts holds b out o r
+    put-as {out} {o} {r = r} e p = subst (λ (a : Answer (List A)). Puts holds a out o r) e p
+
+    -- a buffer with room for all, or not
+    module _ (each : ℕ) (l : List A) (n : ℕ) (out : List ℕ) (e : n ≡ length l) where
+      pub put-short : length out < n * each → Puts holds (fitting each (length out) l) out out (Refused Short)
+      put-short h = put-refused out Short (fits-not each (length out) l (subst (λ (m : ℕ). length out < m * each) e h))
+
+      pub put-all : n * each ≤ length out → (o : List ℕ) → holds l out o → Puts holds (fitting each (length out) l) out o (Count n)
+      put-all h o w = put-as (fits each (length out) l (subst (λ (m : ℕ). m * each ≤ length out) e h)) record { says = ap answer e; stored = w }
+
+-- the rows of all files, along a text
+module _ (s : List ℕ) (i : ℕ) where
+  pub rows-none : filesLeft (leftAt s i) ≡ [] → allRows (filesFrom s i) ≡ []
+  unfolding allRows
+  rows-none e = ap (λ (l : List Forest). allRows (map fileOf l)) e
+
+  module _ {n j at : ℕ} (f : FileAt s i n j) (r : RowsFrom s n at) where
+    pub rows-file : allRows (filesFrom s i) ≡ rowsIn (rowAt s at) ++ allRows (filesFrom s j)
+    unfolding allRows
+    rows-file = ap (λ (l : List Forest). allRows (map fileOf l)) (f .left) ∙ sym (ap (λ (c : Forest). rowsIn c ++ allRows (filesFrom s j)) (r .row))
+
+    pub rows-more : length (allRows (filesFrom s i)) ≡ length (rowsIn (rowAt s at)) + length (allRows (filesFrom s j))
+    rows-more = ap length rows-file ∙ length-append (rowsIn (rowAt s at)) (allRows (filesFrom s j))

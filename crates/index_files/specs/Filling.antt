@@ -1,0 +1,91 @@
+-- Files and rows in a lent buffer of numbers (01, Index and Extents): four numbers of each file, five of each row, from the front on.
+-- Refusals: those of what is asked for, then 10 for a buffer too short, which is left as it was.
+use mathlib.Core.Path.{_≡_}
+use mathlib.Core.List.{List, [], _∷_, _++_}
+use Prim.Native.Nat.{ℕ, _+_, _*_}
+use lib.Dec.{leb}
+use lib.ListN.{length, take, drop, getD}
+use Rattle.refusals.specs.Refusals.{Answer, refused, answer, require, andThen}
+use Rattle.refusals.specs.declared.Refusal.the-variants.{Short}
+use Rattle.slices.specs.Slices.{written}
+use Rattle.extents.specs.Rows.{Row}
+use Rattle.index.specs.Tests.{five}
+use Rattle.index.specs.Index.{Index, File}
+use Rattle.index_files.specs.declared.asked.FileHead.{FileHead}
+use Rattle.index_files.specs.declared.filling.Filled.{Filled}
+use Rattle.index_files.specs.declared.filling.Filled.the-variants.{Count, Refused}
+
+-- what filling a buffer says: how many were written
+abbrev pub countSaid : Filled → Answer ℕ
+countSaid (Count n) = answer n
+countSaid (Refused r) = refused r
+
+module _ {A : Type 0} where
+  -- 10: a buffer of that length is too short for so many numbers of each
+  abbrev pub fitting : ℕ → ℕ → List A → Answer (List A)
+  fitting each room l = require (leb (length l * each) room) Short (answer l)
+
+  -- how many there are
+  abbrev pub counted : Answer (List A) → Answer ℕ
+  counted a = andThen a (λ l. answer (length l))
+
+  -- the buffer after: as it was, where refused
+  abbrev pub Stored : (List A → List ℕ → List ℕ → Type 0) → Answer (List A) → List ℕ → List ℕ → Type 0
+  Stored holds (refused r) before after = after ≡ before
+  Stored holds (answer l) before after = holds l before after
+
+  pub record Puts (holds : List A → List ℕ → List ℕ → Type 0) (a : Answer (List A)) (before after : List ℕ) (r : Filled) : Type 0 where
+    pub says : countSaid r ≡ counted a
+    pub stored : Stored holds a before after
+
+-- the numbers of rows, one row after the other
+unfoldable pub numbersOf : List Row → List ℕ
+numbersOf [] = []
+numbersOf (r ∷ l) = five r ++ numbersOf l
+
+-- rows written from k on, up to end
+pub record WritesRows (k : ℕ) (l : List Row) (before after : List ℕ) (end : ℕ) : Type 0 where
+  pub holds : after ≡ written k (numbersOf l) before
+  pub upTo : end ≡ k + length l * 5
+
+abbrev pub HoldsRows : List Row → List ℕ → List ℕ → Type 0
+HoldsRows l before after = after ≡ written 0 (numbersOf l) before
+
+-- the part of a text whose place and length are the numbers k and k + 1
+abbrev pub partTold : List ℕ → List ℕ → ℕ → List ℕ
+partTold s out k = take (getD out (k + 1) 0) (drop (getD out k 0) s)
+
+-- four numbers say what a file says: its length, the place of its name, as spelled, in s and its length, and how many rows it has
+pub record SaysFile (s : List ℕ) (f : File) (out : List ℕ) : Type 0 where
+  pub length : getD out 0 0 ≡ f .length
+  pub name : partTold s out 1 ≡ f .name
+  pub rows : getD out 3 0 ≡ lib.ListN.length (f .rows)
+
+-- each four numbers from the front on say a file
+unfoldable pub SaysFiles : List ℕ → List File → List ℕ → Type 0
+SaysFiles s [] out = Unit {0}
+SaysFiles s (f ∷ fs) out = SaysFile s f out × SaysFiles s fs (drop 4 out)
+
+pub record HoldsFiles (s : List ℕ) (fs : List File) (before after : List ℕ) : Type 0 where
+  pub says : SaysFiles s fs after
+  pub rest : drop (length fs * 4) after ≡ drop (length fs * 4) before
+  pub long : length after ≡ length before
+
+-- the numbers of a file that is handed out
+abbrev pub headNumbers : FileHead → List ℕ
+headNumbers h = h .length .0 ∷ h .name .from ∷ h .name .len ∷ h .rows ∷ []
+
+-- the rows of files, one file after the other
+unfoldable pub allRows : List File → List Row
+allRows [] = []
+allRows (f ∷ fs) = f .rows ++ allRows fs
+
+-- where a buffer of so many numbers has room for them: the rows of a file, the files of an index, the rows of all its files
+abbrev pub rowsFor : ℕ → Answer File → Answer (List Row)
+rowsFor room a = andThen a (λ f. fitting 5 room (f .rows))
+
+abbrev pub filesFor : ℕ → Answer Index → Answer (List File)
+filesFor room a = andThen a (λ x. fitting 4 room (x .files))
+
+abbrev pub allRowsFor : ℕ → Answer Index → Answer (List Row)
+allRowsFor room a = andThen a (λ x. fitting 5 room (allRows (x .files)))
