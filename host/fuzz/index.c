@@ -51,7 +51,7 @@ static void try_file(const struct index *index, uint64_t number, const uint64_t 
 
 typedef __typeof__(klapouzen_read_files) read_all;
 
-/* What a reader puts into exactly its room. Into a number less it puts nothing, and never anything behind it. */
+/* What a reader puts into exactly its room, and into more. Into a number less it puts nothing. */
 static uint64_t *try_all(const struct index *index, read_all *read, uint64_t refusal, uint64_t found, size_t each)
 {
     enum { BEHIND = 16 };
@@ -63,9 +63,11 @@ static uint64_t *try_all(const struct index *index, read_all *read, uint64_t ref
         must(ANSWERED(read(GIVEN(index), room, numbers - 1, FILLED(count)), count) == KLAPOUZEN_SHORT_OUTPUT);
         must_be_filled(room, end);
     }
-    must(ANSWERED(read(GIVEN(index), room, numbers, FILLED(count)), count) == refusal);
-    must(count[0] == found);
-    must_be_filled(room + numbers, end);
+    for (size_t more = 0; more <= BEHIND; more += BEHIND) {
+        must(ANSWERED(read(GIVEN(index), room, numbers + more, FILLED(count)), count) == refusal);
+        must(count[0] == found);
+        must_be_filled(room + numbers, end);
+    }
     return room;
 }
 
@@ -85,20 +87,25 @@ static void try_files(const struct index *index, uint64_t refusal, uint64_t coun
     free(all_rows);
 }
 
-int LLVMFuzzerTestOneInput(const uint8_t *input, size_t size)
+/* Number by number: the expressions of an initializer list are evaluated in any order. */
+static struct index take_index(struct slice rest)
 {
-    struct slice rest = { input, size };
-    uint64_t header[KLAPOUZEN_INDEX], file[KLAPOUZEN_FILE];
-    struct index index = {
-        .index_letter = (uint8_t)take_number(&rest, 1),
-        .data_letter = (uint8_t)take_number(&rest, 1),
-        .letter = (uint8_t)take_number(&rest, 1),
-        .block = take_number(&rest, 2),
-        .block_size = take_number(&rest, 4),
-    };
+    struct index index;
+    index.index_letter = (uint8_t)take_number(&rest, 1);
+    index.data_letter = (uint8_t)take_number(&rest, 1);
+    index.letter = (uint8_t)take_number(&rest, 1);
+    index.block = take_number(&rest, 2);
+    index.block_size = take_number(&rest, 4);
     index.uuid = take_slice(&rest);
     index.text = rest;
-    uint64_t refusal = ANSWERED(klapouzen_read_index(GIVEN(&index), FILLED(header)), header);
+    return index;
+}
+
+int LLVMFuzzerTestOneInput(const uint8_t *input, size_t size)
+{
+    uint64_t header[KLAPOUZEN_INDEX], file[KLAPOUZEN_FILE];
+    struct index index = take_index((struct slice){ input, size });
+    uint64_t refusal = judged(ANSWERED(klapouzen_read_index(GIVEN(&index), FILLED(header)), header));
     uint64_t files = header[KLAPOUZEN_INDEX_FILES];
     must(ANSWERED(klapouzen_read_file(GIVEN(&index), files, FILLED(file)), file)
          == (refusal != 0 ? refusal : KLAPOUZEN_MISSING));

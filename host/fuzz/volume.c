@@ -87,7 +87,7 @@ static void try_indexes(const struct volume *volume, int side, const uint64_t la
 static void try_volume(const struct volume *volume)
 {
     uint64_t label[KLAPOUZEN_LABEL], verdict[KLAPOUZEN_BREAK], cut[KLAPOUZEN_CUT];
-    uint64_t refusal = ANSWERED(klapouzen_check_labels(VOLUME(volume), FILLED(label)), label);
+    uint64_t refusal = judged(ANSWERED(klapouzen_check_labels(VOLUME(volume), FILLED(label)), label));
     must(ANSWERED(klapouzen_verdict(VOLUME(volume), FILLED(verdict)), verdict) == refusal);
     uint64_t no_cut = ANSWERED(klapouzen_rescue(VOLUME(volume), FILLED(cut)), cut);
     must(refusal == 0 ? no_cut == 0 || no_cut == KLAPOUZEN_NO_CUT : no_cut == refusal);
