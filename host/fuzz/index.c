@@ -15,10 +15,11 @@ enum { NUMBERS = KLAPOUZEN_ROW * KLAPOUZEN_MAX_ROWS };
 
 static uint64_t rows[NUMBERS];
 
+/* The first byte of a row; of many rows some. */
 static void try_rows(const struct index *index, uint64_t length, uint64_t count)
 {
     uint64_t place[KLAPOUZEN_BYTE];
-    for (uint64_t i = 0; i < count; i++) {
+    for (uint64_t i = 0; i < count; i += 1 + count / 16) {
         const uint64_t *row = rows + KLAPOUZEN_ROW * i;
         must(klapouzen_byte_at(rows, KLAPOUZEN_ROW * count, length, index->block_size,
                                row[KLAPOUZEN_ROW_POSITION], FILLED(place)) == 0);
