@@ -45,6 +45,13 @@ bool read_chosen_file(const struct chosen *chosen, uint64_t number, uint64_t fil
 void read_chosen_rows(const struct chosen *chosen, uint64_t number,
                       const uint64_t file[KLAPOUZEN_FILE], struct rows *rows);
 
+/*
+ * All files of the index, and the rows of all files, in one reading each: the numbers of klapouzen_read_files and of
+ * klapouzen_read_all_rows, to be freed.
+ */
+uint64_t *read_all_files(const struct chosen *chosen);
+uint64_t *read_all_rows(const struct chosen *chosen, const uint64_t *files);
+
 /* A file's name as spelled. */
 struct bytes file_name(const struct chosen *chosen, const uint64_t file[KLAPOUZEN_FILE]);
 

@@ -1,6 +1,7 @@
 /* klapouzen extract: a file's bytes through the byte map. */
 #include <errno.h>
 #include <inttypes.h>
+#include <stdlib.h>
 #include <string.h>
 
 #include "chosen.h"
@@ -35,12 +36,13 @@ struct extraction {
 /* The number of the only file with this name; false where none or several have it. */
 static bool find_name(const struct chosen *chosen, const char *name, uint64_t *number)
 {
-    uint64_t file[KLAPOUZEN_FILE], found = 0;
+    uint64_t *files = read_all_files(chosen), found = 0;
     for (uint64_t i = 0; i < chosen->header[KLAPOUZEN_INDEX_FILES]; i++)
-        if (read_chosen_file(chosen, i, file) && spells(file_name(chosen, file), name)) {
+        if (spells(file_name(chosen, files + KLAPOUZEN_FILE * i), name)) {
             *number = i;
             found++;
         }
+    free(files);
     if (found != 1)
         complain("%s: %s", name, found == 0 ? "no file has this name"
                                             : "several files have this name; give a number");

@@ -1,10 +1,10 @@
 /* klapouzen files: what an index holds. */
 #include <inttypes.h>
+#include <stdlib.h>
 
 #include "chosen.h"
 #include "commands.h"
 #include "common.h"
-#include "progress.h"
 #include "words.h"
 
 static const char help[] =
@@ -34,14 +34,14 @@ static void print_head(const struct chosen *chosen)
 }
 
 static void print_file(const struct chosen *chosen, uint64_t number,
-                       const uint64_t file[KLAPOUZEN_FILE], const struct rows *rows)
+                       const uint64_t file[KLAPOUZEN_FILE], const uint64_t *rows)
 {
     printf("%s%6" PRIu64 "%s  %14s  ", colour_code(stdout, CYAN), number,
            colour_code(stdout, PLAIN), grouped(file[KLAPOUZEN_FILE_LENGTH]));
     print_spelled(stdout, file_name(chosen, file));
     putchar('\n');
-    for (uint64_t i = 0; i < rows->count; i++) {
-        const uint64_t *row = rows->numbers + KLAPOUZEN_ROW * i;
+    for (uint64_t i = 0; i < file[KLAPOUZEN_FILE_ROWS]; i++) {
+        const uint64_t *row = rows + KLAPOUZEN_ROW * i;
         printf("%s        %c %s+%s, %s bytes at %s%s\n", colour_code(stdout, DIM),
                (char)row[KLAPOUZEN_ROW_LETTER], grouped(row[KLAPOUZEN_ROW_BLOCK]),
                grouped(row[KLAPOUZEN_ROW_OFFSET]), grouped(row[KLAPOUZEN_ROW_COUNT]),
@@ -50,14 +50,14 @@ static void print_file(const struct chosen *chosen, uint64_t number,
 }
 
 static void print_object(const struct chosen *chosen, uint64_t number,
-                         const uint64_t file[KLAPOUZEN_FILE], const struct rows *rows)
+                         const uint64_t file[KLAPOUZEN_FILE], const uint64_t *rows)
 {
     printf("{\"file\":%" PRIu64 ",\"length\":%" PRIu64 ",\"name\":", number,
            file[KLAPOUZEN_FILE_LENGTH]);
     print_json(stdout, file_name(chosen, file), true);
     fputs(",\"extents\":[", stdout);
-    for (uint64_t i = 0; i < rows->count; i++) {
-        const uint64_t *row = rows->numbers + KLAPOUZEN_ROW * i;
+    for (uint64_t i = 0; i < file[KLAPOUZEN_FILE_ROWS]; i++) {
+        const uint64_t *row = rows + KLAPOUZEN_ROW * i;
         printf("%s{\"partition\":\"%c\",\"startblock\":%" PRIu64 ",\"byteoffset\":%" PRIu64
                ",\"bytecount\":%" PRIu64 ",\"fileoffset\":%" PRIu64 "}", i > 0 ? "," : "",
                (char)row[KLAPOUZEN_ROW_LETTER], row[KLAPOUZEN_ROW_BLOCK],
@@ -68,17 +68,15 @@ static void print_object(const struct chosen *chosen, uint64_t number,
 
 static void list_files(const struct chosen *chosen, bool json)
 {
-    static struct rows rows;
-    uint64_t files = chosen->header[KLAPOUZEN_INDEX_FILES];
-    for (uint64_t number = 0; number < files; number++) {
-        uint64_t file[KLAPOUZEN_FILE];
-        show_progress((int)number, (int)files);
-        if (!read_chosen_file(chosen, number, file))
-            continue;
-        read_chosen_rows(chosen, number, file, &rows);
-        clear_progress();
-        (json ? print_object : print_file)(chosen, number, file, &rows);
+    uint64_t *files = read_all_files(chosen), *rows = read_all_rows(chosen, files);
+    const uint64_t *file = files, *row = rows;
+    for (uint64_t number = 0; number < chosen->header[KLAPOUZEN_INDEX_FILES]; number++) {
+        (json ? print_object : print_file)(chosen, number, file, row);
+        row += KLAPOUZEN_ROW * file[KLAPOUZEN_FILE_ROWS];
+        file += KLAPOUZEN_FILE;
     }
+    free(files);
+    free(rows);
 }
 
 struct wish {

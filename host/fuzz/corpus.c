@@ -1,25 +1,26 @@
 /*
- * make_corpus DIR CASES: writes the inputs that fuzzing starts from, a folder for
- * each target: the vectors in crates/, and random volumes, labels, indexes and rows.
+ * make_corpus DIR CASES: writes the inputs that fuzzing starts from, a folder for each target: the vectors in crates/,
+ * and CASES of the reference's generator.
  */
 #include <inttypes.h>
 #include <stdio.h>
 #include <stdlib.h>
+#include <string.h>
 #include <sys/stat.h>
 
-#include "case_lines.h"
-#include "cases.h"
 #include "sample.h"
+#include "vectors.h"
 
+enum target { VOLUME, LABEL, INDEX, FORM, ROWS, TARGETS };
+
+static const char *const names[TARGETS] = { "volume", "label", "index", "form", "rows" };
+static uint64_t written[TARGETS];
 static const char *folder;
 
-static void write_input(const char *target, struct buffer *input)
+static void write_input(enum target target, struct buffer *input)
 {
-    static uint64_t number;
     char path[4096];
-    snprintf(path, sizeof path, "%s/%s", folder, target);
-    mkdir(path, 0777);
-    snprintf(path, sizeof path, "%s/%s/%06" PRIu64, folder, target, number++);
+    snprintf(path, sizeof path, "%s/%s/%06" PRIu64, folder, names[target], written[target]++);
     FILE *file = fopen(path, "wb");
     if (file != NULL && input->length > 0)
         fwrite(input->bytes, 1, input->length, file);
@@ -37,95 +38,111 @@ static void put_number(struct buffer *input, uint64_t number, int bytes)
         put_byte(input, (uint8_t)(number >> 8 * bytes), 1);
 }
 
-static void put_slice(struct buffer *input, const struct random_case *random, int which)
+static void put_part(struct buffer *input, const struct random_case *from, int which)
 {
-    put_number(input, random->lengths[which], 3);
-    put_bytes(input, random->bytes[which], random->lengths[which]);
+    put_bytes(input, from->bytes[which], from->lengths[which]);
 }
 
-static void write_volume(uint64_t seed)
+static void put_slice(struct buffer *input, const struct random_case *from, int which)
 {
-    struct random_case random = random_volume(seed);
+    put_number(input, from->lengths[which], 3);
+    put_part(input, from, which);
+}
+
+static void write_volume(const struct random_case *volume)
+{
     struct buffer input = { 0 };
-    put_number(&input, random.numbers[0], 1);
+    put_number(&input, volume->numbers[0], 1);
     for (int i = 0; i < 4; i++)
-        put_slice(&input, &random, i);
-    write_input("volume", &input);
-    random_free(random);
+        put_slice(&input, volume, i);
+    write_input(VOLUME, &input);
 }
 
-static void write_label(uint64_t seed)
+/* Of a label and of a VOL1. */
+static void write_label(const struct random_case *label)
 {
-    struct random_case random = random_label(seed);
     struct buffer input = { 0 };
-    put_bytes(&input, random.bytes[0], random.lengths[0]);
-    write_input("label", &input);
-    random_free(random);
-    random = random_vol1(seed);
-    put_bytes(&input, random.bytes[0], random.lengths[0]);
-    write_input("label", &input);
-    random_free(random);
+    put_part(&input, label, 0);
+    write_input(LABEL, &input);
 }
 
-static void write_index(uint64_t seed)
+static void write_index(const struct random_case *index)
 {
-    struct random_case random = random_index(seed);
     struct buffer input = { 0 };
-    const uint64_t *n = random.numbers;
+    const uint64_t *n = index->numbers;
     put_number(&input, n[0], 1);
     put_number(&input, n[1], 1);
     put_number(&input, n[3], 1);
     put_number(&input, n[4], 2);
     put_number(&input, n[2], 4);
-    put_slice(&input, &random, 1);
-    put_bytes(&input, random.bytes[0], random.lengths[0]);
-    write_input("index", &input);
+    put_slice(&input, index, 1);
+    put_part(&input, index, 0);
+    write_input(INDEX, &input);
+}
+
+static void write_form(const struct random_case *text)
+{
+    struct buffer input = { 0 };
+    put_part(&input, text, 0);
+    write_input(FORM, &input);
+}
+
+static void write_rows(const struct random_case *list)
+{
+    struct buffer input = { 0 };
+    put_number(&input, list->numbers[0], 8);
+    put_number(&input, list->numbers[1], 4);
+    put_number(&input, list->numbers[2], 8);
+    for (size_t i = 0; i < list->row_numbers; i++)
+        put_number(&input, list->rows[i], 8);
+    write_input(ROWS, &input);
+}
+
+static void write_random(struct random_case random, void (*write)(const struct random_case *random))
+{
+    write(&random);
     random_free(random);
 }
 
-static void write_rows(uint64_t seed)
+static void make_folders(void)
 {
-    struct random_case random = random_rows(seed);
-    struct buffer input = { 0 };
-    put_number(&input, random.numbers[0], 8);
-    put_number(&input, random.numbers[1], 4);
-    put_number(&input, random.numbers[2], 8);
-    for (size_t i = 0; i < random.row_numbers; i++)
-        put_number(&input, random.rows[i], 8);
-    write_input("rows", &input);
-    random_free(random);
+    char path[4096];
+    mkdir(folder, 0777);
+    for (int i = 0; i < TARGETS; i++) {
+        snprintf(path, sizeof path, "%s/%s", folder, names[i]);
+        mkdir(path, 0777);
+    }
 }
 
-static void write_label_text(const uint8_t *text, size_t length)
+static void write_vectors(void)
 {
-    struct buffer input = { 0 };
-    put_bytes(&input, text, length);
-    write_input("label", &input);
-}
-
-static void write_form(const uint8_t *text, size_t length, bool in_form)
-{
-    struct buffer input = { 0 };
-    (void)in_form;
-    put_bytes(&input, text, length);
-    write_input("form", &input);
+    each_vector(VOLUMES, write_volume);
+    each_vector(LABELS, write_label);
+    each_vector(VOL1S, write_label);
+    each_vector(INDEXES, write_index);
+    each_vector(TEXTS, write_form);
+    each_vector(ROW_LISTS, write_rows);
 }
 
 int main(int count, char **words)
 {
+    uint64_t vectors[TARGETS];
     if (count != 3)
         return 2;
     folder = words[1];
-    mkdir(folder, 0777);
+    make_folders();
+    write_vectors();
+    memcpy(vectors, written, sizeof vectors);
     uint64_t cases = strtoull(words[2], NULL, 10);
     for (uint64_t seed = 0; seed < cases; seed++) {
-        write_volume(seed);
-        write_label(seed);
-        write_index(seed);
-        write_rows(seed);
+        write_random(random_volume(seed), write_volume);
+        write_random(random_label(seed), write_label);
+        write_random(random_vol1(seed), write_label);
+        write_random(random_index(seed), write_index);
+        write_random(random_rows(seed), write_rows);
     }
-    bool read = each_case_line("../crates/xml_cases/data/cases", write_form)
-        && each_case_line("../crates/xml_cases/data/vectors", write_form);
-    each_case_text("../crates/label_cases/data/read_vectors", write_label_text);
-    return read ? 0 : 2;
+    for (int i = 0; i < TARGETS; i++)
+        printf("%s: %" PRIu64 " inputs from vectors, %" PRIu64 " from the generator\n", names[i], vectors[i],
+               written[i] - vectors[i]);
+    return 0;
 }

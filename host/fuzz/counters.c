@@ -2,3 +2,5 @@
 #include "fuzz.h"
 
 __attribute__((section("__libfuzzer_extra_counters"))) uint8_t fuzz_counters[COUNTERS];
+
+uint64_t fuzz_accepted;

@@ -3,7 +3,7 @@
 
 int LLVMFuzzerTestOneInput(const uint8_t *input, size_t size)
 {
-    uint64_t refusal = klapouzen_check_form(input, size);
+    uint64_t refusal = judged(klapouzen_check_form(input, size));
     must(refusal == 0 || refusal == KLAPOUZEN_BAD_FORM);
     saw(refusal == 0, size);
     uint8_t *longer = malloc(size + 1);

@@ -19,6 +19,16 @@ enum { COUNTERS = 8192 };
 
 extern uint8_t fuzz_counters[COUNTERS];
 
+/* How many inputs were accepted. A corpus of which none is says nothing. */
+extern uint64_t fuzz_accepted;
+
+/* The refusal of the function that an input is for. */
+static inline uint64_t judged(uint64_t refusal)
+{
+    fuzz_accepted += refusal == 0;
+    return refusal;
+}
+
 static inline void saw(unsigned what, uint64_t value)
 {
     unsigned digits = 0;

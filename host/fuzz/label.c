@@ -38,7 +38,7 @@ int LLVMFuzzerTestOneInput(const uint8_t *input, size_t size)
 {
     struct slice text = { input, size };
     uint64_t label[KLAPOUZEN_LABEL];
-    uint64_t refusal = ANSWERED(klapouzen_read_label(SLICE(text), FILLED(label)), label);
+    uint64_t refusal = judged(ANSWERED(klapouzen_read_label(SLICE(text), FILLED(label)), label));
     if (refusal == 0) {
         must(klapouzen_check_form(SLICE(text)) == 0);
         write_again(text, label);

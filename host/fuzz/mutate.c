@@ -2,7 +2,8 @@
  * A fuzzer for where libFuzzer isn't: TARGET FOLDER SECONDS [SEED]. Takes inputs of
  * the folder, changes them and calls the target, each input at the border of a
  * page that can't be touched; an input with a new answer is one to go on from.
- * The input of a crash is written to ./crash-PID.
+ * The input of a crash is written to ./crash-PID. Status 1 where the target
+ * accepts no input of the folder.
  */
 #include <dirent.h>
 #include <inttypes.h>
@@ -18,7 +19,7 @@
 #include "guard.h"
 #include "sample.h"
 
-enum { MOST = 4096, LARGEST = 1 << 20 };
+enum { MOST = 4096, LARGEST = 2000000 };
 
 static struct buffer corpus[MOST];
 static size_t inputs;
@@ -188,9 +189,10 @@ int main(int count, char **words)
     for (size_t i = 0; i < inputs; i++)
         run_one(&corpus[i]);
     size_t given = inputs;
-    uint64_t runs = run_for(strtod(words[2], NULL));
-    printf("%zu inputs, %" PRIu64 " runs, %zu new inputs\n", given, runs, inputs - given);
+    uint64_t accepted = fuzz_accepted, runs = run_for(strtod(words[2], NULL));
+    printf("%zu inputs, %" PRIu64 " accepted; %" PRIu64 " runs, %" PRIu64 " accepted, %zu new inputs\n", given,
+           accepted, runs, fuzz_accepted - accepted, inputs - given);
     for (size_t i = 0; i < inputs; i++)
         buffer_free(&corpus[i]);
-    return inputs == 0;
+    return accepted == 0;
 }

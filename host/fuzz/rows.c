@@ -10,7 +10,8 @@ int LLVMFuzzerTestOneInput(const uint8_t *input, size_t size)
     uint64_t *rows = malloc(rest.length + 8);
     while (rest.length > 0)
         rows[count++] = take_number(&rest, 8);
-    uint64_t refusal = ANSWERED(klapouzen_byte_at(rows, count, length, block_size, position, FILLED(place)), place);
+    uint64_t refusal
+        = judged(ANSWERED(klapouzen_byte_at(rows, count, length, block_size, position, FILLED(place)), place));
     if (refusal == 0) {
         must(position < length && place[KLAPOUZEN_BYTE_OFFSET] < block_size);
         must(place[KLAPOUZEN_BYTE_STORED] <= 1);

@@ -57,15 +57,45 @@ static void try_cut(const struct volume *volume, const uint64_t cut[KLAPOUZEN_CU
     must(drops == !is_consistent);
 }
 
+/* The index of a construct says what is read of the text where the table has it. */
+static void try_indexes(const struct volume *volume, int side, const uint64_t label[KLAPOUZEN_LABEL])
+{
+    uint64_t standing[1], index[KLAPOUZEN_CONSTRUCT_NUMBERS], header[KLAPOUZEN_INDEX];
+    uint64_t block_size = label[KLAPOUZEN_LABEL_BLOCK_SIZE];
+    uint8_t letters[2] = { (uint8_t)label[KLAPOUZEN_LABEL_INDEX_LETTER], (uint8_t)label[KLAPOUZEN_LABEL_DATA_LETTER] };
+    const uint8_t *store = volume->parts[2 * side + 1].start;
+#define GIVEN volume->parts[1].start + label[KLAPOUZEN_LABEL_UUID], label[KLAPOUZEN_LABEL_UUID_LENGTH], letters[0], \
+        letters[1], block_size, letters[side]
+    must(klapouzen_constructs(SIDE(volume, side), block_size, table, standing) == 0);
+    must(ANSWERED(klapouzen_index(SIDE(volume, side), GIVEN, standing[0], FILLED(index)), index) == KLAPOUZEN_MISSING);
+    for (uint64_t i = 0; i < standing[0] && i < 3; i++) {
+        const uint32_t *row = table + KLAPOUZEN_CONSTRUCT * i;
+        uint32_t begin = row[KLAPOUZEN_CONSTRUCT_BEGIN], length = row[KLAPOUZEN_CONSTRUCT_END] - begin;
+        uint64_t refusal = ANSWERED(klapouzen_index(SIDE(volume, side), GIVEN, i, FILLED(index)), index);
+        must(klapouzen_read_index(store + begin, length, GIVEN, row[KLAPOUZEN_CONSTRUCT_FIRST_BLOCK], FILLED(header))
+             == refusal);
+        if (refusal != 0)
+            continue;
+        must(index[KLAPOUZEN_CONSTRUCT_ELEMENT] == row[KLAPOUZEN_CONSTRUCT_FIRST_BLOCK]
+             && index[KLAPOUZEN_CONSTRUCT_ELEMENTS] == row[KLAPOUZEN_CONSTRUCT_KEPT]
+             && index[KLAPOUZEN_CONSTRUCT_TEXT] == begin && index[KLAPOUZEN_CONSTRUCT_TEXT_LENGTH] == length);
+        must(memcmp(index + KLAPOUZEN_CONSTRUCT_INDEX, header, sizeof header) == 0);
+    }
+#undef GIVEN
+}
+
 static void try_volume(const struct volume *volume)
 {
     uint64_t label[KLAPOUZEN_LABEL], verdict[KLAPOUZEN_BREAK], cut[KLAPOUZEN_CUT];
-    uint64_t refusal = ANSWERED(klapouzen_check_labels(VOLUME(volume), FILLED(label)), label);
+    uint64_t refusal = judged(ANSWERED(klapouzen_check_labels(VOLUME(volume), FILLED(label)), label));
     must(ANSWERED(klapouzen_verdict(VOLUME(volume), FILLED(verdict)), verdict) == refusal);
     uint64_t no_cut = ANSWERED(klapouzen_rescue(VOLUME(volume), FILLED(cut)), cut);
     must(refusal == 0 ? no_cut == 0 || no_cut == KLAPOUZEN_NO_CUT : no_cut == refusal);
-    if (refusal == 0)
+    if (refusal == 0) {
         must(no_cut == 0 || verdict[0] != 0);
+        try_indexes(volume, 0, label);
+        try_indexes(volume, 1, label);
+    }
     if (no_cut == 0)
         try_cut(volume, cut, verdict[0] == 0);
 }

@@ -328,6 +328,34 @@ uint64_t klapouzen_read_rows(const uint8_t *text, size_t length,
                              uint64_t *count);
 
 /*
+ * All files of an index in one reading: the four numbers of each, as
+ * klapouzen_read_file has them, at the front of the lent buffer, in text order;
+ * the rest of the buffer is unchanged. files_length counts numbers, *count
+ * files; KLAPOUZEN_INDEX_FILES says how many there are.
+ * Refusals: as klapouzen_read_index, then 10.
+ */
+uint64_t klapouzen_read_files(const uint8_t *text, size_t length,
+                              const uint8_t *uuid, size_t uuid_length,
+                              uint8_t index_letter, uint8_t data_letter,
+                              uint64_t block_size, uint8_t letter, uint64_t block,
+                              uint64_t *files, size_t files_length,
+                              uint64_t *count);
+
+/*
+ * The rows of all files in one reading: those of file 0, then those of file 1,
+ * and so on, each as klapouzen_read_rows has it, at the front of the lent
+ * buffer; the rest of the buffer is unchanged. rows_length counts numbers,
+ * *count rows; KLAPOUZEN_FILE_ROWS says how many are a file's.
+ * Refusals: as klapouzen_read_index, then 10.
+ */
+uint64_t klapouzen_read_all_rows(const uint8_t *text, size_t length,
+                                 const uint8_t *uuid, size_t uuid_length,
+                                 uint8_t index_letter, uint8_t data_letter,
+                                 uint64_t block_size, uint8_t letter, uint64_t block,
+                                 uint64_t *rows, size_t rows_length,
+                                 uint64_t *count);
+
+/*
  * The index of a partition by the number of its construct, from 0. `letter` is
  * the partition's own. out: where the construct is, then the numbers of
  * klapouzen_read_index from KLAPOUZEN_CONSTRUCT_INDEX on.

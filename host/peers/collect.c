@@ -53,7 +53,7 @@ void collect_begin(struct collector *collector)
 
 static void begin_file(struct collected *found)
 {
-    struct collected_file file = { .first_row = found->rows.length / (5 * sizeof(uint64_t)) };
+    struct collected_file file = { 0 };
     put_bytes(&found->files, &file, sizeof file);
 }
 

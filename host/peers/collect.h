@@ -11,7 +11,7 @@
 struct collected_file {
     uint64_t uid, length;
     size_t name, name_length; /* in names */
-    size_t first_row, rows;
+    size_t rows;
 };
 
 struct collected {

@@ -1,9 +1,9 @@
 /*
  * The form check beside other parsers: peers [CASES]. Every text that it accepts
- * expat and libxml2 accept, and expat with the same tree; every text that it
- * refuses and expat accepts is refused for one of document 01's restrictions,
- * which is named. Lawful indexes say the same to expat's handlers as to the
- * index reader.
+ * expat and libxml2 accept, and expat with the tree of the reader of elements;
+ * every text that it refuses and expat accepts is refused for one of document
+ * 01's restrictions, which is named. Lawful indexes say the same to other
+ * parsers' handlers as to the index reader.
  */
 #include <expat.h>
 #include <inttypes.h>
@@ -12,12 +12,12 @@
 #include <stdlib.h>
 #include <string.h>
 
-#include "case_lines.h"
-#include "cases.h"
 #include "collect.h"
 #include "klapouzen.h"
+#include "trees.h"
+#include "vectors.h"
 
-static uint64_t texts, accepted, refused_by_both, failures;
+static uint64_t texts, accepted, refused_by_both, trees, failures;
 
 static void fail(const char *what, const uint8_t *text, size_t length)
 {
@@ -69,9 +69,8 @@ static void put_attributes(struct seen *seen, const XML_Char **attributes)
         if (!is_name(attributes[0]))
             seen->restrictions[NAME] = true;
         put_named(&seen->tree, '@', attributes[0]);
-        put(&seen->tree, "=%zu ", strlen(attributes[1]));
-        put_bytes(&seen->tree, attributes[1], strlen(attributes[1]));
-        put(&seen->tree, "\n");
+        put(&seen->tree, "=");
+        put_counted(&seen->tree, attributes[1], strlen(attributes[1]));
     }
 }
 
@@ -102,9 +101,8 @@ static void XMLCALL on_end(void *data, const XML_Char *name)
     if (seen->has_child[seen->depth] && seen->has_text[seen->depth])
         seen->restrictions[MIXED] = true;
     if (!seen->has_child[seen->depth]) {
-        put(&seen->tree, "\"%zu ", seen->text.length);
-        put_bytes(&seen->tree, seen->text.bytes, seen->text.length);
-        put(&seen->tree, "\n");
+        put(&seen->tree, "\"");
+        put_counted(&seen->tree, seen->text.bytes, seen->text.length);
     }
     put(&seen->tree, ")\n");
     seen->depth--;
@@ -171,18 +169,22 @@ static bool libxml2_accepts(const uint8_t *text, size_t length)
     return document != NULL;
 }
 
+static void fail_tree(const uint8_t *text, size_t length)
+{
+    fail("accepted, but expat has another tree", text, length);
+}
+
 static void judge_accepted(const struct seen *seen, bool taken, const uint8_t *text, size_t length)
 {
-    struct random_case tree = random_tree(text, length);
     accepted++;
     if (!taken)
         fail("accepted, but not by expat", text, length);
-    else if (tree.lengths[0] != seen->tree.length
-             || memcmp(tree.bytes[0], seen->tree.bytes, seen->tree.length) != 0)
-        fail("accepted, but expat has another tree", text, length);
+    else
+        tree_wanted(text, length, &seen->tree);
+    if (many_trees_wanted())
+        trees += compare_trees(fail_tree);
     if (!libxml2_accepts(text, length))
         fail("accepted, but not by libxml2", text, length);
-    random_free(tree);
 }
 
 static void judge_refused(const struct seen *seen, bool taken, const uint8_t *text, size_t length)
@@ -217,24 +219,28 @@ static void judge(const uint8_t *text, size_t length)
     (text)->bytes[0], (text)->lengths[0], (text)->bytes[1], (text)->lengths[1], (uint8_t)(random)[0], \
         (uint8_t)(random)[1], (random)[2], (uint8_t)(random)[3], (random)[4]
 
-static bool same_file(const struct random_case *random, const struct collected *found, size_t number)
+/* Lengths and rows of all files; a collector has the rows one behind another too. */
+static bool same_files(const struct random_case *random, const struct collected *found)
 {
-    static uint64_t rows[KLAPOUZEN_ROW * KLAPOUZEN_MAX_ROWS];
-    uint64_t file[KLAPOUZEN_FILE], count;
-    const struct collected_file *other = collected_file(found, number);
-    if (klapouzen_read_file(GIVEN(random, random->numbers), number, file) != 0
-        || klapouzen_read_rows(GIVEN(random, random->numbers), number, rows,
-                               sizeof rows / sizeof rows[0], &count) != 0)
-        return false;
-    const uint8_t *other_rows = found->rows.bytes + other->first_row * 5 * sizeof *rows;
-    return file[KLAPOUZEN_FILE_LENGTH] == other->length && count == other->rows
-        && (count == 0 || memcmp(rows, other_rows, count * 5 * sizeof *rows) == 0);
+    size_t count = collected_files(found), rows_size = found->rows.length;
+    uint64_t *files = malloc(count * KLAPOUZEN_FILE * sizeof *files + 1), *rows = malloc(rows_size + 1);
+    uint64_t files_read, rows_read;
+    bool same = klapouzen_read_files(GIVEN(random, random->numbers), files, KLAPOUZEN_FILE * count, &files_read) == 0
+        && klapouzen_read_all_rows(GIVEN(random, random->numbers), rows, rows_size / sizeof *rows, &rows_read) == 0
+        && files_read == count && rows_read * KLAPOUZEN_ROW * sizeof *rows == rows_size
+        && (rows_size == 0 || memcmp(rows, found->rows.bytes, rows_size) == 0);
+    for (size_t i = 0; same && i < count; i++)
+        same = files[KLAPOUZEN_FILE * i + KLAPOUZEN_FILE_LENGTH] == collected_file(found, i)->length
+            && files[KLAPOUZEN_FILE * i + KLAPOUZEN_FILE_ROWS] == collected_file(found, i)->rows;
+    free(files);
+    free(rows);
+    return same;
 }
 
 static bool same_index(const struct random_case *random, const struct collected *found,
                        const uint64_t header[KLAPOUZEN_INDEX])
 {
-    bool same = header[KLAPOUZEN_INDEX_GENERATION] == found->generation
+    return header[KLAPOUZEN_INDEX_GENERATION] == found->generation
         && header[KLAPOUZEN_INDEX_LETTER] == found->place[0]
         && header[KLAPOUZEN_INDEX_BLOCK] == found->place[1]
         && header[KLAPOUZEN_INDEX_HAS_BACK] == found->has_back
@@ -243,10 +249,7 @@ static bool same_index(const struct random_case *random, const struct collected 
         && header[KLAPOUZEN_INDEX_POLICY_UPDATE] == found->policy_update
         && header[KLAPOUZEN_INDEX_HIGHEST_UID] == found->highest_uid
         && header[KLAPOUZEN_INDEX_DIRECTORIES] == found->directories
-        && header[KLAPOUZEN_INDEX_FILES] == collected_files(found);
-    for (size_t i = 0; same && i < collected_files(found); i++)
-        same = same_file(random, found, i);
-    return same;
+        && header[KLAPOUZEN_INDEX_FILES] == collected_files(found) && same_files(random, found);
 }
 
 static uint64_t indexes;
@@ -302,13 +305,35 @@ static void judge_restrictions(void)
         judge_line((const uint8_t *)whole[i], strlen(whole[i]), false);
 }
 
+static void judge_spelled(const struct random_case *text)
+{
+    judge_line(text->bytes[0], text->lengths[0], text->numbers[0] == 1);
+}
+
+static void judge_label(const struct random_case *label)
+{
+    judge(label->bytes[0], label->lengths[0]);
+}
+
+static void judge_whole_index(const struct random_case *index)
+{
+    judge(index->bytes[0], index->lengths[0]);
+    judge_index(index);
+}
+
+static void judge_vectors(void)
+{
+    each_vector(TEXTS, judge_spelled);
+    each_vector(LABELS, judge_label);
+    each_vector(INDEXES, judge_whole_index);
+}
+
 static void judge_random(uint64_t cases)
 {
     for (uint64_t seed = 0; seed < cases; seed++) {
         struct random_case label = random_label(seed), index = random_index(seed);
-        judge(label.bytes[0], label.lengths[0]);
-        judge(index.bytes[0], index.lengths[0]);
-        judge_index(&index);
+        judge_label(&label);
+        judge_whole_index(&index);
         random_free(label);
         random_free(index);
     }
@@ -316,11 +341,10 @@ static void judge_random(uint64_t cases)
 
 int main(int count, char **words)
 {
-    bool read = each_case_line("../crates/xml_cases/data/cases", judge_line)
-        && each_case_line("../crates/xml_cases/data/vectors", judge_line);
-    each_case_text("../crates/label_cases/data/read_vectors", judge);
+    judge_vectors();
     judge_restrictions();
     judge_random(count > 1 ? strtoull(words[1], NULL, 10) : 20000);
+    trees += compare_trees(fail_tree);
     xmlCleanupParser();
     printf("%" PRIu64 " texts: %" PRIu64 " accepted by all, %" PRIu64 " refused by both; accepted by expat and refused for\n",
            texts, accepted, refused_by_both);
@@ -329,6 +353,7 @@ int main(int count, char **words)
         if (named[i] == 0)
             failures++;
     }
-    printf("%" PRIu64 " indexes say the same to expat and libxml2; %" PRIu64 " failures\n", indexes, failures);
-    return failures > 0 || !read;
+    printf("%" PRIu64 " trees compared with expat's, %" PRIu64 " indexes with what expat and libxml2 say; %" PRIu64
+           " failures\n", trees, indexes, failures);
+    return failures > 0;
 }

@@ -4,6 +4,7 @@
 #include <string.h>
 #include <sys/stat.h>
 
+#include "klapouzen.h"
 #include "sample.h"
 
 enum { BLOCK_SIZE = 4096 };
@@ -133,6 +134,24 @@ static void sparse(struct sample *sample)
     sample_index(sample, 0, &index);
 }
 
+/* As many files as an index has room for; one in sixteen has bytes. */
+static void many(struct sample *sample)
+{
+    uint64_t first = put_run(sample, BLOCK_SIZE, 3);
+    struct extent extent = { 'b', first, 16, 10, 0 };
+    struct index_text index;
+    sample_empty_index(sample, 1);
+    struct index_head head = sample_head(sample, 0);
+    index_begin(&index, &head);
+    for (int i = 0; index.text.length + 1024 < KLAPOUZEN_MAX_INDEX; i++) {
+        char name[16];
+        snprintf(name, sizeof name, "%d.wav", i);
+        index_file(&index, name, i % 16 == 0 ? 10 : 0, &extent, i % 16 == 0);
+    }
+    index_end(&index);
+    sample_index(sample, 0, &index);
+}
+
 /* ---- Writing ---- */
 
 static void write_part(const char *folder, const char *name, const struct buffer *bytes)
@@ -160,7 +179,7 @@ int main(int count, char **words)
 {
     static const struct { const char *name; void (*make)(struct sample *); } kinds[] = {
         { "fresh", fresh }, { "torn", torn }, { "nights", nights }, { "defect", defect },
-        { "sparse", sparse }, { "long", long_one },
+        { "sparse", sparse }, { "long", long_one }, { "many", many },
     };
     struct sample sample;
     for (size_t i = 0; count == 3 && i < sizeof kinds / sizeof kinds[0]; i++) {
@@ -172,6 +191,6 @@ int main(int count, char **words)
         sample_free(&sample);
         return 0;
     }
-    fputs("usage: make_sample fresh|torn|nights|defect|sparse|long DIR\n", stderr);
+    fputs("usage: make_sample fresh|torn|nights|defect|sparse|long|many DIR\n", stderr);
     return 2;
 }

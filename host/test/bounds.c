@@ -121,6 +121,10 @@ static void smallest_indexes(void)
     expect_zeros("its file", KLAPOUZEN_FILE);
     expect("read_rows of nothing", klapouzen_read_rows(NONE, GIVEN, 'a', 5, 0, NONE, filled()), 4);
     expect_zeros("its count", 1);
+    expect("read_files of nothing", klapouzen_read_files(NONE, GIVEN, 'a', 5, NONE, filled()), 4);
+    expect_zeros("its count", 1);
+    expect("read_all_rows of nothing", klapouzen_read_all_rows(NONE, GIVEN, 'a', 5, NONE, filled()), 4);
+    expect_zeros("its count", 1);
     expect("index of nothing", klapouzen_index(NONE, NONE, GIVEN, 'a', 0, filled()), 2);
     expect_zeros("its header", KLAPOUZEN_CONSTRUCT_NUMBERS);
     expect("byte_at without rows", klapouzen_byte_at(NONE, 1, 4096, 0, filled()), 0);
@@ -311,18 +315,26 @@ static void rows_of(const char *what, size_t count, uint64_t wanted)
     free(extents);
 }
 
+/* An index with so many files of the most rows; the rows' blocks count on from file to file. */
+static struct slice index_of_rows(size_t files)
+{
+    struct extent extents[KLAPOUZEN_MAX_ROWS];
+    struct index_text index;
+    index_begin(&index, &head);
+    for (size_t file = 0; file < files; file++) {
+        for (size_t i = 0; i < KLAPOUZEN_MAX_ROWS; i++)
+            extents[i] = (struct extent){ 'b', KLAPOUZEN_MAX_ROWS * file + i, 0, 1, i };
+        index_file(&index, "f", KLAPOUZEN_MAX_ROWS, extents, KLAPOUZEN_MAX_ROWS);
+    }
+    index_end(&index);
+    return guarded(&index.text);
+}
+
 /* All rows of a file into exactly their room, and into a number less. */
 static void row_room(void)
 {
     enum { NUMBERS = KLAPOUZEN_ROW * KLAPOUZEN_MAX_ROWS };
-    struct extent extents[KLAPOUZEN_MAX_ROWS];
-    struct index_text index;
-    for (size_t i = 0; i < KLAPOUZEN_MAX_ROWS; i++)
-        extents[i] = (struct extent){ 'b', i, 0, 1, i };
-    index_begin(&index, &head);
-    index_file(&index, "f", KLAPOUZEN_MAX_ROWS, extents, KLAPOUZEN_MAX_ROWS);
-    index_end(&index);
-    struct slice text = guarded(&index.text);
+    struct slice text = index_of_rows(1);
     uint64_t *rows = guarded_room(NUMBERS * sizeof *rows);
     memset(rows, 0xa5, NUMBERS * sizeof *rows);
     expect("short rows", klapouzen_read_rows(SLICE(text), GIVEN, 'a', 5, 0, rows, NUMBERS - 1, filled()), 10);
@@ -333,6 +345,75 @@ static void row_room(void)
     expect("its byte", klapouzen_byte_at(rows, NUMBERS, 1024, 4096, 1023, filled()), 0);
     expect("its block", out[KLAPOUZEN_BYTE_BLOCK], 1023);
     guarded_free(rows, NUMBERS * sizeof *rows);
+    drop(text);
+}
+
+/* ---- All files and all rows ---- */
+
+typedef __typeof__(klapouzen_read_files) read_all;
+
+/* What a reader puts into exactly its room, after it refused a number less of it and changed nothing. */
+static uint64_t *all_of(const char *what, read_all *read, struct slice text, uint64_t count, size_t each)
+{
+    size_t numbers = count * each;
+    uint64_t *room = guarded_room(numbers * sizeof *room);
+    for (size_t i = 0; i < numbers; i++)
+        room[i] = 0xa5a5a5a5a5a5a5a5;
+    expect(what, read(SLICE(text), GIVEN, 'a', 5, NONE, filled()), 10);
+    expect(what, read(SLICE(text), GIVEN, 'a', 5, room, numbers - 1, filled()), 10);
+    expect_zeros(what, 1);
+    for (size_t i = 0; i < numbers; i++)
+        expect("an unchanged number", room[i], 0xa5a5a5a5a5a5a5a5);
+    expect(what, read(SLICE(text), GIVEN, 'a', 5, room, numbers, filled()), 0);
+    expect(what, out[0], count);
+    return room;
+}
+
+/* The most files of one extent each, which are below the most entries. */
+static void most_files(void)
+{
+    struct buffer buffer = index_of_size(KLAPOUZEN_MAX_INDEX, false);
+    struct slice text = guarded(&buffer);
+    expect("their index", klapouzen_read_index(SLICE(text), GIVEN, 'a', 5, filled()), 0);
+    uint64_t count = out[KLAPOUZEN_INDEX_FILES], row[KLAPOUZEN_ROW], rows_read;
+    uint64_t *files = all_of("most files", klapouzen_read_files, text, count, KLAPOUZEN_FILE);
+    uint64_t *rows = all_of("a row of each", klapouzen_read_all_rows, text, count, KLAPOUZEN_ROW);
+    for (uint64_t i = 0; i < count; i += count / 7) {
+        expect("a file", klapouzen_read_file(SLICE(text), GIVEN, 'a', 5, i, filled()), 0);
+        expect("as alone", memcmp(out, files + KLAPOUZEN_FILE * i, KLAPOUZEN_FILE * sizeof *out) != 0, 0);
+        expect("its row", klapouzen_read_rows(SLICE(text), GIVEN, 'a', 5, i, row, KLAPOUZEN_ROW, &rows_read), 0);
+        expect("as alone", memcmp(row, rows + KLAPOUZEN_ROW * i, sizeof row) != 0, 0);
+    }
+    guarded_free(files, KLAPOUZEN_FILE * count * sizeof *files);
+    guarded_free(rows, KLAPOUZEN_ROW * count * sizeof *rows);
+    drop(text);
+}
+
+/* As many files of the most rows as an index has room for. */
+static void most_rows(void)
+{
+    enum { FILES = 6, COUNT = FILES * KLAPOUZEN_MAX_ROWS };
+    struct slice text = index_of_rows(FILES);
+    uint64_t *rows = all_of("most rows", klapouzen_read_all_rows, text, COUNT, KLAPOUZEN_ROW);
+    for (uint64_t i = 0; i < COUNT; i++) {
+        expect("a block", rows[KLAPOUZEN_ROW * i + KLAPOUZEN_ROW_BLOCK], i);
+        expect("a position", rows[KLAPOUZEN_ROW * i + KLAPOUZEN_ROW_POSITION], i % KLAPOUZEN_MAX_ROWS);
+    }
+    guarded_free(rows, KLAPOUZEN_ROW * COUNT * sizeof *rows);
+    drop(text);
+}
+
+/* An index without files needs no room. */
+static void no_files(void)
+{
+    struct index_text index;
+    index_begin(&index, &head);
+    index_end(&index);
+    struct slice text = guarded(&index.text);
+    expect("no files", klapouzen_read_files(SLICE(text), GIVEN, 'a', 5, NONE, filled()), 0);
+    expect_zeros("their count", 1);
+    expect("no rows", klapouzen_read_all_rows(SLICE(text), GIVEN, 'a', 5, NONE, filled()), 0);
+    expect_zeros("their count", 1);
     drop(text);
 }
 
@@ -356,6 +437,9 @@ static void largest_indexes(void)
     rows_of("1,024 extents", 1024, 0);
     rows_of("1,025 extents", 1025, 15);
     row_room();
+    no_files();
+    most_files();
+    most_rows();
     map_of(1024, 0);
     map_of(1025, 15);
 }

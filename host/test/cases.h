@@ -18,7 +18,6 @@ struct random_case random_label(uint64_t seed);
 struct random_case random_index(uint64_t seed);
 struct random_case random_vol1(uint64_t seed);
 struct random_case random_rows(uint64_t seed);
-struct random_case random_tree(const uint8_t *text, size_t length);
 void random_free(struct random_case random);
 
 #endif

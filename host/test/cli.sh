@@ -61,7 +61,7 @@ offset_of() {
         END { print sum }'
 }
 
-for kind in fresh torn nights defect sparse long; do
+for kind in fresh torn nights defect sparse long many; do
     "$SAMPLE" $kind $kind || exit 2
 done
 
@@ -234,6 +234,15 @@ says err "refused 2: no such element, construct, file or file position (index si
 is 2 "$K" files nights --construct x
 is 0 "$K" files sparse --json
 says out '{"file":0,"length":80000,"name":"gaps & <more>","extents":[{"partition":"b","startblock":7,'
+says out '"past the block","extents":[{"partition":"b","startblock":9,"byteoffset":2000,"bytecount":10,"fileoffset":0}]}'
+is 0 "$K" files many
+says out "1 directory, 2,533 files"
+says out "  2528              10  2528.wav"
+checks=$((checks + 1))
+[ "$(grep -c '^        b 4+16, 10 bytes at 0$' out)" -eq 159 ] || fail "not a row for each file with bytes"
+is 0 "$K" extract many 2528.wav
+tail -c +"$(($(offset_of 4 many/data.list) + 17))" many/data.store | head -c 10 > part
+same out part
 is 0 "$K" extract nights wednesday.wav
 mv out all
 is 0 "$K" extract nights 2 --output wednesday

@@ -5,6 +5,7 @@
  * border pages that can't be touched.
  */
 #include <inttypes.h>
+#include <stdbool.h>
 #include <stdio.h>
 #include <stdlib.h>
 #include <string.h>
@@ -18,7 +19,7 @@
 #define FUNCTIONS(X) \
     X(check_list) X(keep) X(block) X(constructs) X(check_form) X(read_vol1) X(write_vol1) \
     X(read_label) X(write_label) X(check_labels) X(read_index) X(read_file) X(read_rows) \
-    X(index) X(byte_at) X(verdict) X(rescue)
+    X(read_files) X(read_all_rows) X(index) X(byte_at) X(verdict) X(rescue)
 
 #define DECLARE(name) extern __typeof__(klapouzen_##name) reference_##name;
 #define MEMBER(name) __typeof__(klapouzen_##name) *name;
@@ -38,7 +39,7 @@ static const struct functions sides[2] = {
 
 /* ---- Answers ---- */
 
-enum { NUMBERS = 20, LENT = 4096, ROWS = 64 };
+enum { NUMBERS = 20, LENT = 4096, ROWS = 256 };
 
 struct answer {
     uint64_t refusal;
@@ -177,21 +178,49 @@ struct given {
 
 #define GIVEN(given) SLICE((given)->uuid), (given)->index, (given)->data, (given)->block_size
 
+/* How much room so many numbers take, as far as there is any. */
+static size_t room_for(uint64_t numbers)
+{
+    return numbers < ROWS ? (size_t)numbers : ROWS;
+}
+
+#define AT SLICE(text), GIVEN(given), letter, block
+
+/* All files, or all their rows, into a large buffer, one that fits, one a number short, and none. */
+static void compare_all(struct slice text, const struct given *given, uint8_t letter, uint64_t block, bool rows)
+{
+    size_t rooms[4] = { ROWS, 0, 0, 0 };
+    for (int i = 0; i < 4; i++) {
+        if (rows)
+            BOTH("read_all_rows", f->read_all_rows(AT, a->rows, rooms[i], a->out));
+        else
+            BOTH("read_files", f->read_files(AT, a->rows, rooms[i], a->out));
+        if (i == 0 && answers[1].refusal == 0 && answers[1].out[0] > 0) {
+            rooms[1] = room_for((rows ? KLAPOUZEN_ROW : KLAPOUZEN_FILE) * answers[1].out[0]);
+            rooms[2] = rooms[1] - 1;
+        }
+    }
+}
+
+static void compare_rows(struct slice text, const struct given *given, uint8_t letter, uint64_t block, uint64_t file)
+{
+    BOTH("read_file", f->read_file(AT, file, a->out));
+    size_t exact = answers[1].refusal == 0 ? room_for(KLAPOUZEN_ROW * answers[1].out[KLAPOUZEN_FILE_ROWS]) : 0;
+    BOTH("read_rows", f->read_rows(AT, file, a->rows, ROWS, a->out));
+    BOTH("read_rows", f->read_rows(AT, file, a->rows, exact, a->out));
+    if (exact > 0)
+        BOTH("read_rows", f->read_rows(AT, file, a->rows, exact - 1, a->out));
+}
+
 static void compare_index(struct slice text, const struct given *given, uint8_t letter, uint64_t block)
 {
-    BOTH("read_index", f->read_index(SLICE(text), GIVEN(given), letter, block, a->out));
+    BOTH("read_index", f->read_index(AT, a->out));
     uint64_t files = answers[1].refusal == 0 ? answers[1].out[KLAPOUZEN_INDEX_FILES] : 0;
-    for (uint64_t file = 0; file <= files; file++) {
-        BOTH("read_file", f->read_file(SLICE(text), GIVEN(given), letter, block, file, a->out));
-        uint64_t rows = answers[1].refusal == 0 ? answers[1].out[KLAPOUZEN_FILE_ROWS] : 0;
-        size_t exact = rows < ROWS / KLAPOUZEN_ROW ? (size_t)rows * KLAPOUZEN_ROW : ROWS;
-        BOTH("read_rows", f->read_rows(SLICE(text), GIVEN(given), letter, block, file, a->rows, ROWS, a->out));
-        BOTH("read_rows", f->read_rows(SLICE(text), GIVEN(given), letter, block, file, a->rows, exact, a->out));
-        if (exact > 0)
-            BOTH("read_rows", f->read_rows(SLICE(text), GIVEN(given), letter, block, file, a->rows, exact - 1,
-                                           a->out));
-    }
-    BOTH("read_file", f->read_file(SLICE(text), GIVEN(given), letter, block, UINT64_MAX, a->out));
+    for (uint64_t file = 0; file <= files; file++)
+        compare_rows(text, given, letter, block, file);
+    BOTH("read_file", f->read_file(AT, UINT64_MAX, a->out));
+    compare_all(text, given, letter, block, false);
+    compare_all(text, given, letter, block, true);
 }
 
 static void compare_constructs(struct slice list, struct slice store, const struct given *given,

@@ -16,7 +16,7 @@ enum { STACK = 8 << 20, PAINT = 0x6b, OWN = 16384 };
 static struct sample volume;
 static struct buffer index_text;
 static uint32_t table[KLAPOUZEN_CONSTRUCT_TABLE];
-static uint64_t rows[KLAPOUZEN_ROW * KLAPOUZEN_MAX_ROWS];
+static uint64_t files[KLAPOUZEN_FILE * 2], rows[KLAPOUZEN_ROW * KLAPOUZEN_MAX_ROWS];
 
 #define UUID (const uint8_t *)SAMPLE_UUID, 36
 #define GIVEN index_text.bytes, index_text.length, UUID, 'a', 'b', 4096, 'a', 5
@@ -79,6 +79,8 @@ static void call_all(void)
         abort();
     klapouzen_read_file(GIVEN, 1, out);
     klapouzen_read_rows(GIVEN, 0, rows, sizeof rows / sizeof rows[0], out);
+    klapouzen_read_files(GIVEN, files, sizeof files / sizeof files[0], out);
+    klapouzen_read_all_rows(GIVEN, rows, sizeof rows / sizeof rows[0], out);
     klapouzen_byte_at(rows, sizeof rows / sizeof rows[0], KLAPOUZEN_MAX_ROWS, 4096, 0, out);
     klapouzen_index(TAPE(*data), UUID, 'a', 'b', 4096, 'b', 1, out);
     klapouzen_verdict(SAMPLE(&volume), out);

@@ -2,8 +2,6 @@
 
 use crate::label::Label;
 use crate::random::{self, Random};
-use crate::values::decode;
-use crate::xml::{self, Element};
 use std::ptr;
 
 /// Buffers and numbers of one case; which is which, each function says.
@@ -167,43 +165,6 @@ pub extern "C" fn random_rows(seed: u64) -> Case {
     let map = random::map_case(&mut random);
     let numbers = [map.length, map.block_size, map.position];
     case_of(Vec::new(), map.numbers, &numbers)
-}
-
-/// The tree of a text in the form, as a parser hands it out: a line for each
-/// start (`(name`, and `@name=` with the value), for the text of an element
-/// without children (`"`), and for each end (`)`). Values and texts are decoded,
-/// line ends are made LF and white space in values spaces, and each has its
-/// length before it. No bytes for a text that is not in the form.
-///
-/// # Safety
-/// `text` points at `length` bytes.
-#[no_mangle]
-pub unsafe extern "C" fn random_tree(text: *const u8, length: usize) -> Case {
-    let mut lines = Vec::new();
-    if let Some(root) = xml::parse(std::slice::from_raw_parts(text, length)) {
-        write_tree(&root, &mut lines);
-    }
-    case_of(vec![lines], Vec::new(), &[])
-}
-
-fn handed_out(raw: &str) -> String {
-    decode(raw).replace("\r\n", "\n").replace('\r', "\n")
-}
-
-fn write_tree(element: &Element, lines: &mut Vec<u8>) {
-    lines.extend(format!("({}\n", element.name).bytes());
-    if let Some(attribute) = &element.attribute {
-        let value = handed_out(&attribute.raw).replace(['\n', '\t'], " ");
-        lines.extend(format!("@{}={} {value}\n", attribute.name, value.len()).bytes());
-    }
-    if element.children.is_empty() {
-        let text = handed_out(&element.raw_text);
-        lines.extend(format!("\"{} {text}\n", text.len()).bytes());
-    }
-    for child in &element.children {
-        write_tree(child, lines);
-    }
-    lines.extend(b")\n");
 }
 
 /// Gives a case's buffers back.

@@ -8,7 +8,7 @@
 #![allow(clippy::too_many_arguments, clippy::missing_safety_doc)]
 
 use crate::extents::{self, FileByte};
-use crate::index::{self, Index, Place};
+use crate::index::{self, File, Index, Place};
 use crate::label::{self, Label};
 use crate::structure::only;
 use crate::tape::{self, Letters, Partition, Side};
@@ -379,16 +379,48 @@ pub unsafe extern "C" fn reference_read_file(
 
 fn file_numbers(text: &[u8], index: &Index, number: u64) -> Result<[u64; 4], Refusal> {
     let at = usize::try_from(number).map_err(|_| Refusal::Missing)?;
-    let file = index.files.get(at).ok_or(Refusal::Missing)?;
+    let files = all_file_numbers(text, index);
+    files.get(at).copied().ok_or(Refusal::Missing)
+}
+
+fn all_file_numbers(text: &[u8], index: &Index) -> Vec<[u64; 4]> {
     let root = tree(text);
     let entries = index::all_entries(&root);
-    let element = entries
-        .iter()
-        .filter(|entry| entry.name == "file")
-        .nth(at)
-        .expect("as many as were read");
-    let name = spelled(only(element, "name"));
-    Ok([file.length, name[0], name[1], file.rows.len() as u64])
+    let elements = entries.iter().filter(|entry| entry.name == "file");
+    let numbers = |(file, element): (&File, &&Element)| {
+        let name = spelled(only(element, "name"));
+        [file.length, name[0], name[1], file.rows.len() as u64]
+    };
+    index.files.iter().zip(elements).map(numbers).collect()
+}
+
+#[no_mangle]
+pub unsafe extern "C" fn reference_read_files(
+    text: *const u8,
+    length: usize,
+    uuid: *const u8,
+    uuid_length: usize,
+    index_letter: u8,
+    data_letter: u8,
+    block_size: u64,
+    letter: u8,
+    block: u64,
+    files: *mut u64,
+    files_length: usize,
+    count: *mut u64,
+) -> u64 {
+    let text = shared(text, length);
+    let label = given_label(uuid, uuid_length, index_letter, data_letter, block_size);
+    let place = Place {
+        letter,
+        start_block: block,
+    };
+    let read = index::read(text, &label, place).and_then(|index| {
+        let numbers = all_file_numbers(text, &index);
+        index::put_numbers(&numbers.concat(), lent(files, files_length))?;
+        Ok([numbers.len() as u64])
+    });
+    answer(read, count)
 }
 
 #[no_mangle]
@@ -420,6 +452,30 @@ pub unsafe extern "C" fn reference_read_rows(
         lent(rows, rows_length),
     );
     answer(read.map(|(rows, _)| [rows as u64]), count)
+}
+
+#[no_mangle]
+pub unsafe extern "C" fn reference_read_all_rows(
+    text: *const u8,
+    length: usize,
+    uuid: *const u8,
+    uuid_length: usize,
+    index_letter: u8,
+    data_letter: u8,
+    block_size: u64,
+    letter: u8,
+    block: u64,
+    rows: *mut u64,
+    rows_length: usize,
+    count: *mut u64,
+) -> u64 {
+    let label = given_label(uuid, uuid_length, index_letter, data_letter, block_size);
+    let place = Place {
+        letter,
+        start_block: block,
+    };
+    let read = index::all_rows(shared(text, length), &label, place, lent(rows, rows_length));
+    answer(read.map(|rows| [rows as u64]), count)
 }
 
 #[no_mangle]

@@ -340,11 +340,18 @@ fn file_uids_lawful(index: &Index) -> bool {
         && others.windows(2).all(|pair| pair[0] != pair[1])
 }
 
-// ---- A file's rows ----
+// ---- Rows ----
+
+/// Numbers at the front of a lent buffer. The rest of the buffer, and on the
+/// refusal all of it, keeps its values.
+pub(crate) fn put_numbers(numbers: &[u64], buffer: &mut [u64]) -> Result<(), Refusal> {
+    require(buffer.len() >= numbers.len(), Refusal::ShortOutput)?;
+    buffer[..numbers.len()].copy_from_slice(numbers);
+    Ok(())
+}
 
 /// The rows of file `number` as numbers at the front of the buffer; answers how
-/// many rows and the file's length. The rest of the buffer, and on a refusal
-/// all of it, keeps its values.
+/// many rows and the file's length.
 pub fn file_rows(
     text: &[u8],
     label: &Label,
@@ -358,9 +365,22 @@ pub fn file_rows(
         .and_then(|n| index.files.get(n))
         .ok_or(Refusal::Missing)?;
     let numbers: Vec<u64> = file.rows.iter().flat_map(|row| row.numbers()).collect();
-    require(buffer.len() >= numbers.len(), Refusal::ShortOutput)?;
-    buffer[..numbers.len()].copy_from_slice(&numbers);
+    put_numbers(&numbers, buffer)?;
     Ok((file.rows.len(), file.length))
+}
+
+/// The rows of all files, those of the first file first; answers how many.
+pub fn all_rows(
+    text: &[u8],
+    label: &Label,
+    place: Place,
+    buffer: &mut [u64],
+) -> Result<usize, Refusal> {
+    let index = read(text, label, place)?;
+    let rows: Vec<&Row> = index.files.iter().flat_map(|file| &file.rows).collect();
+    let numbers: Vec<u64> = rows.iter().flat_map(|row| row.numbers()).collect();
+    put_numbers(&numbers, buffer)?;
+    Ok(rows.len())
 }
 
 #[cfg(test)]
@@ -847,5 +867,25 @@ mod tests {
             file_rows(text.as_bytes(), &sample_label(), elsewhere, 9, &mut []),
             Err(Refusal::Location)
         );
+    }
+
+    #[test]
+    fn all_rows_into_a_lent_buffer() {
+        let text = sample_text();
+        let rows = |place: Place, buffer: &mut [u64]| {
+            all_rows(text.as_bytes(), &sample_label(), place, buffer)
+        };
+        let mut buffer = [7; 17];
+        assert_eq!(rows(PLACE, &mut buffer), Ok(3));
+        assert_eq!(buffer[..5], [97, 4, 0, 5, 0]);
+        assert_eq!(buffer[5..], [98, 30, 0, 4, 6, 97, 40, 4095, 3, 0, 7, 7]);
+        let mut short = [7; 14];
+        assert_eq!(rows(PLACE, &mut short), Err(Refusal::ShortOutput));
+        assert_eq!(short, [7; 14]);
+        let elsewhere = Place {
+            start_block: 7,
+            ..PLACE
+        };
+        assert_eq!(rows(elsewhere, &mut []), Err(Refusal::Location));
     }
 }
