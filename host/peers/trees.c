@@ -7,7 +7,7 @@
 
 #include "case_files.h"
 
-#define PROGRAM "target/trees"
+#define PROGRAM "target/programs/trees"
 #define INPUT "target/peers/texts"
 
 /* Byte strings, each behind its length: as the program takes the texts, and as case_files reads both. */

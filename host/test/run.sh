@@ -49,6 +49,16 @@ END
         && "$at/bin/klapouzen" --help > /dev/null && test -s "$at/share/man/man1/klapouzen.1"
 }
 
+# Document 01's program where files are missing, which are empty: no labels, and a store without its list.
+missing_files() {
+    local at=$T/test/missing program=$PWD/$T/programs/bench
+    rm -rf "$at"
+    mkdir -p "$at" || return 1
+    test "$(cd "$at" && "$program")" = "refused 9" || return 1
+    printf 'VOL1' > "$at/data.store"
+    test "$(cd "$at" && "$program")" = "refused 1"
+}
+
 run "header in C11" header_alone "$CC" -std=c11 -x c
 run "header in C99" header_alone "$CC" -std=c99 -x c
 # gcc without g++ has no C++ in it.
@@ -60,6 +70,7 @@ run "stack" $T/test/stack
 run "against the reference" $T/test/differential "$CASES"
 run "command line" test/cli.sh $T/klapouzen $T/make_sample
 run "installed" installed
+run "the program without its files" missing_files
 for target in volume label index form rows; do
     run "fuzz $target" $T/fuzz/${target}_mutate $T/fuzz/corpus/$target "${FUZZ_SECONDS:-3}"
 done
