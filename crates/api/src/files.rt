@@ -1,5 +1,6 @@
 // Texts, and the bytes of files.
 use extents::ByteAt;
+use quantities::ByteCount;
 use refusals::Refusal;
 use xml::Checked;
 ghost use mathlib.Core.Path.{_≡_};
@@ -31,7 +32,7 @@ pub extern "C" fn klapouzen_byte_at(
 ) -> u64
     ensures { λ r. ⌜ Shown 4 bytePlace (byteMap (now (rows .entry)) length «block_size» position) r (now (out .exit)) ⌝ }
 {
-    match extents::byte_at(rows, length, block_size, position) {
+    match extents::byte_at(rows, ByteCount(length), block_size, ByteCount(position)) {
         ByteAt::Stored {
             letter,
             block,

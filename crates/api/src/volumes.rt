@@ -50,7 +50,7 @@ pub extern "C" fn klapouzen_rescue(
                 k.data_construct,
                 k.index_kept,
                 k.data_kept,
-                k.generation,
+                k.generation.0,
             ];
             0
         }

@@ -46,7 +46,7 @@ fn add_cut(out: &mut [u8], from: usize, cut: Kept) -> usize
     let mut at = add_pair(out, from, b"cut ", cut.index_construct, cut.data_construct);
     at = add_pair(out, at, b" keep ", cut.index_kept, cut.data_kept);
     at = add(out, at, b" generation ");
-    at = add_number(out, at, cut.generation);
+    at = add_number(out, at, cut.generation.0);
     add(out, at, b"\n")
 }
 

@@ -221,8 +221,8 @@ fn find(rows: &[u64], length: u64, block_size: u64, position: u64) -> ByteAt
 }
 
 // Where the byte at a position of a file is, by its rows, its length and the block size.
-pub fn byte_at(rows: &[u64], length: u64, block_size: u64, position: u64) -> ByteAt
-    ensures { λ r. ⌜ saying r ≡ byteMap (now (rows .entry)) length «block_size» position ⌝ }
+pub fn byte_at(rows: &[u64], length: ByteCount, block_size: u64, position: ByteCount) -> ByteAt
+    ensures { λ r. ⌜ saying r ≡ byteMap (now (rows .entry)) (length .0) «block_size» (position .0) ⌝ }
 {
     if block_size < 4096 {
         return ByteAt::Refused(Refusal::Caller);
@@ -239,8 +239,8 @@ pub fn byte_at(rows: &[u64], length: u64, block_size: u64, position: u64) -> Byt
     if 1024 < rows.len() / 5 {
         return ByteAt::Refused(Refusal::TooMany);
     }
-    if !lawful(rows, length, block_size) {
+    if !lawful(rows, length.0, block_size) {
         return ByteAt::Refused(Refusal::Extents);
     }
-    find(rows, length, block_size, position)
+    find(rows, length.0, block_size, position.0)
 }

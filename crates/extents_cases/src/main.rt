@@ -1,5 +1,6 @@
 // The byte map on cases from standard input: a line each, its numbers with a space between: file length, block size, position, and the rows.
 use extents::ByteAt;
+use quantities::ByteCount;
 use slices::Written;
 ghost use Prim.Native.Nat.{_≤_};
 
@@ -80,7 +81,7 @@ fn run_case(numbers: &[u64; 6000], n: usize) {
     if all.len() < n {
         return;
     }
-    print(extents::byte_at(&all[3..n], all[0], all[1], all[2]));
+    print(extents::byte_at(&all[3..n], ByteCount(all[0]), all[1], ByteCount(all[2])));
 }
 
 // Reads and runs the case at from, and answers where the next begins.

@@ -47,11 +47,11 @@ module _ (b : Brief) (letter first generation : ℕ) where
   pub joins-letter : b .sound ≡ true → b .back ≡ true → eqb (b .letter) letter ≡ false → false ≡ joined (toldBy b) letter first generation
   joins-letter e f g = rw (e, f, g)
 
-  pub joins-block : b .sound ≡ true → b .back ≡ true → eqb (b .letter) letter ≡ true → eqb (b .block) first ≡ false → false ≡ joined (toldBy b) letter first generation
+  pub joins-block : b .sound ≡ true → b .back ≡ true → eqb (b .letter) letter ≡ true → eqb (b .block .0) first ≡ false → false ≡ joined (toldBy b) letter first generation
   joins-block e f g h = rw (e, f, g, h)
 
-  pub joins-last : b .sound ≡ true → b .back ≡ true → eqb (b .letter) letter ≡ true → eqb (b .block) first ≡ true
-      → leb generation (b .generation) ≡ joined (toldBy b) letter first generation
+  pub joins-last : b .sound ≡ true → b .back ≡ true → eqb (b .letter) letter ≡ true → eqb (b .block .0) first ≡ true
+      → leb generation (b .generation .0) ≡ joined (toldBy b) letter first generation
   joins-last e f g h = rw (e, f, g, h)
 
 -- an index that joins a construct whose index is sound follows it

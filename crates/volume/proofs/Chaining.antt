@@ -9,6 +9,7 @@ use lib.Dec.{leb, eqb}
 use lib.ListN.{length, getD, set, drop, length-set, length-drop}
 use lib.Seq.{getD-set-same, getD-set-other, drop-length}
 use Rattle.quantities.specs.Places.{Place}
+use Rattle.quantities.specs.declared.Generation.{Generation}
 use Rattle.constructs.specs.Constructs.{Construct}
 use Rattle.constructs.specs.Tables.{placeIn}
 use Rattle.constructs.specs.declared.Place.{Place as Spot}
@@ -43,12 +44,12 @@ begins-told v none = refl
 begins-told v (some x) = refl
 
 begins-by : (b : Brief) → b .sound ≡ true → beginsTold (toldBy b) ≡ not (b .back)
-begins-by b e = rw e (split (λ k. isNone {A = Place} (cond k (some (record { letter = b .letter; block = b .block })) none) ≡ not k) (b .back) (λ u. refl) (λ u. refl))
+begins-by b e = rw e (split (λ k. isNone {A = Place} (cond k (some (record { letter = b .letter; block = b .block .0 })) none) ≡ not k) (b .back) (λ u. refl) (λ u. refl))
 
 -- the generation that is told of a sound index
-pub told-generation : (o : Option Index) (b : Brief) → toldBy b ≡ told o → b .sound ≡ true → b .generation ≡ generationOf o
+pub told-generation : (o : Option Index) (b : Brief) → toldBy b ≡ told o → b .sound ≡ true → b .generation .0 ≡ generationOf o
 told-generation o b e f =
-    let z : generationTold (toldBy b) ≡ b .generation = rw f in
+    let z : generationTold (toldBy b) ≡ b .generation .0 = rw f in
     sym z ∙ ap generationTold e ∙ generation-told o
 
 -- what joins a construct is sound
@@ -79,8 +80,8 @@ module _ (v : Volume) where
 
   module _ (c : Construct) (b : Brief) (e : toldBy b ≡ told (readData v c)) where
     -- the first construct
-    pub links-unsound : b .sound ≡ false → Links v c [] (record { ok = false; generation = 0 })
-    links-unsound f =
+    pub links-unsound : (g : Generation) → b .sound ≡ false → Links v c [] (record { ok = false; generation = g })
+    links-unsound g f =
         record {
           chained = let z : beginsTold (toldBy b) ≡ false = rw f in sym (sym (begins-told v (readData v c)) ∙ ap beginsTold (sym e) ∙ z);
           generation = λ h. let y : _≡_ {A = ℕ} 0 1 = cc in absurd (omega arith);
@@ -119,9 +120,9 @@ told-at g s table letter k p t b e f r c cs l n = told-located g s letter p t b 
 
 module _ (v : Volume) (s table : List ℕ) (k before : ℕ) (b : Brief)
     (told-of : (c : Construct) (cs : List Construct) → Located s (placeIn table (length cs)) c → length cs ≡ k → toldBy b ≡ told (readData v c)) where
-  pub at-unsound : k ≡ 0 → b .sound ≡ false → LinksAt v s table k before (record { ok = false; generation = 0 })
-  at-unsound z f ds l c [] suf n whole gen = links-unsound v c b (told-of c [] (l c [] suf) n) f
-  at-unsound z f ds l c (p ∷ ps) suf n whole gen = absurd (omega arith)
+  pub at-unsound : (g : Generation) → k ≡ 0 → b .sound ≡ false → LinksAt v s table k before (record { ok = false; generation = g })
+  at-unsound g z f ds l c [] suf n whole gen = links-unsound v c b (told-of c [] (l c [] suf) n) g f
+  at-unsound g z f ds l c (p ∷ ps) suf n whole gen = absurd (omega arith)
 
   pub at-first : k ≡ 0 → b .sound ≡ true → LinksAt v s table k before (record { ok = not (b .back); generation = b .generation })
   at-first z f ds l c [] suf n whole gen = links-first v c b (told-of c [] (l c [] suf) n) f
@@ -169,7 +170,7 @@ module _ (v : Volume) (ds : List Construct) where
       }
 
   module _ (gens : List ℕ) (k before : ℕ) (w : ChainAt v ds gens k before) (h : k < length ds) (r : Linked) (l : Links v (next-first ds k h .0) (firsts k ds) r) where
-    chain-more : k < length gens → r .ok ≡ true → ChainAt v ds (set gens k (r .generation)) (k + 1) (r .generation)
+    chain-more : k < length gens → r .ok ≡ true → ChainAt v ds (set gens k (r .generation .0)) (k + 1) (r .generation .0)
     chain-more room e =
         let x = next-first ds k h in
         let n = firsts-length ds k (omega arith) in
@@ -179,16 +180,16 @@ module _ (v : Volume) (ds : List Construct) where
           generations = λ c cs s. go c cs (subst (λ (t : List Construct). Suffix (c ∷ cs) t) (x .1) s);
         }
       where
-        go : Generations v (set gens k (r .generation)) (next-first ds k h .0 ∷ firsts k ds)
+        go : Generations v (set gens k (r .generation .0)) (next-first ds k h .0 ∷ firsts k ds)
         go c cs (here q) =
             let z : c ≡ next-first ds k h .0 = cc in
             let y : cs ≡ firsts k ds = cc in
             let n : length cs ≡ k = ap length y ∙ firsts-length ds k (omega arith) in
-            rw (n, z) (getD-set-same gens k (r .generation) 0 room ∙ l .generation e)
+            rw (n, z) (getD-set-same gens k (r .generation .0) 0 room ∙ l .generation e)
         go c cs (there s) =
             let n = firsts-length ds k (omega arith) in
             let m = suffix-length s in
-            getD-set-other gens k (length cs) (r .generation) 0 (λ q. omega arith) ∙ w .generations c cs s
+            getD-set-other gens k (length cs) (r .generation .0) 0 (λ q. omega arith) ∙ w .generations c cs s
 
     chain-over : r .ok ≡ false → Chains v ds gens k
     chain-over e =
@@ -227,7 +228,7 @@ module _ (v : Volume) (s table : List ℕ) (n room : ℕ) where
         let a = w ds d e f in
         l ds d (x .0) (firsts k ds) (x .2) (firsts-length ds k (omega arith)) (a .whole) (a .last)
 
-    pub chains-more : length gens ≡ room → r .ok ≡ true → ChainsAt v s table n room (set gens k (r .generation)) (k + 1) (r .generation)
+    pub chains-more : length gens ≡ room → r .ok ≡ true → ChainsAt v s table n room (set gens k (r .generation .0)) (k + 1) (r .generation .0)
     chains-more g ok ds d e f =
         let i : k < length ds = omega arith in
         chain-more v ds gens k before (w ds d e f) i r (link-at ds d e f i) (omega arith) ok

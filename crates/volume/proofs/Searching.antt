@@ -69,12 +69,12 @@ back-told b x e =
     (λ u f. let z : _≡_ {A = ℕ} 0 1 = cc (rw f at e) in absurd (omega arith)) refl
 
 -- an index follows nothing, or the block that it points at is the one that is told
-block-told : (v : Volume) (o : Option Index) (b : Brief) → toldBy b ≡ told o → ((d : Construct) (p : Option Index) → follows v o d p ≡ false) ⊎ (target o ≡ b .block)
+block-told : (v : Volume) (o : Option Index) (b : Brief) → toldBy b ≡ told o → ((d : Construct) (p : Option Index) → follows v o d p ≡ false) ⊎ (target o ≡ b .block .0)
 unfolding follows
 block-told v none b e = inl (λ d p. refl)
 block-told v (some x) b e =
-    split (λ k. b .back ≡ k → ((d : Construct) (p : Option Index) → follows v (some x) d p ≡ false) ⊎ (target (some x) ≡ b .block)) (b .back)
-    (λ u f. let z : blockOf (backTold b) ≡ b .block = rw f in inr (ap blockOf (sym (back-told b x e)) ∙ z))
+    split (λ k. b .back ≡ k → ((d : Construct) (p : Option Index) → follows v (some x) d p ≡ false) ⊎ (target (some x) ≡ b .block .0)) (b .back)
+    (λ u f. let z : blockOf (backTold b) ≡ b .block .0 = rw f in inr (ap blockOf (sym (back-told b x e)) ∙ z))
     (λ u f. let z : backTold b ≡ none = rw f in inl (λ d p. alone-follows v x d p (sym (back-told b x e) ∙ z))) refl
 
 no-length : {A : Type 0} (l : List A) → length l ≡ 0 → l ≡ []
@@ -125,26 +125,26 @@ module _ (v : Volume) (li ld : List ℕ) (c : Construct) (bs : List Construct) w
 
   module _ (ds : List Construct) (b : Brief) (e : toldBy b ≡ told (readIndex v c)) where
     -- no construct of the chain begins where it points
-    pub try-nowhere : length (through (b .block) ds) ≡ 0 → attempt v li ld c bs (through (target (readIndex v c)) ds) ≡ none
+    pub try-nowhere : length (through (b .block .0) ds) ≡ 0 → attempt v li ld c bs (through (target (readIndex v c)) ds) ≡ none
     try-nowhere z = go (block-told v (readIndex v c) b e)
       where
-        go : ((d : Construct) (p : Option Index) → follows v (readIndex v c) d p ≡ false) ⊎ (target (readIndex v c) ≡ b .block)
+        go : ((d : Construct) (p : Option Index) → follows v (readIndex v c) d p ≡ false) ⊎ (target (readIndex v c) ≡ b .block .0)
             → attempt v li ld c bs (through (target (readIndex v c)) ds) ≡ none
         go (inl h) = attempt-not (through (target (readIndex v c)) ds) h
-        go (inr q) = ap (λ (k : ℕ). attempt v li ld c bs (through k ds)) q ∙ ap (attempt v li ld c bs) (no-length (through (b .block) ds) z)
+        go (inr q) = ap (λ (k : ℕ). attempt v li ld c bs (through k ds)) q ∙ ap (attempt v li ld c bs) (no-length (through (b .block .0) ds) z)
 
-    module _ (gens s td : List ℕ) (j : ℕ) (p : Partner v ds gens s td (b .block) j) (at generation : ℕ) (f : at ≡ p .one .first) (g : generation ≡ p .index .generation) where
+    module _ (gens s td : List ℕ) (j : ℕ) (p : Partner v ds gens s td (b .block .0) j) (at generation : ℕ) (f : at ≡ p .one .first) (g : generation ≡ p .index .generation) where
       follows-by : joined (toldBy b) (v .dataLetter) at generation ≡ follows v (readIndex v c) (p .one) (readData v (p .one))
       follows-by = rw (e, f, g) (joined-follows v (readIndex v c) (p .one) (readData v (p .one)) (p .index) (p .reads))
 
-      through-target : target (readIndex v c) ≡ b .block → through (target (readIndex v c)) ds ≡ p .one ∷ p .before
+      through-target : target (readIndex v c) ≡ b .block .0 → through (target (readIndex v c)) ds ≡ p .one ∷ p .before
       through-target q = ap (λ (k : ℕ). through k ds) q ∙ p .is
 
       -- it does not follow the one that does
       pub try-apart : joined (toldBy b) (v .dataLetter) at generation ≡ false → attempt v li ld c bs (through (target (readIndex v c)) ds) ≡ none
       try-apart n = go (block-told v (readIndex v c) b e)
         where
-          go : ((d : Construct) (p : Option Index) → follows v (readIndex v c) d p ≡ false) ⊎ (target (readIndex v c) ≡ b .block)
+          go : ((d : Construct) (p : Option Index) → follows v (readIndex v c) d p ≡ false) ⊎ (target (readIndex v c) ≡ b .block .0)
               → attempt v li ld c bs (through (target (readIndex v c)) ds) ≡ none
           go (inl h) = attempt-not (through (target (readIndex v c)) ds) h
           go (inr q) = ap (attempt v li ld c bs) (through-target q) ∙ rw (sym follows-by ∙ n)
@@ -153,7 +153,7 @@ module _ (v : Volume) (li ld : List ℕ) (c : Construct) (bs : List Construct) w
         found-there : through (target (readIndex v c)) ds ≡ p .one ∷ p .before
         found-there = go (block-told v (readIndex v c) b e)
           where
-            go : ((d : Construct) (p : Option Index) → follows v (readIndex v c) d p ≡ false) ⊎ (target (readIndex v c) ≡ b .block)
+            go : ((d : Construct) (p : Option Index) → follows v (readIndex v c) d p ≡ false) ⊎ (target (readIndex v c) ≡ b .block .0)
                 → through (target (readIndex v c)) ds ≡ p .one ∷ p .before
             go (inl h) = let z : _≡_ {A = Bool} true false = sym n ∙ follows-by ∙ h (p .one) (readData v (p .one)) in let y : _≡_ {A = ℕ} 0 1 = cc in absurd (omega arith)
             go (inr q) = through-target q
@@ -169,7 +169,7 @@ module _ (v : Volume) (li ld : List ℕ) (c : Construct) (bs : List Construct) w
         try-fits h = ap (attempt v li ld c bs) found-there ∙ rw (sym follows-by ∙ n, h)
 
         pub try-cut : (k : Kept) → k .«index_construct» ≡ length bs → k .«data_construct» ≡ j - 1 → k .«index_kept» ≡ c .upTo → k .«data_kept» ≡ p .one .upTo
-            → k .generation ≡ b .generation → cutIs k ≡ cutAt v c bs (p .one) (p .before)
+            → k .generation .0 ≡ b .generation .0 → cutIs k ≡ cutAt v c bs (p .one) (p .before)
         try-cut k a₁ a₂ a₃ a₄ a₅ =
-            let x : b .generation ≡ generationOf (readIndex v c) = told-generation (readIndex v c) b e (joined-sound b (v .dataLetter) at generation n) in
+            let x : b .generation .0 ≡ generationOf (readIndex v c) = told-generation (readIndex v c) b e (joined-sound b (v .dataLetter) at generation n) in
             rw (a₁, a₂, a₃, a₄, a₅, x, p .number)

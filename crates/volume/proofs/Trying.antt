@@ -65,9 +65,9 @@ module _ (u : List ℕ) (w : Letters) (is ti : List ℕ) (k : ℕ) (td gens begi
     located-here : Located is here c
     located-here = located-at is ti k here c bs at-here (r .index c bs suf) n
 
-    module _ (j : ℕ) (at-begin : getD begins (b .block) 0 ≡ j) (some-one : j ≡ 0 → ⊥) where
-      there-is : Partner v ds gens (r .ds-store) td (b .block) j
-      there-is = partner v ds gens (r .ds-store) td (b .block) j (r .chain) (r .whole) (r .generations) (sym (r .partners (b .block)) ∙ at-begin) some-one
+    module _ (j : ℕ) (at-begin : getD begins (b .block .0) 0 ≡ j) (some-one : j ≡ 0 → ⊥) where
+      there-is : Partner v ds gens (r .ds-store) td (b .block .0) j
+      there-is = partner v ds gens (r .ds-store) td (b .block .0) j (r .chain) (r .whole) (r .generations) (sym (r .partners (b .block .0)) ∙ at-begin) some-one
 
       module _ (there : Spot) (at-there : there ≡ placeIn td (j - 1)) where
         located-there : Located (r .ds-store) there (there-is .one)
@@ -80,12 +80,12 @@ module _ (u : List ℕ) (w : Letters) (is ti : List ℕ) (k : ℕ) (td gens begi
             lost-located u w is (r .ds-store) li ld ri rd here there t b c (there-is .one) is-text reads located-here located-there (r .indexReach) (r .dataReach)
             (r .indexFits c bs suf) (r .dataFits (there-is .one) (there-is .before) (there-is .inside))
 
-  pub tries-nowhere : getD begins (b .block) 0 ≡ 0 → Tries (given u w) w is ti k td gens begins ri rd Fails
+  pub tries-nowhere : getD begins (b .block .0) 0 ≡ 0 → Tries (given u w) w is ti k td gens begins ri rd Fails
   unfolding v
   tries-nowhere z cs ds li ld r c bs suf n =
-      sym (try-nowhere (volumeWith (given u w)) li ld c bs ds b (told-here cs ds li ld r c bs suf n) (sym (r .partners (b .block)) ∙ z))
+      sym (try-nowhere (volumeWith (given u w)) li ld c bs ds b (told-here cs ds li ld r c bs suf n) (sym (r .partners (b .block .0)) ∙ z))
 
-  module _ (j : ℕ) (at-begin : getD begins (b .block) 0 ≡ j) (some-one : j ≡ 0 → ⊥) (there : Spot) (at-there : there ≡ placeIn td (j - 1))
+  module _ (j : ℕ) (at-begin : getD begins (b .block .0) 0 ≡ j) (some-one : j ≡ 0 → ⊥) (there : Spot) (at-there : there ≡ placeIn td (j - 1))
       (generation : ℕ) (is-generation : generation ≡ getD gens (j - 1) 0) where
     pub tries-apart : joined (toldBy b) (w .other) (there .first) generation ≡ false → Tries (given u w) w is ti k td gens begins ri rd Fails
     unfolding v
@@ -105,7 +105,7 @@ module _ (u : List ℕ) (w : Letters) (is ti : List ℕ) (k : ℕ) (td gens begi
           (lost-here cs ds li ld r c bs suf n j at-begin some-one there at-there lost l s ∙ e))
 
       pub tries-fits : lostFile lost ≡ none → (a : Kept) → a .«index_construct» ≡ k → a .«data_construct» ≡ j - 1 → a .«index_kept» ≡ here .end
-          → a .«data_kept» ≡ there .end → a .generation ≡ b .generation → Tries (given u w) w is ti k td gens begins ri rd (Fits a)
+          → a .«data_kept» ≡ there .end → a .generation .0 ≡ b .generation .0 → Tries (given u w) w is ti k td gens begins ri rd (Fits a)
       unfolding v
       tries-fits e a a₁ a₂ a₃ a₄ a₅ cs ds li ld r c bs suf n =
           let p = there-is cs ds li ld r c bs suf n j at-begin some-one in

@@ -59,10 +59,10 @@ told none = none
 told (some x) = some (record { generation = x .generation; back = x .back })
 
 abbrev pub backTold : Brief → Option Place
-backTold b = cond (b .back) (some (record { letter = b .letter; block = b .block })) none
+backTold b = cond (b .back) (some (record { letter = b .letter; block = b .block .0 })) none
 
 abbrev pub toldBy : Brief → Option Told
-toldBy b = cond (b .sound) (some (record { generation = b .generation; back = backTold b })) none
+toldBy b = cond (b .sound) (some (record { generation = b .generation .0; back = backTold b })) none
 
 -- a sound index points at a construct of that partition with that first block, and has no lower generation
 abbrev pub joined : Option Told → ℕ → ℕ → ℕ → Bool
@@ -77,7 +77,7 @@ lastGeneration v (c ∷ cs) = generationOf (readData v c)
 -- a construct after some that are a chain without a break
 pub record Links (v : Volume) (c : Construct) (cs : List Construct) (r : Linked) : Type 0 where
   pub chained : r .ok ≡ chained v c cs
-  pub generation : r .ok ≡ true → r .generation ≡ generationOf (readData v c)
+  pub generation : r .ok ≡ true → r .generation .0 ≡ generationOf (readData v c)
 
 abbrev pub LinksAt : Volume → List ℕ → List ℕ → ℕ → ℕ → Linked → Type 0
 LinksAt v s table k before r =
@@ -146,7 +146,7 @@ cutIs k =
       dataConstruct = k .«data_construct»;
       indexKept = k .«index_kept»;
       dataKept = k .«data_kept»;
-      generation = k .generation;
+      generation = k .generation .0;
     }
 
 abbrev pub triedCut : Tried → Option Cut

@@ -1,6 +1,8 @@
 // The data partition's chain of indexes, from its first construct on.
 use crate::sound;
 use index::Volume;
+use quantities::BlockNumber;
+use quantities::Generation;
 ghost use mathlib.Core.Path.{_≡_};
 ghost use lib.ListN.{length};
 ghost use Rattle.index.specs.Tests.{given};
@@ -10,7 +12,7 @@ ghost use Rattle.volume.specs.Steps.{LinksAt, ChainsOf};
 // Whether a construct is sound and follows the one before it, or begins the chain; and its generation.
 pub struct Linked {
     pub ok: bool,
-    pub generation: u64,
+    pub generation: Generation,
 }
 
 // Construct k of the data partition, behind one with that generation.
@@ -20,29 +22,36 @@ fn link(
     volume: Volume,
     table: &[u32; 87380],
     k: usize,
-    before: u64,
+    before: Generation,
 ) -> Linked
-    ensures { λ r. ⌜ LinksAt (volumeWith (given (now (uuid .entry)) volume)) (now (store .entry)) (now (table .entry)) k before r ⌝ }
+    ensures { λ r. ⌜ LinksAt (volumeWith (given (now (uuid .entry)) volume)) (now (store .entry)) (now (table .entry)) k (before .0) r ⌝ }
 {
     let here = constructs::construct(table, k);
     let text = sound::text_at(store, here);
-    let b = sound::read_brief(text, uuid, volume, volume.other, here.first as u64);
+    let b = sound::read_brief(
+        text,
+        uuid,
+        volume,
+        volume.other,
+        BlockNumber(here.first as u64),
+    );
+    let generation = b.generation;
     if k == 0 {
         if !b.sound {
             return Linked {
                 ok: false,
-                generation: 0,
+                generation: Generation(0),
             };
         }
         return Linked {
             ok: !b.back,
-            generation: b.generation,
+            generation: generation,
         };
     }
     let last = constructs::construct(table, k - 1);
     Linked {
-        ok: sound::joins(b, volume.other, last.first as u64, before),
-        generation: b.generation,
+        ok: sound::joins(b, volume.other, BlockNumber(last.first as u64), before),
+        generation: generation,
     }
 }
 
@@ -58,13 +67,13 @@ pub fn chain(
     ensures { λ r. ⌜ ChainsOf (volumeWith (given (now (uuid .entry)) volume)) (now (store .entry)) (now (table .entry)) n (length (now (generations .entry))) (now (generations .exit)) r ⌝ }
 {
     let mut k: usize = 0;
-    let mut last: u64 = 0;
+    let mut last = Generation(0);
     while k < n {
         let next = link(store, uuid, volume, table, k, last);
         if !next.ok {
             return k;
         }
-        tables::put(generations, k, next.generation);
+        tables::put(generations, k, next.generation.0);
         last = next.generation;
         k += 1;
     }

@@ -5,6 +5,8 @@ use crate::lost;
 use crate::lost::Lost;
 use crate::sound;
 use index::Volume;
+use quantities::BlockNumber;
+use quantities::Generation;
 ghost use mathlib.Core.Path.{_≡_};
 ghost use Rattle.index.specs.Tests.{given};
 ghost use Rattle.volume.specs.Steps.{JudgesLast, Judges};
@@ -24,17 +26,23 @@ fn judge_last(
     k: usize,
     data_table: &[u32; 87380],
     j: usize,
-    generation: u64,
+    generation: Generation,
     index_reach: &[u32],
     data_reach: &[u32],
 ) -> Judgement
-    ensures { λ r. ⌜ JudgesLast (given (now (uuid .entry)) volume) (now (store .entry)) (now («index_table» .entry)) k (now («data_table» .entry)) j generation (now («index_reach» .entry)) (now («data_reach» .entry)) r ⌝ }
+    ensures { λ r. ⌜ JudgesLast (given (now (uuid .entry)) volume) (now (store .entry)) (now («index_table» .entry)) k (now («data_table» .entry)) j (generation .0) (now («index_reach» .entry)) (now («data_reach» .entry)) r ⌝ }
 {
     let here = constructs::construct(index_table, k);
     let text = sound::text_at(store, here);
-    let b = sound::read_brief(text, uuid, volume, volume.first, here.first as u64);
+    let b = sound::read_brief(
+        text,
+        uuid,
+        volume,
+        volume.first,
+        BlockNumber(here.first as u64),
+    );
     let there = constructs::construct(data_table, j);
-    if !sound::joins(b, volume.other, there.first as u64, generation) {
+    if !sound::joins(b, volume.other, BlockNumber(there.first as u64), generation) {
         return Judgement::Broken(4, k as u64);
     }
     match lost::first_lost(
@@ -89,7 +97,7 @@ pub fn judge(
         sound::between(1, n),
         &data_table,
         last,
-        tables::item(&generations, last),
+        Generation(tables::item(&generations, last)),
         &index_reach,
         &data_reach,
     )

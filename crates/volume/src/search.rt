@@ -3,6 +3,8 @@ use crate::lost;
 use crate::lost::Lost;
 use crate::sound;
 use index::Volume;
+use quantities::BlockNumber;
+use quantities::Generation;
 ghost use mathlib.Core.Path.{_≡_};
 ghost use Prim.Native.Nat.{_<_};
 ghost use Rattle.index.specs.Tests.{given};
@@ -15,7 +17,7 @@ pub struct Kept {
     pub data_construct: u64,
     pub index_kept: u64,
     pub data_kept: u64,
-    pub generation: u64,
+    pub generation: Generation,
 }
 
 pub enum Tried {
@@ -61,16 +63,23 @@ fn try_cut(
 {
     let here = constructs::construct(index_table, k);
     let text = sound::text_at(store, here);
-    let b = sound::read_brief(text, uuid, volume, volume.first, here.first as u64);
-    let j = tables::item32(beginnings, b.block as usize) as usize;
+    let b = sound::read_brief(
+        text,
+        uuid,
+        volume,
+        volume.first,
+        BlockNumber(here.first as u64),
+    );
+    let j = tables::item32(beginnings, b.block.0 as usize) as usize;
     if j == 0 {
         return Tried::Fails;
     }
     let there = constructs::construct(data_table, j - 1);
-    let generation = tables::item(generations, j - 1);
-    if !sound::joins(b, volume.other, there.first as u64, generation) {
+    let generation = Generation(tables::item(generations, j - 1));
+    if !sound::joins(b, volume.other, BlockNumber(there.first as u64), generation) {
         return Tried::Fails;
     }
+    let own = b.generation;
     match lost::first_lost(
         text,
         volume,
@@ -85,7 +94,7 @@ fn try_cut(
             data_construct: (j - 1) as u64,
             index_kept: here.end as u64,
             data_kept: there.end as u64,
-            generation: b.generation,
+            generation: own,
         }),
     }
 }

@@ -3,6 +3,7 @@ use constructs::Place;
 use index::Read;
 use index::Volume;
 use quantities::BlockNumber;
+use quantities::Generation;
 ghost use mathlib.Core.Path.{_≡_};
 ghost use Prim.Native.Nat.{_-_};
 ghost use Rattle.index.specs.Tests.{given};
@@ -13,37 +14,41 @@ ghost use Rattle.volume.specs.Steps.{told, toldBy, joined, textIn};
 // Whether an index is sound; if so, its generation, and its back pointer if it has one.
 pub struct Brief {
     pub sound: bool,
-    pub generation: u64,
+    pub generation: Generation,
     pub back: bool,
     pub letter: u8,
-    pub block: u64,
+    pub block: BlockNumber,
 }
 
 // The index at a partition letter and the number of its first block.
-pub fn read_brief(text: &[u8], uuid: &[u8], volume: Volume, letter: u8, block: u64) -> Brief
-    ensures { λ r. ⌜ toldBy r ≡ told (soundly (indexOf (given (now (uuid .entry)) volume) letter block (now (text .entry)))) ⌝ }
+pub fn read_brief(text: &[u8], uuid: &[u8], volume: Volume, letter: u8, block: BlockNumber) -> Brief
+    ensures { λ r. ⌜ toldBy r ≡ told (soundly (indexOf (given (now (uuid .entry)) volume) letter (block .0) (now (text .entry)))) ⌝ }
 {
-    match index::read_index(text, uuid, volume, letter, BlockNumber(block)) {
+    match index::read_index(text, uuid, volume, letter, block) {
         Read::Refused(_) => Brief {
             sound: false,
-            generation: 0,
+            generation: Generation(0),
             back: false,
             letter: 0,
-            block: 0,
+            block: BlockNumber(0),
         },
-        Read::Found(h) => Brief {
-            sound: true,
-            generation: h.generation.0,
-            back: h.back,
-            letter: h.back_letter,
-            block: h.back_block.0,
-        },
+        Read::Found(h) => {
+            let generation = h.generation;
+            let back_block = h.back_block;
+            Brief {
+                sound: true,
+                generation: generation,
+                back: h.back,
+                letter: h.back_letter,
+                block: back_block,
+            }
+        }
     }
 }
 
 // Whether an index points at a construct of the data partition and has no lower generation than its index.
-pub fn joins(b: Brief, letter: u8, first: u64, generation: u64) -> bool
-    ensures { λ r. ⌜ r ≡ joined (toldBy b) letter first generation ⌝ }
+pub fn joins(b: Brief, letter: u8, first: BlockNumber, generation: Generation) -> bool
+    ensures { λ r. ⌜ r ≡ joined (toldBy b) letter (first .0) (generation .0) ⌝ }
 {
     if !b.sound {
         return false;
@@ -54,10 +59,10 @@ pub fn joins(b: Brief, letter: u8, first: u64, generation: u64) -> bool
     if b.letter != letter {
         return false;
     }
-    if b.block != first {
+    if b.block.0 != first.0 {
         return false;
     }
-    generation <= b.generation
+    generation.0 <= b.generation.0
 }
 
 // How far it is from one place to a later one.

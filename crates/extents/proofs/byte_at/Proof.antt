@@ -14,12 +14,12 @@ use Rattle.extents.proofs.byte_at.Tie as tie
 returns : tie.Need-returns
 returns c =
     let a = c .before .before .args in
-    sym (size-too-small (a .rows .now) (a .length) (a .block-size) (a .position) (c .if1 .taken))
+    sym (size-too-small (a .rows .now) (a .length .0) (a .block-size) (a .position .0) (c .if1 .taken))
 
 returns-2 : tie.Need-returns-2
 returns-2 c =
     let a = c .before .before .before .args in
-    sym (size-too-large (a .rows .now) (a .length) (a .block-size) (a .position) (c .if2 .taken))
+    sym (size-too-large (a .rows .now) (a .length .0) (a .block-size) (a .position .0) (c .if2 .taken))
 
 each-lettered-requires : tie.Need-each-lettered-requires
 each-lettered-requires c κs = search needs
@@ -27,19 +27,19 @@ each-lettered-requires c κs = search needs
 returns-3 : tie.Need-returns-3
 returns-3 c =
     let a = c .before .before .before .before .before .args in
-    sym (unlettered (a .rows .now) (a .length) (a .block-size) (a .position) (sym (c .before .each-lettered .ensures) ∙ not-true _ (c .if3 .taken)))
+    sym (unlettered (a .rows .now) (a .length .0) (a .block-size) (a .position .0) (sym (c .before .each-lettered .ensures) ∙ not-true _ (c .if3 .taken)))
 
 returns-4 : tie.Need-returns-4
 returns-4 c =
     let a = c .before .before .before .before .before .before .args in
-    sym (not-fives (a .rows .now) (a .length) (a .block-size) (a .position) (c .if4 .taken))
+    sym (not-fives (a .rows .now) (a .length .0) (a .block-size) (a .position .0) (c .if4 .taken))
 
 returns-5 : tie.Need-returns-5
 returns-5 c =
     let a = c .before .before .before .before .before .before .before .args in
     let t = sym (c .before .before .before .each-lettered .ensures) ∙ not-false _ (c .before .before .if3 .left) in
     let f : length (a .rows .now) % 5 ≡ 0 = omega arith in
-    sym (too-many (a .rows .now) (a .length) (a .block-size) (a .position) (omega arith) (omega arith) t f (c .if5 .taken))
+    sym (too-many (a .rows .now) (a .length .0) (a .block-size) (a .position .0) (omega arith) (omega arith) t f (c .if5 .taken))
 
 lawful-requires : tie.Need-lawful-requires
 lawful-requires c κs = search needs
@@ -49,7 +49,7 @@ returns-6 c =
     let a = c .before .before .before .before .before .before .before .before .before .args in
     let t = sym (c .before .before .before .before .before .each-lettered .ensures) ∙ not-false _ (c .before .before .before .before .if3 .left) in
     let f : length (a .rows .now) % 5 ≡ 0 = omega arith in
-    sym (unlawful (a .rows .now) (a .length) (a .block-size) (a .position) (omega arith) (omega arith) t f (omega arith) (sym (c .before .lawful .ensures) ∙ not-true _ (c .if6 .taken)))
+    sym (unlawful (a .rows .now) (a .length .0) (a .block-size) (a .position .0) (omega arith) (omega arith) t f (omega arith) (sym (c .before .lawful .ensures) ∙ not-true _ (c .if6 .taken)))
 
 find-requires : tie.Need-find-requires
 find-requires c κs =
@@ -57,7 +57,7 @@ find-requires c κs =
     let t = sym (c .before .before .before .before .before .each-lettered .ensures) ∙ not-false _ (c .before .before .before .before .if3 .left) in
     let f : length (a .rows .now) % 5 ≡ 0 = omega arith in
     let e = sym (c .before .lawful .ensures) ∙ not-false _ (c .if6 .left) in
-    (t, lawful-each (a .length) (a .block-size) (rowsOf (a .rows .now)) e)
+    (t, lawful-each (a .length .0) (a .block-size) (rowsOf (a .rows .now)) e)
 
 returns-7 : tie.Need-returns-7
 returns-7 c =
@@ -65,7 +65,7 @@ returns-7 c =
     let t = sym (c .before .before .before .before .before .before .each-lettered .ensures) ∙ not-false _ (c .before .before .before .before .before .if3 .left) in
     let f : length (a .rows .now) % 5 ≡ 0 = omega arith in
     let e = sym (c .before .before .lawful .ensures) ∙ not-false _ (c .before .if6 .left) in
-    c .find .ensures ∙ sym (mapped (a .rows .now) (a .length) (a .block-size) (a .position) (omega arith) (omega arith) t f (omega arith) e)
+    c .find .ensures ∙ sym (mapped (a .rows .now) (a .length .0) (a .block-size) (a .position .0) (omega arith) (omega arith) t f (omega arith) e)
 
 pub byte-at-spec : {M : Type 1} → statement M
 byte-at-spec =

@@ -12,8 +12,8 @@ byte-at-requires c κs = search needs
 enum-known-letter : tie.Need-enum-known-letter
 enum-known-letter c = search needs
 
-cast-t12 : tie.Need-cast-t12
-cast-t12 c = search needs
+cast-t14 : tie.Need-cast-t14
+cast-t14 c = search needs
 
 enum-told : tie.Need-enum-told
 enum-told c = search needs
@@ -39,7 +39,7 @@ klapouzen-byte-at-spec =
     (tie.spec
     byte-at-requires
     enum-known-letter
-    cast-t12
+    cast-t14
     enum-told
     enum-known-r
     number-requires

@@ -24,14 +24,14 @@ read-brief-requires c κs = search needs
 
 returns : tie.Need-returns
 returns c =
-    at-unsound (volumeWith (given (c .before .before .before .before .before .before .before .before .args .uuid .now) (c .before .before .before .before .before .before .before .before .args .volume))) (c .before .before .before .before .before .before .before .before .args .store .now) (c .before .before .before .before .before .before .before .before .args .table .now) (c .before .before .before .before .before .before .before .before .args .k) (c .before .before .before .before .before .before .before .before .args .before) (c .before .before .before .read-brief .result)
-    (told-at (given (c .before .before .before .before .before .before .before .before .args .uuid .now) (c .before .before .before .before .before .before .before .before .args .volume)) (c .before .before .before .before .before .before .before .before .args .store .now) (c .before .before .before .before .before .before .before .before .args .table .now) (c .before .before .before .before .before .before .before .before .args .volume .other) (c .before .before .before .before .before .before .before .before .args .k) (c .before .before .before .before .before .construct .result) (c .before .before .before .before .text-at .result .now) (c .before .before .before .read-brief .result) (c .before .before .before .before .before .construct .ensures) (c .before .before .before .before .text-at .ensures) (c .before .before .before .read-brief .ensures))
-    (c .before .before .if1 .taken) (not-true _ (c .if2 .taken))
+    at-unsound (volumeWith (given (c .before .before .before .before .before .before .before .before .before .args .uuid .now) (c .before .before .before .before .before .before .before .before .before .args .volume))) (c .before .before .before .before .before .before .before .before .before .args .store .now) (c .before .before .before .before .before .before .before .before .before .args .table .now) (c .before .before .before .before .before .before .before .before .before .args .k) (c .before .before .before .before .before .before .before .before .before .args .before .0) (c .before .before .before .before .read-brief .result)
+    (told-at (given (c .before .before .before .before .before .before .before .before .before .args .uuid .now) (c .before .before .before .before .before .before .before .before .before .args .volume)) (c .before .before .before .before .before .before .before .before .before .args .store .now) (c .before .before .before .before .before .before .before .before .before .args .table .now) (c .before .before .before .before .before .before .before .before .before .args .volume .other) (c .before .before .before .before .before .before .before .before .before .args .k) (c .before .before .before .before .before .before .construct .result) (c .before .before .before .before .before .text-at .result .now) (c .before .before .before .before .read-brief .result) (c .before .before .before .before .before .before .construct .ensures) (c .before .before .before .before .before .text-at .ensures) (c .before .before .before .before .read-brief .ensures))
+    _ (c .before .before .if1 .taken) (not-true _ (c .if2 .taken))
 
 returns-2 : tie.Need-returns-2
 returns-2 c =
-    at-first (volumeWith (given (c .before .before .before .before .before .before .before .before .before .args .uuid .now) (c .before .before .before .before .before .before .before .before .before .args .volume))) (c .before .before .before .before .before .before .before .before .before .args .store .now) (c .before .before .before .before .before .before .before .before .before .args .table .now) (c .before .before .before .before .before .before .before .before .before .args .k) (c .before .before .before .before .before .before .before .before .before .args .before) (c .before .before .before .before .read-brief .result)
-    (told-at (given (c .before .before .before .before .before .before .before .before .before .args .uuid .now) (c .before .before .before .before .before .before .before .before .before .args .volume)) (c .before .before .before .before .before .before .before .before .before .args .store .now) (c .before .before .before .before .before .before .before .before .before .args .table .now) (c .before .before .before .before .before .before .before .before .before .args .volume .other) (c .before .before .before .before .before .before .before .before .before .args .k) (c .before .before .before .before .before .before .construct .result) (c .before .before .before .before .before .text-at .result .now) (c .before .before .before .before .read-brief .result) (c .before .before .before .before .before .before .construct .ensures) (c .before .before .before .before .before .text-at .ensures) (c .before .before .before .before .read-brief .ensures))
+    at-first (volumeWith (given (c .before .before .before .before .before .before .before .before .before .before .args .uuid .now) (c .before .before .before .before .before .before .before .before .before .before .args .volume))) (c .before .before .before .before .before .before .before .before .before .before .args .store .now) (c .before .before .before .before .before .before .before .before .before .before .args .table .now) (c .before .before .before .before .before .before .before .before .before .before .args .k) (c .before .before .before .before .before .before .before .before .before .before .args .before .0) (c .before .before .before .before .before .read-brief .result)
+    (told-at (given (c .before .before .before .before .before .before .before .before .before .before .args .uuid .now) (c .before .before .before .before .before .before .before .before .before .before .args .volume)) (c .before .before .before .before .before .before .before .before .before .before .args .store .now) (c .before .before .before .before .before .before .before .before .before .before .args .table .now) (c .before .before .before .before .before .before .before .before .before .before .args .volume .other) (c .before .before .before .before .before .before .before .before .before .before .args .k) (c .before .before .before .before .before .before .before .construct .result) (c .before .before .before .before .before .before .text-at .result .now) (c .before .before .before .before .before .read-brief .result) (c .before .before .before .before .before .before .before .construct .ensures) (c .before .before .before .before .before .before .text-at .ensures) (c .before .before .before .before .before .read-brief .ensures))
     (c .before .before .before .if1 .taken) (not-false _ (c .before .if2 .left))
 
 sub-construct : tie.Need-sub-construct
@@ -45,8 +45,8 @@ joins-requires c κs = search needs
 
 returns-3 : tie.Need-returns-3
 returns-3 c =
-    at-behind (volumeWith (given (c .before .before .before .before .before .before .before .before .args .uuid .now) (c .before .before .before .before .before .before .before .before .args .volume))) (c .before .before .before .before .before .before .before .before .args .store .now) (c .before .before .before .before .before .before .before .before .args .table .now) (c .before .before .before .before .before .before .before .before .args .k) (c .before .before .before .before .before .before .before .before .args .before) (c .before .before .before .read-brief .result)
-    (told-at (given (c .before .before .before .before .before .before .before .before .args .uuid .now) (c .before .before .before .before .before .before .before .before .args .volume)) (c .before .before .before .before .before .before .before .before .args .store .now) (c .before .before .before .before .before .before .before .before .args .table .now) (c .before .before .before .before .before .before .before .before .args .volume .other) (c .before .before .before .before .before .before .before .before .args .k) (c .before .before .before .before .before .construct .result) (c .before .before .before .before .text-at .result .now) (c .before .before .before .read-brief .result) (c .before .before .before .before .before .construct .ensures) (c .before .before .before .before .text-at .ensures) (c .before .before .before .read-brief .ensures))
+    at-behind (volumeWith (given (c .before .before .before .before .before .before .before .before .before .args .uuid .now) (c .before .before .before .before .before .before .before .before .before .args .volume))) (c .before .before .before .before .before .before .before .before .before .args .store .now) (c .before .before .before .before .before .before .before .before .before .args .table .now) (c .before .before .before .before .before .before .before .before .before .args .k) (c .before .before .before .before .before .before .before .before .before .args .before .0) (c .before .before .before .before .read-brief .result)
+    (told-at (given (c .before .before .before .before .before .before .before .before .before .args .uuid .now) (c .before .before .before .before .before .before .before .before .before .args .volume)) (c .before .before .before .before .before .before .before .before .before .args .store .now) (c .before .before .before .before .before .before .before .before .before .args .table .now) (c .before .before .before .before .before .before .before .before .before .args .volume .other) (c .before .before .before .before .before .before .before .before .before .args .k) (c .before .before .before .before .before .before .construct .result) (c .before .before .before .before .before .text-at .result .now) (c .before .before .before .before .read-brief .result) (c .before .before .before .before .before .before .construct .ensures) (c .before .before .before .before .before .text-at .ensures) (c .before .before .before .before .read-brief .ensures))
     (c .before .before .if1 .left) (c .before .construct2 .result) (c .joins .result) (c .before .construct2 .ensures) (c .joins .ensures)
 
 pub link-spec : {M : Type 1} → statement M

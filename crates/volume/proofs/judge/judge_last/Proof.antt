@@ -34,7 +34,7 @@ joins-requires c κs = search needs
 
 returns : tie.Need-returns
 returns c =
-    judges-apart (c .before .before .before .before .before .before .before .before .before .before .args .uuid .now) (c .before .before .before .before .before .before .before .before .before .before .args .volume) (c .before .before .before .before .before .before .before .before .before .before .args .store .now) (c .before .before .before .before .before .before .before .before .before .before .args .index-table .now) (c .before .before .before .before .before .before .before .before .before .before .args .k) (c .before .before .before .before .before .before .before .before .before .before .args .data-table .now) (c .before .before .before .before .before .before .before .before .before .before .args .j) (c .before .before .before .before .before .before .before .before .before .before .args .generation) (c .before .before .before .before .before .before .before .before .before .before .args .index-reach .now) (c .before .before .before .before .before .before .before .before .before .before .args .data-reach .now)
+    judges-apart (c .before .before .before .before .before .before .before .before .before .before .args .uuid .now) (c .before .before .before .before .before .before .before .before .before .before .args .volume) (c .before .before .before .before .before .before .before .before .before .before .args .store .now) (c .before .before .before .before .before .before .before .before .before .before .args .index-table .now) (c .before .before .before .before .before .before .before .before .before .before .args .k) (c .before .before .before .before .before .before .before .before .before .before .args .data-table .now) (c .before .before .before .before .before .before .before .before .before .before .args .j) (c .before .before .before .before .before .before .before .before .before .before .args .generation .0) (c .before .before .before .before .before .before .before .before .before .before .args .index-reach .now) (c .before .before .before .before .before .before .before .before .before .before .args .data-reach .now)
     (c .before .before .before .before .before .construct .result) (c .before .before .construct2 .result) (c .before .before .before .before .text-at .result .now) (c .before .before .before .read-brief .result) (c .before .before .before .before .before .construct .ensures) (c .before .before .before .before .text-at .ensures) (c .before .before .before .read-brief .ensures) (c .before .before .construct2 .ensures)
     (sym (c .before .joins .ensures) ∙ not-true _ (c .if1 .taken))
 
@@ -49,13 +49,13 @@ enum-told c = search needs
 
 returns-2 : tie.Need-returns-2
 returns-2 c =
-    judges-lost (c .before .before .before .before .before .before .before .before .before .before .before .before .before .before .args .uuid .now) (c .before .before .before .before .before .before .before .before .before .before .before .before .before .before .args .volume) (c .before .before .before .before .before .before .before .before .before .before .before .before .before .before .args .store .now) (c .before .before .before .before .before .before .before .before .before .before .before .before .before .before .args .index-table .now) (c .before .before .before .before .before .before .before .before .before .before .before .before .before .before .args .k) (c .before .before .before .before .before .before .before .before .before .before .before .before .before .before .args .data-table .now) (c .before .before .before .before .before .before .before .before .before .before .before .before .before .before .args .j) (c .before .before .before .before .before .before .before .before .before .before .before .before .before .before .args .generation) (c .before .before .before .before .before .before .before .before .before .before .before .before .before .before .args .index-reach .now) (c .before .before .before .before .before .before .before .before .before .before .before .before .before .before .args .data-reach .now)
+    judges-lost (c .before .before .before .before .before .before .before .before .before .before .before .before .before .before .args .uuid .now) (c .before .before .before .before .before .before .before .before .before .before .before .before .before .before .args .volume) (c .before .before .before .before .before .before .before .before .before .before .before .before .before .before .args .store .now) (c .before .before .before .before .before .before .before .before .before .before .before .before .before .before .args .index-table .now) (c .before .before .before .before .before .before .before .before .before .before .before .before .before .before .args .k) (c .before .before .before .before .before .before .before .before .before .before .before .before .before .before .args .data-table .now) (c .before .before .before .before .before .before .before .before .before .before .before .before .before .before .args .j) (c .before .before .before .before .before .before .before .before .before .before .before .before .before .before .args .generation .0) (c .before .before .before .before .before .before .before .before .before .before .before .before .before .before .args .index-reach .now) (c .before .before .before .before .before .before .before .before .before .before .before .before .before .before .args .data-reach .now)
     (c .before .before .before .before .before .before .before .before .before .construct .result) (c .before .before .before .before .before .before .construct2 .result) (c .before .before .before .before .before .before .before .before .text-at .result .now) (c .before .before .before .before .before .before .before .read-brief .result) (c .before .before .before .before .before .before .before .before .before .construct .ensures) (c .before .before .before .before .before .before .before .before .text-at .ensures) (c .before .before .before .before .before .before .before .read-brief .ensures) (c .before .before .before .before .before .before .construct2 .ensures)
     (sym (c .before .before .before .before .before .joins .ensures) ∙ not-false _ (c .before .before .before .before .if1 .left)) (c .before .before .before .first-lost .result) (c .before .before .before .first-lost .ensures) (Broken 5 (c .before .f .given .0 .0)) (ap (λ (x : Lost). numbered 5 (lostFile x)) (sym (c .before .f .given .1)))
 
 returns-3 : tie.Need-returns-3
 returns-3 c =
-    judges-lost (c .before .before .before .before .before .before .before .before .before .before .before .before .before .args .uuid .now) (c .before .before .before .before .before .before .before .before .before .before .before .before .before .args .volume) (c .before .before .before .before .before .before .before .before .before .before .before .before .before .args .store .now) (c .before .before .before .before .before .before .before .before .before .before .before .before .before .args .index-table .now) (c .before .before .before .before .before .before .before .before .before .before .before .before .before .args .k) (c .before .before .before .before .before .before .before .before .before .before .before .before .before .args .data-table .now) (c .before .before .before .before .before .before .before .before .before .before .before .before .before .args .j) (c .before .before .before .before .before .before .before .before .before .before .before .before .before .args .generation) (c .before .before .before .before .before .before .before .before .before .before .before .before .before .args .index-reach .now) (c .before .before .before .before .before .before .before .before .before .before .before .before .before .args .data-reach .now)
+    judges-lost (c .before .before .before .before .before .before .before .before .before .before .before .before .before .args .uuid .now) (c .before .before .before .before .before .before .before .before .before .before .before .before .before .args .volume) (c .before .before .before .before .before .before .before .before .before .before .before .before .before .args .store .now) (c .before .before .before .before .before .before .before .before .before .before .before .before .before .args .index-table .now) (c .before .before .before .before .before .before .before .before .before .before .before .before .before .args .k) (c .before .before .before .before .before .before .before .before .before .before .before .before .before .args .data-table .now) (c .before .before .before .before .before .before .before .before .before .before .before .before .before .args .j) (c .before .before .before .before .before .before .before .before .before .before .before .before .before .args .generation .0) (c .before .before .before .before .before .before .before .before .before .before .before .before .before .args .index-reach .now) (c .before .before .before .before .before .before .before .before .before .before .before .before .before .args .data-reach .now)
     (c .before .before .before .before .before .before .before .before .construct .result) (c .before .before .before .before .before .construct2 .result) (c .before .before .before .before .before .before .before .text-at .result .now) (c .before .before .before .before .before .before .read-brief .result) (c .before .before .before .before .before .before .before .before .construct .ensures) (c .before .before .before .before .before .before .before .text-at .ensures) (c .before .before .before .before .before .before .read-brief .ensures) (c .before .before .before .before .before .construct2 .ensures)
     (sym (c .before .before .before .before .joins .ensures) ∙ not-false _ (c .before .before .before .if1 .left)) (c .before .before .first-lost .result) (c .before .before .first-lost .ensures) Sound (ap (λ (x : Lost). numbered 5 (lostFile x)) (sym (c .enum-told .given .1)))
 

@@ -68,22 +68,22 @@ enum-told c = search needs
 enum-told-2 : tie.Need-enum-told-2
 enum-told-2 c = search needs
 
-sub-t26 : tie.Need-sub-t26
-sub-t26 c = search needs
+sub-t28 : tie.Need-sub-t28
+sub-t28 c = search needs
 
 returns-3 : tie.Need-returns-3
 returns-3 c =
-    tries-lost (c .before .before .before .before .before .before .before .before .before .before .before .before .before .before .before .before .before .before .args .uuid .now) (c .before .before .before .before .before .before .before .before .before .before .before .before .before .before .before .before .before .before .args .volume) (c .before .before .before .before .before .before .before .before .before .before .before .before .before .before .before .before .before .before .args .store .now) (c .before .before .before .before .before .before .before .before .before .before .before .before .before .before .before .before .before .before .args .index-table .now) (c .before .before .before .before .before .before .before .before .before .before .before .before .before .before .before .before .before .before .args .k) (c .before .before .before .before .before .before .before .before .before .before .before .before .before .before .before .before .before .before .args .data-table .now) (c .before .before .before .before .before .before .before .before .before .before .before .before .before .before .before .before .before .before .args .generations .now) (c .before .before .before .before .before .before .before .before .before .before .before .before .before .before .before .before .before .before .args .beginnings .now) (c .before .before .before .before .before .before .before .before .before .before .before .before .before .before .before .before .before .before .args .index-reach .now) (c .before .before .before .before .before .before .before .before .before .before .before .before .before .before .before .before .before .before .args .data-reach .now)
-    (c .before .before .before .before .before .before .before .before .before .before .before .construct .result) (c .before .before .before .before .before .before .before .before .before .before .text-at .result .now) (c .before .before .before .before .before .before .before .before .before .read-brief .result) (c .before .before .before .before .before .before .before .before .before .before .before .construct .ensures) (c .before .before .before .before .before .before .before .before .before .before .text-at .ensures) (c .before .before .before .before .before .before .before .before .before .read-brief .ensures)
-    (c .before .before .before .before .before .before .before .before .item32 .result) (sym (c .before .before .before .before .before .before .before .before .item32 .ensures)) (c .before .before .before .before .before .before .before .if1 .left) (c .before .before .before .before .before .before .construct2 .result) (c .before .before .before .before .before .before .construct2 .ensures) (c .before .before .before .before .before .item .result) (c .before .before .before .before .before .item .ensures)
-    (sym (c .before .before .before .before .joins .ensures) ∙ not-false _ (c .before .before .before .if2 .left)) (c .before .before .first-lost .result) (c .before .before .first-lost .ensures) (c .enum-told .given .0 .0) (ap lostFile (c .enum-told .given .1))
+    tries-lost (c .before .before .before .before .before .before .before .before .before .before .before .before .before .before .before .before .before .before .before .args .uuid .now) (c .before .before .before .before .before .before .before .before .before .before .before .before .before .before .before .before .before .before .before .args .volume) (c .before .before .before .before .before .before .before .before .before .before .before .before .before .before .before .before .before .before .before .args .store .now) (c .before .before .before .before .before .before .before .before .before .before .before .before .before .before .before .before .before .before .before .args .index-table .now) (c .before .before .before .before .before .before .before .before .before .before .before .before .before .before .before .before .before .before .before .args .k) (c .before .before .before .before .before .before .before .before .before .before .before .before .before .before .before .before .before .before .before .args .data-table .now) (c .before .before .before .before .before .before .before .before .before .before .before .before .before .before .before .before .before .before .before .args .generations .now) (c .before .before .before .before .before .before .before .before .before .before .before .before .before .before .before .before .before .before .before .args .beginnings .now) (c .before .before .before .before .before .before .before .before .before .before .before .before .before .before .before .before .before .before .before .args .index-reach .now) (c .before .before .before .before .before .before .before .before .before .before .before .before .before .before .before .before .before .before .before .args .data-reach .now)
+    (c .before .before .before .before .before .before .before .before .before .before .before .before .construct .result) (c .before .before .before .before .before .before .before .before .before .before .before .text-at .result .now) (c .before .before .before .before .before .before .before .before .before .before .read-brief .result) (c .before .before .before .before .before .before .before .before .before .before .before .before .construct .ensures) (c .before .before .before .before .before .before .before .before .before .before .before .text-at .ensures) (c .before .before .before .before .before .before .before .before .before .before .read-brief .ensures)
+    (c .before .before .before .before .before .before .before .before .before .item32 .result) (sym (c .before .before .before .before .before .before .before .before .before .item32 .ensures)) (c .before .before .before .before .before .before .before .before .if1 .left) (c .before .before .before .before .before .before .before .construct2 .result) (c .before .before .before .before .before .before .before .construct2 .ensures) (c .before .before .before .before .before .before .item .result) (c .before .before .before .before .before .before .item .ensures)
+    (sym (c .before .before .before .before .before .joins .ensures) ∙ not-false _ (c .before .before .before .before .if2 .left)) (c .before .before .first-lost .result) (c .before .before .first-lost .ensures) (c .enum-told .given .0 .0) (ap lostFile (c .enum-told .given .1))
 
 returns-4 : tie.Need-returns-4
 returns-4 c =
-    tries-fits (c .before .before .before .before .before .before .before .before .before .before .before .before .before .before .before .before .before .before .args .uuid .now) (c .before .before .before .before .before .before .before .before .before .before .before .before .before .before .before .before .before .before .args .volume) (c .before .before .before .before .before .before .before .before .before .before .before .before .before .before .before .before .before .before .args .store .now) (c .before .before .before .before .before .before .before .before .before .before .before .before .before .before .before .before .before .before .args .index-table .now) (c .before .before .before .before .before .before .before .before .before .before .before .before .before .before .before .before .before .before .args .k) (c .before .before .before .before .before .before .before .before .before .before .before .before .before .before .before .before .before .before .args .data-table .now) (c .before .before .before .before .before .before .before .before .before .before .before .before .before .before .before .before .before .before .args .generations .now) (c .before .before .before .before .before .before .before .before .before .before .before .before .before .before .before .before .before .before .args .beginnings .now) (c .before .before .before .before .before .before .before .before .before .before .before .before .before .before .before .before .before .before .args .index-reach .now) (c .before .before .before .before .before .before .before .before .before .before .before .before .before .before .before .before .before .before .args .data-reach .now)
-    (c .before .before .before .before .before .before .before .before .before .before .before .construct .result) (c .before .before .before .before .before .before .before .before .before .before .text-at .result .now) (c .before .before .before .before .before .before .before .before .before .read-brief .result) (c .before .before .before .before .before .before .before .before .before .before .before .construct .ensures) (c .before .before .before .before .before .before .before .before .before .before .text-at .ensures) (c .before .before .before .before .before .before .before .before .before .read-brief .ensures)
-    (c .before .before .before .before .before .before .before .before .item32 .result) (sym (c .before .before .before .before .before .before .before .before .item32 .ensures)) (c .before .before .before .before .before .before .before .if1 .left) (c .before .before .before .before .before .before .construct2 .result) (c .before .before .before .before .before .before .construct2 .ensures) (c .before .before .before .before .before .item .result) (c .before .before .before .before .before .item .ensures)
-    (sym (c .before .before .before .before .joins .ensures) ∙ not-false _ (c .before .before .before .if2 .left)) (c .before .before .first-lost .result) (c .before .before .first-lost .ensures) (ap lostFile (c .enum-told2 .given .1)) _ refl refl refl refl refl
+    tries-fits (c .before .before .before .before .before .before .before .before .before .before .before .before .before .before .before .before .before .before .before .args .uuid .now) (c .before .before .before .before .before .before .before .before .before .before .before .before .before .before .before .before .before .before .before .args .volume) (c .before .before .before .before .before .before .before .before .before .before .before .before .before .before .before .before .before .before .before .args .store .now) (c .before .before .before .before .before .before .before .before .before .before .before .before .before .before .before .before .before .before .before .args .index-table .now) (c .before .before .before .before .before .before .before .before .before .before .before .before .before .before .before .before .before .before .before .args .k) (c .before .before .before .before .before .before .before .before .before .before .before .before .before .before .before .before .before .before .before .args .data-table .now) (c .before .before .before .before .before .before .before .before .before .before .before .before .before .before .before .before .before .before .before .args .generations .now) (c .before .before .before .before .before .before .before .before .before .before .before .before .before .before .before .before .before .before .before .args .beginnings .now) (c .before .before .before .before .before .before .before .before .before .before .before .before .before .before .before .before .before .before .before .args .index-reach .now) (c .before .before .before .before .before .before .before .before .before .before .before .before .before .before .before .before .before .before .before .args .data-reach .now)
+    (c .before .before .before .before .before .before .before .before .before .before .before .before .construct .result) (c .before .before .before .before .before .before .before .before .before .before .before .text-at .result .now) (c .before .before .before .before .before .before .before .before .before .before .read-brief .result) (c .before .before .before .before .before .before .before .before .before .before .before .before .construct .ensures) (c .before .before .before .before .before .before .before .before .before .before .before .text-at .ensures) (c .before .before .before .before .before .before .before .before .before .before .read-brief .ensures)
+    (c .before .before .before .before .before .before .before .before .before .item32 .result) (sym (c .before .before .before .before .before .before .before .before .before .item32 .ensures)) (c .before .before .before .before .before .before .before .before .if1 .left) (c .before .before .before .before .before .before .before .construct2 .result) (c .before .before .before .before .before .before .before .construct2 .ensures) (c .before .before .before .before .before .before .item .result) (c .before .before .before .before .before .before .item .ensures)
+    (sym (c .before .before .before .before .before .joins .ensures) ∙ not-false _ (c .before .before .before .before .if2 .left)) (c .before .before .first-lost .result) (c .before .before .first-lost .ensures) (ap lostFile (c .enum-told2 .given .1)) _ refl refl refl refl refl
 
 pub try-cut-spec : {M : Type 1} → statement M
 try-cut-spec =
@@ -104,6 +104,6 @@ try-cut-spec =
     first-lost-requires
     enum-told
     enum-told-2
-    sub-t26
+    sub-t28
     returns-3
     returns-4)

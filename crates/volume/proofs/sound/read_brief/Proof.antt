@@ -20,10 +20,10 @@ enum-known-h : tie.Need-enum-known-h
 enum-known-h c = search needs
 
 returns : tie.Need-returns
-returns c = told-refused (indexOf (given (c .before .before .before .before .before .args .uuid .now) (c .before .before .before .before .before .args .volume)) (c .before .before .before .before .before .args .letter) (c .before .before .before .before .before .args .block) (c .before .before .before .before .before .args .text .now)) (c .before .before .before .before .before .args .text .now) (c .enum-told .given .0 .0) (ap (saying (c .before .before .before .before .before .args .text .now)) (sym (c .enum-told .given .1)) ∙ c .before .before .read-index .ensures)
+returns c = told-refused (indexOf (given (c .before .before .before .before .before .args .uuid .now) (c .before .before .before .before .before .args .volume)) (c .before .before .before .before .before .args .letter) (c .before .before .before .before .before .args .block .0) (c .before .before .before .before .before .args .text .now)) (c .before .before .before .before .before .args .text .now) (c .enum-told .given .0 .0) (ap (saying (c .before .before .before .before .before .args .text .now)) (sym (c .enum-told .given .1)) ∙ c .before .before .read-index .ensures)
 
 returns-2 : tie.Need-returns-2
-returns-2 c = told-found (indexOf (given (c .before .before .before .before .before .before .args .uuid .now) (c .before .before .before .before .before .before .args .volume)) (c .before .before .before .before .before .before .args .letter) (c .before .before .before .before .before .before .args .block) (c .before .before .before .before .before .before .args .text .now)) (c .before .before .before .before .before .before .args .text .now) (c .before .h .given .0 .0) (ap (saying (c .before .before .before .before .before .before .args .text .now)) (sym (c .before .h .given .1)) ∙ c .before .before .before .read-index .ensures)
+returns-2 c = told-found (indexOf (given (c .before .before .before .before .before .before .before .before .args .uuid .now) (c .before .before .before .before .before .before .before .before .args .volume)) (c .before .before .before .before .before .before .before .before .args .letter) (c .before .before .before .before .before .before .before .before .args .block .0) (c .before .before .before .before .before .before .before .before .args .text .now)) (c .before .before .before .before .before .before .before .before .args .text .now) (c .before .before .before .h .given .0 .0) (ap (saying (c .before .before .before .before .before .before .before .before .args .text .now)) (sym (c .before .before .before .h .given .1)) ∙ c .before .before .before .before .before .read-index .ensures)
 
 pub read-brief-spec : {M : Type 1} → statement M
 read-brief-spec = tie.close (tie.spec read-index-requires enum-told enum-known-h returns returns-2)
