@@ -10,33 +10,30 @@ use lib.Dec.{leb, ltb, eqb}
 use lib.ListN.{length, drop, getD}
 use Rattle.refusals.specs.Refusals.{refused, answer, require}
 use Rattle.refusals.specs.declared.Refusal.the-variants.{Caller, TooMany, Extents, Missing}
-use Rattle.slices.specs.Slices.{within}
+use Rattle.quantities.specs.Sizes.{isBlockSize}
 use Rattle.extents.specs.Rows.{Row, rowsOf, rowAt}
 use Rattle.extents.specs.Lawful.{inRow, lawful, holders}
 use Rattle.extents.specs.Map.{stored, unstored, placeIn, placeOf, lettered, byteMap}
 use Rattle.extents.proofs.Rows.{rows-on, rows-end, rows-count}
 
 module _ (s : List ℕ) (L B p : ℕ) where
-  caller-wrong : (within 4096 1048576 B && lettered (rowsOf s) && eqb (length s % 5) 0) ≡ false → byteMap s L B p ≡ refused Caller
+  caller-wrong : (isBlockSize B && lettered (rowsOf s) && eqb (length s % 5) 0) ≡ false → byteMap s L B p ≡ refused Caller
   unfolding byteMap
   caller-wrong e = rw e
 
-  pub size-too-small : B < 4096 → byteMap s L B p ≡ refused Caller
-  size-too-small h = caller-wrong (rw (lt-leb 4096 B h))
-
-  pub size-too-large : 1048576 < B → byteMap s L B p ≡ refused Caller
-  size-too-large h = caller-wrong (rw (lt-leb B 1048576 h, and-false (leb 4096 B)))
+  pub size-wrong : isBlockSize B ≡ false → byteMap s L B p ≡ refused Caller
+  size-wrong e = caller-wrong (rw e)
 
   pub unlettered : lettered (rowsOf s) ≡ false → byteMap s L B p ≡ refused Caller
-  unlettered e = caller-wrong (rw (e, and-false (within 4096 1048576 B)))
+  unlettered e = caller-wrong (rw (e, and-false (isBlockSize B)))
 
   pub not-fives : (length s % 5 ≡ 0 → ⊥) → byteMap s L B p ≡ refused Caller
-  not-fives n = caller-wrong (rw (ne-eqb (length s % 5) 0 n, and-false (within 4096 1048576 B && lettered (rowsOf s))))
+  not-fives n = caller-wrong (rw (ne-eqb (length s % 5) 0 n, and-false (isBlockSize B && lettered (rowsOf s))))
 
   -- the caller's numbers pass
-  module _ (low : 4096 ≤ B) (high : B ≤ 1048576) (letters : lettered (rowsOf s) ≡ true) (fives : length s % 5 ≡ 0) where
-    caller-right : (within 4096 1048576 B && lettered (rowsOf s) && eqb (length s % 5) 0) ≡ true
-    caller-right = rw (le-leb 4096 B low, le-leb B 1048576 high, letters, eq-eqb (length s % 5) 0 fives)
+  module _ (size : isBlockSize B ≡ true) (letters : lettered (rowsOf s) ≡ true) (fives : length s % 5 ≡ 0) where
+    caller-right : (isBlockSize B && lettered (rowsOf s) && eqb (length s % 5) 0) ≡ true
+    caller-right = rw (size, letters, eq-eqb (length s % 5) 0 fives)
 
     pub too-many : 1024 < length s / 5 → byteMap s L B p ≡ refused TooMany
     unfolding byteMap

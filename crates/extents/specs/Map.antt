@@ -6,8 +6,9 @@ use lib.Dec.{leb, ltb, eqb}
 use lib.ListN.{length}
 use Rattle.refusals.specs.Refusals.{Answer, refused, answer, require}
 use Rattle.refusals.specs.declared.Refusal.the-variants.{Caller, TooMany, Extents, Missing}
-use Rattle.slices.specs.Slices.{within, every}
+use Rattle.slices.specs.Slices.{every}
 use Rattle.quantities.specs.Letters.{isLetter}
+use Rattle.quantities.specs.Sizes.{isBlockSize}
 use Rattle.extents.specs.Rows.{Row, rowsOf}
 use Rattle.extents.specs.Lawful.{inRow, lawful}
 use Rattle.extents.specs.declared.ByteAt.{ByteAt}
@@ -35,7 +36,7 @@ lettered rows = every (λ (r : Row). isLetter (r .letter)) rows
 -- 14 for block size, letters and numbers not in fives; 15; 11; 2 (01, Refusal numbers)
 unfoldable pub byteMap : List ℕ → ℕ → ℕ → ℕ → Answer Place
 byteMap numbers L B p =
-    require (within 4096 1048576 B && lettered (rowsOf numbers) && eqb (length numbers % 5) 0) Caller
+    require (isBlockSize B && lettered (rowsOf numbers) && eqb (length numbers % 5) 0) Caller
     (require (leb (length (rowsOf numbers)) 1024) TooMany
     (require (lawful L B (rowsOf numbers)) Extents
     (require (ltb p L) Missing

@@ -224,10 +224,7 @@ fn find(rows: &[u64], length: u64, block_size: u64, position: u64) -> ByteAt
 pub fn byte_at(rows: &[u64], length: ByteCount, block_size: u64, position: ByteCount) -> ByteAt
     ensures { λ r. ⌜ saying r ≡ byteMap (now (rows .entry)) (length .0) «block_size» (position .0) ⌝ }
 {
-    if block_size < 4096 {
-        return ByteAt::Refused(Refusal::Caller);
-    }
-    if 1048576 < block_size {
+    if !quantities::is_block_size(block_size) {
         return ByteAt::Refused(Refusal::Caller);
     }
     if !each_lettered(rows) {

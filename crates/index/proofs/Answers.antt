@@ -12,6 +12,7 @@ use Rattle.refusals.specs.declared.Refusal.the-variants.{Caller, TooMany, Form,
 use Rattle.slices.specs.Slices.{within, same}
 use Rattle.slices.specs.Words.{bytes}
 use Rattle.quantities.specs.Letters.{isLetter}
+use Rattle.quantities.specs.Sizes.{isBlockSize}
 use Rattle.xml.specs.Tree.{Head, Forest, none as noElement, node}
 use Rattle.xml.specs.Machine.{Outcome, good, form}
 use Rattle.elements.specs.Reading.{rowAt, isRow}
@@ -23,10 +24,10 @@ use Rattle.index.specs.Tests.{Given, isSome, letterSaid}
 use Rattle.index.specs.Index.{Told, isTrue, said, told, toldBy, headed, structured, bounded, allValued, allOwn, allLawful, standsAt, placeIn, locationIn, filesOf, fileOf, fileCount, childrenRead, tagRead, rootRead, callerRight, indexOf, isGood}
 
 pub caller-last : (g : Given) (letter : ℕ) → isLetter (g .first) ≡ true → isLetter (g .other) ≡ true → eqb (g .first) (g .other) ≡ false
-    → leb 4096 (g .size) ≡ true → leb (g .size) 1048576 ≡ true → is.isUuid (g .uuid) ≡ true
+    → isBlockSize (g .size) ≡ true → is.isUuid (g .uuid) ≡ true
     → callerRight g letter ≡ (eqb letter (g .first) || eqb letter (g .other))
 unfolding callerRight
-caller-last g letter a b c d e f = rw (a, b, c, d, e, f)
+caller-last g letter a b c d e = rw (a, b, c, d, e)
 
 module _ (g : Given) (letter block release : ℕ) (k : Forest) where
   pub children-5 : structured k ≡ false → refused Structure ≡ toldBy (childrenRead g letter block release k)

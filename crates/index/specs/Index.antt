@@ -8,9 +8,10 @@ use lib.Dec.{eqb, leb}
 use lib.ListN.{length}
 use Rattle.refusals.specs.Refusals.{Answer, refused, answer, require, andThen}
 use Rattle.refusals.specs.declared.Refusal.the-variants.{Caller, TooMany, Form, Structure, Version, Value, Foreign, Extents, Location}
-use Rattle.slices.specs.Slices.{within, every, same}
+use Rattle.slices.specs.Slices.{every, same}
 use Rattle.slices.specs.Words.{bytes}
 use Rattle.quantities.specs.Letters.{isLetter}
+use Rattle.quantities.specs.Sizes.{isBlockSize}
 use Rattle.quantities.specs.Places.{Place}
 use Rattle.quantities.specs.declared.BlockNumber.{BlockNumber}
 use Rattle.xml.specs.Tree.{Head, Forest, none as noElement, node}
@@ -137,7 +138,7 @@ rootRead g letter block (node h k r) = tagRead g letter block h k
 -- 14: the caller's letters, block size, UUID and place
 unfoldable pub callerRight : Given → ℕ → Bool
 callerRight g letter =
-    isLetter (g .first) && isLetter (g .other) && not (eqb (g .first) (g .other)) && within 4096 1048576 (g .size) && is.isUuid (g .uuid)
+    isLetter (g .first) && isLetter (g .other) && not (eqb (g .first) (g .other)) && isBlockSize (g .size) && is.isUuid (g .uuid)
     && (eqb letter (g .first) || eqb letter (g .other))
 
 abbrev pub isGood : Outcome → Bool

@@ -56,10 +56,7 @@ pub fn is_caller_right(uuid: &[u8], volume: Volume, letter: u8) -> bool
     if volume.first == volume.other {
         return false;
     }
-    if volume.size < 4096 {
-        return false;
-    }
-    if 1048576 < volume.size {
+    if !quantities::is_block_size(volume.size) {
         return false;
     }
     if !values::is_uuid(uuid) {

@@ -9,9 +9,10 @@ use Rattle.slices.specs.Slices.{written}
 use Rattle.slices.proofs.Booleans.{and-left, and-right}
 use Rattle.slices.proofs.Writing.{part-written}
 use Rattle.quantities.specs.Letters.{isLetter}
+use Rattle.quantities.specs.Sizes.{isBlockSize}
 use Rattle.xml.specs.Machine.{form}
 use Rattle.values.specs.Values.{isCreator, isTime, isUuid}
-use Rattle.label.specs.Label.{Label, lettersFit, isBlockSize, isFormed}
+use Rattle.label.specs.Label.{Label, lettersFit, isFormed}
 use Rattle.label.specs.Text.{textOf, areNumbers, isLawful, isGiven}
 
 module _ (f : Label) where

@@ -8,6 +8,7 @@ use Rattle.refusals.specs.Refusals.{refused, answer}
 use Rattle.refusals.specs.declared.Refusal.the-variants.{Form, Structure, Value, Version, TooMany}
 use Rattle.slices.specs.Slices.{same}
 use Rattle.slices.specs.Words.{bytes}
+use Rattle.quantities.specs.Sizes.{isBlockSize}
 use borrow.Author.Tests.{le-leb, lt-leb}
 use lib.ListN.{length}
 use Rattle.xml.specs.Machine.{form}
@@ -15,7 +16,7 @@ use Rattle.xml.specs.Tree.{Head, Forest, none, node}
 use Rattle.elements.specs.Reading.{rowAt}
 use Rattle.elements.specs.Decoded.{decoded}
 use Rattle.values.specs.Values.{number, boolean, letter, version, isTime, isUuid, isCreator}
-use Rattle.label.specs.Label.{Texts, isShaped, textsIn, lettersFit, isBlockSize, labelFrom, rootOf, firstOf, isFormed, labelOf}
+use Rattle.label.specs.Label.{Texts, isShaped, textsIn, lettersFit, labelFrom, rootOf, firstOf, isFormed, labelOf}
 
 pub texts-same : {c c′ t t′ u u′ : List ℕ} → c ≡ c′ → t ≡ t′ → u ≡ u′
     → (isCreator (decoded c) && isTime t && isUuid u) ≡ (isCreator (decoded c′) && isTime t′ && isUuid u′)

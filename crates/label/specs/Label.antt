@@ -10,8 +10,9 @@ use lib.ListN.{length}
 use Rattle.refusals.specs.Refusals.{Answer, refused, answer, require}
 use Rattle.refusals.specs.declared.Refusal.{Refusal}
 use Rattle.refusals.specs.declared.Refusal.the-variants.{Form, Structure, Value, Version, TooMany}
-use Rattle.slices.specs.Slices.{within, same}
+use Rattle.slices.specs.Slices.{same}
 use Rattle.slices.specs.Words.{bytes}
+use Rattle.quantities.specs.Sizes.{isBlockSize}
 use Rattle.xml.specs.Machine.{Outcome, good, broken, form}
 use Rattle.xml.specs.Tree.{Head, Forest, none, node}
 use Rattle.elements.specs.Reading.{rowAt}
@@ -85,10 +86,6 @@ module _ {A B : Type 0} where
 -- the letters are different, and the location is one of them
 unfoldable pub lettersFit : ℕ → ℕ → ℕ → Bool
 lettersFit l i d = not (eqb i d) && (eqb l i || eqb l d)
-
--- 01, Bounds
-abbrev pub isBlockSize : ℕ → Bool
-isBlockSize n = within 4096 1048576 n
 
 -- 6: the values
 unfoldable pub labelFrom : ℕ → Texts → Answer Label

@@ -6,12 +6,13 @@ use Prim.Native.Nat.{ℕ}
 use lib.Dec.{eqb}
 use Rattle.slices.specs.Words.{bytes}
 use Rattle.quantities.specs.Letters.{isLetter}
+use Rattle.quantities.specs.Sizes.{isBlockSize}
 use Rattle.digits.specs.Decimal.{short}
 use Rattle.xml.specs.Bytes.{declaration}
 use Rattle.xml.specs.Grammar.{isChar, utf8}
 use Rattle.xml.specs.Machine.{form}
 use Rattle.values.specs.Values.{isCreator, isTime, isUuid}
-use Rattle.label.specs.Label.{Label, lettersFit, isBlockSize, isFormed}
+use Rattle.label.specs.Label.{Label, lettersFit, isFormed}
 use Rattle.label.specs.declared.writer.Given.{Given}
 
 -- `&`, `<` and `>` are escaped

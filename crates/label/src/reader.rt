@@ -15,7 +15,7 @@ ghost use Rattle.slices.specs.Words.{bytes};
 ghost use Rattle.elements.specs.Reading.{headAt, childrenAt};
 ghost use Rattle.elements.specs.Decoded.{decoded};
 ghost use Rattle.values.specs.Values.{isCreator, isTime, isUuid, letter, letterOf, boolean, booleanOf};
-ghost use Rattle.label.specs.Label.{lettersFit, isBlockSize, labelFrom, rootOf, labelOf};
+ghost use Rattle.label.specs.Label.{lettersFit, labelFrom, rootOf, labelOf};
 ghost use Rattle.label.specs.Reading.{textsAt, Finds, means};
 
 // Whether the children of the root are lawful, and the places of the elements that hold the values.
@@ -102,15 +102,6 @@ pub(crate) fn letters_fit(location: u8, index: u8, other: u8) -> bool
     location == other
 }
 
-pub(crate) fn is_block_size(n: u64) -> bool
-    ensures { λ r. ⌜ r ≡ isBlockSize n ⌝ }
-{
-    if n < 4096 {
-        return false;
-    }
-    n <= 1048576
-}
-
 // The texts that stay as they are.
 fn texts_lawful(creator: &[u8], time: &[u8], uuid: &[u8]) -> bool
     ensures { λ r. ⌜ r ≡ (isCreator (decoded (now (creator .entry))) && isTime (now (time .entry)) && isUuid (now (uuid .entry))) ⌝ }
@@ -151,7 +142,7 @@ fn read_values(text: &[u8], p: Places, release: u64) -> Label
     else {
         return Label::Refused(Refusal::Value);
     };
-    if !is_block_size(block_size) {
+    if !quantities::is_block_size(block_size) {
         return Label::Refused(Refusal::Value);
     }
     let Boolean::Value(compression) = values::read_boolean(elements::text_of(text, p.compression))

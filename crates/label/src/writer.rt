@@ -1,5 +1,4 @@
 // The LTFS label, written.
-use super::reader::is_block_size;
 use super::reader::letters_fit;
 use super::writing::add;
 use super::writing::add_number;
@@ -182,7 +181,7 @@ fn are_numbers(g: Given) -> bool
     if !letters_fit(g.location, g.index_letter, g.data_letter) {
         return false;
     }
-    is_block_size(g.block_size)
+    quantities::is_block_size(g.block_size)
 }
 
 // Writes the first n bytes of a text that is in the XML form to the front of out.

@@ -1,2 +1,3 @@
 pub mod Letters
 pub mod Places
+pub mod Sizes

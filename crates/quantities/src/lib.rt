@@ -1,7 +1,8 @@
 // Block numbers, byte counts and generation numbers: three separate quantities (01, The block list), each with an element of its own
-// in 002; and partition letters.
+// in 002; partition letters; and the rule of a block size.
 ghost use mathlib.Core.Path.{_≡_};
 ghost use Rattle.quantities.specs.Letters.{isLetter};
+ghost use Rattle.quantities.specs.Sizes.{isBlockSize};
 
 // The number of an element on a partition: blocks and file marks count from 0.
 pub struct BlockNumber(pub u64);
@@ -20,4 +21,14 @@ pub fn is_letter(b: u64) -> bool
         return false;
     }
     b <= 122
+}
+
+// Whether a number of bytes can be a volume's block size.
+pub fn is_block_size(n: u64) -> bool
+    ensures { λ r. ⌜ r ≡ isBlockSize n ⌝ }
+{
+    if n < 4096 {
+        return false;
+    }
+    n <= 1048576
 }

@@ -34,26 +34,25 @@ returns-3 : tie.Need-returns-3
 unfolding callerRight
 returns-3 c = simp (sym (c .before .before .before .before .before .before .is-letter .ensures) ∙ not-false _ (c .before .before .before .before .before .if1 .left), sym (c .before .before .before .is-letter2 .ensures) ∙ not-false _ (c .before .before .if2 .left), eq-eqb _ _ (c .if3 .taken))
 
+is-block-size-requires : tie.Need-is-block-size-requires
+is-block-size-requires c κs = search needs
+
 returns-4 : tie.Need-returns-4
 unfolding callerRight
-returns-4 c = simp (sym (c .before .before .before .before .before .before .before .before .is-letter .ensures) ∙ not-false _ (c .before .before .before .before .before .before .before .if1 .left), sym (c .before .before .before .before .before .is-letter2 .ensures) ∙ not-false _ (c .before .before .before .before .if2 .left), ne-eqb _ _ (c .before .before .if3 .left), lt-leb _ _ (c .if4 .taken))
-
-returns-5 : tie.Need-returns-5
-unfolding callerRight
-returns-5 c = simp (sym (c .before .before .before .before .before .before .before .before .before .before .is-letter .ensures) ∙ not-false _ (c .before .before .before .before .before .before .before .before .before .if1 .left), sym (c .before .before .before .before .before .before .before .is-letter2 .ensures) ∙ not-false _ (c .before .before .before .before .before .before .if2 .left), ne-eqb _ _ (c .before .before .before .before .if3 .left), le-leb _ _ (c .before .before .if4 .left), lt-leb _ _ (c .if5 .taken))
+returns-4 c = simp (sym (c .before .before .before .before .before .before .before .before .is-letter .ensures) ∙ not-false _ (c .before .before .before .before .before .before .before .if1 .left), sym (c .before .before .before .before .before .is-letter2 .ensures) ∙ not-false _ (c .before .before .before .before .if2 .left), ne-eqb _ _ (c .before .before .if3 .left), sym (c .before .is-block-size .ensures) ∙ not-true _ (c .if4 .taken))
 
 is-uuid-requires : tie.Need-is-uuid-requires
 is-uuid-requires c κs = search needs
 
-returns-6 : tie.Need-returns-6
+returns-5 : tie.Need-returns-5
 unfolding callerRight
-returns-6 c = simp (sym (c .before .before .before .before .before .before .before .before .before .before .before .before .is-letter .ensures) ∙ not-false _ (c .before .before .before .before .before .before .before .before .before .before .before .if1 .left), sym (c .before .before .before .before .before .before .before .before .before .is-letter2 .ensures) ∙ not-false _ (c .before .before .before .before .before .before .before .before .if2 .left), ne-eqb _ _ (c .before .before .before .before .before .before .if3 .left), le-leb _ _ (c .before .before .before .before .if4 .left), le-leb _ _ (c .before .before .if5 .left), sym (c .before .is-uuid .ensures) ∙ not-true _ (c .if6 .taken))
+returns-5 c = simp (sym (c .before .before .before .before .before .before .before .before .before .before .is-letter .ensures) ∙ not-false _ (c .before .before .before .before .before .before .before .before .before .if1 .left), sym (c .before .before .before .before .before .before .before .is-letter2 .ensures) ∙ not-false _ (c .before .before .before .before .before .before .if2 .left), ne-eqb _ _ (c .before .before .before .before .if3 .left), sym (c .before .before .before .is-block-size .ensures) ∙ not-false _ (c .before .before .if4 .left), sym (c .before .is-uuid .ensures) ∙ not-true _ (c .if5 .taken))
+
+returns-6 : tie.Need-returns-6
+returns-6 c = sym (caller-last (given (c .before .before .before .before .before .before .before .before .before .before .before .before .before .before .before .args .uuid .now) (c .before .before .before .before .before .before .before .before .before .before .before .before .before .before .before .args .volume)) (c .before .before .before .before .before .before .before .before .before .before .before .before .before .before .before .args .letter) (sym (c .before .before .before .before .before .before .before .before .before .before .before .before .is-letter .ensures) ∙ not-false _ (c .before .before .before .before .before .before .before .before .before .before .before .if1 .left)) (sym (c .before .before .before .before .before .before .before .before .before .is-letter2 .ensures) ∙ not-false _ (c .before .before .before .before .before .before .before .before .if2 .left)) (ne-eqb _ _ (c .before .before .before .before .before .before .if3 .left)) (sym (c .before .before .before .before .before .is-block-size .ensures) ∙ not-false _ (c .before .before .before .before .if4 .left)) (sym (c .before .before .before .is-uuid .ensures) ∙ not-false _ (c .before .before .if5 .left)) ∙ ap (λ (b : Bool). b || eqb (c .before .before .before .before .before .before .before .before .before .before .before .before .before .before .before .args .letter) (c .before .before .before .before .before .before .before .before .before .before .before .before .before .before .before .args .volume .other)) (eq-eqb _ _ (c .if6 .taken)))
 
 returns-7 : tie.Need-returns-7
-returns-7 c = sym (caller-last (given (c .before .before .before .before .before .before .before .before .before .before .before .before .before .before .before .before .before .args .uuid .now) (c .before .before .before .before .before .before .before .before .before .before .before .before .before .before .before .before .before .args .volume)) (c .before .before .before .before .before .before .before .before .before .before .before .before .before .before .before .before .before .args .letter) (sym (c .before .before .before .before .before .before .before .before .before .before .before .before .before .before .is-letter .ensures) ∙ not-false _ (c .before .before .before .before .before .before .before .before .before .before .before .before .before .if1 .left)) (sym (c .before .before .before .before .before .before .before .before .before .before .before .is-letter2 .ensures) ∙ not-false _ (c .before .before .before .before .before .before .before .before .before .before .if2 .left)) (ne-eqb _ _ (c .before .before .before .before .before .before .before .before .if3 .left)) (le-leb _ _ (c .before .before .before .before .before .before .if4 .left)) (le-leb _ _ (c .before .before .before .before .if5 .left)) (sym (c .before .before .before .is-uuid .ensures) ∙ not-false _ (c .before .before .if6 .left)) ∙ ap (λ (b : Bool). b || eqb (c .before .before .before .before .before .before .before .before .before .before .before .before .before .before .before .before .before .args .letter) (c .before .before .before .before .before .before .before .before .before .before .before .before .before .before .before .before .before .args .volume .other)) (eq-eqb _ _ (c .if7 .taken)))
-
-returns-8 : tie.Need-returns-8
-returns-8 c = sym (caller-last (given (c .before .before .before .before .before .before .before .before .before .before .before .before .before .before .before .before .before .before .args .uuid .now) (c .before .before .before .before .before .before .before .before .before .before .before .before .before .before .before .before .before .before .args .volume)) (c .before .before .before .before .before .before .before .before .before .before .before .before .before .before .before .before .before .before .args .letter) (sym (c .before .before .before .before .before .before .before .before .before .before .before .before .before .before .before .is-letter .ensures) ∙ not-false _ (c .before .before .before .before .before .before .before .before .before .before .before .before .before .before .if1 .left)) (sym (c .before .before .before .before .before .before .before .before .before .before .before .before .is-letter2 .ensures) ∙ not-false _ (c .before .before .before .before .before .before .before .before .before .before .before .if2 .left)) (ne-eqb _ _ (c .before .before .before .before .before .before .before .before .before .if3 .left)) (le-leb _ _ (c .before .before .before .before .before .before .before .if4 .left)) (le-leb _ _ (c .before .before .before .before .before .if5 .left)) (sym (c .before .before .before .before .is-uuid .ensures) ∙ not-false _ (c .before .before .before .if6 .left)) ∙ ap (λ (b : Bool). b || eqb (c .before .before .before .before .before .before .before .before .before .before .before .before .before .before .before .before .before .before .args .letter) (c .before .before .before .before .before .before .before .before .before .before .before .before .before .before .before .before .before .before .args .volume .other)) (ne-eqb _ _ (c .before .if7 .left)))
+returns-7 c = sym (caller-last (given (c .before .before .before .before .before .before .before .before .before .before .before .before .before .before .before .before .args .uuid .now) (c .before .before .before .before .before .before .before .before .before .before .before .before .before .before .before .before .args .volume)) (c .before .before .before .before .before .before .before .before .before .before .before .before .before .before .before .before .args .letter) (sym (c .before .before .before .before .before .before .before .before .before .before .before .before .before .is-letter .ensures) ∙ not-false _ (c .before .before .before .before .before .before .before .before .before .before .before .before .if1 .left)) (sym (c .before .before .before .before .before .before .before .before .before .before .is-letter2 .ensures) ∙ not-false _ (c .before .before .before .before .before .before .before .before .before .if2 .left)) (ne-eqb _ _ (c .before .before .before .before .before .before .before .if3 .left)) (sym (c .before .before .before .before .before .before .is-block-size .ensures) ∙ not-false _ (c .before .before .before .before .before .if4 .left)) (sym (c .before .before .before .before .is-uuid .ensures) ∙ not-false _ (c .before .before .before .if5 .left)) ∙ ap (λ (b : Bool). b || eqb (c .before .before .before .before .before .before .before .before .before .before .before .before .before .before .before .before .args .letter) (c .before .before .before .before .before .before .before .before .before .before .before .before .before .before .before .before .args .volume .other)) (ne-eqb _ _ (c .before .if6 .left)))
 
 pub is-caller-right-spec : {M : Type 1} → statement M
 is-caller-right-spec =
@@ -66,9 +65,9 @@ is-caller-right-spec =
     is-letter-requires-2
     returns-2
     returns-3
+    is-block-size-requires
     returns-4
-    returns-5
     is-uuid-requires
+    returns-5
     returns-6
-    returns-7
-    returns-8)
+    returns-7)
