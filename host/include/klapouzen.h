@@ -151,8 +151,8 @@ uint64_t klapouzen_block(const uint8_t *index_list, size_t index_list_length,
 /*
  * The index constructs that stand on a partition, those closed before its first
  * defect. *count: how many. Each has a row of four numbers at the front of the
- * table; the rest of the table is unchanged. block_size may be any number.
- * Refusals: 1.
+ * table; the rest of the table is unchanged.
+ * Refusals: 14 (block size), 1.
  */
 enum klapouzen_construct_row {
     KLAPOUZEN_CONSTRUCT_FIRST_BLOCK, /* element number of its first block */

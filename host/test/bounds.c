@@ -78,9 +78,13 @@ static void smallest_lists(void)
     expect("block of letter c", klapouzen_block(NO_VOLUME, 'a', 'b', 'c', 0, filled()), 14);
     expect("block of equal letters", klapouzen_block(NO_VOLUME, 'a', 'a', 'a', 0, filled()), 14);
     memset(table, 0xa5, sizeof table);
-    expect("constructs of nothing", klapouzen_constructs(NONE, NONE, 0, table, filled()), 0);
+    expect("constructs of nothing", klapouzen_constructs(NONE, NONE, 4096, table, filled()), 0);
     expect("their count", out[0], 0);
     expect("their table", table[0], 0xa5a5a5a5);
+    expect("constructs of small blocks", klapouzen_constructs(NONE, NONE, 4095, table, filled()), 14);
+    expect("their count", out[0], 0);
+    expect("constructs of large blocks",
+           klapouzen_constructs(NONE, NONE, 1048577, table, filled()), 14);
     expect("check_labels of nothing", klapouzen_check_labels(NO_VOLUME, filled()), 9);
     expect_zeros("its label", KLAPOUZEN_LABEL);
     expect("verdict on nothing", klapouzen_verdict(NO_VOLUME, filled()), 9);

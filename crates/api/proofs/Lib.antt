@@ -3,3 +3,4 @@ pub mod Saying
 pub mod Writing
 pub mod Headers
 pub mod Rescuing
+pub mod Sizing

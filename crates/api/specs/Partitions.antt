@@ -2,7 +2,10 @@
 use mathlib.Core.Bool.{not}
 use mathlib.Core.List.{List, [], _∷_}
 use Prim.Native.Nat.{ℕ}
-use Rattle.refusals.specs.Refusals.{Answer, answer, andThen}
+use Rattle.refusals.specs.declared.Refusal.the-variants.{Caller}
+use Rattle.refusals.specs.Refusals.{Answer, answer, require, andThen}
+use Rattle.quantities.specs.Sizes.{isBlockSize}
+use Rattle.tape.specs.Tape.{Tape}
 use Rattle.tape.specs.Answers.{tapeIn, Lengths, lengths, keeping, Place}
 use Rattle.constructs.specs.Constructs.{standing}
 use Rattle.api.specs.Outputs.{bit}
@@ -19,6 +22,10 @@ fronts f = f .list ∷ f .store ∷ []
 abbrev pub place : Place → List ℕ
 place p = bit (not (p .onIndex)) ∷ p .from ∷ p .size ∷ []
 
+-- the elements of a partition that is asked for its constructs: 14 for the block size, then 1
+abbrev pub sizedIn : ℕ → List ℕ → List ℕ → Answer Tape
+sizedIn B l s = require (isBlockSize B) Caller (tapeIn l s)
+
 -- how many constructs stand
 abbrev pub standingCount : ℕ → List ℕ → List ℕ → Answer ℕ
-standingCount B l s = andThen (tapeIn l s) (λ t. answer (length (standing B t)))
+standingCount B l s = andThen (sizedIn B l s) (λ t. answer (length (standing B t)))

@@ -1,6 +1,7 @@
 // A partition's list and store: checked, cut, asked for a block and for its constructs.
 use constructs::Scanned;
 use quantities::BlockNumber;
+use refusals::Refusal;
 use tape::Checked;
 use tape::Kept;
 use tape::Located;
@@ -8,7 +9,7 @@ ghost use mathlib.Core.Path.{_≡_};
 ghost use Rattle.tape.specs.Answers.{elementCount, tapeIn, placeOf};
 ghost use Rattle.constructs.specs.Tables.{tableAfter};
 ghost use Rattle.api.specs.Outputs.{Shown, one};
-ghost use Rattle.api.specs.Partitions.{keptOf, fronts, place, standingCount};
+ghost use Rattle.api.specs.Partitions.{keptOf, fronts, place, sizedIn, standingCount};
 
 // The number of elements of a partition.
 #[no_mangle]
@@ -93,8 +94,12 @@ pub extern "C" fn klapouzen_constructs(
     table: &mut [u32; 87380],
     count: &mut u64,
 ) -> u64
-    ensures { λ r. ⌜ Shown 1 one (standingCount «block_size» (now (list .entry)) (now (store .entry))) r (one (now (count .exit))) × (now (table .exit) ≡ tableAfter «block_size» (now (table .entry)) (tapeIn (now (list .entry)) (now (store .entry)))) ⌝ }
+    ensures { λ r. ⌜ Shown 1 one (standingCount «block_size» (now (list .entry)) (now (store .entry))) r (one (now (count .exit))) × (now (table .exit) ≡ tableAfter «block_size» (now (table .entry)) (sizedIn «block_size» (now (list .entry)) (now (store .entry)))) ⌝ }
 {
+    if !quantities::is_block_size(block_size) {
+        *count = 0;
+        return refusals::number(Refusal::Caller);
+    }
     match constructs::scan(list, store, block_size as usize, table) {
         Scanned::Constructs(n) => {
             *count = n as u64;

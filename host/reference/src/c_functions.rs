@@ -149,8 +149,9 @@ pub unsafe extern "C" fn reference_constructs(
     table: *mut u32,
     count: *mut u64,
 ) -> u64 {
-    let read = side(list, list_length, store, store_length).read();
-    let rows = read.map(|tape| construct_rows(&tape, block_size));
+    let rows = require(extents::is_block_size(block_size), Refusal::Argument)
+        .and_then(|()| side(list, list_length, store, store_length).read())
+        .map(|tape| construct_rows(&tape, block_size));
     if let Ok(rows) = &rows {
         let numbers = rows.concat();
         lent(table, numbers.len()).copy_from_slice(&numbers);
