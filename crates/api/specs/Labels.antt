@@ -6,7 +6,7 @@ use Prim.Native.Nat.{ℕ}
 use lib.Dec.{leb, eqb}
 use lib.ListN.{getD}
 use Rattle.elements.specs.Decoded.{decoded}
-use Rattle.label.specs.Vol1.{Fields}
+use Rattle.label.specs.Vol1.{Fields, identifierAt, identifierLength, ownerAt, ownerLength}
 use Rattle.label.specs.Label.{Label}
 use Rattle.label.specs.Text.{isGiven, labelOfGiven}
 use Rattle.label.specs.declared.reader.Fields.{Fields as Read}
@@ -15,7 +15,7 @@ use Rattle.api.specs.Outputs.{bit}
 
 -- the places and lengths of VOL1's identifier and owner
 abbrev pub vol1Places : Fields → List ℕ
-vol1Places f = 4 ∷ 6 ∷ 37 ∷ 14 ∷ []
+vol1Places f = identifierAt ∷ identifierLength ∷ ownerAt ∷ ownerLength ∷ []
 
 -- a label that a reader read, in numbers: the R of its version; where its creator, its time and its UUID stand, each with its length; its
 -- location, the index letter, the data letter, the block size, and the compression
