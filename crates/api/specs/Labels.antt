@@ -10,7 +10,7 @@ use Rattle.label.specs.Vol1.{Fields, identifierAt, identifierLength, ownerAt, o
 use Rattle.label.specs.Label.{Label}
 use Rattle.label.specs.Text.{isGiven, labelOfGiven}
 use Rattle.label.specs.declared.reader.Fields.{Fields as Read}
-use Rattle.index_files.specs.Filling.{partTold}
+use Rattle.index_files.specs.Filling.{partTold, InsideTold}
 use Rattle.api.specs.Outputs.{bit}
 
 -- the places and lengths of VOL1's identifier and owner
@@ -24,13 +24,16 @@ labelNumbers f =
     f .release ∷ f .creator .from ∷ f .creator .len ∷ f .time .from ∷ f .time .len ∷ f .uuid .from ∷ f .uuid .len
     ∷ f .location ∷ f .«index_letter» ∷ f .«data_letter» ∷ f .«block_size» ∷ bit (f .compression) ∷ []
 
--- twelve numbers say what a label says: the R of its version; the places of its creator, as spelled, its time and its UUID in s, each with its
--- length; its location, the index letter, the data letter, the block size, and the compression
+-- twelve numbers say what a label says: the R of its version; the places of its creator, as spelled, its time and its UUID, which lie in s, each
+-- with its length; its location, the index letter, the data letter, the block size, and the compression
 pub record SaysLabel (s : List ℕ) (f : Label) (out : List ℕ) : Type 0 where
   pub release : getD out 0 0 ≡ f .release
   pub creator : decoded (partTold s out 1) ≡ f .creator
+  pub creatorInside : InsideTold s out 1
   pub time : partTold s out 3 ≡ f .time
+  pub timeInside : InsideTold s out 3
   pub uuid : partTold s out 5 ≡ f .uuid
+  pub uuidInside : InsideTold s out 5
   pub location : getD out 7 0 ≡ f .location
   pub indexLetter : getD out 8 0 ≡ f .indexLetter
   pub dataLetter : getD out 9 0 ≡ f .dataLetter

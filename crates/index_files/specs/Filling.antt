@@ -8,6 +8,7 @@ use lib.ListN.{length, take, drop, getD}
 use Rattle.refusals.specs.Refusals.{Answer, refused, answer, require, andThen}
 use Rattle.refusals.specs.declared.Refusal.the-variants.{Short}
 use Rattle.slices.specs.Slices.{written}
+use Rattle.elements.specs.Reading.{Inside}
 use Rattle.extents.specs.Rows.{Row}
 use Rattle.index.specs.Tests.{five}
 use Rattle.index.specs.Index.{Index, File}
@@ -54,6 +55,10 @@ HoldsRows l before after = after ≡ written 0 (numbersOf l) before
 -- the part of a text whose place and length are the numbers k and k + 1
 abbrev pub partTold : List ℕ → List ℕ → ℕ → List ℕ
 partTold s out k = take (getD out (k + 1) 0) (drop (getD out k 0) s)
+
+-- that part lies in the text
+abbrev pub InsideTold : List ℕ → List ℕ → ℕ → Type 0
+InsideTold s out k = Inside s (getD out k 0) (getD out (k + 1) 0)
 
 -- four numbers say what a file says: its length, the place of its name, as spelled, in s and its length, and how many rows it has
 pub record SaysFile (s : List ℕ) (f : File) (out : List ℕ) : Type 0 where
