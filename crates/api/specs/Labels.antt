@@ -5,17 +5,18 @@ use mathlib.Core.List.{List, [], _∷_}
 use Prim.Native.Nat.{ℕ}
 use lib.Dec.{leb, eqb}
 use lib.ListN.{getD}
+use Rattle.elements.specs.Reading.{Inside}
 use Rattle.elements.specs.Decoded.{decoded}
-use Rattle.label.specs.Vol1.{Fields}
+use Rattle.label.specs.Vol1.{Fields, identifierAt, identifierLength, ownerAt, ownerLength}
 use Rattle.label.specs.Label.{Label}
 use Rattle.label.specs.Text.{isGiven, labelOfGiven}
 use Rattle.label.specs.declared.reader.Fields.{Fields as Read}
-use Rattle.index_files.specs.Filling.{partTold}
+use Rattle.index_files.specs.Filling.{partTold, TellsPart}
 use Rattle.api.specs.Outputs.{bit}
 
 -- the places and lengths of VOL1's identifier and owner
 abbrev pub vol1Places : Fields → List ℕ
-vol1Places f = 4 ∷ 6 ∷ 37 ∷ 14 ∷ []
+vol1Places f = identifierAt ∷ identifierLength ∷ ownerAt ∷ ownerLength ∷ []
 
 -- a label that a reader read, in numbers: the R of its version; where its creator, its time and its UUID stand, each with its length; its
 -- location, the index letter, the data letter, the block size, and the compression
@@ -24,13 +25,14 @@ labelNumbers f =
     f .release ∷ f .creator .from ∷ f .creator .len ∷ f .time .from ∷ f .time .len ∷ f .uuid .from ∷ f .uuid .len
     ∷ f .location ∷ f .«index_letter» ∷ f .«data_letter» ∷ f .«block_size» ∷ bit (f .compression) ∷ []
 
--- twelve numbers say what a label says: the R of its version; the places of its creator, as spelled, its time and its UUID in s, each with its
--- length; its location, the index letter, the data letter, the block size, and the compression
+-- twelve numbers say what a label says: the R of its version; the places of its creator, as spelled, its time and its UUID, which lie in s, each
+-- with its length; its location, the index letter, the data letter, the block size, and the compression
 pub record SaysLabel (s : List ℕ) (f : Label) (out : List ℕ) : Type 0 where
   pub release : getD out 0 0 ≡ f .release
   pub creator : decoded (partTold s out 1) ≡ f .creator
-  pub time : partTold s out 3 ≡ f .time
-  pub uuid : partTold s out 5 ≡ f .uuid
+  pub creatorInside : Inside s (getD out 1 0) (getD out 2 0)
+  pub time : TellsPart s out 3 (f .time)
+  pub uuid : TellsPart s out 5 (f .uuid)
   pub location : getD out 7 0 ≡ f .location
   pub indexLetter : getD out 8 0 ≡ f .indexLetter
   pub dataLetter : getD out 9 0 ≡ f .dataLetter

@@ -43,9 +43,9 @@ pub extern "C" fn klapouzen_read_vol1(block: &[u8], out: &mut [u64; 4]) -> u64
         Vol1Read::Good => {
             *out = [
                 Vol1::IDENTIFIER_AT as u64,
-                (Vol1::IDENTIFIER_END - Vol1::IDENTIFIER_AT) as u64,
+                Vol1::IDENTIFIER_LENGTH as u64,
                 Vol1::OWNER_AT as u64,
-                (Vol1::OWNER_END - Vol1::OWNER_AT) as u64,
+                Vol1::OWNER_LENGTH as u64,
             ];
             0
         }

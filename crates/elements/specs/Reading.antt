@@ -96,10 +96,14 @@ pub record ChildrenFrom (s : List ℕ) (n j : ℕ) : Type 0 where
   pub row : rowAt s j ≡ childrenAt s n
   pub inside : j ≤ length s
 
+-- the n bytes from i on lie in the text s
+abbrev pub Inside : List ℕ → ℕ → ℕ → Type 0
+Inside s i n = i + n ≤ length s
+
 -- the n bytes of the text s from i on are the part w
 pub record Spans (s : List ℕ) (i n : ℕ) (w : List ℕ) : Type 0 where
   pub part : take n (drop i s) ≡ w
-  pub inside : i + n ≤ length s
+  pub inside : Inside s i n
 
 -- that part of it
 abbrev pub partAt : List ℕ → Span → List ℕ

@@ -2,13 +2,13 @@
 -- file.
 use mathlib.Core.Path.{_≡_}
 use mathlib.Core.List.{List, [], _∷_}
-use Prim.Native.Nat.{ℕ, zero, suc, _+_, _≤_}
+use Prim.Native.Nat.{ℕ, zero, suc}
 use lib.ListN.{length, take, drop}
 use Rattle.refusals.specs.Refusals.{Answer, refused, answer, andThen}
 use Rattle.refusals.specs.declared.Refusal.the-variants.{Missing}
 use Rattle.slices.specs.Words.{bytes}
 use Rattle.xml.specs.Tree.{Forest}
-use Rattle.elements.specs.Reading.{childrenAt, Spans}
+use Rattle.elements.specs.Reading.{childrenAt, Inside, Spans}
 use Rattle.index.specs.Elements.{textIn}
 use Rattle.index.specs.Tests.{rowsOf, lengthOf}
 use Rattle.index.specs.Index.{Index, File, fileOf}
@@ -59,7 +59,7 @@ fileSaid s (file.Refused r) = refused r
 
 -- the name lies in the text
 abbrev pub nameInside : List ℕ → FileRead → Type 0
-nameInside s (file.Found h) = h .name .from + h .name .len ≤ length s
+nameInside s (file.Found h) = Inside s (h .name .from) (h .name .len)
 nameInside s (file.Refused r) = Unit {0}
 
 pub record ReadsFile (s : List ℕ) (a : Answer File) (r : FileRead) : Type 0 where

@@ -2,12 +2,13 @@
 -- Refusals: those of what is asked for, then 10 for a buffer too short, which is left as it was.
 use mathlib.Core.Path.{_≡_}
 use mathlib.Core.List.{List, [], _∷_, _++_}
-use Prim.Native.Nat.{ℕ, _+_, _*_, _≤_}
+use Prim.Native.Nat.{ℕ, _+_, _*_}
 use lib.Dec.{leb}
 use lib.ListN.{length, take, drop, getD}
 use Rattle.refusals.specs.Refusals.{Answer, refused, answer, require, andThen}
 use Rattle.refusals.specs.declared.Refusal.the-variants.{Short}
 use Rattle.slices.specs.Slices.{written}
+use Rattle.elements.specs.Reading.{Spans}
 use Rattle.extents.specs.Rows.{Row}
 use Rattle.index.specs.Tests.{five}
 use Rattle.index.specs.Index.{Index, File}
@@ -56,10 +57,9 @@ HoldsRows l before after = after ≡ written 0 (numbersOf l) before
 abbrev pub partTold : List ℕ → List ℕ → ℕ → List ℕ
 partTold s out k = take (getD out (k + 1) 0) (drop (getD out k 0) s)
 
--- they tell of a part that lies in the text
-pub record TellsPart (s out : List ℕ) (k : ℕ) (w : List ℕ) : Type 0 where
-  pub part : partTold s out k ≡ w
-  pub inside : getD out k 0 + getD out (k + 1) 0 ≤ length s
+-- they are the place of the part w, which lies in the text
+abbrev pub TellsPart : List ℕ → List ℕ → ℕ → List ℕ → Type 0
+TellsPart s out k w = Spans s (getD out k 0) (getD out (k + 1) 0) w
 
 -- four numbers say what a file says: its length, the place of its name, as spelled, in s and its length, and how many rows it has
 pub record SaysFile (s : List ℕ) (f : File) (out : List ℕ) : Type 0 where

@@ -14,7 +14,7 @@ use Rattle.slices.specs.Slices.{same}
 use Rattle.slices.specs.Words.{bytes}
 use Rattle.slices.proofs.Booleans.{and-left, and-right}
 use Rattle.slices.proofs.Equal.{same-refl}
-use Rattle.label.specs.Vol1.{vol1, identifierIn, ownerIn, isPrinted, vol1Of, areFields}
+use Rattle.label.specs.Vol1.{identifierAt, identifierLength, ownerAt, ownerLength, vol1, identifierIn, ownerIn, isPrinted, vol1Of, areFields}
 
 -- eight pieces, the second and the sixth given
 pieces : (a b c d e f g h : List ℕ) → length b ≡ 6 → length f ≡ 14 → length a ≡ 4 → length c ≡ 1 → length d ≡ 13 → length e ≡ 13 → length g ≡ 28 → length h ≡ 1
@@ -30,8 +30,8 @@ front a b c d e p q r s t = simp length-append (omega arith)
 sixth : (v f g h : List ℕ) → length v ≡ 37 → length f ≡ 14 → take 14 (drop 37 (v ++ f ++ g ++ h)) ≡ f
 sixth v f g h p q = simp append-assoc (ap (take 14) (drop-at v _ 37 p) ∙ take-at f _ 14 q)
 
-module _ (i o : List ℕ) (h : length i ≡ 6) (g : length o ≡ 14) where
-  pub length-vol1 : length (vol1 i o) ≡ 80
+module _ (i o : List ℕ) (h : length i ≡ identifierLength) (g : length o ≡ ownerLength) where
+  length-vol1 : length (vol1 i o) ≡ 80
   unfolding vol1 bytes
   length-vol1 = pieces (bytes "VOL1") i (bytes "L") (bytes "             ") (bytes "LTFS         ") o (bytes "                            ") (bytes "4") h g refl refl refl refl refl refl
 
@@ -46,13 +46,17 @@ module _ (i o : List ℕ) (h : length i ≡ 6) (g : length o ≡ 14) where
       sixth (bytes "VOL1" ++ i ++ bytes "L" ++ bytes "             " ++ bytes "LTFS         ") o (bytes "                            ") (bytes "4")
       (front (bytes "VOL1") i (bytes "L") (bytes "             ") (bytes "LTFS         ") refl h refl refl refl) g
 
--- the fields of a block are in their lengths
+-- the fields of a block are in their lengths, so that the block made of them is their VOL1 label
 module _ (s : List ℕ) (h : length s ≡ 80) where
-  pub identifier-length : length (identifierIn s) ≡ 6
-  identifier-length = omega (arith, length-take 6 (drop 4 s), length-drop 4 s)
+  identifier-length : length (identifierIn s) ≡ identifierLength
+  identifier-length = omega (arith, length-take identifierLength (drop identifierAt s), length-drop identifierAt s)
 
-  pub owner-length : length (ownerIn s) ≡ 14
-  owner-length = omega (arith, length-take 14 (drop 37 s), length-drop 37 s)
+  owner-length : length (ownerIn s) ≡ ownerLength
+  owner-length = omega (arith, length-take ownerLength (drop ownerAt s), length-drop ownerAt s)
+
+  pub own-block : {i o b : List ℕ} → i ≡ identifierIn s → o ≡ ownerIn s → (length i ≡ identifierLength → length o ≡ ownerLength → b ≡ vol1 i o)
+      → b ≡ vol1 (identifierIn s) (ownerIn s)
+  own-block p q made = made (ap length p ∙ identifier-length) (ap length q ∙ owner-length) ∙ ap₂ vol1 p q
 
 module _ (s : List ℕ) where
   pub other-length : (length s ≡ 80 → ⊥) → refused is.Vol1 ≡ vol1Of s
@@ -79,15 +83,15 @@ module _ (s : List ℕ) where
 
 module _ (i o : List ℕ) (ok : areFields i o ≡ true) where
   abbrev lengths : Bool
-  lengths = eqb (length i) 6 && eqb (length o) 14
+  lengths = eqb (length i) identifierLength && eqb (length o) ownerLength
 
-  pub given-identifier : length i ≡ 6
+  pub given-identifier : length i ≡ identifierLength
   unfolding areFields
   given-identifier = eqb-true _ _ (and-left _ _ (and-left lengths (isPrinted i) (and-left (lengths && isPrinted i) (isPrinted o) ok)))
 
-  pub given-owner : length o ≡ 14
+  pub given-owner : length o ≡ ownerLength
   unfolding areFields
-  given-owner = eqb-true _ _ (and-right (eqb (length i) 6) _ (and-left lengths (isPrinted i) (and-left (lengths && isPrinted i) (isPrinted o) ok)))
+  given-owner = eqb-true _ _ (and-right (eqb (length i) identifierLength) _ (and-left lengths (isPrinted i) (and-left (lengths && isPrinted i) (isPrinted o) ok)))
 
   -- a block of given fields reads as them
   pub vol1-reads : vol1Of (vol1 i o) ≡ answer (record { identifier = i; owner = o })

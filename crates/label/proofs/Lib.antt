@@ -1,4 +1,5 @@
 pub mod Shape
+pub mod Places
 pub mod Values
 pub mod Adding
 pub mod Blocks

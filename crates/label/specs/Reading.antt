@@ -4,7 +4,7 @@ use mathlib.Core.Bool.{true}
 use mathlib.Core.List.{List}
 use Prim.Native.Nat.{ℕ}
 use Rattle.refusals.specs.Refusals.{Answer, refused, answer}
-use Rattle.elements.specs.Reading.{headAt, partAt}
+use Rattle.elements.specs.Reading.{headAt, partAt, Inside}
 use Rattle.elements.specs.Decoded.{decoded}
 use Rattle.xml.specs.Tree.{Forest}
 use Rattle.label.specs.Label.{Label, Texts, isShaped, textsIn}
@@ -51,3 +51,17 @@ fieldsIn s f =
 abbrev pub means : List ℕ → Answered → Answer Label
 means s (Refused r) = refused r
 means s (Says f) = answer (fieldsIn s f)
+
+-- the places in the fields lie in the text
+pub record LieIn (s : List ℕ) (f : Fields) : Type 0 where
+  pub creator : Inside s (f .creator .from) (f .creator .len)
+  pub time : Inside s (f .time .from) (f .time .len)
+  pub uuid : Inside s (f .uuid .from) (f .uuid .len)
+
+abbrev pub placesInside : List ℕ → Answered → Type 0
+placesInside s (Refused r) = Unit {0}
+placesInside s (Says f) = LieIn s f
+
+pub record ReadsLabel (s : List ℕ) (a : Answer Label) (r : Answered) : Type 0 where
+  pub says : means s r ≡ a
+  pub inside : placesInside s r

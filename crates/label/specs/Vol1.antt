@@ -21,12 +21,25 @@ unfoldable pub vol1 : List ℕ → List ℕ → List ℕ
 vol1 identifier owner =
     bytes "VOL1" ++ identifier ++ bytes "L" ++ bytes "             " ++ bytes "LTFS         " ++ owner ++ bytes "                            " ++ bytes "4"
 
--- the fields of a block: at 4 and 37
+-- where the fields stand in it, and how long they are
+abbrev pub identifierAt : ℕ
+identifierAt = 4
+
+abbrev pub identifierLength : ℕ
+identifierLength = 6
+
+abbrev pub ownerAt : ℕ
+ownerAt = 37
+
+abbrev pub ownerLength : ℕ
+ownerLength = 14
+
+-- the fields of a block
 abbrev pub identifierIn : List ℕ → List ℕ
-identifierIn s = take 6 (drop 4 s)
+identifierIn s = take identifierLength (drop identifierAt s)
 
 abbrev pub ownerIn : List ℕ → List ℕ
-ownerIn s = take 14 (drop 37 s)
+ownerIn s = take ownerLength (drop ownerAt s)
 
 -- ASCII 32 to 126
 abbrev pub isPrinted : List ℕ → Bool
@@ -43,6 +56,6 @@ abbrev pub meansVol1 : List ℕ → Vol1Read → Answer Fields
 meansVol1 s Good = answer (record { identifier = identifierIn s; owner = ownerIn s })
 meansVol1 s (Refused r) = refused r
 
--- fields that a caller gives: 6 and 14 bytes of ASCII
+-- fields that a caller gives: in their lengths, and ASCII
 unfoldable pub areFields : List ℕ → List ℕ → Bool
-areFields identifier owner = eqb (length identifier) 6 && eqb (length owner) 14 && isPrinted identifier && isPrinted owner
+areFields identifier owner = eqb (length identifier) identifierLength && eqb (length owner) ownerLength && isPrinted identifier && isPrinted owner

@@ -16,7 +16,7 @@ ghost use Rattle.elements.specs.Reading.{headAt, childrenAt};
 ghost use Rattle.elements.specs.Decoded.{decoded};
 ghost use Rattle.values.specs.Values.{isCreator, isTime, isUuid, letter, letterOf, boolean, booleanOf};
 ghost use Rattle.label.specs.Label.{lettersFit, labelFrom, rootOf, labelOf};
-ghost use Rattle.label.specs.Reading.{textsAt, Finds, means};
+ghost use Rattle.label.specs.Reading.{textsAt, Finds, ReadsLabel};
 
 // Whether the children of the root are lawful, and the places of the elements that hold the values.
 pub struct Places {
@@ -117,7 +117,7 @@ fn texts_lawful(creator: &[u8], time: &[u8], uuid: &[u8]) -> bool
 
 // The values at the places.
 fn read_values(text: &[u8], p: Places, release: u64) -> Label
-    ensures { λ r. ⌜ means (now (text .entry)) r ≡ labelFrom release (textsAt (now (text .entry)) p) ⌝ }
+    ensures { λ r. ⌜ ReadsLabel (now (text .entry)) (labelFrom release (textsAt (now (text .entry)) p)) r ⌝ }
 {
     if !texts_lawful(
         elements::text_of(text, p.creator),
@@ -174,7 +174,7 @@ fn is_root(text: &[u8], n: usize) -> bool
 
 // The root at n.
 fn read_root(text: &[u8], n: usize) -> Label
-    ensures { λ r. ⌜ means (now (text .entry)) r ≡ rootOf (headAt (now (text .entry)) n) (childrenAt (now (text .entry)) n) ⌝ }
+    ensures { λ r. ⌜ ReadsLabel (now (text .entry)) (rootOf (headAt (now (text .entry)) n) (childrenAt (now (text .entry)) n)) r ⌝ }
 {
     if !is_root(text, n) {
         return Label::Refused(Refusal::Structure);
@@ -191,7 +191,7 @@ fn read_root(text: &[u8], n: usize) -> Label
 
 // Reads an LTFS label.
 pub fn read(text: &[u8]) -> Label
-    ensures { λ r. ⌜ means (now (text .entry)) r ≡ labelOf (now (text .entry)) ⌝ }
+    ensures { λ r. ⌜ ReadsLabel (now (text .entry)) (labelOf (now (text .entry))) r ⌝ }
 {
     if 4096 < text.len() {
         return Label::Refused(Refusal::TooMany);

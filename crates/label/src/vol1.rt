@@ -5,11 +5,11 @@ use slices::Written;
 ghost use mathlib.Core.Path.{_≡_};
 ghost use lib.ListN.{length};
 ghost use Rattle.label.specs.Writing.{Writes};
-ghost use Rattle.label.specs.Vol1.{vol1, isPrinted, areFields, vol1Of, meansVol1};
+ghost use Rattle.label.specs.Vol1.{identifierLength, ownerLength, vol1, isPrinted, areFields, vol1Of, meansVol1};
 
 // A VOL1 label, as the block that it is.
 pub struct Vol1 {
-    pub block: [u8; 80],
+    pub block: [u8; Vol1::LENGTH],
 }
 
 // Whether a block is a VOL1 label. Its fields stand at Vol1's places.
@@ -21,31 +21,41 @@ pub enum Vol1Read {
 impl Vol1 {
     pub const LENGTH: usize = 80;
 
+    pub const LABEL_AT: usize = 0;
+
     pub const LABEL: [u8; 4] = [86, 79, 76, 49];
 
     pub const IDENTIFIER_AT: usize = 4;
 
-    pub const IDENTIFIER_END: usize = 10;
+    pub const IDENTIFIER_LENGTH: usize = 6;
+
+    pub const ACCESSIBILITY_AT: usize = 10;
 
     pub const ACCESSIBILITY: [u8; 1] = [76];
 
-    // Spaces, at 11.
+    pub const RESERVED_AT: usize = 11;
+
     pub const RESERVED: [u8; 13] = [32; 13];
+
+    pub const IMPLEMENTATION_AT: usize = 24;
 
     pub const IMPLEMENTATION: [u8; 13] = [76, 84, 70, 83, 32, 32, 32, 32, 32, 32, 32, 32, 32];
 
     pub const OWNER_AT: usize = 37;
 
-    pub const OWNER_END: usize = 51;
+    pub const OWNER_LENGTH: usize = 14;
 
-    // Spaces, at 51.
+    pub const RESERVED_AFTER_AT: usize = 51;
+
     pub const RESERVED_AFTER: [u8; 28] = [32; 28];
+
+    pub const VERSION_AT: usize = 79;
 
     pub const VERSION: [u8; 1] = [52];
 
     // The label of an identifier and an owner.
     pub fn new(identifier: &[u8], owner: &[u8]) -> Self
-        ensures { λ r. ⌜ (length (vol1 (now (identifier .entry)) (now (owner .entry))) ≡ 80 → r .block ≡ vol1 (now (identifier .entry)) (now (owner .entry))) ⌝ }
+        ensures { λ r. ⌜ (length (now (identifier .entry)) ≡ identifierLength → length (now (owner .entry)) ≡ ownerLength → r .block ≡ vol1 (now (identifier .entry)) (now (owner .entry))) ⌝ }
     {
         let label = Vol1::LABEL;
         let accessibility = Vol1::ACCESSIBILITY;
@@ -53,15 +63,15 @@ impl Vol1 {
         let implementation = Vol1::IMPLEMENTATION;
         let rest = Vol1::RESERVED_AFTER;
         let version = Vol1::VERSION;
-        let mut block = [0u8; 80];
-        let mut at = add(&mut block, 0, &label);
-        at = add(&mut block, at, identifier);
-        at = add(&mut block, at, &accessibility);
-        at = add(&mut block, at, &reserved);
-        at = add(&mut block, at, &implementation);
-        at = add(&mut block, at, owner);
-        at = add(&mut block, at, &rest);
-        add(&mut block, at, &version);
+        let mut block = [0u8; Vol1::LENGTH];
+        add(&mut block, Vol1::LABEL_AT, &label);
+        add(&mut block, Vol1::IDENTIFIER_AT, identifier);
+        add(&mut block, Vol1::ACCESSIBILITY_AT, &accessibility);
+        add(&mut block, Vol1::RESERVED_AT, &reserved);
+        add(&mut block, Vol1::IMPLEMENTATION_AT, &implementation);
+        add(&mut block, Vol1::OWNER_AT, owner);
+        add(&mut block, Vol1::RESERVED_AFTER_AT, &rest);
+        add(&mut block, Vol1::VERSION_AT, &version);
         Vol1 { block }
     }
 }
@@ -91,8 +101,8 @@ pub fn read_vol1(block: &[u8]) -> Vol1Read
     if block.len() != Vol1::LENGTH {
         return Vol1Read::Refused(Refusal::Vol1);
     }
-    let identifier = &block[Vol1::IDENTIFIER_AT..Vol1::IDENTIFIER_END];
-    let owner = &block[Vol1::OWNER_AT..Vol1::OWNER_END];
+    let identifier = slices::part(block, Vol1::IDENTIFIER_AT, Vol1::IDENTIFIER_LENGTH);
+    let owner = slices::part(block, Vol1::OWNER_AT, Vol1::OWNER_LENGTH);
     let own = Vol1::new(identifier, owner);
     let bytes = own.block;
     if !slices::same(block, &bytes) {
@@ -111,10 +121,10 @@ pub fn read_vol1(block: &[u8]) -> Vol1Read
 fn are_fields(identifier: &[u8], owner: &[u8]) -> bool
     ensures { λ r. ⌜ r ≡ areFields (now (identifier .entry)) (now (owner .entry)) ⌝ }
 {
-    if identifier.len() != Vol1::IDENTIFIER_END - Vol1::IDENTIFIER_AT {
+    if identifier.len() != Vol1::IDENTIFIER_LENGTH {
         return false;
     }
-    if owner.len() != Vol1::OWNER_END - Vol1::OWNER_AT {
+    if owner.len() != Vol1::OWNER_LENGTH {
         return false;
     }
     if !is_printed(identifier) {

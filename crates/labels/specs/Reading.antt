@@ -7,9 +7,9 @@ use lib.ListN.{length, take, drop}
 use Rattle.tape.specs.Tape.{Tape, Encodes}
 use Rattle.tape.specs.declared.Entry.{Entry}
 use Rattle.tape.specs.declared.Entry.the-variants as entry
-use Rattle.elements.specs.Reading.{partAt}
+use Rattle.elements.specs.Reading.{partAt, Inside, Spans}
 use Rattle.elements.specs.declared.heads.Span.{Span}
-use Rattle.label.specs.Reading.{means}
+use Rattle.label.specs.Reading.{means, ReadsLabel}
 use Rattle.label.specs.declared.reader.Label.{Label}
 use Rattle.labels.specs.declared.Step.{Step}
 use Rattle.labels.specs.declared.Step.the-variants.{Past, Other}
@@ -40,8 +40,8 @@ LaysOut l r = (s : List ℕ) (t : Tape) → Encodes l s t → r ≡ layoutOf t
 
 -- a span of the n bytes that begin `by` bytes into a store, as a span of the store
 abbrev pub Moves : ℕ → ℕ → Span → Span → Type 0
-Moves n by w r = (s : List ℕ) → partAt (take n (drop by s)) w ≡ partAt s r
+Moves n by w r = (s : List ℕ) → Inside s by n → Spans s (r .from) (r .len) (partAt (take n (drop by s)) w)
 
 -- the same of what a label says
 abbrev pub MovesLabel : ℕ → ℕ → Label → Label → Type 0
-MovesLabel n by said r = (s : List ℕ) → means (take n (drop by s)) said ≡ means s r
+MovesLabel n by said r = (s : List ℕ) → Inside s by n → ReadsLabel s (means (take n (drop by s)) said) r

@@ -7,6 +7,7 @@ use lib.Seq.{length-take-le}
 use Rattle.tape.specs.Answers.{counted, orRefused}
 use Rattle.tape.proofs.Keeping.{Present, present, absent-list}
 use Rattle.label.specs.Reading.{means}
+use Rattle.label.proofs.Places.{refuses, reads-as}
 use Rattle.labels.proofs.Blocks.{LaidOut, laid-out, not-laid}
 use Rattle.labels.proofs.Sides.{no-list, no-data-list, no-layout, no-data-layout, in-parts}
 use borrow.Author.Needs.{needs}
@@ -50,7 +51,7 @@ enum-told-2 : tie.Need-enum-told-2
 enum-told-2 c = search needs
 
 returns : tie.Need-returns
-returns c = no-list (c .before .before .before .before .before .before .before .args .index-list .now) (c .before .before .before .before .before .before .before .args .index-store .now) (c .before .before .before .before .before .before .before .args .data-list .now) (c .before .before .before .before .before .before .before .args .data-store .now) (absent-list _ _ (c .enum-told2 .given .0 .0) (ap counted (sym (c .enum-told2 .given .1)) ∙ c .before .before .check .ensures))
+returns c = refuses (no-list (c .before .before .before .before .before .before .before .args .index-list .now) (c .before .before .before .before .before .before .before .args .index-store .now) (c .before .before .before .before .before .before .before .args .data-list .now) (c .before .before .before .before .before .before .before .args .data-store .now) (absent-list _ _ (c .enum-told2 .given .0 .0) (ap counted (sym (c .enum-told2 .given .1)) ∙ c .before .before .check .ensures)))
 
 check-requires-2 : tie.Need-check-requires-2
 check-requires-2 c κs = search needs
@@ -62,7 +63,7 @@ enum-told-4 : tie.Need-enum-told-4
 enum-told-4 c = search needs
 
 returns-2 : tie.Need-returns-2
-returns-2 c = no-data-list (c .before .before .before .before .before .before .before .before .before .before .args .index-list .now) (c .before .before .before .before .before .before .before .before .before .before .args .index-store .now) (c .before .before .before .before .before .before .before .before .before .before .args .data-list .now) (c .before .before .before .before .before .before .before .before .before .before .args .data-store .now) (ap orRefused (index-side (c .before .before .before) .read)) (absent-list _ _ (c .enum-told4 .given .0 .0) (ap counted (sym (c .enum-told4 .given .1)) ∙ c .before .before .check2 .ensures))
+returns-2 c = refuses (no-data-list (c .before .before .before .before .before .before .before .before .before .before .args .index-list .now) (c .before .before .before .before .before .before .before .before .before .before .args .index-store .now) (c .before .before .before .before .before .before .before .before .before .before .args .data-list .now) (c .before .before .before .before .before .before .before .before .before .before .args .data-store .now) (ap orRefused (index-side (c .before .before .before) .read)) (absent-list _ _ (c .enum-told4 .given .0 .0) (ap counted (sym (c .enum-told4 .given .1)) ∙ c .before .before .check2 .ensures)))
 
 lay-out-requires : tie.Need-lay-out-requires
 lay-out-requires c κs = search needs
@@ -77,7 +78,7 @@ returns-3 : tie.Need-returns-3
 returns-3 c =
     let p = index-side (c .before .before .before .before .before .before) in
     let q = data-side (c .before .before .before) in
-    no-layout (c .before .before .before .before .before .before .before .before .before .before .before .before .before .args .index-list .now) (c .before .before .before .before .before .before .before .before .before .before .before .before .before .args .index-store .now) (c .before .before .before .before .before .before .before .before .before .before .before .before .before .args .data-list .now) (c .before .before .before .before .before .before .before .before .before .before .before .before .before .args .data-store .now) (ap orRefused (p .read)) (ap orRefused (q .read)) (not-laid (p .tape) (sym (c .enum-told5 .given .1) ∙ c .before .before .lay-out .ensures _ (p .tape) (p .encodes)))
+    refuses (no-layout (c .before .before .before .before .before .before .before .before .before .before .before .before .before .args .index-list .now) (c .before .before .before .before .before .before .before .before .before .before .before .before .before .args .index-store .now) (c .before .before .before .before .before .before .before .before .before .before .before .before .before .args .data-list .now) (c .before .before .before .before .before .before .before .before .before .before .before .before .before .args .data-store .now) (ap orRefused (p .read)) (ap orRefused (q .read)) (not-laid (p .tape) (sym (c .enum-told5 .given .1) ∙ c .before .before .lay-out .ensures _ (p .tape) (p .encodes))))
 
 lay-out-requires-2 : tie.Need-lay-out-requires-2
 lay-out-requires-2 c κs = search needs
@@ -92,8 +93,8 @@ returns-4 : tie.Need-returns-4
 returns-4 c =
     let p = index-side (c .before .before .before .before .before .before .before .before .before .before) in
     let q = data-side (c .before .before .before .before .before .before .before) in
-    no-data-layout (c .before .before .before .before .before .before .before .before .before .before .before .before .before .before .before .before .before .args .index-list .now) (c .before .before .before .before .before .before .before .before .before .before .before .before .before .before .before .before .before .args .index-store .now) (c .before .before .before .before .before .before .before .before .before .before .before .before .before .before .before .before .before .args .data-list .now) (c .before .before .before .before .before .before .before .before .before .before .before .before .before .before .before .before .before .args .data-store .now) (ap orRefused (p .read)) (ap orRefused (q .read)) (index-laid (c .before .before .before) .laid)
-    (not-laid (q .tape) (sym (c .enum-told6 .given .1) ∙ c .before .before .lay-out2 .ensures _ (q .tape) (q .encodes)))
+    refuses (no-data-layout (c .before .before .before .before .before .before .before .before .before .before .before .before .before .before .before .before .before .args .index-list .now) (c .before .before .before .before .before .before .before .before .before .before .before .before .before .before .before .before .before .args .index-store .now) (c .before .before .before .before .before .before .before .before .before .before .before .before .before .before .before .before .before .args .data-list .now) (c .before .before .before .before .before .before .before .before .before .before .before .before .before .before .before .before .before .args .data-store .now) (ap orRefused (p .read)) (ap orRefused (q .read)) (index-laid (c .before .before .before) .laid)
+    (not-laid (q .tape) (sym (c .enum-told6 .given .1) ∙ c .before .before .lay-out2 .ensures _ (q .tape) (q .encodes))))
 
 add-end : tie.Need-add-end
 add-end c = let w = index-laid (c .before .before .before .before) .within in search needs
@@ -135,13 +136,14 @@ returns-5 : tie.Need-returns-5
 returns-5 c =
     let p = index-side (c .before .before .before .before .before .before .before .before .before .before .before .before .before .before .before .before .before) in
     let q = data-side (c .before .before .before .before .before .before .before .before .before .before .before .before .before .before) in
+    let l = index-laid (c .before .before .before .before .before .before .before .before .before .before) in
     let n = c .before .before .before .before .before .before .before .before .before .before .before .vol1 .given .0 .0 in
     let m = c .before .before .before .before .before .before .before .before .before .before .before .vol1 .given .0 .1 .0 in
     let z : m ≡ n + m - n = omega arith in
-    sym (c .in-store .ensures (c .before .before .before .before .before .before .before .before .before .before .before .before .before .before .before .before .before .before .before .before .before .before .before .before .args .index-store .now))
-    ∙ ap (λ (k : ℕ). means (take k (drop n (c .before .before .before .before .before .before .before .before .before .before .before .before .before .before .before .before .before .before .before .before .before .before .before .before .args .index-store .now))) (c .before .read-sides .result)) z
+    reads-as (ap (λ (k : ℕ). means (take k (drop n (c .before .before .before .before .before .before .before .before .before .before .before .before .before .before .before .before .before .before .before .before .before .before .before .before .args .index-store .now))) (c .before .read-sides .result)) z
     ∙ c .before .read-sides .ensures
-    ∙ in-parts (c .before .before .before .before .before .before .before .before .before .before .before .before .before .before .before .before .before .before .before .before .before .before .before .before .args .index-list .now) (c .before .before .before .before .before .before .before .before .before .before .before .before .before .before .before .before .before .before .before .before .before .before .before .before .args .index-store .now) (c .before .before .before .before .before .before .before .before .before .before .before .before .before .before .before .before .before .before .before .before .before .before .before .before .args .data-list .now) (c .before .before .before .before .before .before .before .before .before .before .before .before .before .before .before .before .before .before .before .before .before .before .before .before .args .data-store .now) (ap orRefused (p .read)) (ap orRefused (q .read)) (index-laid (c .before .before .before .before .before .before .before .before .before .before)) (data-laid (c .before .before .before .before .before .before))
+    ∙ in-parts (c .before .before .before .before .before .before .before .before .before .before .before .before .before .before .before .before .before .before .before .before .before .before .before .before .args .index-list .now) (c .before .before .before .before .before .before .before .before .before .before .before .before .before .before .before .before .before .before .before .before .before .before .before .before .args .index-store .now) (c .before .before .before .before .before .before .before .before .before .before .before .before .before .before .before .before .before .before .before .before .before .before .before .before .args .data-list .now) (c .before .before .before .before .before .before .before .before .before .before .before .before .before .before .before .before .before .before .before .before .before .before .before .before .args .data-store .now) (ap orRefused (p .read)) (ap orRefused (q .read)) l (data-laid (c .before .before .before .before .before .before)))
+    (c .in-store .ensures (c .before .before .before .before .before .before .before .before .before .before .before .before .before .before .before .before .before .before .before .before .before .before .before .before .args .index-store .now) (omega (arith, l .within)))
 
 pub check-spec : {M : Type 1} → statement M
 check-spec =

@@ -1,8 +1,8 @@
 -- `in_store` meets its contract: the spans are moved, all else stays.
-use mathlib.Core.Path.{ap, _∙_}
+use mathlib.Core.Path.{ap, sym}
 use lib.ListN.{take, drop}
-use Rattle.refusals.specs.Refusals.{answer}
 use Rattle.label.specs.Reading.{means}
+use Rattle.label.proofs.Places.{refuses, reads-as}
 use Rattle.labels.proofs.Moving.{fields-moved}
 use borrow.Author.Needs.{needs}
 use Rattle.labels.proofs.in_store.Statement.{statement}
@@ -24,15 +24,14 @@ moved-requires-3 : tie.Need-moved-requires-3
 moved-requires-3 c κs = search needs
 
 returns : tie.Need-returns
-returns c = λ s. ap (means (take (c .before .before .before .args .n) (drop (c .before .before .before .args .by) s))) (c .before .said .given .1)
+returns c = λ s k. refuses (sym (ap (means (take (c .before .before .before .args .n) (drop (c .before .before .before .args .by) s))) (c .before .said .given .1)))
 
 returns-2 : tie.Need-returns-2
 returns-2 c =
-    λ s.
-    ap (means (take (c .before .before .before .before .before .before .args .n) (drop (c .before .before .before .before .before .before .args .by) s))) (c .before .before .before .before .said2 .given .1)
-    ∙ ap answer
+    λ s k.
+    reads-as (sym (ap (means (take (c .before .before .before .before .before .before .args .n) (drop (c .before .before .before .before .before .before .args .by) s))) (c .before .before .before .before .said2 .given .1)))
     (fields-moved (c .before .before .before .before .before .before .args .n) (c .before .before .before .before .before .before .args .by) (c .before .before .before .before .said2 .given .0 .0) (c .before .before .moved .result) (c .before .moved2 .result) (c .moved3 .result)
-    (c .before .before .moved .ensures) (c .before .moved2 .ensures) (c .moved3 .ensures) s)
+    (c .before .before .moved .ensures) (c .before .moved2 .ensures) (c .moved3 .ensures) s k)
 
 pub in-store-spec : {M : Type 1} → statement M
 in-store-spec =

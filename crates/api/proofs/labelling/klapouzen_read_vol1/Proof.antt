@@ -12,12 +12,6 @@ read-vol1-requires c κs = search needs
 enum-told : tie.Need-enum-told
 enum-told c = search needs
 
-sub-t7 : tie.Need-sub-t7
-sub-t7 c = search needs
-
-sub-t10 : tie.Need-sub-t10
-sub-t10 c = search needs
-
 enum-known-r : tie.Need-enum-known-r
 enum-known-r c = search needs
 
@@ -36,8 +30,6 @@ klapouzen-read-vol1-spec =
     (tie.spec
     read-vol1-requires
     enum-told
-    sub-t7
-    sub-t10
     enum-known-r
     number-requires
     returns

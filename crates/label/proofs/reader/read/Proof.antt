@@ -6,12 +6,13 @@ use Rattle.xml.specs.Machine.{form, outcomeOf}
 use Rattle.elements.specs.Reading.{NextChild}
 use Rattle.elements.specs.declared.tags.Child.the-variants.{Done, At}
 use Rattle.label.proofs.Values.{too-long, unformed, no-first, the-first}
+use Rattle.label.proofs.Places.{refuses, reads-as}
 use borrow.Author.Needs.{needs}
 use Rattle.label.proofs.reader.read.Statement.{statement}
 use Rattle.label.proofs.reader.read.Tie as tie
 
 returns : tie.Need-returns
-returns c = too-long (c .before .before .args .text .now) (c .if1 .taken)
+returns c = refuses (too-long (c .before .before .args .text .now) (c .if1 .taken))
 
 check-requires : tie.Need-check-requires
 check-requires c κs = search needs
@@ -26,7 +27,7 @@ returns-2 : tie.Need-returns-2
 unfolding isFormed
 returns-2 c =
     let f : isFormed (form (c .before .before .before .before .before .args .text .now)) ≡ false = ap isFormed (sym (c .before .before .check .ensures) ∙ ap outcomeOf (c .enum-told2 .given .1)) in
-    unformed (c .before .before .before .before .before .args .text .now) (c .before .before .before .if1 .left) f
+    refuses (unformed (c .before .before .before .before .before .args .text .now) (c .before .before .before .if1 .left) f)
 
 next-child-requires : tie.Need-next-child-requires
 next-child-requires c κs = search needs
@@ -46,7 +47,7 @@ returns-3 c =
     let s = c .before .before .before .before .before .before .before .before .args .text .now in
     let f : isFormed (form s) ≡ true = ap isFormed (sym (c .before .before .before .before .before .check .ensures) ∙ ap outcomeOf (c .before .before .before .enum-told .given .1)) in
     let e : NextChild s 38 Done = subst (NextChild s 38) (c .enum-told3 .given .1) (c .before .before .next-child .ensures) in
-    no-first s (c .before .before .before .before .before .before .if1 .left) f e
+    refuses (no-first s (c .before .before .before .before .before .before .if1 .left) f e)
 
 returns-4 : tie.Need-returns-4
 unfolding isFormed
@@ -55,7 +56,7 @@ returns-4 c =
     let f : isFormed (form s) ≡ true = ap isFormed (sym (c .before .before .before .before .before .before .before .check .ensures) ∙ ap outcomeOf (c .before .before .before .before .before .enum-told .given .1)) in
     let g = c .before .before .n .given in
     let q : NextChild s 38 (At (g .0 .0) (g .0 .1 .0)) = subst (NextChild s 38) (g .1) (c .before .before .before .before .next-child .ensures) in
-    c .read-root .ensures ∙ the-first s (c .before .before .before .before .before .before .before .before .if1 .left) f _ _ _ (q .row)
+    reads-as (the-first s (c .before .before .before .before .before .before .before .before .if1 .left) f _ _ _ (q .row)) (c .read-root .ensures)
 
 pub read-spec : {M : Type 1} → statement M
 read-spec =

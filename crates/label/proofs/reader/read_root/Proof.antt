@@ -6,6 +6,7 @@ use mathlib.Core.Option.{some, none}
 use Rattle.elements.specs.Reading.{headAt, childrenAt}
 use Rattle.values.specs.Values.{version, versionOf}
 use Rattle.label.proofs.Values.{no-root, no-version, no-shape, the-root}
+use Rattle.label.proofs.Places.{refuses, reads-as}
 use borrow.Author.Needs.{needs}
 use Rattle.label.proofs.reader.read_root.Statement.{statement}
 use Rattle.label.proofs.reader.read_root.Tie as tie
@@ -18,7 +19,7 @@ returns c =
     let s = c .before .before .before .args .text .now in
     let h = headAt s (c .before .before .before .args .n) in
     let f = childrenAt s (c .before .before .before .args .n) in
-    no-root h f (sym (c .before .is-root .ensures) ∙ not-true _ (c .if1 .taken))
+    refuses (no-root h f (sym (c .before .is-root .ensures) ∙ not-true _ (c .if1 .taken)))
 
 value-of-requires : tie.Need-value-of-requires
 value-of-requires c κs = search needs
@@ -38,7 +39,7 @@ returns-2 c =
     let h = headAt s (c .before .before .before .before .before .before .before .args .n) in
     let f = childrenAt s (c .before .before .before .before .before .before .before .args .n) in
     let e : version (h .value) ≡ none = ap version (sym (c .before .before .before .value-of .ensures)) ∙ sym (c .before .before .read-version .ensures) ∙ ap versionOf (c .enum-told .given .1) in
-    no-version h f (sym (c .before .before .before .before .before .is-root .ensures) ∙ not-false _ (c .before .before .before .before .if1 .left)) e
+    refuses (no-version h f (sym (c .before .before .before .before .before .is-root .ensures) ∙ not-false _ (c .before .before .before .before .if1 .left)) e)
 
 find-places-requires : tie.Need-find-places-requires
 find-places-requires c κs = search needs
@@ -49,7 +50,7 @@ returns-3 c =
     let h = headAt s (c .before .before .before .before .before .before .before .before .before .before .before .args .n) in
     let f = childrenAt s (c .before .before .before .before .before .before .before .before .before .before .before .args .n) in
     let e₁ : version (h .value) ≡ some (c .before .before .before .before .release .given .0 .0) = ap version (sym (c .before .before .before .before .before .before .before .value-of .ensures)) ∙ sym (c .before .before .before .before .before .before .read-version .ensures) ∙ ap versionOf (c .before .before .before .before .release .given .1) in
-    no-shape h f (sym (c .before .before .before .before .before .before .before .before .before .is-root .ensures) ∙ not-false _ (c .before .before .before .before .before .before .before .before .if1 .left)) e₁ (sym (c .before .before .find-places .ensures .shaped) ∙ not-true _ (c .if2 .taken))
+    refuses (no-shape h f (sym (c .before .before .before .before .before .before .before .before .before .is-root .ensures) ∙ not-false _ (c .before .before .before .before .before .before .before .before .if1 .left)) e₁ (sym (c .before .before .find-places .ensures .shaped) ∙ not-true _ (c .if2 .taken)))
 
 read-values-requires : tie.Need-read-values-requires
 read-values-requires c κs = search needs
@@ -61,8 +62,8 @@ returns-4 c =
     let f = childrenAt s (c .before .before .before .before .before .before .before .before .before .before .before .before .args .n) in
     let e₁ : version (h .value) ≡ some (c .before .before .before .before .before .release .given .0 .0) = ap version (sym (c .before .before .before .before .before .before .before .before .value-of .ensures)) ∙ sym (c .before .before .before .before .before .before .before .read-version .ensures) ∙ ap versionOf (c .before .before .before .before .before .release .given .1) in
     let ok = not-false _ (c .before .if2 .left) in
-    c .read-values .ensures ∙ ap (labelFrom (c .before .before .before .before .before .release .given .0 .0)) (c .before .before .before .find-places .ensures .texts ok)
-    ∙ the-root h f (sym (c .before .before .before .before .before .before .before .before .before .before .is-root .ensures) ∙ not-false _ (c .before .before .before .before .before .before .before .before .before .if1 .left)) e₁ (sym (c .before .before .before .find-places .ensures .shaped) ∙ ok)
+    reads-as (ap (labelFrom (c .before .before .before .before .before .release .given .0 .0)) (c .before .before .before .find-places .ensures .texts ok)
+    ∙ the-root h f (sym (c .before .before .before .before .before .before .before .before .before .before .is-root .ensures) ∙ not-false _ (c .before .before .before .before .before .before .before .before .before .if1 .left)) e₁ (sym (c .before .before .before .find-places .ensures .shaped) ∙ ok)) (c .read-values .ensures)
 
 pub read-root-spec : {M : Type 1} → statement M
 read-root-spec =

@@ -8,6 +8,7 @@ use Rattle.elements.specs.Decoded.{decoded}
 use Rattle.values.specs.Values.{number, boolean, booleanOf, letter, letterOf, isTime, isUuid, isCreator}
 use Rattle.label.specs.Reading.{textsAt}
 use Rattle.label.proofs.Values.{texts-same, no-texts, no-location, no-index, no-data, letters-unfit, no-size, size-unfit, no-compression, the-label}
+use Rattle.label.proofs.Places.{refuses}
 use borrow.Author.Needs.{needs}
 use Rattle.label.proofs.reader.read_values.Statement.{statement}
 use Rattle.label.proofs.reader.read_values.Tie as tie
@@ -30,7 +31,7 @@ returns c =
     let t = textsAt s (c .before .before .before .before .before .before .args .p) in
     let e₀ : (isCreator (decoded (t .creator)) && isTime (t .time) && isUuid (t .uuid)) ≡ false
     = texts-same (sym (c .before .before .before .before .text-of .ensures)) (sym (c .before .before .before .text-of2 .ensures)) (sym (c .before .before .text-of3 .ensures)) ∙ sym (c .before .texts-lawful .ensures) ∙ not-true _ (c .if1 .taken) in
-    no-texts (c .before .before .before .before .before .before .args .release) t e₀
+    refuses (no-texts (c .before .before .before .before .before .before .args .release) t e₀)
 
 text-of-requires-4 : tie.Need-text-of-requires-4
 text-of-requires-4 c κs = search needs
@@ -51,7 +52,7 @@ returns-2 c =
     let e₀ : (isCreator (decoded (t .creator)) && isTime (t .time) && isUuid (t .uuid)) ≡ true
     = texts-same (sym (c .before .before .before .before .before .before .before .before .text-of .ensures)) (sym (c .before .before .before .before .before .before .before .text-of2 .ensures)) (sym (c .before .before .before .before .before .before .text-of3 .ensures)) ∙ sym (c .before .before .before .before .before .texts-lawful .ensures) ∙ not-false _ (c .before .before .before .before .if1 .left) in
     let e : letter (t .location) ≡ none = ap letter (sym (c .before .before .before .text-of4 .ensures)) ∙ sym (c .before .before .read-letter .ensures) ∙ ap letterOf (c .enum-told .given .1) in
-    no-location (c .before .before .before .before .before .before .before .before .before .before .args .release) t e₀ e
+    refuses (no-location (c .before .before .before .before .before .before .before .before .before .before .args .release) t e₀ e)
 
 text-of-requires-5 : tie.Need-text-of-requires-5
 text-of-requires-5 c κs = search needs
@@ -73,7 +74,7 @@ returns-3 c =
     = texts-same (sym (c .before .before .before .before .before .before .before .before .before .before .before .before .before .text-of .ensures)) (sym (c .before .before .before .before .before .before .before .before .before .before .before .before .text-of2 .ensures)) (sym (c .before .before .before .before .before .before .before .before .before .before .before .text-of3 .ensures)) ∙ sym (c .before .before .before .before .before .before .before .before .before .before .texts-lawful .ensures) ∙ not-false _ (c .before .before .before .before .before .before .before .before .before .if1 .left) in
     let e₁ : letter (t .location) ≡ some (c .before .before .before .before .before .location .given .0 .0) = ap letter (sym (c .before .before .before .before .before .before .before .before .text-of4 .ensures)) ∙ sym (c .before .before .before .before .before .before .before .read-letter .ensures) ∙ ap letterOf (c .before .before .before .before .before .location .given .1) in
     let e : letter (t .indexLetter) ≡ none = ap letter (sym (c .before .before .before .text-of5 .ensures)) ∙ sym (c .before .before .read-letter2 .ensures) ∙ ap letterOf (c .enum-told2 .given .1) in
-    no-index (c .before .before .before .before .before .before .before .before .before .before .before .before .before .before .before .args .release) t e₀ e₁ e
+    refuses (no-index (c .before .before .before .before .before .before .before .before .before .before .before .before .before .before .before .args .release) t e₀ e₁ e)
 
 text-of-requires-6 : tie.Need-text-of-requires-6
 text-of-requires-6 c κs = search needs
@@ -96,7 +97,7 @@ returns-4 c =
     let e₁ : letter (t .location) ≡ some (c .before .before .before .before .before .before .before .before .before .before .location .given .0 .0) = ap letter (sym (c .before .before .before .before .before .before .before .before .before .before .before .before .before .text-of4 .ensures)) ∙ sym (c .before .before .before .before .before .before .before .before .before .before .before .before .read-letter .ensures) ∙ ap letterOf (c .before .before .before .before .before .before .before .before .before .before .location .given .1) in
     let e₂ : letter (t .indexLetter) ≡ some (c .before .before .before .before .before .index .given .0 .0) = ap letter (sym (c .before .before .before .before .before .before .before .before .text-of5 .ensures)) ∙ sym (c .before .before .before .before .before .before .before .read-letter2 .ensures) ∙ ap letterOf (c .before .before .before .before .before .index .given .1) in
     let e : letter (t .dataLetter) ≡ none = ap letter (sym (c .before .before .before .text-of6 .ensures)) ∙ sym (c .before .before .read-letter3 .ensures) ∙ ap letterOf (c .enum-told3 .given .1) in
-    no-data (c .before .before .before .before .before .before .before .before .before .before .before .before .before .before .before .before .before .before .before .before .args .release) t e₀ e₁ e₂ e
+    refuses (no-data (c .before .before .before .before .before .before .before .before .before .before .before .before .before .before .before .before .before .before .before .before .args .release) t e₀ e₁ e₂ e)
 
 letters-fit-requires : tie.Need-letters-fit-requires
 letters-fit-requires c κs = search needs
@@ -110,7 +111,7 @@ returns-5 c =
     let e₁ : letter (t .location) ≡ some (c .before .before .before .before .before .before .before .before .before .before .before .before .before .location .given .0 .0) = ap letter (sym (c .before .before .before .before .before .before .before .before .before .before .before .before .before .before .before .before .text-of4 .ensures)) ∙ sym (c .before .before .before .before .before .before .before .before .before .before .before .before .before .before .before .read-letter .ensures) ∙ ap letterOf (c .before .before .before .before .before .before .before .before .before .before .before .before .before .location .given .1) in
     let e₂ : letter (t .indexLetter) ≡ some (c .before .before .before .before .before .before .before .before .index .given .0 .0) = ap letter (sym (c .before .before .before .before .before .before .before .before .before .before .before .text-of5 .ensures)) ∙ sym (c .before .before .before .before .before .before .before .before .before .before .read-letter2 .ensures) ∙ ap letterOf (c .before .before .before .before .before .before .before .before .index .given .1) in
     let e₃ : letter (t .dataLetter) ≡ some (c .before .before .before .other .given .0 .0) = ap letter (sym (c .before .before .before .before .before .before .text-of6 .ensures)) ∙ sym (c .before .before .before .before .before .read-letter3 .ensures) ∙ ap letterOf (c .before .before .before .other .given .1) in
-    letters-unfit (c .before .before .before .before .before .before .before .before .before .before .before .before .before .before .before .before .before .before .before .before .before .before .before .args .release) t e₀ e₁ e₂ e₃ (sym (c .before .letters-fit .ensures) ∙ not-true _ (c .if2 .taken))
+    refuses (letters-unfit (c .before .before .before .before .before .before .before .before .before .before .before .before .before .before .before .before .before .before .before .before .before .before .before .args .release) t e₀ e₁ e₂ e₃ (sym (c .before .letters-fit .ensures) ∙ not-true _ (c .if2 .taken)))
 
 text-of-requires-7 : tie.Need-text-of-requires-7
 text-of-requires-7 c κs = search needs
@@ -135,7 +136,7 @@ returns-6 c =
     let e₃ : letter (t .dataLetter) ≡ some (c .before .before .before .before .before .before .before .other .given .0 .0) = ap letter (sym (c .before .before .before .before .before .before .before .before .before .before .text-of6 .ensures)) ∙ sym (c .before .before .before .before .before .before .before .before .before .read-letter3 .ensures) ∙ ap letterOf (c .before .before .before .before .before .before .before .other .given .1) in
     let e₄ = sym (c .before .before .before .before .before .letters-fit .ensures) ∙ not-false _ (c .before .before .before .before .if2 .left) in
     let e : number (t .blockSize) ≡ none = ap number (sym (c .before .before .before .text-of7 .ensures)) ∙ sym (c .before .before .read-number .ensures) ∙ ap valueOf (c .enum-told4 .given .1) in
-    no-size (c .before .before .before .before .before .before .before .before .before .before .before .before .before .before .before .before .before .before .before .before .before .before .before .before .before .before .before .args .release) t e₀ e₁ e₂ e₃ e₄ e
+    refuses (no-size (c .before .before .before .before .before .before .before .before .before .before .before .before .before .before .before .before .before .before .before .before .before .before .before .before .before .before .before .args .release) t e₀ e₁ e₂ e₃ e₄ e)
 
 is-block-size-requires : tie.Need-is-block-size-requires
 is-block-size-requires c κs = search needs
@@ -151,7 +152,7 @@ returns-7 c =
     let e₃ : letter (t .dataLetter) ≡ some (c .before .before .before .before .before .before .before .before .before .before .other .given .0 .0) = ap letter (sym (c .before .before .before .before .before .before .before .before .before .before .before .before .before .text-of6 .ensures)) ∙ sym (c .before .before .before .before .before .before .before .before .before .before .before .before .read-letter3 .ensures) ∙ ap letterOf (c .before .before .before .before .before .before .before .before .before .before .other .given .1) in
     let e₄ = sym (c .before .before .before .before .before .before .before .before .letters-fit .ensures) ∙ not-false _ (c .before .before .before .before .before .before .before .if2 .left) in
     let e₅ : number (t .blockSize) ≡ some (c .before .before .before .block-size .given .0 .0) = ap number (sym (c .before .before .before .before .before .before .text-of7 .ensures)) ∙ sym (c .before .before .before .before .before .read-number .ensures) ∙ ap valueOf (c .before .before .before .block-size .given .1) in
-    size-unfit (c .before .before .before .before .before .before .before .before .before .before .before .before .before .before .before .before .before .before .before .before .before .before .before .before .before .before .before .before .before .before .args .release) t e₀ e₁ e₂ e₃ e₄ e₅ (sym (c .before .is-block-size .ensures) ∙ not-true _ (c .if3 .taken))
+    refuses (size-unfit (c .before .before .before .before .before .before .before .before .before .before .before .before .before .before .before .before .before .before .before .before .before .before .before .before .before .before .before .before .before .before .args .release) t e₀ e₁ e₂ e₃ e₄ e₅ (sym (c .before .is-block-size .ensures) ∙ not-true _ (c .if3 .taken)))
 
 text-of-requires-8 : tie.Need-text-of-requires-8
 text-of-requires-8 c κs = search needs
@@ -178,7 +179,7 @@ returns-8 c =
     let e₅ : number (t .blockSize) ≡ some (c .before .before .before .before .before .before .before .block-size .given .0 .0) = ap number (sym (c .before .before .before .before .before .before .before .before .before .before .text-of7 .ensures)) ∙ sym (c .before .before .before .before .before .before .before .before .before .read-number .ensures) ∙ ap valueOf (c .before .before .before .before .before .before .before .block-size .given .1) in
     let e₆ = sym (c .before .before .before .before .before .is-block-size .ensures) ∙ not-false _ (c .before .before .before .before .if3 .left) in
     let e : boolean (t .compression) ≡ none = ap boolean (sym (c .before .before .before .text-of8 .ensures)) ∙ sym (c .before .before .read-boolean .ensures) ∙ ap booleanOf (c .enum-told5 .given .1) in
-    no-compression (c .before .before .before .before .before .before .before .before .before .before .before .before .before .before .before .before .before .before .before .before .before .before .before .before .before .before .before .before .before .before .before .before .before .before .args .release) t e₀ e₁ e₂ e₃ e₄ e₅ e₆ e
+    refuses (no-compression (c .before .before .before .before .before .before .before .before .before .before .before .before .before .before .before .before .before .before .before .before .before .before .before .before .before .before .before .before .before .before .before .before .before .before .args .release) t e₀ e₁ e₂ e₃ e₄ e₅ e₆ e)
 
 text-at-requires : tie.Need-text-at-requires
 text-at-requires c κs = search needs
@@ -202,7 +203,10 @@ returns-9 c =
     let e₅ : number (t .blockSize) ≡ some (c .before .before .before .before .before .before .before .before .before .before .before .block-size .given .0 .0) = ap number (sym (c .before .before .before .before .before .before .before .before .before .before .before .before .before .before .text-of7 .ensures)) ∙ sym (c .before .before .before .before .before .before .before .before .before .before .before .before .before .read-number .ensures) ∙ ap valueOf (c .before .before .before .before .before .before .before .before .before .before .before .block-size .given .1) in
     let e₆ = sym (c .before .before .before .before .before .before .before .before .before .is-block-size .ensures) ∙ not-false _ (c .before .before .before .before .before .before .before .before .if3 .left) in
     let e₇ : boolean (t .compression) ≡ some (c .before .before .before .before .compression .given .0 .0) = ap boolean (sym (c .before .before .before .before .before .before .before .text-of8 .ensures)) ∙ sym (c .before .before .before .before .before .before .read-boolean .ensures) ∙ ap booleanOf (c .before .before .before .before .compression .given .1) in
-    the-label (c .before .before .before .before .before .before .before .before .before .before .before .before .before .before .before .before .before .before .before .before .before .before .before .before .before .before .before .before .before .before .before .before .before .before .before .before .before .before .args .release) t e₀ e₁ e₂ e₃ e₄ e₅ e₆ e₇ _ _ _ (c .before .before .text-at .ensures .part) (c .before .text-at2 .ensures .part) (c .text-at3 .ensures .part)
+    record {
+      says = the-label (c .before .before .before .before .before .before .before .before .before .before .before .before .before .before .before .before .before .before .before .before .before .before .before .before .before .before .before .before .before .before .before .before .before .before .before .before .before .before .args .release) t e₀ e₁ e₂ e₃ e₄ e₅ e₆ e₇ _ _ _ (c .before .before .text-at .ensures .part) (c .before .text-at2 .ensures .part) (c .text-at3 .ensures .part);
+      inside = record { creator = c .before .before .text-at .ensures .inside; time = c .before .text-at2 .ensures .inside; uuid = c .text-at3 .ensures .inside };
+    }
 
 pub read-values-spec : {M : Type 1} → statement M
 read-values-spec =

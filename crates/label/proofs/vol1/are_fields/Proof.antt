@@ -6,15 +6,9 @@ use borrow.Author.Needs.{needs}
 use Rattle.label.proofs.vol1.are_fields.Statement.{statement}
 use Rattle.label.proofs.vol1.are_fields.Tie as tie
 
-sub-if1 : tie.Need-sub-if1
-sub-if1 c = search needs
-
 returns : tie.Need-returns
 unfolding areFields
 returns c = rw (ne-eqb _ _ (c .if1 .taken))
-
-sub-if2 : tie.Need-sub-if2
-sub-if2 c = search needs
 
 returns-2 : tie.Need-returns-2
 unfolding areFields
@@ -38,9 +32,7 @@ pub are-fields-spec : {M : Type 1} → statement M
 are-fields-spec =
     tie.close
     (tie.spec
-    sub-if1
     returns
-    sub-if2
     returns-2
     is-printed-requires
     returns-3

@@ -7,7 +7,7 @@ use Prim.Native.Nat.{ℕ}
 use Rattle.slices.specs.Writers.{Puts}
 use Rattle.label.specs.Vol1.{vol1, areFields}
 use Rattle.label.proofs.Adding.{writes, writes-not}
-use Rattle.label.proofs.Blocks.{length-vol1, given-identifier, given-owner}
+use Rattle.label.proofs.Blocks.{given-identifier, given-owner}
 use borrow.Author.Needs.{needs}
 use Rattle.label.proofs.vol1.write_vol1.Statement.{statement}
 use Rattle.label.proofs.vol1.write_vol1.Tie as tie
@@ -35,7 +35,7 @@ returns-2 c =
     let i = c .before .before .before .before .before .before .before .before .before .before .before .before .args .identifier .now in
     let o = c .before .before .before .before .before .before .before .before .before .before .before .before .args .owner .now in
     let ok : areFields i o ≡ true = sym (c .before .before .before .before .before .before .before .before .are-fields .ensures) ∙ not-false _ (c .before .before .before .before .before .before .before .if1 .left) in
-    let e = c .before .before .before .before .before .before .new .ensures (length-vol1 i o (given-identifier i o ok) (given-owner i o ok)) in
+    let e = c .before .before .before .before .before .before .new .ensures (given-identifier i o ok) (given-owner i o ok) in
     writes (areFields i o) (vol1 i o) (c .before .before .before .before .before .before .before .before .before .before .before .before .args .out .now) (c .before .before .put .last .0) (c .before .before .put .result) ok
     (subst (λ (w : List ℕ). Puts 0 w (c .before .before .before .before .before .before .before .before .before .before .before .before .args .out .now) (c .before .before .put .last .0) (c .before .before .put .result)) e (c .before .before .put .ensures))
 

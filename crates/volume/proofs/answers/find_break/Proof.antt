@@ -46,19 +46,19 @@ enum-known-which : tie.Need-enum-known-which
 enum-known-which c = search needs
 
 returns : tie.Need-returns
-returns c = ask-refused (λ v i d. answer (verdict v i d)) (c .before .before .before .before .before .before .before .before .args .index-list .now) (c .before .before .before .before .before .before .before .before .args .index-store .now) (c .before .before .before .before .before .before .before .before .args .data-list .now) (c .before .before .before .before .before .before .before .before .args .data-store .now) (c .before .r .given .0 .0) (ap (means (c .before .before .before .before .before .before .before .before .args .index-store .now)) (sym (c .before .r .given .1)) ∙ c .before .before .before .check .ensures)
+returns c = ask-refused (λ v i d. answer (verdict v i d)) (c .before .before .before .before .before .before .before .before .args .index-list .now) (c .before .before .before .before .before .before .before .before .args .index-store .now) (c .before .before .before .before .before .before .before .before .args .data-list .now) (c .before .before .before .before .before .before .before .before .args .data-store .now) (c .before .r .given .0 .0) (ap (means (c .before .before .before .before .before .before .before .before .args .index-store .now)) (sym (c .before .r .given .1)) ∙ c .before .before .before .check .ensures .says)
 
 returns-2 : tie.Need-returns-2
 returns-2 c =
     verdict-found (c .before .before .before .before .before .before .before .before .before .before .before .before .before .args .index-list .now) (c .before .before .before .before .before .before .before .before .before .before .before .before .before .args .index-store .now) (c .before .before .before .before .before .before .before .before .before .before .before .before .before .args .data-list .now) (c .before .before .before .before .before .before .before .before .before .before .before .before .before .args .data-store .now) (λ i. c .before .before .before .before .before .before .before .before .before .before .before .before .shared-slice-known .given i .fits) (λ i. c .before .before .before .before .before .before .before .before .before .before .shared-slice-known3 .given i .fits)
-    (fieldsIn (c .before .before .before .before .before .before .before .before .before .before .before .before .before .args .index-store .now) (c .before .before .before .before .before .before .f .given .0 .0)) (ap (means (c .before .before .before .before .before .before .before .before .before .before .before .before .before .args .index-store .now)) (sym (c .before .before .before .before .before .before .f .given .1)) ∙ c .before .before .before .before .before .before .before .before .check .ensures)
+    (fieldsIn (c .before .before .before .before .before .before .before .before .before .before .before .before .before .args .index-store .now) (c .before .before .before .before .before .before .f .given .0 .0)) (ap (means (c .before .before .before .before .before .before .before .before .before .before .before .before .before .args .index-store .now)) (sym (c .before .before .before .before .before .before .f .given .1)) ∙ c .before .before .before .before .before .before .before .before .check .ensures .says)
     (given (c .before .before .before .before .part .result .now) (c .before .before .before .letters-of .result)) (ap (λ (u : List ℕ). given u (c .before .before .before .letters-of .result)) (c .before .before .before .before .part .ensures) ∙ ap (given (partAt (c .before .before .before .before .before .before .before .before .before .before .before .before .before .args .index-store .now) (c .before .before .before .before .before .before .f .given .0 .0 .uuid))) (c .before .before .before .letters-of .ensures))
     (c .before .before .judge .result) (c .before .before .judge .ensures) Consistent (ap (λ (t : Judgement). answer (breakOf t)) (sym (c .enum-told .given .1)))
 
 returns-3 : tie.Need-returns-3
 returns-3 c =
     verdict-found (c .before .before .before .before .before .before .before .before .before .before .before .before .before .before .args .index-list .now) (c .before .before .before .before .before .before .before .before .before .before .before .before .before .before .args .index-store .now) (c .before .before .before .before .before .before .before .before .before .before .before .before .before .before .args .data-list .now) (c .before .before .before .before .before .before .before .before .before .before .before .before .before .before .args .data-store .now) (λ i. c .before .before .before .before .before .before .before .before .before .before .before .before .before .shared-slice-known .given i .fits) (λ i. c .before .before .before .before .before .before .before .before .before .before .before .shared-slice-known3 .given i .fits)
-    (fieldsIn (c .before .before .before .before .before .before .before .before .before .before .before .before .before .before .args .index-store .now) (c .before .before .before .before .before .before .before .f .given .0 .0)) (ap (means (c .before .before .before .before .before .before .before .before .before .before .before .before .before .before .args .index-store .now)) (sym (c .before .before .before .before .before .before .before .f .given .1)) ∙ c .before .before .before .before .before .before .before .before .before .check .ensures)
+    (fieldsIn (c .before .before .before .before .before .before .before .before .before .before .before .before .before .before .args .index-store .now) (c .before .before .before .before .before .before .before .f .given .0 .0)) (ap (means (c .before .before .before .before .before .before .before .before .before .before .before .before .before .before .args .index-store .now)) (sym (c .before .before .before .before .before .before .before .f .given .1)) ∙ c .before .before .before .before .before .before .before .before .before .check .ensures .says)
     (given (c .before .before .before .before .before .part .result .now) (c .before .before .before .before .letters-of .result)) (ap (λ (u : List ℕ). given u (c .before .before .before .before .letters-of .result)) (c .before .before .before .before .before .part .ensures) ∙ ap (given (partAt (c .before .before .before .before .before .before .before .before .before .before .before .before .before .before .args .index-store .now) (c .before .before .before .before .before .before .before .f .given .0 .0 .uuid))) (c .before .before .before .before .letters-of .ensures))
     (c .before .before .before .judge .result) (c .before .before .before .judge .ensures) (Break (c .before .which .given .0 .0) (c .before .which .given .0 .1 .0)) (ap (λ (t : Judgement). answer (breakOf t)) (sym (c .before .which .given .1)))
 

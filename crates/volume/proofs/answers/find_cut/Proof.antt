@@ -47,19 +47,19 @@ enum-told : tie.Need-enum-told
 enum-told c = search needs
 
 returns : tie.Need-returns
-returns c = rescues (c .before .before .before .before .before .before .before .before .args .index-list .now) (c .before .before .before .before .before .before .before .before .args .index-store .now) (c .before .before .before .before .before .before .before .before .args .data-list .now) (c .before .before .before .before .before .before .before .before .args .data-store .now) (Refused (c .before .r .given .0 .0)) (ask-refused (λ v i d. orNoCut (rescue v i d)) (c .before .before .before .before .before .before .before .before .args .index-list .now) (c .before .before .before .before .before .before .before .before .args .index-store .now) (c .before .before .before .before .before .before .before .before .args .data-list .now) (c .before .before .before .before .before .before .before .before .args .data-store .now) (c .before .r .given .0 .0) (ap (means (c .before .before .before .before .before .before .before .before .args .index-store .now)) (sym (c .before .r .given .1)) ∙ c .before .before .before .check .ensures))
+returns c = rescues (c .before .before .before .before .before .before .before .before .args .index-list .now) (c .before .before .before .before .before .before .before .before .args .index-store .now) (c .before .before .before .before .before .before .before .before .args .data-list .now) (c .before .before .before .before .before .before .before .before .args .data-store .now) (Refused (c .before .r .given .0 .0)) (ask-refused (λ v i d. orNoCut (rescue v i d)) (c .before .before .before .before .before .before .before .before .args .index-list .now) (c .before .before .before .before .before .before .before .before .args .index-store .now) (c .before .before .before .before .before .before .before .before .args .data-list .now) (c .before .before .before .before .before .before .before .before .args .data-store .now) (c .before .r .given .0 .0) (ap (means (c .before .before .before .before .before .before .before .before .args .index-store .now)) (sym (c .before .r .given .1)) ∙ c .before .before .before .check .ensures .says))
 
 returns-2 : tie.Need-returns-2
 returns-2 c =
     cut-found (c .before .before .before .before .before .before .before .before .before .before .before .before .before .before .args .index-list .now) (c .before .before .before .before .before .before .before .before .before .before .before .before .before .before .args .index-store .now) (c .before .before .before .before .before .before .before .before .before .before .before .before .before .before .args .data-list .now) (c .before .before .before .before .before .before .before .before .before .before .before .before .before .before .args .data-store .now) (λ i. c .before .before .before .before .before .before .before .before .before .before .before .before .before .shared-slice-known .given i .fits) (λ i. c .before .before .before .before .before .before .before .before .before .before .before .shared-slice-known3 .given i .fits)
-    (fieldsIn (c .before .before .before .before .before .before .before .before .before .before .before .before .before .before .args .index-store .now) (c .before .before .before .before .before .before .before .f .given .0 .0)) (ap (means (c .before .before .before .before .before .before .before .before .before .before .before .before .before .before .args .index-store .now)) (sym (c .before .before .before .before .before .before .before .f .given .1)) ∙ c .before .before .before .before .before .before .before .before .before .check .ensures)
+    (fieldsIn (c .before .before .before .before .before .before .before .before .before .before .before .before .before .before .args .index-store .now) (c .before .before .before .before .before .before .before .f .given .0 .0)) (ap (means (c .before .before .before .before .before .before .before .before .before .before .before .before .before .before .args .index-store .now)) (sym (c .before .before .before .before .before .before .before .f .given .1)) ∙ c .before .before .before .before .before .before .before .before .before .check .ensures .says)
     (given (c .before .before .before .before .before .part .result .now) (c .before .before .before .before .letters-of .result)) (ap (λ (u : List ℕ). given u (c .before .before .before .before .letters-of .result)) (c .before .before .before .before .before .part .ensures) ∙ ap (given (partAt (c .before .before .before .before .before .before .before .before .before .before .before .before .before .before .args .index-store .now) (c .before .before .before .before .before .before .before .f .given .0 .0 .uuid))) (c .before .before .before .before .letters-of .ensures))
     (c .before .before .before .rescue-with .result) (c .before .before .before .rescue-with .ensures) (Cut (c .before .cut .given .0 .0)) (ap (λ (t : Tried). orNoCut (triedCut t)) (sym (c .before .cut .given .1)))
 
 returns-3 : tie.Need-returns-3
 returns-3 c =
     cut-found (c .before .before .before .before .before .before .before .before .before .before .before .before .before .args .index-list .now) (c .before .before .before .before .before .before .before .before .before .before .before .before .before .args .index-store .now) (c .before .before .before .before .before .before .before .before .before .before .before .before .before .args .data-list .now) (c .before .before .before .before .before .before .before .before .before .before .before .before .before .args .data-store .now) (λ i. c .before .before .before .before .before .before .before .before .before .before .before .before .shared-slice-known .given i .fits) (λ i. c .before .before .before .before .before .before .before .before .before .before .shared-slice-known3 .given i .fits)
-    (fieldsIn (c .before .before .before .before .before .before .before .before .before .before .before .before .before .args .index-store .now) (c .before .before .before .before .before .before .f .given .0 .0)) (ap (means (c .before .before .before .before .before .before .before .before .before .before .before .before .before .args .index-store .now)) (sym (c .before .before .before .before .before .before .f .given .1)) ∙ c .before .before .before .before .before .before .before .before .check .ensures)
+    (fieldsIn (c .before .before .before .before .before .before .before .before .before .before .before .before .before .args .index-store .now) (c .before .before .before .before .before .before .f .given .0 .0)) (ap (means (c .before .before .before .before .before .before .before .before .before .before .before .before .before .args .index-store .now)) (sym (c .before .before .before .before .before .before .f .given .1)) ∙ c .before .before .before .before .before .before .before .before .check .ensures .says)
     (given (c .before .before .before .before .part .result .now) (c .before .before .before .letters-of .result)) (ap (λ (u : List ℕ). given u (c .before .before .before .letters-of .result)) (c .before .before .before .before .part .ensures) ∙ ap (given (partAt (c .before .before .before .before .before .before .before .before .before .before .before .before .before .args .index-store .now) (c .before .before .before .before .before .before .f .given .0 .0 .uuid))) (c .before .before .before .letters-of .ensures))
     (c .before .before .rescue-with .result) (c .before .before .rescue-with .ensures) (Refused NoCut) (ap (λ (t : Tried). orNoCut (triedCut t)) (sym (c .enum-told .given .1)))
 

@@ -1,12 +1,12 @@
--- `Vol1::new` meets its contract: eight pieces in a row are the block.
-use mathlib.Core.Path.{_≡_, refl, _∙_}
+-- `Vol1::new` meets its contract: each of the eight pieces stands where the one before it ends, and together they are the block.
+use mathlib.Core.Path.{_≡_, refl, sym, _∙_}
 use native.Mathlib.Omega.{arith}
 use Rattle.slices.specs.Words.{bytes}
 use mathlib.Core.List.{List, [], _++_}
 use Prim.Native.Nat.{ℕ, _≤_}
-use lib.ListN.{length, replicate}
+use lib.ListN.{length, replicate, length-append}
 use Rattle.label.specs.Vol1.{vol1}
-use Rattle.label.proofs.Adding.{shorter, nothing-yet, all-written}
+use Rattle.label.proofs.Adding.{fits, nothing-yet, all-written}
 use borrow.Author.Needs.{needs}
 use Rattle.label.proofs.vol1.Vol1.new.Statement.{statement}
 use Rattle.label.proofs.vol1.Vol1.new.Tie as tie
@@ -80,34 +80,34 @@ add-requires-8 c κs = search needs
 returns : tie.Need-returns
 unfolding vol1 bytes
 returns c =
-    λ h.
+    λ h g.
+    let i = c .before .before .before .before .before .before .before .before .before .before .before .before .before .before .before .before .before .before .before .before .before .before .before .before .before .before .before .before .before .before .before .before .args .identifier .now in
+    let o = c .before .before .before .before .before .before .before .before .before .before .before .before .before .before .before .before .before .before .before .before .before .before .before .before .before .before .before .before .before .before .before .before .args .owner .now in
     let b : List ℕ = replicate 80 0 in
     let w₁ : List ℕ = bytes "VOL1" in
-    let w₂ = w₁ ++ c .before .before .before .before .before .before .before .before .before .before .before .before .before .before .before .before .before .before .before .before .before .before .before .before .before .before .before .before .before .before .before .before .args .identifier .now in
+    let w₂ = w₁ ++ i in
     let w₃ = w₂ ++ bytes "L" in
     let w₄ = w₃ ++ bytes "             " in
     let w₅ = w₄ ++ bytes "LTFS         " in
-    let w₆ = w₅ ++ c .before .before .before .before .before .before .before .before .before .before .before .before .before .before .before .before .before .before .before .before .before .before .before .before .before .before .before .before .before .before .before .before .args .owner .now in
+    let w₆ = w₅ ++ o in
     let w₇ = w₆ ++ bytes "                            " in
     let w₈ = w₇ ++ bytes "4" in
-    let z : length w₈ ≡ length b = h in
-    let r₈ : length w₈ ≤ length b = omega arith in
-    let r₇ = shorter w₇ (bytes "4") r₈ in
-    let r₆ = shorter w₆ (bytes "                            ") r₇ in
-    let r₅ = shorter w₅ (c .before .before .before .before .before .before .before .before .before .before .before .before .before .before .before .before .before .before .before .before .before .before .before .before .before .before .before .before .before .before .before .before .args .owner .now) r₆ in
-    let r₄ = shorter w₄ (bytes "LTFS         ") r₅ in
-    let r₃ = shorter w₃ (bytes "             ") r₄ in
-    let r₂ = shorter w₂ (bytes "L") r₃ in
-    let r₁ = shorter w₁ (c .before .before .before .before .before .before .before .before .before .before .before .before .before .before .before .before .before .before .before .before .before .before .before .before .before .before .before .before .before .before .before .before .args .identifier .now) r₂ in
-    let s₁ = c .before .before .before .before .before .before .before .before .before .before .before .before .before .before .before .before .before .before .before .before .before .before .before .before .before .before .before .add .ensures b [] r₁ (nothing-yet b) refl in
-    let s₂ = c .before .before .before .before .before .before .before .before .before .before .before .before .before .before .before .before .before .before .before .before .before .before .before .before .add2 .ensures b w₁ r₂ (s₁ .0) (s₁ .1) in
-    let s₃ = c .before .before .before .before .before .before .before .before .before .before .before .before .before .before .before .before .before .before .before .before .add3 .ensures b w₂ r₃ (s₂ .0) (s₂ .1) in
-    let s₄ = c .before .before .before .before .before .before .before .before .before .before .before .before .before .before .before .before .add4 .ensures b w₃ r₄ (s₃ .0) (s₃ .1) in
-    let s₅ = c .before .before .before .before .before .before .before .before .before .before .before .before .add5 .ensures b w₄ r₅ (s₄ .0) (s₄ .1) in
-    let s₆ = c .before .before .before .before .before .before .before .before .before .add6 .ensures b w₅ r₆ (s₅ .0) (s₅ .1) in
-    let s₇ = c .before .before .before .before .before .add7 .ensures b w₆ r₇ (s₆ .0) (s₆ .1) in
-    let s₈ = c .before .add8 .ensures b w₇ r₈ (s₇ .0) (s₇ .1) in
-    s₈ .0 ∙ all-written w₈ b z
+    let n₂ : 10 ≡ length w₂ = omega (arith, length-append w₁ i) in
+    let n₃ : 11 ≡ length w₃ = omega (arith, length-append w₂ (bytes "L")) in
+    let n₄ : 24 ≡ length w₄ = omega (arith, length-append w₃ (bytes "             ")) in
+    let n₅ : 37 ≡ length w₅ = omega (arith, length-append w₄ (bytes "LTFS         ")) in
+    let n₆ : 51 ≡ length w₆ = omega (arith, length-append w₅ o) in
+    let n₇ : 79 ≡ length w₇ = omega (arith, length-append w₆ (bytes "                            ")) in
+    let n₈ : 80 ≡ length w₈ = omega (arith, length-append w₇ (bytes "4")) in
+    let s₁ = c .before .before .before .before .before .before .before .before .before .before .before .before .before .before .before .before .before .before .before .before .before .before .before .before .before .before .before .add .ensures b [] (omega arith) (nothing-yet b) refl in
+    let s₂ = c .before .before .before .before .before .before .before .before .before .before .before .before .before .before .before .before .before .before .before .before .before .before .before .before .add2 .ensures b w₁ (fits w₂ n₂ (omega arith)) (s₁ .0) refl in
+    let s₃ = c .before .before .before .before .before .before .before .before .before .before .before .before .before .before .before .before .before .before .before .before .add3 .ensures b w₂ (fits w₃ n₃ (omega arith)) (s₂ .0) n₂ in
+    let s₄ = c .before .before .before .before .before .before .before .before .before .before .before .before .before .before .before .before .add4 .ensures b w₃ (fits w₄ n₄ (omega arith)) (s₃ .0) n₃ in
+    let s₅ = c .before .before .before .before .before .before .before .before .before .before .before .before .add5 .ensures b w₄ (fits w₅ n₅ (omega arith)) (s₄ .0) n₄ in
+    let s₆ = c .before .before .before .before .before .before .before .before .before .add6 .ensures b w₅ (fits w₆ n₆ (omega arith)) (s₅ .0) n₅ in
+    let s₇ = c .before .before .before .before .before .add7 .ensures b w₆ (fits w₇ n₇ (omega arith)) (s₆ .0) n₆ in
+    let s₈ = c .before .add8 .ensures b w₇ (fits w₈ n₈ (omega arith)) (s₇ .0) n₇ in
+    s₈ .0 ∙ all-written w₈ b (sym n₈)
 
 pub new-spec : {M : Type 1} → statement M
 new-spec =
