@@ -4,7 +4,7 @@ ghost use mathlib.Core.Path.{_≡_};
 ghost use mathlib.Core.Bool.{not, _&&_};
 ghost use Prim.Native.Nat.{_+_, _≤_, _<_};
 ghost use lib.Dec.{eqb};
-ghost use lib.ListN.{length, getD, drop};
+ghost use lib.ListN.{length, getD};
 ghost use Rattle.xml.specs.Scans.{Past};
 ghost use Rattle.elements.specs.Reading.{headAt, childrenAt};
 ghost use Rattle.children.specs.Rules.{isMark, notMark, rules, placeOf, markOf};

@@ -1,14 +1,13 @@
 -- The walk that fills the table: at each place it matches the scan of the elements passed.
-use mathlib.Core.Path.{_≡_, refl, sym, _∙_, ap, subst}
-use mathlib.Core.Bool.{true}
-use mathlib.Core.List.{List, [], _∷_, _++_}
-use Prim.Native.Nat.{ℕ, zero, suc, _+_, _-_, _≤_, _<_}
+use mathlib.Core.Path.{_≡_, refl, sym, _∙_, ap}
+use mathlib.Core.List.{List}
+use Prim.Native.Nat.{ℕ, suc, _+_, _-_, _≤_, _<_}
 use native.Mathlib.Nat.{add-zero}
 use native.Mathlib.Numerals.{add-one}
 use native.Mathlib.Omega.{arith}
 use lib.ListN.{length, take, drop}
 use lib.Seq.{sets, take-all}
-use Rattle.tape.specs.Tape.{Element, mark, block, Tape, list, store, content, Encodes}
+use Rattle.tape.specs.Tape.{mark, block, Tape, list, store, content, Encodes}
 use Rattle.tape.proofs.Elements.{MarkAt, BlockAt}
 use Rattle.tape.proofs.Encoding.{one-tape}
 use Rattle.tape.proofs.Keeping.{Present, absent}
@@ -17,10 +16,10 @@ use Rattle.refusals.specs.declared.Refusal.{Refusal}
 use Rattle.refusals.specs.Refusals.{refused, answer}
 use Rattle.constructs.specs.declared.Scanned.the-variants as Scanned·is
 use Rattle.constructs.specs.declared.Phase.{Phase}
-use Rattle.constructs.specs.declared.Phase.the-variants.{Labels, Data, Index, Defect}
-use Rattle.constructs.specs.Constructs.{Construct, Run, runAfter, closedBy, Scan, step, scan, start, standing}
+use Rattle.constructs.specs.declared.Phase.the-variants.{Labels}
+use Rattle.constructs.specs.Constructs.{Construct, Scan, step, scan, start, standing}
 use Rattle.constructs.specs.Phases.{afterMark, afterBlock, closedCount, closedTable, Roomy}
-use Rattle.constructs.specs.Tables.{bytesBefore, entries, Held, Found, Finds, Scans}
+use Rattle.constructs.specs.Tables.{bytesBefore, entries, Held, Finds, Scans}
 use Rattle.constructs.proofs.Sequences.{drop-next}
 use Rattle.constructs.proofs.Scanning.{bytes-within, scanned, scanned-next, scanned-at, bytes-next, phaseOf, phase-mark, phase-block, count-mark, done-block, table-mark, room-here}
 

@@ -8,7 +8,7 @@ use native.Mathlib.Omega.{arith}
 use lib.ListN.{length, take}
 use lib.Dec.{ltb, eqb}
 use Rattle.tape.specs.Tape.{Element, mark, block}
-use Rattle.constructs.specs.Constructs.{Construct, Run, labels, dataRun, indexRun, defect, pastLabel, runAfter, closedBy, Scan, step, scan, start, standing, dataLengthsFrom, dataLengths}
+use Rattle.constructs.specs.Constructs.{Construct, Run, labels, dataRun, indexRun, defect, pastLabel, runAfter, closedBy, Scan, step, scan, start, standing, dataLengthsFrom}
 use Rattle.constructs.proofs.Suffixes.{Suffix, here, there, suffix-trans, nil-suffix}
 
 -- an element closes nothing, or one construct that ends with it

@@ -1,20 +1,20 @@
 -- One number tells whether an extent lies on the tape: how far data blocks reach from its first block.
 use mathlib.Core.Path.{_≡_, refl, sym, _∙_, ap}
-use mathlib.Core.Bool.{Bool, true, false, cond, _&&_, and-false, and-true}
+use mathlib.Core.Bool.{false, cond, _&&_, and-false, and-true}
 use mathlib.Core.List.{List, [], _∷_, _++_}
 use Prim.Native.Nat.{ℕ, zero, suc, _+_, _-_, _*_, _/_, _%_, _≤_, _<_, min}
-use native.Mathlib.Nat.{add-zero, div-add-mod', mod-lt, mul-suc, suc-mul, zero-mul}
+use native.Mathlib.Nat.{add-zero, div-add-mod', mod-lt, suc-mul, zero-mul}
 use native.Mathlib.Omega.{arith}
 use lib.Dec.{leb, ltb, eqb}
 use lib.ListN.{length, getD, take, drop, length-take, List·getD-eq-default, List·getD-append}
 use lib.Seq.{getD-drop, getD-take, take-nil, take-take}
-use borrow.Author.Tests.{eqb-true, eqb-false, leb-true, leb-false, le-leb, lt-leb, eq-eqb, ne-eqb, ltb-true, ltb-false, le-ltb}
+use borrow.Author.Tests.{eqb-true, eqb-false, le-leb, lt-leb, eq-eqb, ne-eqb, ltb-true, ltb-false, le-ltb}
 use Rattle.slices.specs.Slices.{every}
 use Rattle.slices.proofs.Booleans.{split, same-leb}
 use Rattle.slices.proofs.Parts.{drop-front}
 use Rattle.extents.specs.Rows.{Row}
 use Rattle.extents.specs.Tape.{liesOnTape}
-use Rattle.constructs.specs.Reach.{reachOne, reaches, liesBy}
+use Rattle.constructs.specs.Reach.{reaches, liesBy}
 use Rattle.constructs.proofs.Reaching.{length-reaches}
 
 drop-reaches : (B n : ℕ) (xs : List ℕ) → drop n (reaches B xs) ≡ reaches B (drop n xs)

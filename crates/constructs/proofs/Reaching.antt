@@ -5,13 +5,13 @@ use mathlib.Core.List.{List, [], _∷_, _++_}
 use Prim.Native.Nat.{ℕ, zero, suc, _+_, _-_, _≤_, _<_, min}
 use native.Mathlib.Omega.{arith}
 use lib.Dec.{eqb, leb}
-use lib.ListN.{length, getD, take, drop, set, take-append-drop, length-append, length-drop, length-take, List·getD-append}
+use lib.ListN.{length, getD, take, drop, set, take-append-drop, length-append, length-drop, List·getD-append}
 use lib.Seq.{sets, sets-eq, take-at, drop-at, length-take-le, take-suc, drop-cons, getD-take, set-at, drop-length, append-snoc}
 use borrow.Author.Tests.{eqb-true, le-leb, lt-leb}
 use Rattle.slices.proofs.Booleans.{split}
 use Rattle.refusals.specs.declared.Refusal.{Refusal}
 use Rattle.refusals.specs.declared.Refusal.the-variants as refusal
-use Rattle.refusals.specs.Refusals.{refused, answer}
+use Rattle.refusals.specs.Refusals.{refused}
 use Rattle.tape.specs.declared.Checked.the-variants as checked
 use Rattle.tape.specs.Tape.{Tape, mark, block, store, content}
 use Rattle.tape.specs.Answers.{elementCount}

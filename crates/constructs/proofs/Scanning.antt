@@ -8,17 +8,17 @@ use native.Mathlib.Nat.{add-zero, zero-add}
 use native.Mathlib.Numerals.{add-one}
 use native.Mathlib.Omega.{arith}
 use lib.Dec.{ltb, eqb}
-use lib.ListN.{length, take, drop, set, length-append, length-take}
-use lib.Seq.{sets, take-suc, drop-cons}
-use borrow.Author.Tests.{eqb-true, eqb-false, ne-eqb}
+use lib.ListN.{length, take, drop, length-append, length-take}
+use lib.Seq.{sets}
+use borrow.Author.Tests.{eqb-false, ne-eqb}
 use Rattle.slices.proofs.Booleans.{split}
 use Rattle.tape.proofs.Keeping.{store-front}
 use Rattle.tape.specs.Tape.{Element, mark, block, Tape, store, content}
-use Rattle.constructs.proofs.Sequences.{take-next, drop-next, length-taken, sets-append}
+use Rattle.constructs.proofs.Sequences.{take-next, length-taken, sets-append}
 use Rattle.constructs.specs.declared.Phase.{Phase}
 use Rattle.constructs.specs.declared.Phase.the-variants.{Labels, Data, Index, Defect}
 use Rattle.constructs.specs.Constructs.{Construct, Run, labels, dataRun, indexRun, defect, pastLabel, runAfter, closedBy, Scan, step, scan, start, standing}
-use Rattle.constructs.specs.Phases.{pastLabels, afterMark, afterBlock, closedCount, closedTable, Roomy, Fitting}
+use Rattle.constructs.specs.Phases.{pastLabels, afterMark, afterBlock, closedCount, closedTable, Roomy}
 use Rattle.constructs.specs.Tables.{bytesBefore, entry, entries}
 
 -- the scan of the first n elements

@@ -1,16 +1,15 @@
 -- A construct's text is the part of the store from its first block to its last.
-use mathlib.Core.Path.{_≡_, refl, sym, _∙_, ap, subst}
-use mathlib.Core.Bool.{Bool, true, false, cond}
+use mathlib.Core.Path.{_≡_, refl, sym, _∙_, ap}
+use mathlib.Core.Bool.{cond}
 use mathlib.Core.List.{List, [], _∷_, _++_}
 use Prim.Native.Nat.{ℕ, zero, suc, _+_, _-_, _*_, _≤_, _<_}
-use native.Mathlib.Nat.{add-zero}
 use native.Mathlib.Omega.{arith}
 use lib.Dec.{ltb, eqb}
 use lib.ListN.{length, getD, take, drop, length-append, List·getD-append}
 use lib.Seq.{take-add, drop-drop, take-append-seam, drop-append-add, take-length, getD-append-add, sets, sets-eq}
 use Rattle.slices.proofs.Booleans.{split}
 use Rattle.tape.specs.Tape.{Element, mark, block, Tape, store, content}
-use Rattle.constructs.specs.Constructs.{Construct, Run, labels, dataRun, indexRun, defect, pastLabel, runAfter, closedBy, Scan, step, scan, start, standing}
+use Rattle.constructs.specs.Constructs.{Construct, Run, labels, dataRun, indexRun, defect, pastLabel, runAfter, closedBy, step, scan, standing}
 use Rattle.constructs.specs.Tables.{bytesBefore, entry, entries}
 use Rattle.constructs.proofs.Suffixes.{Suffix, here, there, nil-suffix, suffix-length}
 use Rattle.constructs.proofs.Scanning.{scanned, scanned-next, scanned-at, bytes-next, length-entries}

@@ -1,5 +1,5 @@
 -- How far data blocks reach from each element on, so that one number tells whether an extent lies on the tape.
-use mathlib.Core.Bool.{Bool, true, false, not, cond, _&&_}
+use mathlib.Core.Bool.{Bool, not, cond, _&&_}
 use mathlib.Core.List.{List, [], _∷_, _++_}
 use Prim.Native.Nat.{ℕ, _+_, _-_, _/_, min}
 use lib.Dec.{eqb, leb, ltb}

@@ -1,7 +1,7 @@
 // Constructs of a partition (01, Constructs, verdict and cut): where each standing construct lies, and how far data blocks reach.
 
 ghost use mathlib.Core.Path.{_≡_};
-ghost use Prim.Native.Nat.{_+_, _*_, _<_, _≤_};
+ghost use Prim.Native.Nat.{_+_, _*_, _<_};
 ghost use lib.Seq.{sets};
 ghost use mathlib.Core.List.{[], _∷_};
 

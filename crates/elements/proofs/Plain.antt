@@ -2,25 +2,25 @@
 use mathlib.Core.Path.{_≡_, refl, ap, sym, _∙_, subst}
 use mathlib.Core.Bool.{Bool, true, false, not, cond}
 use mathlib.Core.List.{List, [], _∷_}
-use Prim.Native.Nat.{ℕ, suc, _+_, _-_, _<_, _≤_, min}
+use Prim.Native.Nat.{ℕ, suc, _+_, _-_, _<_, _≤_}
 use native.Mathlib.Omega.{arith}
 use native.Mathlib.Nat.{zero-add}
-use borrow.Author.Tests.{eq-eqb, ne-eqb, eqb-true, eqb-false}
+use borrow.Author.Tests.{eq-eqb, eqb-true, eqb-false}
 use lib.Dec.{eqb}
-use lib.ListN.{length, take, drop, getD, length-drop}
-use lib.Seq.{drop-drop, getD-drop, take-all}
+use lib.ListN.{length, drop, getD}
+use lib.Seq.{drop-drop, getD-drop}
 use Rattle.xml.specs.Bytes.{isNameByte, isLetter, isSpace}
-use Rattle.xml.specs.Tree.{Forest, none, Rest, front, past, quoteAfter, isNot, notOpen, top, opened, alone}
+use Rattle.xml.specs.Tree.{Forest, none, front, past, quoteAfter, isNot, notOpen, top, opened, alone}
 use Rattle.xml.specs.Scans.{Past}
 use Rattle.xml.proofs.Past.{front-more, front-none, past-ahead}
 use Rattle.elements.specs.declared.starts.Start.{Start}
 use Rattle.elements.specs.declared.heads.Span.{Span}
 use Rattle.elements.specs.declared.tags.Tag.the-variants.{End, Close, Open, Empty}
 use Rattle.elements.specs.Reading.{rowAt, headAt, emptyAt, childrenAt, isRow, Spans, NextTag, Behind, FirstOf}
-use Rattle.elements.specs.Starts.{Shape, Opening, Starts, tagOf}
+use Rattle.elements.specs.Starts.{Shape, Opening, Starts}
 use Rattle.elements.proofs.Left.{none-next, close-next, empty-next, open-next}
 use Rattle.elements.proofs.Parts.{no-part, name-part, key-part, text-part, empty-told, children-some}
-use Rattle.elements.proofs.Rows.{row-end, row-close, behind-close, behind-end, first-open, first-empty, children-empty}
+use Rattle.elements.proofs.Rows.{row-end, row-close, behind-close, behind-end, first-open, first-empty}
 
 -- a byte of a name is none that is not
 name-byte : (b k : ℕ) → isNameByte b ≡ true → isNameByte k ≡ false → eqb b k ≡ false

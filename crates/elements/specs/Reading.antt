@@ -3,7 +3,7 @@
 use mathlib.Core.Path.{_≡_}
 use mathlib.Core.Bool.{Bool, true, false, cond}
 use mathlib.Core.List.{List, []}
-use Prim.Native.Nat.{ℕ, _+_, _<_, _≤_, min}
+use Prim.Native.Nat.{ℕ, _+_, _≤_, min}
 use lib.ListN.{length, take, drop}
 use Rattle.xml.specs.Tree.{Head, Forest, none, node, front, notOpen, past, headOf, top, pop, closed, opened, alone, forests}
 use Rattle.elements.specs.declared.tags.Tag.{Tag}

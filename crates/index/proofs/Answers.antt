@@ -1,26 +1,25 @@
 -- The order of the classes, class by class, and the header that is handed out.
-use mathlib.Core.Path.{_≡_, refl, ap, sym, _∙_, subst}
-use mathlib.Core.Bool.{Bool, true, false, cond, not, _&&_, _||_}
+use mathlib.Core.Path.{_≡_, refl, ap, sym, _∙_}
+use mathlib.Core.Bool.{Bool, true, false, cond, _||_}
 use mathlib.Core.List.{List, [], _∷_}
-use mathlib.Core.Option.{Option, some, none}
-use Prim.Native.Nat.{ℕ, suc, _-_, _≤_}
-use native.Mathlib.Omega.{arith}
+use mathlib.Core.Option.{some, none}
+use Prim.Native.Nat.{ℕ, suc, _-_}
 use lib.Dec.{eqb, leb}
 use lib.ListN.{length}
 use Rattle.refusals.specs.Refusals.{Answer, refused, answer}
 use Rattle.refusals.specs.declared.Refusal.the-variants.{Caller, TooMany, Form, Structure, Version, Value, Foreign, Extents, Location}
-use Rattle.slices.specs.Slices.{within, same}
+use Rattle.slices.specs.Slices.{same}
 use Rattle.slices.specs.Words.{bytes}
 use Rattle.quantities.specs.Letters.{isLetter}
 use Rattle.quantities.specs.Sizes.{isBlockSize}
 use Rattle.xml.specs.Tree.{Head, Forest, none as noElement, node}
-use Rattle.xml.specs.Machine.{Outcome, good, form}
+use Rattle.xml.specs.Machine.{form}
 use Rattle.elements.specs.Reading.{rowAt, isRow}
 use Rattle.values.specs.Values as is
 use Rattle.index_names.specs.Sorts.{index, file}
 use Rattle.index.specs.Elements.{Element, elements, textIn, rowIn}
-use Rattle.index.specs.Entries.{orZero, numberSaid, many, entriesOf}
-use Rattle.index.specs.Tests.{Given, isSome, letterSaid}
+use Rattle.index.specs.Entries.{numberSaid, many, entriesOf}
+use Rattle.index.specs.Tests.{Given}
 use Rattle.index.specs.Index.{Told, isTrue, said, told, toldBy, headed, structured, bounded, allValued, allOwn, allLawful, standsAt, placeIn, locationIn, filesOf, fileOf, fileCount, childrenRead, tagRead, rootRead, callerRight, indexOf, isGood}
 
 pub caller-last : (g : Given) (letter : ℕ) → isLetter (g .first) ≡ true → isLetter (g .other) ≡ true → eqb (g .first) (g .other) ≡ false

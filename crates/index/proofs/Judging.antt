@@ -1,17 +1,16 @@
 -- A file is judged by the rows that were read of it.
-use mathlib.Core.Path.{_≡_, refl, ap, sym, _∙_}
-use mathlib.Core.Bool.{Bool, true, false, not, _&&_, _||_}
+use mathlib.Core.Path.{_≡_, ap, sym, _∙_}
+use mathlib.Core.Bool.{Bool, true, false}
 use mathlib.Core.List.{List}
 use Prim.Native.Nat.{ℕ, _*_, _≤_, _<_}
 use native.Mathlib.Omega.{arith}
 use borrow.Author.Tests.{eq-eqb, ne-eqb, le-leb, lt-leb}
-use lib.Dec.{eqb, leb}
+use lib.Dec.{leb}
 use lib.ListN.{length, take}
 use Rattle.slices.specs.Words.{bytes}
 use Rattle.xml.specs.Tree.{Forest}
 use Rattle.elements.specs.Reading.{rowAt}
 use Rattle.extents.specs.Rows as numbers
-use Rattle.extents.specs.Rows.{Row}
 use Rattle.extents.specs.Lawful as extents
 use Rattle.index_names.specs.Sorts.{file}
 use Rattle.index.specs.Elements.{textIn, rowIn}

@@ -5,8 +5,7 @@ use mathlib.Core.List.{List}
 use Prim.Native.Nat.{ℕ}
 use Rattle.xml.specs.Tree.{Forest, node}
 use Rattle.elements.specs.declared.starts.Start.{Start}
-use Rattle.elements.specs.declared.tags.Tag.the-variants.{Open, Empty}
-use Rattle.elements.specs.Reading.{rowAt, headAt, childrenAt, NextTag}
+use Rattle.elements.specs.Reading.{rowAt, headAt, childrenAt}
 use Rattle.elements.specs.Starts.{Starts}
 use Rattle.elements.proofs.Rows.{node-open, node-empty}
 

@@ -2,16 +2,15 @@
 use mathlib.Core.Path.{_≡_, refl, ap, sym, _∙_}
 use mathlib.Core.Bool.{Bool, true, false, cond, not, _&&_, _||_, and-true}
 use mathlib.Core.List.{List, [], _∷_, _++_, foldl, foldl-append}
-use Prim.Native.Nat.{ℕ, zero, suc, _+_, _≤_, _<_}
+use Prim.Native.Nat.{ℕ, suc, _+_, _<_}
 use native.Mathlib.Nat.{add-zero, zero-add}
 use native.Mathlib.Omega.{arith}
-use lib.Dec.{eqb}
-use lib.ListN.{length, set, length-set}
+use lib.ListN.{length, set}
 use lib.Seq.{sets}
 use Rattle.slices.specs.Slices.{every}
 use Rattle.slices.proofs.Every.{every-append}
 use Rattle.xml.specs.Tree.{Head, Forest, none, node}
-use Rattle.index_names.specs.Sorts.{file, holds}
+use Rattle.index_names.specs.Sorts.{holds}
 use Rattle.index.specs.Elements.{Element, element, elements, numberOf, sortOf}
 use Rattle.index.specs.Structure.{fits, complete, rightly}
 use Rattle.index.specs.Entries.{isEntry, uidOf, uidsOf, many}

@@ -1,8 +1,7 @@
 -- The elements of an index in text order, each with its sort (01, Index). What is inside skipped elements is not among them.
-use mathlib.Core.Bool.{Bool, cond}
+use mathlib.Core.Bool.{cond}
 use mathlib.Core.List.{List, [], _∷_, _++_}
 use Prim.Native.Nat.{ℕ}
-use lib.Dec.{eqb}
 use Rattle.slices.specs.Slices.{same}
 use Rattle.xml.specs.Tree.{Head, Forest, none, node}
 use Rattle.index_names.specs.Sorts.{holds, sort}

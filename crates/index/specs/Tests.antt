@@ -8,7 +8,7 @@ use Prim.Native.Nat.{ℕ, _*_, _≤_, _<_}
 use lib.Dec.{eqb, leb}
 use lib.ListN.{length, take}
 use Rattle.slices.specs.Words.{bytes}
-use Rattle.xml.specs.Tree.{Head, Forest, none as noElement, node}
+use Rattle.xml.specs.Tree.{Forest, none as noElement, node}
 use Rattle.elements.specs.Decoded.{decoded}
 use Rattle.values.specs.Values as is
 use Rattle.extents.specs.Rows as numbers

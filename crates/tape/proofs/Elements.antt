@@ -1,16 +1,16 @@
 -- A walk over a list that holds a tape: what entry stands at a place, from the element there, and the other way round.
 use mathlib.Core.Path.{_≡_, refl, sym, _∙_, ap, subst}
-use mathlib.Core.Bool.{Bool, true, false, _&&_}
+use mathlib.Core.Bool.{true}
 use mathlib.Core.List.{List, [], _∷_, _++_}
-use Prim.Native.Nat.{ℕ, zero, suc, _+_, _≤_, _<_}
+use Prim.Native.Nat.{ℕ, zero, suc, _+_, _<_}
 use native.Mathlib.Omega.{arith}
 use lib.ListN.{length, drop}
 use Rattle.slices.proofs.Booleans.{and-left, and-right}
 use Rattle.tape.specs.declared.Entry.{Entry}
 use Rattle.tape.specs.declared.Entry.the-variants.{Mark, Block, End, Bad}
-use Rattle.tape.specs.Tape.{Element, mark, block, Tape, Cell, markCell, blockCell, cellOf, entry, list, isLawful, lawful}
+use Rattle.tape.specs.Tape.{Element, mark, block, Tape, markCell, blockCell, cellOf, entry, list, isLawful, lawful}
 use Rattle.tape.specs.Reading.{entryAt}
-use Rattle.tape.proofs.Walking.{entry-here, next-here, entryFor, width}
+use Rattle.tape.proofs.Walking.{entry-here, next-here, entryFor}
 
 -- element n and those after it
 record Next (t : Tape) (n : ℕ) : Type 0 where

@@ -1,18 +1,18 @@
 -- The tape that is read is the tape that is encoded: `tapeOf` answers t exactly where the list and the store encode t. So a list and a
 -- store have at most one tape.
 use mathlib.Core.Path.{_≡_, refl, sym, _∙_, ap, subst}
-use mathlib.Core.Bool.{Bool, true, false, cond, _&&_}
+use mathlib.Core.Bool.{true, cond, _&&_}
 use mathlib.Core.Option.{Option, none, some}
 use mathlib.Core.List.{List, [], _∷_, _++_, map}
 use Prim.Native.Nat.{ℕ, zero, suc, _+_, _*_, _/_, _%_, _≤_, _<_}
 use native.Mathlib.Omega.{arith}
 use lib.Dec.{leb, eqb}
-use lib.ListN.{length, getD, take, drop, length-append, length-map, length-take, length-drop, take-append-drop}
+use lib.ListN.{length, getD, take, drop, length-append, length-map, length-drop, take-append-drop}
 use lib.Seq.{take-append-seam, drop-append-seam, length-take-le}
 use borrow.Author.Tests.{leb-true, eqb-true, le-leb, eq-eqb}
-use Rattle.slices.proofs.Booleans.{split, and-left, and-right, and-both}
+use Rattle.slices.proofs.Booleans.{split, and-left, and-right}
 use Rattle.tape.proofs.Counting.{length-filled}
-use Rattle.tape.specs.Tape.{Element, mark, block, Tape, Cell, markCell, blockCell, cellOf, fourBytes, entry, content, list, store, isBlockLength, isLawful, lawful, maxElements, maxBlock, maxStore, Encodes, markKind, blockKind}
+use Rattle.tape.specs.Tape.{mark, block, Tape, Cell, markCell, blockCell, cellOf, fourBytes, entry, content, list, store, isBlockLength, isLawful, lawful, maxElements, maxStore, Encodes, markKind, blockKind}
 use Rattle.tape.specs.Reading.{cells, kind, length-byte, added, size, total, filled, fits, filledWith, tapeOf}
 
 -- the number that its four bytes make

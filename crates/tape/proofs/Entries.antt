@@ -1,6 +1,6 @@
 -- What stands at a place of a list, against the reading of the list from there on.
-use mathlib.Core.Path.{_≡_, refl, sym, _∙_, ap, subst}
-use mathlib.Core.Bool.{Bool, true, false, cond, _&&_}
+use mathlib.Core.Path.{_≡_, refl, _∙_, ap, subst}
+use mathlib.Core.Bool.{Bool, true, cond, _&&_}
 use mathlib.Core.Option.{Option, none, some}
 use mathlib.Core.List.{List, [], _∷_}
 use Prim.Native.Nat.{ℕ, zero, suc, _+_, _*_, _≤_, _<_}
@@ -10,12 +10,12 @@ use native.Mathlib.Numerals.{add-one}
 use lib.Dec.{leb, ltb, eqb}
 use lib.ListN.{length, getD, drop, drop-of-length-le, length-drop}
 use lib.Seq.{drop-cons}
-use borrow.Author.Tests.{ltb-true, ltb-false, leb-true, leb-false, eqb-true, eqb-false, lt-ltb, le-ltb, le-leb, lt-leb}
+use borrow.Author.Tests.{ltb-true, ltb-false, leb-true, leb-false}
 use Rattle.slices.proofs.Booleans.{split, and-left, and-right}
 use Rattle.tape.specs.declared.Entry.{Entry}
 use Rattle.tape.specs.declared.Entry.the-variants.{Mark, Block, End, Bad}
 use Rattle.tape.specs.Tape.{Cell, markCell, blockCell, markKind, blockKind, isBlockLength, maxBlock}
-use Rattle.tape.specs.Reading.{Awaited, kind, length-byte, cells, added, entryAt, numberAt}
+use Rattle.tape.specs.Reading.{kind, length-byte, cells, added, entryAt, numberAt}
 
 -- the reading goes on behind the entry
 abbrev pub goesOn : List ℕ → Entry → Option (List Cell)

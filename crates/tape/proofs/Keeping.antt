@@ -1,8 +1,8 @@
 -- What is known once a list and a store are checked, and what keeping n elements then keeps.
-use mathlib.Core.Path.{_≡_, refl, sym, _∙_, ap, subst}
+use mathlib.Core.Path.{_≡_, refl, sym, _∙_, ap}
 use mathlib.Core.Option.{Option, none, some}
-use mathlib.Core.List.{List, [], _∷_, _++_}
-use Prim.Native.Nat.{ℕ, zero, suc, _+_, _≤_, _<_, min}
+use mathlib.Core.List.{List, [], _∷_}
+use Prim.Native.Nat.{ℕ, zero, suc, _≤_, min}
 use native.Mathlib.Nat.{zero-add, zero-min, suc-min-suc}
 use native.Mathlib.Omega.{arith}
 use lib.ListN.{length, take, length-append, length-take}
@@ -10,8 +10,7 @@ use lib.Seq.{take-nil, take-append-add}
 use Rattle.refusals.specs.declared.Refusal.{Refusal}
 use Rattle.refusals.specs.declared.Refusal.the-variants as refusal
 use Rattle.refusals.specs.Refusals.{Answer, refused, answer, andThen, Shows}
-use Rattle.tape.specs.declared.Front.{Front}
-use Rattle.tape.specs.Tape.{Tape, Element, mark, block, list, store, entry, content, cellOf, Encodes}
+use Rattle.tape.specs.Tape.{Tape, list, store, entry, content, cellOf, Encodes}
 use Rattle.tape.specs.Reading.{tapeOf}
 use Rattle.tape.specs.Walks.{reach}
 use Rattle.tape.specs.Answers.{listKept, storeKept, orRefused, tapeIn, elementCount, Fronts, kept, keeping, Lengths, lengths}

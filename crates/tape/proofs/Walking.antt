@@ -1,20 +1,19 @@
 -- Walking a list that a tape is known to stand in: the entry at a place is the next element's, and the walk over n entries reaches
 -- behind `take n`.
 use mathlib.Core.Path.{_≡_, refl, sym, _∙_, ap}
-use mathlib.Core.Bool.{Bool, true, false, cond, _&&_}
+use mathlib.Core.Bool.{true}
 use mathlib.Core.List.{List, [], _∷_, _++_}
-use Prim.Native.Nat.{ℕ, zero, suc, _+_, _-_, _*_, _/_, _%_, _≤_, _<_}
+use Prim.Native.Nat.{ℕ, zero, suc, _+_, _-_, _/_, _%_, _≤_, _<_}
 use native.Mathlib.Nat.{add-zero, add-assoc}
 use native.Mathlib.Omega.{arith}
-use lib.Dec.{leb, ltb, eqb}
 use lib.ListN.{length, getD, take, drop, length-append, length-drop}
 use lib.Seq.{getD-drop, drop-drop, drop-append-seam}
-use borrow.Author.Tests.{lt-ltb, le-ltb, le-leb, eq-eqb}
-use Rattle.slices.proofs.Booleans.{split, and-left, and-right}
+use borrow.Author.Tests.{lt-ltb, le-ltb, le-leb}
+use Rattle.slices.proofs.Booleans.{and-left, and-right}
 use Rattle.tape.specs.declared.Entry.{Entry}
-use Rattle.tape.specs.declared.Entry.the-variants.{Mark, Block, End, Bad}
-use Rattle.tape.specs.Tape.{Element, mark, block, Tape, Cell, markCell, blockCell, cellOf, entry, content, list, store, isBlockLength, isLawful, lawful}
-use Rattle.tape.specs.Reading.{entryAt, numberAt, size}
+use Rattle.tape.specs.declared.Entry.the-variants.{Mark, Block, End}
+use Rattle.tape.specs.Tape.{mark, block, Tape, Cell, markCell, blockCell, entry, content, list, store, isBlockLength, isLawful, lawful}
+use Rattle.tape.specs.Reading.{entryAt, numberAt}
 use Rattle.tape.specs.Walks.{reach, pastEntry}
 
 -- what a cell's entry is read as

@@ -1,7 +1,7 @@
 -- What this crate's functions answer: the check, keeping n elements, a block by letter and number (01, The block list).
 use mathlib.Core.Bool.{Bool, true, false, cond, not, _&&_, _||_}
 use mathlib.Core.Option.{Option, none, some}
-use mathlib.Core.List.{List, []}
+use mathlib.Core.List.{List}
 use Prim.Native.Nat.{ℕ}
 use lib.ListN.{length, take, getElem?}
 use lib.Dec.{eqb}

@@ -1,6 +1,6 @@
 -- A list and a store read from left to right: what stands at a place of the list, and the tape that they encode, if there is one.
 -- `proofs/Encoding.antt` shows that this is the tape of `Encodes`.
-use mathlib.Core.Bool.{Bool, true, false, cond, _&&_}
+use mathlib.Core.Bool.{Bool, cond, _&&_}
 use mathlib.Core.Option.{Option, none, some}
 use mathlib.Core.List.{List, [], _∷_}
 use Prim.Native.Nat.{ℕ, zero, suc, _+_, _*_}

@@ -4,17 +4,16 @@ use mathlib.Core.Logic.{_⊎_, inl, inr}
 use mathlib.Core.Bool.{Bool, true, false, cond, _&&_}
 use mathlib.Core.Option.{Option, none, some}
 use mathlib.Core.List.{List, [], _∷_}
-use Prim.Native.Nat.{ℕ, zero, suc, _+_, _≤_, _<_}
+use Prim.Native.Nat.{ℕ, _<_}
 use native.Mathlib.Omega.{arith}
-use lib.ListN.{length, take}
-use lib.Dec.{leb, eqb}
+use lib.ListN.{length}
+use lib.Dec.{eqb}
 use borrow.Author.Tests.{eqb-true, eq-eqb, ne-eqb}
 use Rattle.quantities.specs.Places.{Place}
-use Rattle.tape.specs.Tape.{Element}
-use Rattle.constructs.specs.Constructs.{Construct, Scan, scan, start, standing, dataLengths, dataLengthsFrom}
-use Rattle.verdict.specs.Verdict.{Index, Volume, Break, numbered, orElse, unless, isNone, isAt, endsWith, readIndex, readData, follows, begins, chained, chainBreak, tied, badFileIn, badFile, verdict, Consistent}
-use Rattle.verdict.specs.Rescue.{Cut, blockOf, target, generationOf, through, chain, cutAt, fits, attempt, cutAmong, rescue}
-use Rattle.constructs.proofs.Suffixes.{Suffix, here, there, suffix-trans, suffix-length, nil-suffix}
+use Rattle.constructs.specs.Constructs.{Construct}
+use Rattle.verdict.specs.Verdict.{Index, Volume, orElse, unless, isNone, isAt, readIndex, readData, follows, chainBreak}
+use Rattle.verdict.specs.Rescue.{Cut, blockOf, target, through, chain, cutAt, fits, attempt, cutAmong}
+use Rattle.constructs.proofs.Suffixes.{Suffix, here, there, suffix-length, nil-suffix}
 use Rattle.constructs.proofs.Fronts.{Below, below-first}
 
 pub orElse-none : {A : Type 0} (x y : Option A) → orElse x y ≡ none → (x ≡ none) × (y ≡ none)

@@ -1,22 +1,21 @@
 -- Demand 3: the rescue against the verdict.
-use mathlib.Core.Path.{_≡_, refl, sym, ap, subst, subst₂, _∙_}
-use mathlib.Core.Logic.{_⊎_, inl, inr}
-use mathlib.Core.Bool.{Bool, true, false, cond, _&&_}
+use mathlib.Core.Path.{_≡_, refl, sym, ap, subst, _∙_}
+use mathlib.Core.Logic.{_⊎_}
+use mathlib.Core.Bool.{true}
 use mathlib.Core.Option.{Option, none, some}
 use mathlib.Core.List.{List, [], _∷_}
-use Prim.Native.Nat.{ℕ, zero, suc, _+_, _≤_, _<_, min}
+use Prim.Native.Nat.{ℕ, suc, _≤_, _<_}
 use native.Mathlib.Omega.{arith}
 use lib.ListN.{length, take}
-use lib.Seq.{length-take-le, take-length, take-take}
-use lib.Dec.{leb, eqb}
-use borrow.Author.Tests.{eqb-true, eq-eqb, ne-eqb}
+use lib.Seq.{length-take-le}
+use borrow.Author.Tests.{eqb-true, eq-eqb}
 use Rattle.tape.specs.Tape.{Element}
-use Rattle.constructs.specs.Constructs.{Construct, Scan, scan, start, standing, dataLengths, dataLengthsFrom}
-use Rattle.verdict.specs.Verdict.{Index, Volume, Break, numbered, orElse, unless, isNone, isAt, endsWith, readIndex, readData, follows, begins, chained, chainBreak, tied, badFileIn, badFile, verdict, Consistent}
-use Rattle.verdict.specs.Rescue.{Cut, blockOf, target, generationOf, through, chain, cutAt, fits, attempt, cutAmong, rescue}
-use Rattle.constructs.proofs.Suffixes.{Suffix, here, there, suffix-trans, suffix-length, nil-suffix, suffix-same}
-use Rattle.constructs.proofs.Fronts.{standing-front, standing-at, standing-short, dataLengthsFrom-front, Below, below-first, standing-below, below-suffix}
-use Rattle.verdict.proofs.Chains.{orElse-none, unless-none, and-true, isNone-none, chain-suffix, chain-good, good-suffix, good-chain, Pair, Best, search-sound, search-best}
+use Rattle.constructs.specs.Constructs.{Construct, scan, start, standing, dataLengths}
+use Rattle.verdict.specs.Verdict.{Volume, numbered, isNone, endsWith, readIndex, readData, follows, chainBreak, tied, badFileIn, badFile, verdict}
+use Rattle.verdict.specs.Rescue.{Cut, chain, cutAt, fits, rescue}
+use Rattle.constructs.proofs.Suffixes.{Suffix, suffix-trans}
+use Rattle.constructs.proofs.Fronts.{standing-front, standing-at, dataLengthsFrom-front, Below, standing-below, below-suffix}
+use Rattle.verdict.proofs.Chains.{orElse-none, unless-none, and-true, isNone-none, chain-suffix, chain-good, good-suffix, good-chain, search-sound, search-best}
 
 numbered-none : (w : ℕ) (o : Option ℕ) → numbered w o ≡ none → o ≡ none
 numbered-none w none e = refl

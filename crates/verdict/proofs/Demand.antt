@@ -1,23 +1,23 @@
 -- Demand 3 holds.
 use mathlib.Core.Path.{_≡_, refl, sym, ap, subst, subst₂, _∙_}
-use mathlib.Core.Logic.{_⊎_, inl, inr, _↔_}
+use mathlib.Core.Logic.{_⊎_, inl, inr}
 use mathlib.Core.Bool.{true}
 use mathlib.Core.Option.{Option, none, some}
 use mathlib.Core.List.{List, [], _∷_}
-use Prim.Native.Nat.{ℕ, zero, suc, _+_, _≤_, _<_}
+use Prim.Native.Nat.{ℕ, suc, _≤_, _<_}
 use native.Mathlib.Omega.{arith}
 use native.Mathlib.Decide.{decLe}
 use lib.ListN.{length, take}
 use lib.Seq.{length-take-le, take-length, take-take}
 use Rattle.tape.specs.Tape.{Element}
-use Rattle.constructs.specs.Constructs.{Construct, Scan, scan, start, standing, dataLengths, dataLengthsFrom}
-use Rattle.verdict.specs.Verdict.{Index, Volume, Break, numbered, orElse, unless, isNone, isAt, endsWith, readIndex, readData, follows, begins, chained, chainBreak, tied, badFileIn, badFile, verdict, Consistent}
-use Rattle.verdict.specs.Rescue.{Cut, blockOf, target, generationOf, through, chain, cutAt, fits, attempt, cutAmong, rescue}
+use Rattle.constructs.specs.Constructs.{Construct, standing}
+use Rattle.verdict.specs.Verdict.{Index, Volume, readIndex, readData, follows, verdict, Consistent}
+use Rattle.verdict.specs.Rescue.{Cut, generationOf, cutAt, rescue}
 use Rattle.verdict.specs.Demand.{Demand3, Leaves, LastGeneration, keeps}
-use Rattle.constructs.proofs.Suffixes.{Suffix, suffix-length}
+use Rattle.constructs.proofs.Suffixes.{suffix-length}
 use Rattle.constructs.proofs.Fronts.{standing-at, standing-front, standing-short}
 use Rattle.verdict.proofs.Chains.{and-true}
-use Rattle.verdict.proofs.Cuts.{Sound, none-sound, Kept, kept, keep, kept-count, answer, best}
+use Rattle.verdict.proofs.Cuts.{none-sound, Kept, kept, keep, kept-count, answer, best}
 
 module _ (labels : List Element → List Element → Option Volume) (v : Volume) (i d : List Element) (agree : labels (take 4 i) (take 4 d) ≡ some v) where
   -- a tape that endsWith with a standing construct has its four label elements

@@ -1,14 +1,14 @@
 -- The chain from its first construct on, and the search from the last construct back, one construct at a time.
-use mathlib.Core.Path.{_≡_, refl, sym, ap, _∙_}
-use mathlib.Core.Bool.{Bool, true, false, cond}
-use mathlib.Core.Option.{Option, none, some}
+use mathlib.Core.Path.{_≡_, refl, ap, _∙_}
+use mathlib.Core.Bool.{true, false}
+use mathlib.Core.Option.{none, some}
 use mathlib.Core.List.{List, [], _∷_}
-use Prim.Native.Nat.{ℕ, zero, suc, _+_, _-_, _≤_, _<_}
+use Prim.Native.Nat.{ℕ, zero, suc, _-_, _<_}
 use native.Mathlib.Omega.{arith}
 use lib.ListN.{length, drop}
 use Rattle.constructs.specs.Constructs.{Construct}
 use Rattle.constructs.proofs.Suffixes.{Suffix, here, there}
-use Rattle.verdict.specs.Verdict.{Volume, orElse, unless, isNone, chained, chainBreak}
+use Rattle.verdict.specs.Verdict.{Volume, chained, chainBreak}
 use Rattle.verdict.specs.Rescue.{Cut, target, through, chain, attempt, cutAmong}
 
 module _ {A : Type 0} where

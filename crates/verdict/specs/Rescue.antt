@@ -1,6 +1,6 @@
 -- The rescue: the cut after standing constructs that keeps most index constructs and leaves a consistent volume (01, Constructs, verdict
 -- and cut). `proofs/Demand.antt` shows that it is that cut.
-use mathlib.Core.Bool.{Bool, true, false, cond, _&&_}
+use mathlib.Core.Bool.{Bool, cond, _&&_}
 use mathlib.Core.Option.{Option, none, some}
 use mathlib.Core.List.{List, [], _∷_}
 use Prim.Native.Nat.{ℕ}

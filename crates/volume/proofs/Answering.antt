@@ -1,14 +1,13 @@
 -- The rescue and the verdict, from what the tables hold, from the labels, and on the bytes handed in.
 use mathlib.Core.Path.{_≡_, refl, sym, ap, subst, _∙_}
-use mathlib.Core.Bool.{Bool, true, false, cond}
-use mathlib.Core.List.{List, [], _∷_, _++_}
+use mathlib.Core.Bool.{Bool, true, false}
+use mathlib.Core.List.{List, _∷_}
 use mathlib.Core.Option.{Option, none, some}
-use Prim.Native.Nat.{ℕ, zero, suc, _+_, _-_, _*_, _≤_, _<_}
+use Prim.Native.Nat.{ℕ, _-_, _≤_, _<_}
 use native.Mathlib.Omega.{arith}
 use native.Mathlib.Decide.{decLe}
-use lib.ListN.{length, getD, take, drop, replicate, length-replicate, List·getD-eq-default}
+use lib.ListN.{length, getD, replicate, length-replicate, List·getD-eq-default}
 use Rattle.refusals.specs.declared.Refusal.{Refusal}
-use Rattle.refusals.specs.declared.Refusal.the-variants.{NoCut}
 use Rattle.refusals.specs.Refusals.{Answer, refused, answer, andThen}
 use Rattle.tape.specs.Tape.{Tape, Encodes}
 use Rattle.tape.specs.Answers.{tapeIn, orRefused}
@@ -25,7 +24,7 @@ use Rattle.labels.specs.Labels.{labelsOf, labelsIn}
 use Rattle.labels.proofs.Fronts.{labels-front}
 use Rattle.index.specs.Tests.{Given}
 use Rattle.index.specs.declared.tests.Volume.{Volume as Letters}
-use Rattle.verdict.specs.Verdict.{Volume, Break, endsWith, chainBreak, verdict}
+use Rattle.verdict.specs.Verdict.{Volume, endsWith, chainBreak, verdict}
 use Rattle.verdict.specs.Rescue.{Cut, generationOf, through, chain, cutAmong, rescue}
 use Rattle.verdict.specs.Partners.{beginnings}
 use Rattle.verdict.specs.Demand.{Demand3}
@@ -33,7 +32,7 @@ use Rattle.verdict.proofs.Demand.{demand3}
 use Rattle.verdict.proofs.Orders.{firsts, firsts-suffix, firsts-all}
 use Rattle.verdict.proofs.Partners.{begins-at, length-beginnings}
 use Rattle.volume.specs.Volume.{volumeWith, givenBy, agreed, labels, onVolume, orNoCut, rescueIn, verdictIn}
-use Rattle.volume.specs.Steps.{Located, Listed, EndsAt, JudgesLast, Judges, breakOf, lastBreak, Generations, Chains, ChainsOf, ReachTable, Ready, BeginsOf, Searches, ListsOf, ReachesOf, triedCut, cutIs, Cuts}
+use Rattle.volume.specs.Steps.{Located, Listed, EndsAt, JudgesLast, Judges, breakOf, lastBreak, Chains, ChainsOf, ReachTable, Ready, BeginsOf, Searches, ListsOf, ReachesOf, triedCut, cutIs, Cuts}
 use Rattle.volume.specs.Answers.{judged, rescued, cutOf, Rescues}
 use Rattle.volume.specs.declared.search.Tried.{Tried}
 use Rattle.volume.specs.declared.answers.Rescue.{Rescue}

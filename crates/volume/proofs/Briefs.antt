@@ -1,9 +1,9 @@
 -- What is told of an index, and when it joins a construct of the data partition.
-use mathlib.Core.Path.{_≡_, refl, sym, ap, _∙_}
-use mathlib.Core.Bool.{Bool, true, false, cond, not, _&&_}
-use mathlib.Core.List.{List, [], _∷_}
+use mathlib.Core.Path.{_≡_, refl, ap}
+use mathlib.Core.Bool.{true, false}
+use mathlib.Core.List.{List}
 use mathlib.Core.Option.{Option, none, some}
-use Prim.Native.Nat.{ℕ, _≤_}
+use Prim.Native.Nat.{ℕ}
 use native.Mathlib.Omega.{arith}
 use lib.Dec.{leb, eqb}
 use Rattle.refusals.specs.declared.Refusal.{Refusal}
@@ -14,7 +14,7 @@ use Rattle.index.specs.Index as text
 use Rattle.index.specs.Index.{saying, backOf}
 use Rattle.index.specs.declared.read.Header.{Header}
 use Rattle.index.specs.declared.read.Read.the-variants.{Found, Refused}
-use Rattle.verdict.specs.Verdict.{Index, Volume, isAt, follows}
+use Rattle.verdict.specs.Verdict.{Index, Volume, follows}
 use Rattle.volume.specs.Volume.{soundly}
 use Rattle.volume.specs.Steps.{Told, told, toldBy, joined}
 use Rattle.volume.specs.declared.sound.Brief.{Brief}

@@ -1,12 +1,11 @@
 -- The chain of the data partition, one construct more at a time.
 use mathlib.Core.Path.{_≡_, refl, sym, ap, subst, _∙_}
-use mathlib.Core.Bool.{Bool, true, false, cond, not, _&&_}
+use mathlib.Core.Bool.{Bool, true, false, cond, not}
 use mathlib.Core.List.{List, [], _∷_}
 use mathlib.Core.Option.{Option, none, some}
-use Prim.Native.Nat.{ℕ, zero, suc, _+_, _-_, _≤_, _<_}
+use Prim.Native.Nat.{ℕ, suc, _+_, _-_, _≤_, _<_}
 use native.Mathlib.Omega.{arith}
-use lib.Dec.{leb, eqb}
-use lib.ListN.{length, getD, set, drop, length-set, length-drop}
+use lib.ListN.{length, set, length-drop}
 use lib.Seq.{getD-set-same, getD-set-other, drop-length}
 use Rattle.quantities.specs.Places.{Place}
 use Rattle.quantities.specs.declared.Generation.{Generation}
@@ -15,7 +14,7 @@ use Rattle.constructs.specs.Tables.{placeIn}
 use Rattle.constructs.specs.declared.Place.{Place as Spot}
 use Rattle.constructs.proofs.Suffixes.{Suffix, here, there, suffix-length, suffix-trans, nil-suffix}
 use Rattle.verdict.specs.Verdict.{Index, Volume, isNone, readData, follows, begins, chained, chainBreak}
-use Rattle.verdict.specs.Rescue.{generationOf, chain}
+use Rattle.verdict.specs.Rescue.{generationOf}
 use Rattle.verdict.proofs.Chains.{orElse-none, unless-none}
 use Rattle.slices.proofs.Booleans.{split}
 use Rattle.verdict.proofs.Orders.{firsts, firsts-suffix, firsts-next, firsts-all, break-at, chain-stops, chain-grows, chain-whole}

@@ -1,16 +1,15 @@
 -- The index of a construct by its number.
 use mathlib.Core.Path.{_≡_, refl, sym, ap, subst, _∙_}
-use mathlib.Core.Bool.{Bool, true, false, cond}
+use mathlib.Core.Bool.{true, false}
 use mathlib.Core.List.{List, [], _∷_}
-use Prim.Native.Nat.{ℕ, suc, _+_, _≤_, _<_}
+use Prim.Native.Nat.{ℕ, _≤_, _<_}
 use native.Mathlib.Omega.{arith}
 use borrow.Author.Tests.{eq-eqb, ne-eqb}
-use lib.Dec.{eqb}
-use lib.ListN.{length, replicate, length-replicate}
+use lib.ListN.{length}
 use Rattle.refusals.specs.declared.Refusal.{Refusal}
 use Rattle.refusals.specs.declared.Refusal.the-variants.{Caller, Missing}
 use Rattle.refusals.specs.Refusals.{Answer, refused, answer, require, andThen}
-use Rattle.tape.specs.Tape.{Tape, Encodes}
+use Rattle.tape.specs.Tape.{Tape}
 use Rattle.tape.specs.Answers.{tapeIn}
 use Rattle.tape.proofs.Encoding.{Bytes}
 use Rattle.constructs.specs.Constructs.{Construct, standing}
@@ -23,8 +22,8 @@ use Rattle.index.specs.Tests.{Given}
 use Rattle.index.specs.declared.read.Header.{Header}
 use Rattle.index.specs.declared.read.Read.the-variants as readIs
 use Rattle.verdict.proofs.Orders.{firsts}
-use Rattle.volume.specs.Steps.{textIn, Located, Listed}
-use Rattle.volume.specs.Chosen.{constructAt, Told·Construct, readAt, chosenIn, chosenBy, ReadsPlace}
+use Rattle.volume.specs.Steps.{textIn, Located}
+use Rattle.volume.specs.Chosen.{constructAt, readAt, chosenIn, chosenBy, ReadsPlace}
 use Rattle.volume.specs.declared.chosen.Chosen.{Chosen}
 use Rattle.volume.specs.declared.chosen.Chosen.the-variants as chosenIs
 use Rattle.volume.proofs.Chaining.{next-first, firsts-length}

@@ -1,27 +1,26 @@
 -- The extents of an index that reads lie on what is kept where the tables say so.
 use mathlib.Core.Path.{_≡_, refl, sym, ap, subst, _∙_}
 use mathlib.Core.Bool.{Bool, true, false, cond, not, _&&_, _||_}
-use mathlib.Core.List.{List, [], _∷_, _++_, map}
+use mathlib.Core.List.{List, [], _∷_, map}
 use mathlib.Core.Option.{Option, none, some}
 use Prim.Native.Nat.{ℕ, suc, _+_, _≤_}
 use native.Mathlib.Omega.{arith}
 use borrow.Author.Tests.{leb-true, eq-eqb, ne-eqb}
 use lib.Dec.{leb, ltb, eqb}
 use lib.ListN.{length, take}
-use Rattle.refusals.specs.Refusals.{Answer, refused, answer}
+use Rattle.refusals.specs.Refusals.{Answer, answer}
 use Rattle.slices.specs.Slices.{within, every}
 use Rattle.slices.proofs.Booleans.{split, and-left, and-right}
 use Rattle.quantities.specs.Letters.{isLetter}
 use Rattle.values.specs.Values.{isUuid}
 use Rattle.extents.specs.Rows.{Row}
 use Rattle.extents.specs.Lawful.{rowLawful, lawful, eachLawful, apart, end, lastBlock}
-use Rattle.extents.specs.Tape.{liesOnTape}
-use Rattle.constructs.specs.Reach.{reaches, liesBy}
+use Rattle.constructs.specs.Reach.{liesBy}
 use Rattle.constructs.proofs.Lying.{lies-by}
 use Rattle.index_names.specs.Sorts.{index, file}
 use Rattle.index.specs.Elements.{Element, elements}
 use Rattle.index.specs.Tests as tests
-use Rattle.index.specs.Tests.{Given, lengthOf, rowsOf, given}
+use Rattle.index.specs.Tests.{Given, lengthOf, rowsOf}
 use Rattle.index.specs.Index as text
 use Rattle.index.specs.Index.{File, fileOf, filesOf, indexOf, allLawful, callerRight}
 use Rattle.index.specs.declared.tests.Volume.{Volume as Letters}
@@ -29,9 +28,9 @@ use Rattle.elements.specs.Reading.{leftAt}
 use Rattle.xml.specs.Tree.{Forest}
 use Rattle.index_files.specs.Files.{filesLeft}
 use Rattle.index_files.proofs.AllFiles.{files-left}
-use Rattle.index_files.proofs.Accepted.{Accepted, accepted}
-use Rattle.verdict.specs.Verdict.{Index, Volume, orElse, unless, firstFailing, lies, badFileIn}
-use Rattle.volume.specs.Volume.{rowsOfEach, asked, soundly, volumeWith}
+use Rattle.index_files.proofs.Accepted.{accepted}
+use Rattle.verdict.specs.Verdict.{Index, Volume, firstFailing, lies, badFileIn}
+use Rattle.volume.specs.Volume.{rowsOfEach, soundly, volumeWith}
 use Rattle.volume.specs.Steps.{ReachTable, liesIn, lostFile, Loses}
 use Rattle.volume.specs.declared.lost.Lost.{Lost}
 

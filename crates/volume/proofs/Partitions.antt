@@ -1,15 +1,12 @@
 -- What the tables of a partition hold.
 use mathlib.Core.Path.{_≡_, refl, sym, ap, subst, _∙_}
-use mathlib.Core.Logic.{_⊎_, inl, inr}
-use mathlib.Core.Bool.{Bool, true, false, cond}
+use mathlib.Core.Bool.{Bool, true, false}
 use mathlib.Core.List.{List, [], _∷_, _++_}
-use mathlib.Core.Option.{Option, none, some}
-use Prim.Native.Nat.{ℕ, zero, suc, _+_, _-_, _*_, _≤_, _<_}
+use Prim.Native.Nat.{ℕ, _+_, _-_, _*_, _≤_, _<_}
 use native.Mathlib.Omega.{arith}
-use native.Mathlib.Decide.{decLe}
 use borrow.Author.Tests.{lt-leb, le-leb, ne-eqb}
 use lib.Dec.{leb, eqb}
-use lib.ListN.{length, getD, take, drop, replicate, length-replicate, List·getD-eq-default}
+use lib.ListN.{length, getD, take, drop}
 use Rattle.refusals.specs.declared.Refusal.{Refusal}
 use Rattle.refusals.specs.declared.Refusal.the-variants.{Short}
 use Rattle.refusals.specs.Refusals.{Answer, refused, answer, require, andThen}
@@ -18,17 +15,17 @@ use Rattle.tape.specs.Answers.{tapeIn, orRefused, counted}
 use Rattle.tape.specs.declared.Checked.{Checked}
 use Rattle.tape.proofs.Encoding.{read-encoded}
 use Rattle.constructs.specs.Constructs.{Construct, standing, dataLengths}
-use Rattle.constructs.specs.Tables.{bytesBefore, entry, entries, placeIn, Scans, scannedCount, tableAfter}
+use Rattle.constructs.specs.Tables.{bytesBefore, placeIn, Scans, scannedCount, tableAfter}
 use Rattle.constructs.specs.Reach.{reaches, Reaches, reachAfter}
 use Rattle.constructs.specs.declared.Place.{Place as Spot}
 use Rattle.constructs.specs.declared.Scanned.{Scanned}
-use Rattle.constructs.proofs.Suffixes.{Suffix, here, there, suffix-length, suffix-trans, nil-suffix}
-use Rattle.constructs.proofs.Scanning.{standing-few, length-entries}
+use Rattle.constructs.proofs.Suffixes.{Suffix, here, suffix-length, suffix-trans}
+use Rattle.constructs.proofs.Scanning.{standing-few}
 use Rattle.constructs.proofs.Texts.{table-at, text-at, texts-standing}
 use Rattle.constructs.proofs.Fronts.{Below, below-first}
 use Rattle.verdict.specs.Verdict.{endsWith}
 use Rattle.verdict.specs.Rescue.{through}
-use Rattle.volume.specs.Steps.{Located, Listed, ReachTable, ListsOf, ReachesOf, EndsAt}
+use Rattle.volume.specs.Steps.{Located, Listed, ListsOf, ReachesOf, EndsAt}
 
 same-answer : {A : Type 0} (a b : A) → answer a ≡ answer b → a ≡ b
 same-answer a b e = cc

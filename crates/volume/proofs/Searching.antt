@@ -1,28 +1,24 @@
 -- The table of beginnings, the construct that an index points at, and the search from the last index construct back.
 use mathlib.Core.Path.{_≡_, refl, sym, ap, subst, _∙_}
 use mathlib.Core.Logic.{_⊎_, inl, inr}
-use mathlib.Core.Bool.{Bool, true, false, cond, not, _&&_}
+use mathlib.Core.Bool.{Bool, true, false}
 use mathlib.Core.List.{List, [], _∷_}
 use mathlib.Core.Option.{Option, none, some}
-use Prim.Native.Nat.{ℕ, zero, suc, _+_, _-_, _≤_, _<_}
+use Prim.Native.Nat.{ℕ, suc, _+_, _-_, _≤_, _<_}
 use native.Mathlib.Omega.{arith}
-use lib.Dec.{leb, eqb}
-use lib.ListN.{length, getD, set, drop, take, length-drop}
-use Rattle.slices.specs.Slices.{every}
+use lib.ListN.{length, getD, set, take}
 use Rattle.slices.proofs.Booleans.{split}
 use Rattle.quantities.specs.Places.{Place}
 use Rattle.constructs.specs.Constructs.{Construct}
 use Rattle.constructs.specs.Tables.{placeIn}
 use Rattle.constructs.specs.declared.Place.{Place as Spot}
-use Rattle.constructs.proofs.Suffixes.{Suffix, here, there, suffix-trans}
-use Rattle.verdict.specs.Verdict.{Index, Volume, orElse, isNone, firstFailing, readIndex, readData, follows, chainBreak, badFileIn}
-use Rattle.verdict.specs.Rescue.{Cut, blockOf, target, generationOf, through, cutAt, attempt, cutAmong}
+use Rattle.constructs.proofs.Suffixes.{Suffix}
+use Rattle.verdict.specs.Verdict.{Index, Volume, readIndex, readData, follows, chainBreak, badFileIn}
+use Rattle.verdict.specs.Rescue.{blockOf, target, generationOf, through, cutAt, attempt}
 use Rattle.verdict.specs.Partners.{beginnings}
 use Rattle.verdict.proofs.Chains.{through-suffix, good-suffix}
-use Rattle.verdict.proofs.Orders.{firsts, firsts-all, search-on, search-found}
-use Rattle.index.specs.Tests.{Given}
-use Rattle.volume.specs.Volume.{volumeWith}
-use Rattle.volume.specs.Steps.{Told, told, toldBy, backTold, joined, Located, Listed, Generations, Ready, BeginsOf, cutIs}
+use Rattle.verdict.proofs.Orders.{firsts}
+use Rattle.volume.specs.Steps.{Told, told, toldBy, backTold, joined, Located, Listed, Generations, BeginsOf, cutIs}
 use Rattle.volume.specs.declared.sound.Brief.{Brief}
 use Rattle.volume.specs.declared.search.Kept.{Kept}
 use Rattle.volume.proofs.Briefs.{joined-follows}

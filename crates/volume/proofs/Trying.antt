@@ -1,9 +1,9 @@
 -- One index construct tried, and the search over them, by what the tables hold.
 use mathlib.Core.Path.{_≡_, refl, sym, ap, subst, _∙_}
-use mathlib.Core.Bool.{Bool, true, false}
-use mathlib.Core.List.{List, [], _∷_}
+use mathlib.Core.Bool.{true, false}
+use mathlib.Core.List.{List, _∷_}
 use mathlib.Core.Option.{Option, none, some}
-use Prim.Native.Nat.{ℕ, zero, suc, _+_, _-_, _≤_, _<_}
+use Prim.Native.Nat.{ℕ, _+_, _-_, _≤_, _<_}
 use native.Mathlib.Omega.{arith}
 use lib.ListN.{length, getD, take}
 use Rattle.refusals.specs.Refusals.{Answer, refused, answer}
@@ -16,10 +16,10 @@ use Rattle.index.specs.Index.{indexOf}
 use Rattle.index.specs.Tests.{Given, given}
 use Rattle.index.specs.declared.tests.Volume.{Volume as Letters}
 use Rattle.verdict.specs.Verdict.{Index, Volume, readIndex, badFileIn}
-use Rattle.verdict.specs.Rescue.{Cut, target, through, cutAt, attempt, cutAmong}
+use Rattle.verdict.specs.Rescue.{cutAmong}
 use Rattle.verdict.proofs.Orders.{firsts, firsts-all, search-on, search-found}
 use Rattle.volume.specs.Volume.{soundly, volumeWith}
-use Rattle.volume.specs.Steps.{Told, told, toldBy, joined, textIn, Located, Listed, ReachTable, Ready, lostFile, Loses, cutIs, triedCut, Tries, Searches}
+use Rattle.volume.specs.Steps.{told, toldBy, joined, textIn, Located, ReachTable, Ready, lostFile, Loses, cutIs, Tries, Searches}
 use Rattle.volume.specs.declared.sound.Brief.{Brief}
 use Rattle.volume.specs.declared.lost.Lost.{Lost}
 use Rattle.volume.specs.declared.search.Kept.{Kept}

@@ -1,33 +1,30 @@
 -- The verdict, break by break.
 use mathlib.Core.Path.{_≡_, refl, sym, ap, subst, _∙_}
-use mathlib.Core.Bool.{Bool, true, false}
+use mathlib.Core.Bool.{true, false}
 use mathlib.Core.List.{List, [], _∷_}
-use mathlib.Core.Option.{Option, none, some}
-use Prim.Native.Nat.{ℕ, suc, _-_, _≤_, _<_}
+use mathlib.Core.Option.{none, some}
+use Prim.Native.Nat.{ℕ, suc, _-_}
 use native.Mathlib.Omega.{arith}
 use borrow.Author.Tests.{eqb-true}
-use lib.ListN.{length, getD, take}
+use lib.ListN.{length, take}
 use lib.Seq.{take-length}
-use Rattle.tape.specs.Tape.{Tape, Encodes}
+use Rattle.tape.specs.Tape.{Tape}
 use Rattle.constructs.specs.Constructs.{Construct, standing, dataLengths}
 use Rattle.constructs.specs.Tables.{placeIn}
 use Rattle.constructs.specs.declared.Place.{Place as Spot}
-use Rattle.constructs.proofs.Suffixes.{Suffix, here}
-use Rattle.constructs.proofs.Lengths.{length-lengths}
+use Rattle.constructs.proofs.Suffixes.{here}
 use Rattle.index.specs.Index.{indexOf}
-use Rattle.index.specs.Tests.{Given, given}
+use Rattle.index.specs.Tests.{given}
 use Rattle.index.specs.declared.tests.Volume.{Volume as Letters}
-use Rattle.verdict.specs.Verdict.{Index, Volume, Break, orElse, unless, numbered, endsWith, readIndex, readData, follows, chainBreak, tied, badFileIn, badFile, verdict}
-use Rattle.verdict.specs.Rescue.{generationOf}
-use Rattle.verdict.proofs.Orders.{firsts, firsts-all}
+use Rattle.verdict.specs.Verdict.{Index, Volume, numbered, endsWith, readIndex, readData, follows, chainBreak, verdict}
 use Rattle.volume.specs.Volume.{soundly, volumeWith}
-use Rattle.volume.specs.Steps.{told, toldBy, joined, textIn, Located, Listed, Chains, ReachTable, lostFile, Loses, breakOf, lastBreak, JudgesLast}
+use Rattle.volume.specs.Steps.{told, toldBy, joined, textIn, Located, lostFile, Loses, breakOf, lastBreak, JudgesLast}
 use Rattle.volume.specs.declared.sound.Brief.{Brief}
 use Rattle.volume.specs.declared.lost.Lost.{Lost}
 use Rattle.volume.specs.declared.judge.Judgement.{Judgement}
 use Rattle.volume.specs.declared.judge.Judgement.the-variants as judgementIs
 use Rattle.volume.proofs.Briefs.{joined-follows}
-use Rattle.volume.proofs.Chaining.{told-located, joined-sound, last-sound}
+use Rattle.volume.proofs.Chaining.{told-located, joined-sound}
 use Rattle.volume.proofs.Trying.{lost-located}
 
 module _ (u : List ℕ) (w : Letters) (is ti : List ℕ) (k : ℕ) (td : List ℕ) (j generation : ℕ) (ri rd : List ℕ) (here there : Spot) (t : List ℕ) (b : Brief)

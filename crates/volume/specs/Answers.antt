@@ -8,7 +8,7 @@ use Rattle.tape.specs.Tape.{Tape, Encodes}
 use Rattle.verdict.specs.Verdict.{Volume, Break}
 use Rattle.verdict.specs.Rescue.{Cut}
 use Rattle.verdict.specs.Demand.{Demand3}
-use Rattle.volume.specs.Volume.{labels, verdictIn, rescueIn}
+use Rattle.volume.specs.Volume.{labels, rescueIn}
 use Rattle.volume.specs.Steps.{cutIs}
 use Rattle.volume.specs.declared.answers.Verdict.{Verdict}
 use Rattle.volume.specs.declared.answers.Verdict.the-variants as verdictIs

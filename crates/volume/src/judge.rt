@@ -7,7 +7,6 @@ use crate::sound;
 use index::Volume;
 use quantities::BlockNumber;
 use quantities::Generation;
-ghost use mathlib.Core.Path.{_≡_};
 ghost use Rattle.index.specs.Tests.{given};
 ghost use Rattle.volume.specs.Steps.{JudgesLast, Judges};
 

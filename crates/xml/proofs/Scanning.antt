@@ -10,7 +10,7 @@ use lib.ListN.{length, drop, getD, drop-of-length-le, length-drop}
 use lib.Seq.{drop-cons, drop-drop}
 use borrow.Author.Tests.{eq-eqb, ne-eqb, ltb-true, ltb-false}
 use Rattle.xml.specs.Tree.{front}
-use Rattle.xml.specs.Machine.{Place, word, State, stop, at, reads, step, broken, ended, run}
+use Rattle.xml.specs.Machine.{Place, State, stop, at, reads, step, broken, ended, run}
 use Rattle.xml.specs.Scans.{Past}
 use Rattle.xml.proofs.Past.{beyond}
 use Rattle.xml.proofs.Runs.{run-stop}

@@ -1,9 +1,8 @@
 // Bytes by the kinds that the scanners tell apart, and runs of one kind.
 ghost use mathlib.Core.Path.{_≡_};
 ghost use Prim.Native.Nat.{_+_, _≤_};
-ghost use lib.ListN.{length, drop, getD};
+ghost use lib.ListN.{length, getD};
 ghost use Rattle.xml.specs.Bytes.{isSpace, isNameByte};
-ghost use Rattle.xml.specs.Tree.{front};
 ghost use Rattle.xml.specs.Machine.{Place, at, reads};
 ghost use Rattle.xml.specs.Scans.{isText, kindOf, ofKind, Kinds, Past, Scans};
 

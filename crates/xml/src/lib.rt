@@ -1,8 +1,8 @@
 // The XML form (01, The XML form): whether a text is in it, and if not, how many of its bytes are unread where it leaves the form.
 ghost use mathlib.Core.Path.{_≡_};
 ghost use mathlib.Core.Bool.{Bool, _&&_};
-ghost use mathlib.Core.List.{List, [], _∷_};
-ghost use Prim.Native.Nat.{ℕ, suc, _≤_};
+ghost use mathlib.Core.List.{[], _∷_};
+ghost use Prim.Native.Nat.{suc, _≤_};
 ghost use lib.Dec.{ltb};
 ghost use lib.ListN.{length, drop};
 ghost use Rattle.xml.specs.Machine.{at, before, after, content, blank, opens, run, form, outcomeOf};

@@ -1,5 +1,5 @@
 -- `constructs::after_block` meets its contract: each answer rewrites with the phase and the tests that led to it.
-use borrow.Author.Tests.{eq-eqb, ne-eqb, lt-ltb, le-ltb}
+use borrow.Author.Tests.{lt-ltb, le-ltb}
 use borrow.Author.Needs.{needs}
 use Rattle.constructs.proofs.after_block.Statement.{statement}
 use Rattle.constructs.proofs.after_block.Tie as tie

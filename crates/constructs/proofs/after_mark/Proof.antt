@@ -1,5 +1,5 @@
 -- `constructs::after_mark` meets its contract: each answer rewrites with the phase and the tests that led to it.
-use borrow.Author.Tests.{eq-eqb, ne-eqb, lt-ltb, le-ltb}
+use borrow.Author.Tests.{eq-eqb, ne-eqb}
 use borrow.Author.Needs.{needs}
 use Rattle.constructs.proofs.after_mark.Statement.{statement}
 use Rattle.constructs.proofs.after_mark.Tie as tie

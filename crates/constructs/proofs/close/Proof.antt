@@ -1,6 +1,5 @@
 -- `constructs::close` meets its contract: only an index run that is not empty is closed.
-use mathlib.Core.Path.{_≡_, refl, subst}
-use native.Mathlib.Omega.{arith}
+use mathlib.Core.Path.{refl, subst}
 use borrow.Author.Tests.{eq-eqb, ne-eqb}
 use Rattle.constructs.specs.declared.Phase.{Phase}
 use Rattle.constructs.specs.Phases.{Roomy}

@@ -1,6 +1,6 @@
 -- `constructs::enter` meets its contract: four stores in a row.
 use mathlib.Core.Path.{_≡_}
-use Prim.Native.Nat.{ℕ, suc, _+_, _*_}
+use Prim.Native.Nat.{suc, _+_, _*_}
 use native.Mathlib.Omega.{arith}
 use borrow.Author.Needs.{needs}
 use Rattle.constructs.proofs.enter.Statement.{statement}

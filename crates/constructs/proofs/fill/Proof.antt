@@ -1,5 +1,5 @@
 -- `constructs::fill` meets its contract. Invariant: the walk matches the scan of the elements passed.
-use mathlib.Core.Path.{_≡_, sym, _∙_}
+use mathlib.Core.Path.{sym, _∙_}
 use Prim.Native.Nat.{_+_, _-_, _≤_}
 use native.Mathlib.Omega.{arith}
 use Rattle.tape.proofs.Elements.{says-at}

@@ -1,5 +1,5 @@
 -- `constructs::past_label` meets its contract.
-use borrow.Author.Tests.{eq-eqb, ne-eqb, lt-ltb, le-ltb}
+use borrow.Author.Tests.{eq-eqb, ne-eqb}
 use borrow.Author.Needs.{needs}
 use Rattle.constructs.proofs.past_label.Statement.{statement}
 use Rattle.constructs.proofs.past_label.Tie as tie

@@ -1,6 +1,6 @@
 -- `read_row` meets its contract. Invariant: the places noted so far and what is left of the row.
 use mathlib.Core.Path.{_≡_, refl, ap, sym, _∙_, subst}
-use Prim.Native.Nat.{ℕ, _-_, _≤_, min}
+use Prim.Native.Nat.{_-_, _≤_, min}
 use native.Mathlib.Omega.{arith}
 use lib.ListN.{length}
 use Rattle.elements.specs.declared.starts.Next.the-variants.{End, Close, Opens}

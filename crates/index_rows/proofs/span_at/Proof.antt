@@ -1,5 +1,5 @@
 -- `span_at` meets its contract.
-use mathlib.Core.Path.{_≡_, ap, sym, _∙_}
+use mathlib.Core.Path.{ap, sym, _∙_}
 use native.Mathlib.Omega.{arith}
 use Rattle.children.specs.Children.{textOf}
 use Rattle.children.proofs.Seats.{seat-none, seat-some}

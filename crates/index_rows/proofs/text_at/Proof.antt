@@ -1,6 +1,5 @@
 -- `text_at` meets its contract.
-use mathlib.Core.Path.{_≡_, ap, sym, _∙_}
-use native.Mathlib.Omega.{arith}
+use mathlib.Core.Path.{ap, sym, _∙_}
 use Rattle.children.specs.Children.{textOf}
 use Rattle.children.proofs.Seats.{seat-none, seat-some}
 use borrow.Author.Needs.{needs}

@@ -3,8 +3,6 @@ use Rattle.slices.proofs.Parts.{cut-none, cut-rest, cut-whole}
 use borrow.Author.Needs.{needs}
 use Rattle.slices.proofs.part.Statement.{statement}
 use Rattle.slices.proofs.part.Tie as tie
-use Rattle.slices.proofs.part.Reads as reads
-use Rattle.slices.proofs.part.Lts as lts
 
 sub-result : tie.Need-sub-result
 sub-result c = search needs

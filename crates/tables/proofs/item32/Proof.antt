@@ -4,8 +4,6 @@ use lib.ListN.{List·getD-eq-default}
 use borrow.Author.Needs.{needs}
 use Rattle.tables.proofs.item32.Statement.{statement}
 use Rattle.tables.proofs.item32.Tie as tie
-use Rattle.tables.proofs.item32.Reads as reads
-use Rattle.tables.proofs.item32.Lts as lts
 
 mul-result : tie.Need-mul-result
 mul-result c = search needs

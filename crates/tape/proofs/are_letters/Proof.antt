@@ -1,5 +1,4 @@
 -- `tape::are_letters` meets its contract: each answer rewrites with the tests that led to it.
-use mathlib.Core.Path.{sym, _∙_}
 use borrow.Author.Tests.{eq-eqb, ne-eqb, not-true, not-false}
 use borrow.Author.Needs.{needs}
 use Rattle.tape.proofs.are_letters.Statement.{statement}

@@ -1,7 +1,5 @@
 -- `tape::block` meets its contract: the place that is found is the part of the store that holds the block.
 use mathlib.Core.Path.{_≡_, refl, sym, _∙_, ap}
-use native.Mathlib.Omega.{arith}
-use mathlib.Core.Bool.{cond}
 use Rattle.tape.specs.declared.Located.{Located}
 use Rattle.tape.specs.Answers.{located, blockOf, tapeIn}
 use Rattle.tape.proofs.Blocks.{Holds, holds, shows-part}

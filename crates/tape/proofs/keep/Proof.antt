@@ -1,12 +1,9 @@
 -- `tape::keep` meets its contract: the walk over the smaller of n and the count reaches behind what n elements keep.
-use mathlib.Core.Path.{_≡_, sym, _∙_, ap}
-use Prim.Native.Nat.{ℕ, _≤_, min}
-use native.Mathlib.Omega.{arith}
+use mathlib.Core.Path.{sym, _∙_, ap}
 use borrow.Author.Needs.{needs}
-use lib.ListN.{length}
 use Rattle.refusals.specs.Refusals.{Answer, answer, andThen}
 use Rattle.tape.specs.declared.Front.{Front}
-use Rattle.tape.specs.Answers.{counted, Lengths, lengths, Fronts}
+use Rattle.tape.specs.Answers.{counted, lengths, Fronts}
 use Rattle.tape.proofs.Keeping.{present, reach-kept, keeping-present, keeping-absent}
 use Rattle.tape.proofs.keep.Statement.{statement}
 use Rattle.tape.proofs.keep.Tie as tie

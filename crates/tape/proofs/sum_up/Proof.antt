@@ -1,12 +1,11 @@
 -- `tape::sum_up` meets its contract. Invariant: the totals so far and those of the rest are the whole list's.
 use mathlib.Core.List.{List}
-use Prim.Native.Nat.{ℕ, _≤_, _*_, _-_, _+_, _<_}
-use mathlib.Core.Path.{_≡_, refl, sym, _∙_, ap, subst}
+use Prim.Native.Nat.{ℕ, _≤_, _*_, _-_}
+use mathlib.Core.Path.{_≡_, refl, sym, _∙_, ap}
 use native.Mathlib.Nat.{add-zero}
 use native.Mathlib.Omega.{arith}
 use borrow.Author.Needs.{needs}
 use lib.ListN.{length, drop, drop-of-length-le}
-use Rattle.tape.specs.declared.Entry.{Entry}
 use Rattle.tape.specs.Reading.{cells, kind}
 use Rattle.tape.specs.Walks.{totalsFrom}
 use Rattle.tape.proofs.Entries.{cells-as, lies-as}

@@ -1,9 +1,7 @@
 -- `tape::walk` meets its contract. Invariant: the walk over what is left, from here, reaches as far as the whole walk.
-use mathlib.Core.Path.{_≡_, refl, sym, _∙_, ap}
-use Prim.Native.Nat.{ℕ, suc, _≤_, _*_, _-_, _+_, _<_}
-use native.Mathlib.Omega.{arith}
+use mathlib.Core.Path.{_≡_, refl, sym, _∙_}
+use Prim.Native.Nat.{_≤_, _*_, _-_, _+_}
 use borrow.Author.Needs.{needs}
-use lib.ListN.{length}
 use Rattle.tape.specs.Walks.{reach}
 use Rattle.tape.proofs.Entries.{lies-as}
 use Rattle.tape.proofs.Walking.{reach-step, reach-done}

@@ -1,8 +1,6 @@
 -- `in_place` meets its contract: the places cut off at the ends of the store and of the text, then the header in numbers.
 use mathlib.Core.Path.{subst, sym}
-use mathlib.Core.List.{List}
 use Prim.Native.Nat.{ℕ, _-_}
-use Rattle.api.specs.Indexes.{SaysConstruct, constructOf}
 use Rattle.api.specs.Outputs.{CutOff}
 use Rattle.api.proofs.Headers.{says-place}
 use borrow.Author.Needs.{needs}

@@ -1,6 +1,5 @@
 -- `data_length` meets its contract: each answer rewrites with the tests that led to it.
 use borrow.Author.Tests.{eq-eqb, ne-eqb}
-use borrow.Author.Needs.{needs}
 use Rattle.constructs.proofs.reach.data_length.Statement.{statement}
 use Rattle.constructs.proofs.reach.data_length.Tie as tie
 

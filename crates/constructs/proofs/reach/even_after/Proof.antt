@@ -1,6 +1,5 @@
 -- `even_after` meets its contract: each answer rewrites with the tests that led to it.
 use borrow.Author.Tests.{eq-eqb, ne-eqb}
-use borrow.Author.Needs.{needs}
 use Rattle.constructs.proofs.reach.even_after.Statement.{statement}
 use Rattle.constructs.proofs.reach.even_after.Tie as tie
 

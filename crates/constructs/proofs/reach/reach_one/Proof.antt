@@ -1,7 +1,7 @@
 -- `reach_one` meets its contract: each answer rewrites with the tests that led to it.
 use borrow.Author.Tests.{eq-eqb, ne-eqb}
 use mathlib.Core.Path.{_≡_}
-use Prim.Native.Nat.{ℕ, min}
+use Prim.Native.Nat.{min}
 use native.Mathlib.Omega.{arith}
 use borrow.Author.Needs.{needs}
 use Rattle.constructs.proofs.reach.reach_one.Statement.{statement}

@@ -1,6 +1,6 @@
 -- `find` meets its contract. Invariant: the byte found from i on is the one found from at on; the four places of a turn follow each other.
-use mathlib.Core.Path.{_≡_, refl, sym, _∙_}
-use Prim.Native.Nat.{ℕ, _+_, _-_, _≤_}
+use mathlib.Core.Path.{refl, sym, _∙_}
+use Prim.Native.Nat.{_+_, _-_, _≤_}
 use native.Mathlib.Omega.{arith}
 use lib.ListN.{length}
 use Rattle.elements.proofs.Finding.{Still, found-here, not-here}

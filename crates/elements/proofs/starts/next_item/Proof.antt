@@ -1,5 +1,5 @@
 -- `next_item` meets its contract: an element without children goes on where it says, any other where it is left.
-use mathlib.Core.Path.{_≡_, subst}
+use mathlib.Core.Path.{subst}
 use Rattle.elements.specs.declared.starts.Next.the-variants.{End, Close, Opens}
 use Rattle.elements.specs.Starts.{NextStart}
 use Rattle.elements.proofs.Rows.{row-end, row-close}

@@ -1,5 +1,5 @@
 -- `next_start` meets its contract: what stands at the next `<`.
-use mathlib.Core.Path.{_≡_, _∙_, sym}
+use mathlib.Core.Path.{_∙_, sym}
 use Rattle.elements.proofs.Left.{left-end, none-next, close-next}
 use Rattle.elements.proofs.Plain.{opens-next}
 use borrow.Author.Needs.{needs}

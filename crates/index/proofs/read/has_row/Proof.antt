@@ -1,5 +1,5 @@
 -- `has_row` meets its contract: by its first element.
-use mathlib.Core.Path.{_≡_, refl, ap, sym, _∙_, subst}
+use mathlib.Core.Path.{ap, sym, subst}
 use Rattle.elements.specs.Reading.{NextTag, isRow}
 use Rattle.elements.specs.declared.tags.Tag.the-variants.{End, Close, Open, Empty}
 use Rattle.elements.proofs.Rows.{row-end, row-close, node-open, node-empty}

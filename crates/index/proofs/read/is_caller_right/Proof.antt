@@ -3,8 +3,8 @@ use mathlib.Core.Bool.{Bool, _||_}
 use lib.Dec.{eqb}
 use Rattle.index.specs.Tests.{given}
 use Rattle.index.proofs.Answers.{caller-last}
-use mathlib.Core.Path.{_≡_, refl, ap, sym, _∙_, subst}
-use borrow.Author.Tests.{eq-eqb, ne-eqb, lt-ltb, le-ltb, le-leb, lt-leb, not-true, not-false}
+use mathlib.Core.Path.{ap, sym, _∙_}
+use borrow.Author.Tests.{eq-eqb, ne-eqb, not-true, not-false}
 use Rattle.index.specs.Index.{callerRight}
 use borrow.Author.Needs.{needs}
 use Rattle.index.proofs.read.is_caller_right.Statement.{statement}

@@ -1,5 +1,5 @@
 -- `is_true` meets its contract: by what is read.
-use mathlib.Core.Path.{_≡_, refl, ap, sym, _∙_, subst}
+use mathlib.Core.Path.{ap, sym, _∙_}
 use Rattle.values.specs.Values.{booleanOf}
 use Rattle.index.specs.Index.{isTrue}
 use borrow.Author.Needs.{needs}

@@ -1,5 +1,5 @@
 -- `letter_named` meets its contract: the letter that the text of `partition` says.
-use mathlib.Core.Path.{_≡_, ap, _∙_}
+use mathlib.Core.Path.{ap, _∙_}
 use Rattle.slices.specs.Words.{bytes}
 use Rattle.index.specs.Tests.{letterSaid}
 use borrow.Author.Needs.{needs}

@@ -1,9 +1,8 @@
 -- `read_children` meets its contract: the classes in their order, by the survey.
-use mathlib.Core.Path.{_≡_, refl, ap, sym, _∙_, subst}
+use mathlib.Core.Path.{ap, sym, _∙_}
 use native.Mathlib.Omega.{arith}
-use borrow.Author.Tests.{eq-eqb, ne-eqb, lt-ltb, le-ltb, le-leb, lt-leb, not-true, not-false}
+use borrow.Author.Tests.{not-true, not-false}
 use Rattle.refusals.specs.Refusals.{answer}
-use Rattle.slices.specs.Words.{bytes}
 use Rattle.xml.specs.Tree.{Forest}
 use Rattle.elements.specs.Reading.{rowAt}
 use Rattle.index_names.specs.Sorts.{index}

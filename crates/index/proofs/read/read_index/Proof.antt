@@ -1,6 +1,6 @@
 -- `read_index` meets its contract: what the caller gives, the length, the form, then the root.
-use mathlib.Core.Path.{_≡_, refl, ap, sym, _∙_, subst}
-use borrow.Author.Tests.{eq-eqb, ne-eqb, lt-ltb, le-ltb, le-leb, lt-leb, not-true, not-false}
+use mathlib.Core.Path.{ap, sym, _∙_}
+use borrow.Author.Tests.{le-leb, lt-leb, not-true, not-false}
 use Rattle.xml.specs.Machine.{outcomeOf}
 use Rattle.index.specs.Tests.{given}
 use Rattle.index.specs.Index.{isGood}

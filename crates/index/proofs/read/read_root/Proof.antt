@@ -1,6 +1,6 @@
 -- `read_root` meets its contract: the root by its tag; its children are nested less deep than a text may be.
-use mathlib.Core.Path.{_≡_, subst, _∙_}
-use Prim.Native.Nat.{ℕ, _≤_, _<_}
+use mathlib.Core.Path.{subst, _∙_}
+use Prim.Native.Nat.{_≤_, _<_}
 use native.Mathlib.Omega.{arith}
 use Rattle.xml.specs.Form.{height}
 use Rattle.xml.proofs.Form.{form-reads}

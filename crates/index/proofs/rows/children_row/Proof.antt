@@ -1,10 +1,9 @@
 -- `children_row` meets its contract: an empty-element tag has none, any other holds what follows it.
-use mathlib.Core.Path.{_≡_, sym, _∙_}
+use mathlib.Core.Path.{sym, _∙_}
 use native.Mathlib.Omega.{arith}
 use lib.ListN.{length}
 use Rattle.elements.specs.Reading.{childrenAt}
 use Rattle.elements.proofs.Rows.{row-past}
-use borrow.Author.Needs.{needs}
 use Rattle.index.proofs.rows.children_row.Statement.{statement}
 use Rattle.index.proofs.rows.children_row.Tie as tie
 

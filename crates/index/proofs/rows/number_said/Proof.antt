@@ -1,5 +1,5 @@
 -- `number_said` meets its contract: the number that is read, or 0.
-use mathlib.Core.Path.{_≡_, refl, ap, sym, _∙_, subst}
+use mathlib.Core.Path.{ap, sym, _∙_}
 use Rattle.digits.specs.Decimal.{valueOf}
 use Rattle.index.specs.Entries.{orZero}
 use borrow.Author.Needs.{needs}

@@ -1,5 +1,5 @@
 -- `text_in` meets its contract: the part that the span names.
-use mathlib.Core.Path.{_≡_, _∙_}
+use mathlib.Core.Path.{_∙_}
 use borrow.Author.Needs.{needs}
 use Rattle.index.proofs.rows.text_in.Statement.{statement}
 use Rattle.index.proofs.rows.text_in.Tie as tie

@@ -1,5 +1,4 @@
 -- `survey_with` meets its contract: what the walk gathered, and the fileuids in their table.
-use mathlib.Core.Path.{_≡_, refl, ap, sym, _∙_, subst}
 use native.Mathlib.Omega.{arith}
 use Rattle.elements.specs.Reading.{rowAt}
 use Rattle.index.specs.Tests.{given}

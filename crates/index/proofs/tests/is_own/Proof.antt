@@ -1,6 +1,6 @@
 -- `is_own` meets its contract: by the sort.
-use mathlib.Core.Path.{_≡_, refl, ap, sym, _∙_, subst}
-use borrow.Author.Tests.{eq-eqb, ne-eqb, lt-ltb, le-ltb, le-leb, lt-leb}
+use mathlib.Core.Path.{ap, _∙_}
+use borrow.Author.Tests.{eq-eqb, ne-eqb}
 use mathlib.Core.Bool.{_||_}
 use Prim.Native.Nat.{ℕ}
 use lib.Dec.{eqb}

@@ -1,6 +1,5 @@
 -- `is_own_letter` meets its contract: the two tests.
-use borrow.Author.Tests.{eq-eqb, ne-eqb, lt-ltb, le-ltb, le-leb, lt-leb}
-use borrow.Author.Needs.{needs}
+use borrow.Author.Tests.{eq-eqb, ne-eqb}
 use Rattle.index.proofs.tests.is_own_letter.Statement.{statement}
 use Rattle.index.proofs.tests.is_own_letter.Tie as tie
 

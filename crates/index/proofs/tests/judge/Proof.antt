@@ -1,5 +1,5 @@
 -- `judge` meets its contract: by the rows that were read.
-use mathlib.Core.Path.{_≡_, refl, ap, sym, _∙_}
+use mathlib.Core.Path.{ap, sym, _∙_}
 use Rattle.index.specs.Entries.{numberSaid}
 use Rattle.index.proofs.Judging.{no-file, too-many, judged}
 use Rattle.index.proofs.Seated.{length-placed, extents-placed}

@@ -1,5 +1,5 @@
 -- `letter_said` meets its contract: the letter that is read, or 0.
-use mathlib.Core.Path.{_≡_, refl, ap, sym, _∙_, subst}
+use mathlib.Core.Path.{ap, sym, _∙_}
 use Rattle.values.specs.Values.{letterOf}
 use Rattle.index.specs.Entries.{orZero}
 use borrow.Author.Needs.{needs}

@@ -1,5 +1,5 @@
 -- `number_named` meets its contract: the number that the text says.
-use mathlib.Core.Path.{_≡_, refl, ap, sym, _∙_, subst}
+use mathlib.Core.Path.{ap, _∙_}
 use Rattle.index.specs.Entries.{numberSaid}
 use borrow.Author.Needs.{needs}
 use Rattle.index.proofs.tests.number_named.Statement.{statement}

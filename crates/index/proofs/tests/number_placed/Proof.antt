@@ -1,5 +1,5 @@
 -- `number_placed` meets its contract: the number that the text says.
-use mathlib.Core.Path.{_≡_, ap, _∙_}
+use mathlib.Core.Path.{ap, _∙_}
 use Rattle.index.specs.Entries.{numberSaid}
 use borrow.Author.Needs.{needs}
 use Rattle.index.proofs.tests.number_placed.Statement.{statement}

@@ -1,13 +1,13 @@
 -- `read_rows` meets its contract. Invariant: the rows read so far and those of the rest of the row are all.
 use mathlib.Core.Path.{_≡_, refl, ap, sym, _∙_, subst}
-use mathlib.Core.List.{List, _++_}
-use Prim.Native.Nat.{ℕ, suc, _+_, _-_, _*_, _≤_, _<_}
+use mathlib.Core.List.{_++_}
+use Prim.Native.Nat.{_+_, _-_, _*_, _≤_}
 use native.Mathlib.Omega.{arith}
 use lib.ListN.{length, take}
 use lib.Seq.{length-sets}
 use Rattle.elements.specs.declared.tags.Tag.the-variants.{Open, Empty}
 use Rattle.elements.specs.declared.starts.Next.the-variants.{End, Close, Opens}
-use Rattle.elements.specs.Reading.{rowAt, childrenAt, NextTag, FirstOf}
+use Rattle.elements.specs.Reading.{rowAt, NextTag, FirstOf}
 use Rattle.elements.specs.Starts.{NextStart}
 use Rattle.elements.proofs.Rows.{row-end, row-close, row-past, first-open, first-empty, children-open, children-empty}
 use Rattle.extents.specs.Rows.{rowsOf}

@@ -1,5 +1,5 @@
 -- `says_letter` meets its contract: by what is read.
-use mathlib.Core.Path.{_≡_, refl, ap, sym, _∙_, subst}
+use mathlib.Core.Path.{ap, sym, _∙_}
 use Rattle.values.specs.Values.{letterOf}
 use Rattle.index.specs.Tests.{isSome}
 use borrow.Author.Needs.{needs}

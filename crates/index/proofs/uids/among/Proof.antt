@@ -1,13 +1,10 @@
 -- `among` meets its contract. Invariant: what is asked is whether x is among those from i on.
 use Rattle.index.proofs.Differ.{front-cons, front-out}
-use Rattle.index.specs.Different.{member, different}
-use mathlib.Core.List.{List, [], _∷_}
-use lib.ListN.{length, take, drop, getD}
+use Rattle.index.specs.Different.{member}
+use lib.ListN.{take, drop}
 use mathlib.Core.Path.{_≡_, refl, sym, ap, _∙_}
-use mathlib.Core.Bool.{true, false, cond}
-use Prim.Native.Nat.{ℕ, suc, _+_, _-_, _≤_, _<_}
-use native.Mathlib.Omega.{arith}
-use borrow.Author.Tests.{eq-eqb, ne-eqb, lt-ltb, le-ltb, le-leb, lt-leb}
+use Prim.Native.Nat.{_-_}
+use borrow.Author.Tests.{eq-eqb, ne-eqb}
 use borrow.Author.Needs.{needs}
 use Rattle.index.proofs.uids.among.Statement.{statement}
 use Rattle.index.proofs.uids.among.Tie as tie

@@ -3,13 +3,12 @@ use Rattle.index.proofs.Differ.{Above, above-less, not-member, differen
 use native.Mathlib.Nat.{le-refl, le-of-lt}
 use mathlib.Core.Path.{subst}
 use Rattle.index.specs.Different.{member, different}
-use mathlib.Core.List.{List, [], _∷_, _++_}
-use lib.ListN.{length, take, drop, getD, length-set}
-use mathlib.Core.Path.{_≡_, refl, sym, ap, _∙_}
-use mathlib.Core.Bool.{true, false, cond}
-use Prim.Native.Nat.{ℕ, suc, _+_, _-_, _≤_, _<_}
+use mathlib.Core.List.{_∷_}
+use lib.ListN.{take, drop, getD}
+use mathlib.Core.Path.{_≡_, sym, ap, _∙_}
+use mathlib.Core.Bool.{true, false}
+use Prim.Native.Nat.{ℕ, _+_, _-_, _≤_, _<_}
 use native.Mathlib.Omega.{arith}
-use borrow.Author.Tests.{eq-eqb, ne-eqb, lt-ltb, le-ltb, le-leb, lt-leb}
 use borrow.Author.Needs.{needs}
 use Rattle.index.proofs.uids.unique.Statement.{statement}
 use Rattle.index.proofs.uids.unique.Tie as tie

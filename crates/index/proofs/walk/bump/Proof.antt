@@ -1,5 +1,5 @@
 -- `bump` meets its contract: the limit is tested.
-use borrow.Author.Tests.{eq-eqb, ne-eqb, lt-ltb, le-ltb, le-leb, lt-leb, not-true, not-false}
+use borrow.Author.Tests.{lt-ltb, le-ltb}
 use Rattle.index.specs.Sweep.{more}
 use borrow.Author.Needs.{needs}
 use Rattle.index.proofs.walk.bump.Statement.{statement}

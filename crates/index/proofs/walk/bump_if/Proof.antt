@@ -1,5 +1,5 @@
 -- `bump_if` meets its contract: one more, or none.
-use mathlib.Core.Path.{_≡_, refl, ap, sym, _∙_, subst}
+use mathlib.Core.Path.{sym, _∙_}
 use borrow.Author.Needs.{needs}
 use Rattle.index.proofs.walk.bump_if.Statement.{statement}
 use Rattle.index.proofs.walk.bump_if.Tie as tie

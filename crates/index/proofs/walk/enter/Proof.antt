@@ -1,8 +1,6 @@
 -- `enter` meets its contract: part by part.
-use mathlib.Core.Path.{_≡_, refl, ap, sym, _∙_, subst}
+use mathlib.Core.Path.{refl, ap, _∙_}
 use mathlib.Core.Bool.{Bool, _&&_, cond}
-use Prim.Native.Nat.{ℕ}
-use mathlib.Core.List.{List}
 use lib.ListN.{set}
 use Rattle.index.specs.Sweep.{more}
 use Rattle.index.specs.Tests.{given, valued, own}

@@ -1,5 +1,5 @@
 -- `finish` meets its contract: the structure stays right where the row is complete.
-use mathlib.Core.Path.{_≡_, refl, ap, sym, _∙_, subst}
+use mathlib.Core.Path.{sym, _∙_}
 use Rattle.index.proofs.Gathering.{ended-done, ended-open}
 use borrow.Author.Needs.{needs}
 use Rattle.index.proofs.walk.finish.Statement.{statement}

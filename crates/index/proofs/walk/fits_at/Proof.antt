@@ -1,8 +1,5 @@
 -- `fits_at` meets its contract: the tests in their order.
-use mathlib.Core.Path.{_≡_, ap, sym, _∙_}
-use mathlib.Core.Bool.{Bool, not}
-use mathlib.Core.List.{List}
-use Prim.Native.Nat.{ℕ}
+use mathlib.Core.Path.{ap, sym, _∙_}
 use borrow.Author.Tests.{eq-eqb, ne-eqb, not-true, not-false}
 use Rattle.slices.specs.Slices.{every}
 use Rattle.xml.specs.Bytes.{isSpace}

@@ -1,11 +1,10 @@
 -- `is_done` meets its contract. Invariant: the names from j on come as often as they must.
-use mathlib.Core.Path.{_≡_, refl, ap, sym, _∙_, subst}
-use Prim.Native.Nat.{ℕ, suc, _+_, _-_, _*_, _≤_, _<_}
+use mathlib.Core.Path.{_≡_, refl, ap, sym, _∙_}
+use Prim.Native.Nat.{ℕ, _-_, _≤_}
 use native.Mathlib.Omega.{arith}
-use borrow.Author.Tests.{eq-eqb, ne-eqb, lt-ltb, le-ltb, le-leb, lt-leb, not-true, not-false}
-use mathlib.Core.Bool.{Bool, true, _||_}
+use borrow.Author.Tests.{not-true, not-false}
+use mathlib.Core.Bool.{Bool}
 use lib.ListN.{getD}
-use Rattle.index_names.specs.Sorts.{must}
 use Rattle.children.specs.Children.{below}
 use Rattle.index.specs.Structure.{once}
 use Rattle.index.specs.Sweep.{done}

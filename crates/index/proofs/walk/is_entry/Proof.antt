@@ -1,6 +1,5 @@
 -- `is_entry` meets its contract: the three tests.
-use borrow.Author.Tests.{eq-eqb, ne-eqb, lt-ltb, le-ltb, le-leb, lt-leb}
-use borrow.Author.Needs.{needs}
+use borrow.Author.Tests.{eq-eqb, ne-eqb}
 use Rattle.index.proofs.walk.is_entry.Statement.{statement}
 use Rattle.index.proofs.walk.is_entry.Tie as tie
 

@@ -1,6 +1,5 @@
 -- `is_once` meets its contract: the one test or the other.
-use borrow.Author.Tests.{eq-eqb, ne-eqb, lt-ltb, le-ltb, le-leb, lt-leb, not-true, not-false}
-use borrow.Author.Needs.{needs}
+use borrow.Author.Tests.{lt-ltb, le-ltb}
 use Rattle.index.proofs.walk.is_once.Statement.{statement}
 use Rattle.index.proofs.walk.is_once.Tie as tie
 

@@ -1,6 +1,5 @@
 -- `is_open` meets its contract: the two bounds.
-use borrow.Author.Tests.{eq-eqb, ne-eqb, lt-ltb, le-ltb, le-leb, lt-leb}
-use borrow.Author.Needs.{needs}
+use borrow.Author.Tests.{le-leb, lt-leb}
 use Rattle.index.proofs.walk.is_open.Statement.{statement}
 use Rattle.index.proofs.walk.is_open.Tie as tie
 

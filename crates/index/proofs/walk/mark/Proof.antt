@@ -1,5 +1,5 @@
 -- `mark` meets its contract: one more at its place.
-use mathlib.Core.Path.{_≡_, refl, ap, sym, _∙_, subst}
+use mathlib.Core.Path.{ap, _∙_}
 use Prim.Native.Nat.{ℕ}
 use lib.ListN.{set}
 use Rattle.index.specs.Sweep.{marked, more}

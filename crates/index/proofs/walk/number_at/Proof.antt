@@ -1,5 +1,5 @@
 -- `number_at` meets its contract: by the name that stands there.
-use mathlib.Core.Path.{_≡_, refl, ap, sym, _∙_, subst}
+use mathlib.Core.Path.{ap, _∙_}
 use Rattle.index_names.specs.Names.{names, numberIn}
 use borrow.Author.Needs.{needs}
 use Rattle.index.proofs.walk.number_at.Statement.{statement}

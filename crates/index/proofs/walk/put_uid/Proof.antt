@@ -1,5 +1,5 @@
 -- `put_uid` meets its contract: an entry's fileuid is put.
-use mathlib.Core.Path.{_≡_, refl, ap, sym, _∙_, subst}
+use mathlib.Core.Path.{ap, sym, _∙_}
 use Prim.Native.Nat.{ℕ}
 use lib.ListN.{set}
 use Rattle.slices.specs.Words.{bytes}

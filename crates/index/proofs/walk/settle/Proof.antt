@@ -1,5 +1,5 @@
 -- `settle` meets its contract: part by part.
-use mathlib.Core.Path.{_≡_, refl}
+use mathlib.Core.Path.{refl}
 use Rattle.index.proofs.Gathering.{settled-parts}
 use borrow.Author.Needs.{needs}
 use Rattle.index.proofs.walk.settle.Statement.{statement}

@@ -1,7 +1,6 @@
 -- `first_of` meets its contract.
 use mathlib.Core.Path.{sym}
 use borrow.Author.Tests.{eq-eqb, ne-eqb}
-use borrow.Author.Needs.{needs}
 use Rattle.index_files.proofs.extent_rows.first_of.Statement.{statement}
 use Rattle.index_files.proofs.extent_rows.first_of.Tie as tie
 

@@ -14,12 +14,6 @@ use mathlib.Core.Path.{sym, ap, _∙_}
 use borrow.Author.Needs.{needs}
 use Rattle.volume.proofs.answers.find_break.Statement.{statement}
 use Rattle.volume.proofs.answers.find_break.Tie as tie
-use Rattle.volume.proofs.answers.find_break.Reads as reads
-use Rattle.volume.proofs.answers.find_break.Lts as lts
-use Rattle.labels.proofs.check.Reads as check-reads
-use Rattle.slices.proofs.part.Reads as part-reads
-use Rattle.volume.proofs.answers.letters_of.Reads as letters-of-reads
-use Rattle.volume.proofs.judge.judge.Reads as judge-reads
 
 check-requires : tie.Need-check-requires
 check-requires c κs = search needs

@@ -4,13 +4,6 @@ use Rattle.index.specs.Tests.{given}
 use borrow.Author.Needs.{needs}
 use Rattle.volume.proofs.answers.rescue_with.Statement.{statement}
 use Rattle.volume.proofs.answers.rescue_with.Tie as tie
-use Rattle.volume.proofs.answers.rescue_with.Reads as reads
-use Rattle.volume.proofs.answers.rescue_with.Lts as lts
-use Rattle.volume.proofs.chains.chain.Reads as chain-reads
-use Rattle.volume.proofs.filling.fill_reach.Reads as fill-reach-reads
-use Rattle.volume.proofs.filling.list_constructs.Reads as list-constructs-reads
-use Rattle.volume.proofs.search.put_beginnings.Reads as put-beginnings-reads
-use Rattle.volume.proofs.search.search.Reads as search-reads
 
 list-constructs-requires : tie.Need-list-constructs-requires
 list-constructs-requires c κs = search needs

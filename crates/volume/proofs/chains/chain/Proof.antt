@@ -11,10 +11,6 @@ use mathlib.Core.Path.{_≡_, refl, sym, ap, subst, _∙_}
 use borrow.Author.Needs.{needs}
 use Rattle.volume.proofs.chains.chain.Statement.{statement}
 use Rattle.volume.proofs.chains.chain.Tie as tie
-use Rattle.volume.proofs.chains.chain.Reads as reads
-use Rattle.volume.proofs.chains.chain.Lts as lts
-use Rattle.tables.proofs.put.Reads as put-reads
-use Rattle.volume.proofs.chains.link.Reads as link-reads
 
 abbrev Inv-loop : tie.InvT-loop
 Inv-loop store uuid volume table n generations₀ k₀ last₀ generations k last =

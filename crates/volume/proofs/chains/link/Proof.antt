@@ -6,12 +6,6 @@ use borrow.Author.Tests.{not-true, not-false}
 use borrow.Author.Needs.{needs}
 use Rattle.volume.proofs.chains.link.Statement.{statement}
 use Rattle.volume.proofs.chains.link.Tie as tie
-use Rattle.volume.proofs.chains.link.Reads as reads
-use Rattle.volume.proofs.chains.link.Lts as lts
-use Rattle.constructs.proofs.construct.Reads as construct-reads
-use Rattle.volume.proofs.sound.joins.Reads as joins-reads
-use Rattle.volume.proofs.sound.read_brief.Reads as read-brief-reads
-use Rattle.volume.proofs.sound.text_at.Reads as text-at-reads
 
 construct-requires : tie.Need-construct-requires
 construct-requires c κs = search needs

@@ -9,12 +9,6 @@ use mathlib.Core.Path.{sym, ap, _∙_}
 use borrow.Author.Needs.{needs}
 use Rattle.volume.proofs.chosen.read_construct.Statement.{statement}
 use Rattle.volume.proofs.chosen.read_construct.Tie as tie
-use Rattle.volume.proofs.chosen.read_construct.Reads as reads
-use Rattle.volume.proofs.chosen.read_construct.Lts as lts
-use Rattle.constructs.proofs.construct.Reads as construct-reads
-use Rattle.constructs.proofs.scan.Reads as scan-reads
-use Rattle.index.proofs.is_caller_right.Reads as is-caller-right-reads
-use Rattle.volume.proofs.chosen.read_place.Reads as read-place-reads
 
 is-caller-right-requires : tie.Need-is-caller-right-requires
 is-caller-right-requires c κs = search needs

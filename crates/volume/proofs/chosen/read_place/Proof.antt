@@ -6,10 +6,6 @@ use mathlib.Core.Path.{sym, ap, _∙_}
 use borrow.Author.Needs.{needs}
 use Rattle.volume.proofs.chosen.read_place.Statement.{statement}
 use Rattle.volume.proofs.chosen.read_place.Tie as tie
-use Rattle.volume.proofs.chosen.read_place.Reads as reads
-use Rattle.volume.proofs.chosen.read_place.Lts as lts
-use Rattle.index.proofs.read_index.Reads as read-index-reads
-use Rattle.volume.proofs.sound.text_at.Reads as text-at-reads
 
 text-at-requires : tie.Need-text-at-requires
 text-at-requires c κs = search needs

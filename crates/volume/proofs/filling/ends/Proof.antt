@@ -5,9 +5,6 @@ use mathlib.Core.Path.{refl}
 use borrow.Author.Needs.{needs}
 use Rattle.volume.proofs.filling.ends.Statement.{statement}
 use Rattle.volume.proofs.filling.ends.Tie as tie
-use Rattle.volume.proofs.filling.ends.Reads as reads
-use Rattle.volume.proofs.filling.ends.Lts as lts
-use Rattle.constructs.proofs.construct.Reads as construct-reads
 
 returns : tie.Need-returns
 returns c = ends-none (c .before .args .table .now) (c .before .args .n) (c .before .args .count) (c .if1 .taken)

@@ -5,9 +5,6 @@ use mathlib.Core.Path.{ap}
 use borrow.Author.Needs.{needs}
 use Rattle.volume.proofs.filling.fill_reach.Statement.{statement}
 use Rattle.volume.proofs.filling.fill_reach.Tie as tie
-use Rattle.volume.proofs.filling.fill_reach.Reads as reads
-use Rattle.volume.proofs.filling.fill_reach.Lts as lts
-use Rattle.constructs.proofs.reach.reach.Reads as reach-reads
 
 reach-requires : tie.Need-reach-requires
 reach-requires c κs = search needs

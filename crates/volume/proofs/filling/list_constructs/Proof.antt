@@ -5,9 +5,6 @@ use mathlib.Core.Path.{ap}
 use borrow.Author.Needs.{needs}
 use Rattle.volume.proofs.filling.list_constructs.Statement.{statement}
 use Rattle.volume.proofs.filling.list_constructs.Tie as tie
-use Rattle.volume.proofs.filling.list_constructs.Reads as reads
-use Rattle.volume.proofs.filling.list_constructs.Lts as lts
-use Rattle.constructs.proofs.scan.Reads as scan-reads
 
 scan-requires : tie.Need-scan-requires
 scan-requires c κs = search needs

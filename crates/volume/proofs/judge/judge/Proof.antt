@@ -5,15 +5,6 @@ use borrow.Author.Tests.{not-true, not-false}
 use borrow.Author.Needs.{needs}
 use Rattle.volume.proofs.judge.judge.Statement.{statement}
 use Rattle.volume.proofs.judge.judge.Tie as tie
-use Rattle.volume.proofs.judge.judge.Reads as reads
-use Rattle.volume.proofs.judge.judge.Lts as lts
-use Rattle.tables.proofs.item.Reads as item-reads
-use Rattle.volume.proofs.chains.chain.Reads as chain-reads
-use Rattle.volume.proofs.filling.ends.Reads as ends-reads
-use Rattle.volume.proofs.filling.fill_reach.Reads as fill-reach-reads
-use Rattle.volume.proofs.filling.list_constructs.Reads as list-constructs-reads
-use Rattle.volume.proofs.judge.judge_last.Reads as judge-last-reads
-use Rattle.volume.proofs.sound.between.Reads as between-reads
 
 list-constructs-requires : tie.Need-list-constructs-requires
 list-constructs-requires c κs = search needs

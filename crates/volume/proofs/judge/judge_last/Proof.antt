@@ -9,13 +9,6 @@ use mathlib.Core.Path.{sym, ap, _∙_}
 use borrow.Author.Needs.{needs}
 use Rattle.volume.proofs.judge.judge_last.Statement.{statement}
 use Rattle.volume.proofs.judge.judge_last.Tie as tie
-use Rattle.volume.proofs.judge.judge_last.Reads as reads
-use Rattle.volume.proofs.judge.judge_last.Lts as lts
-use Rattle.constructs.proofs.construct.Reads as construct-reads
-use Rattle.volume.proofs.lost.first_lost.Reads as first-lost-reads
-use Rattle.volume.proofs.sound.joins.Reads as joins-reads
-use Rattle.volume.proofs.sound.read_brief.Reads as read-brief-reads
-use Rattle.volume.proofs.sound.text_at.Reads as text-at-reads
 
 construct-requires : tie.Need-construct-requires
 construct-requires c κs = search needs

@@ -14,11 +14,6 @@ use mathlib.Core.Path.{_≡_, sym, ap, subst, _∙_}
 use borrow.Author.Needs.{needs}
 use Rattle.volume.proofs.lost.file_lies.Statement.{statement}
 use Rattle.volume.proofs.lost.file_lies.Tie as tie
-use Rattle.volume.proofs.lost.file_lies.Reads as reads
-use Rattle.volume.proofs.lost.file_lies.Lts as lts
-use Rattle.index_files.proofs.first_row.Reads as first-row-reads
-use Rattle.index_files.proofs.next_row.Reads as next-row-reads
-use Rattle.volume.proofs.lost.row_lies.Reads as row-lies-reads
 
 abbrev Inv-loop : tie.InvT-loop
 Inv-loop text n volume index-reach index-kept data-reach data-kept at₀ at =

@@ -16,10 +16,6 @@ use mathlib.Core.Path.{_≡_, refl, sym, subst, _∙_}
 use borrow.Author.Needs.{needs}
 use Rattle.volume.proofs.lost.first_lost.Statement.{statement}
 use Rattle.volume.proofs.lost.first_lost.Tie as tie
-use Rattle.volume.proofs.lost.first_lost.Reads as reads
-use Rattle.volume.proofs.lost.first_lost.Lts as lts
-use Rattle.index_files.proofs.next_file.Reads as next-file-reads
-use Rattle.volume.proofs.lost.file_lies.Reads as file-lies-reads
 
 abbrev Inv-loop : tie.InvT-loop
 Inv-loop text volume index-reach index-kept data-reach data-kept at₀ k₀ at k =

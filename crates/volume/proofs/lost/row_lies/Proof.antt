@@ -4,9 +4,6 @@ use Rattle.index_files.specs.Rows.{rowIs}
 use borrow.Author.Needs.{needs}
 use Rattle.volume.proofs.lost.row_lies.Statement.{statement}
 use Rattle.volume.proofs.lost.row_lies.Tie as tie
-use Rattle.volume.proofs.lost.row_lies.Reads as reads
-use Rattle.volume.proofs.lost.row_lies.Lts as lts
-use Rattle.constructs.proofs.reach.lies.Reads as lies-reads
 
 cast-if1 : tie.Need-cast-if1
 cast-if1 c = search needs

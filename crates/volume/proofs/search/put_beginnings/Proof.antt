@@ -8,11 +8,6 @@ use mathlib.Core.Path.{_≡_, refl, sym, ap, subst, _∙_}
 use borrow.Author.Needs.{needs}
 use Rattle.volume.proofs.search.put_beginnings.Statement.{statement}
 use Rattle.volume.proofs.search.put_beginnings.Tie as tie
-use Rattle.volume.proofs.search.put_beginnings.Reads as reads
-use Rattle.volume.proofs.search.put_beginnings.Lts as lts
-use Rattle.constructs.proofs.construct.Reads as construct-reads
-use Rattle.tables.proofs.put32.Reads as put32-reads
-use Rattle.volume.proofs.search.narrow.Reads as narrow-reads
 
 abbrev Inv-loop : tie.InvT-loop
 Inv-loop table n beginnings₀ k₀ beginnings k = (k ≤ n) × (length beginnings ≡ length beginnings₀) × BeginsAt table n beginnings₀ beginnings k

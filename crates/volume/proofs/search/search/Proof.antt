@@ -4,13 +4,10 @@ use Rattle.volume.specs.Steps.{Tries}
 use Rattle.index.specs.Tests.{given}
 use native.Mathlib.Omega.{arith}
 use Prim.Native.Nat.{_-_, _≤_}
-use mathlib.Core.Path.{sym, subst}
+use mathlib.Core.Path.{subst}
 use borrow.Author.Needs.{needs}
 use Rattle.volume.proofs.search.search.Statement.{statement}
 use Rattle.volume.proofs.search.search.Tie as tie
-use Rattle.volume.proofs.search.search.Reads as reads
-use Rattle.volume.proofs.search.search.Lts as lts
-use Rattle.volume.proofs.search.try_cut.Reads as try-cut-reads
 
 abbrev Inv-loop : tie.InvT-loop
 Inv-loop store uuid volume index-table n data-table generations beginnings index-reach data-reach k₀ k =

@@ -6,15 +6,6 @@ use mathlib.Core.Path.{refl, sym, ap, _∙_}
 use borrow.Author.Needs.{needs}
 use Rattle.volume.proofs.search.try_cut.Statement.{statement}
 use Rattle.volume.proofs.search.try_cut.Tie as tie
-use Rattle.volume.proofs.search.try_cut.Reads as reads
-use Rattle.volume.proofs.search.try_cut.Lts as lts
-use Rattle.constructs.proofs.construct.Reads as construct-reads
-use Rattle.tables.proofs.item.Reads as item-reads
-use Rattle.tables.proofs.item32.Reads as item32-reads
-use Rattle.volume.proofs.lost.first_lost.Reads as first-lost-reads
-use Rattle.volume.proofs.sound.joins.Reads as joins-reads
-use Rattle.volume.proofs.sound.read_brief.Reads as read-brief-reads
-use Rattle.volume.proofs.sound.text_at.Reads as text-at-reads
 
 construct-requires : tie.Need-construct-requires
 construct-requires c κs = search needs

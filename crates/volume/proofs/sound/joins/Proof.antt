@@ -1,11 +1,8 @@
 -- `joins` meets its contract, test by test.
 use Rattle.volume.proofs.Briefs.{joins-unsound, joins-alone, joins-letter, joins-block, joins-last}
 use borrow.Author.Tests.{eq-eqb, ne-eqb, not-true, not-false}
-use borrow.Author.Needs.{needs}
 use Rattle.volume.proofs.sound.joins.Statement.{statement}
 use Rattle.volume.proofs.sound.joins.Tie as tie
-use Rattle.volume.proofs.sound.joins.Reads as reads
-use Rattle.volume.proofs.sound.joins.Lts as lts
 
 returns : tie.Need-returns
 returns c = joins-unsound (c .before .before .args .b) (c .before .before .args .letter) (c .before .before .args .first .0) (c .before .before .args .generation .0) (not-true _ (c .if1 .taken))

@@ -6,9 +6,6 @@ use mathlib.Core.Path.{ap, sym, _∙_}
 use borrow.Author.Needs.{needs}
 use Rattle.volume.proofs.sound.read_brief.Statement.{statement}
 use Rattle.volume.proofs.sound.read_brief.Tie as tie
-use Rattle.volume.proofs.sound.read_brief.Reads as reads
-use Rattle.volume.proofs.sound.read_brief.Lts as lts
-use Rattle.index.proofs.read_index.Reads as read-index-reads
 
 read-index-requires : tie.Need-read-index-requires
 read-index-requires c κs = search needs

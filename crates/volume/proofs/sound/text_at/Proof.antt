@@ -5,10 +5,6 @@ use mathlib.Core.Path.{ap, _∙_}
 use borrow.Author.Needs.{needs}
 use Rattle.volume.proofs.sound.text_at.Statement.{statement}
 use Rattle.volume.proofs.sound.text_at.Tie as tie
-use Rattle.volume.proofs.sound.text_at.Reads as reads
-use Rattle.volume.proofs.sound.text_at.Lts as lts
-use Rattle.slices.proofs.part.Reads as part-reads
-use Rattle.volume.proofs.sound.between.Reads as between-reads
 
 between-requires : tie.Need-between-requires
 between-requires c κs = search needs

@@ -3,7 +3,7 @@ use mathlib.Core.Path.{_≡_, refl, sym, _∙_}
 use native.Mathlib.Omega.{arith}
 use Rattle.slices.specs.Words.{bytes}
 use mathlib.Core.List.{List, [], _++_}
-use Prim.Native.Nat.{ℕ, _≤_}
+use Prim.Native.Nat.{ℕ}
 use lib.ListN.{length, replicate, length-append}
 use Rattle.label.specs.Vol1.{vol1}
 use Rattle.label.proofs.Adding.{fits, nothing-yet, all-written}
