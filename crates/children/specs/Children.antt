@@ -18,7 +18,7 @@ noAttribute h = eqb (length (h .key)) 0
 abbrev pub noText : Head → Forest → Bool
 noText h k = isRow k || every isSpace (h .text)
 
--- what a child may hold by its mark; a child without a rule has mark 0 and may not stand here
+-- what a child may hold by its mark: `=` (61) a value, `/` (47) children, `*` (42) anything; a child without a rule has mark 0 and may not stand here
 unfoldable pub holds : ℕ → Head → Forest → Bool
 holds mark h k = cond (eqb mark 61) (not (isRow k)) (cond (eqb mark 47) (noText h k) (eqb mark 42))
 

@@ -8,7 +8,7 @@ use Rattle.slices.specs.Slices.{every}
 use Rattle.extents.specs.Rows.{Row}
 
 -- with E = byteoffset + bytecount, of the blocks startblock to startblock + (E - 1) div B all but the last are exactly B long,
--- the last at least (E - 1) mod B + 1
+-- the last at least (E - 1) mod B + 1. Where the list ends before the last block, `take` is shorter and the last test fails
 unfoldable pub liesOnTape : List ℕ → ℕ → Row → Bool
 liesOnTape lengths B r =
     let E : ℕ = r .byteoffset + r .bytecount in

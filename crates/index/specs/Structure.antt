@@ -26,7 +26,7 @@ count j kind (node h c r) = cond (eqb (numberOf kind h) j) (suc (count j kind r)
 abbrev pub once : ℕ → ℕ → ℕ → Bool
 once needed j n = cond (ltb j needed) (eqb n 1) (leb n 1)
 
--- with `fits` of each of its elements, this is `lawful` of children's specs/Children by the table of the kind's names: proofs/Lawful, row-lawful
+-- 16 is more than any kind has names, so names that are unknown are counted too. With `fits` of each of its elements, this is `lawful` of children's specs/Children by the table of the kind's names: proofs/Lawful, row-lawful
 unfoldable pub complete : ℕ → Forest → Bool
 complete kind f = repeats kind || below 16 (λ j. once (must kind) j (count j kind f))
 
