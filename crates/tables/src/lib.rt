@@ -22,19 +22,19 @@ pub fn put(table: &mut [u64], n: usize, v: u64)
 }
 
 // The same for a table of narrower numbers.
-pub fn item32(table: &[u32], n: usize) -> u32
-    ensures { λ r. ⌜ r ≡ getD (now (table .entry)) n 0 ⌝ }
+pub fn item32(table: &[u32], k: usize) -> u32
+    ensures { λ r. ⌜ r ≡ getD (now (table .entry)) k 0 ⌝ }
 {
-    if n < table.len() {
-        return table[n];
+    if k < table.len() {
+        return table[k];
     }
     0
 }
 
-pub fn put32(table: &mut [u32], n: usize, v: u32)
-    ensures { λ r. ⌜ now (table .exit) ≡ set (now (table .entry)) n v ⌝ }
+pub fn put32(table: &mut [u32], k: usize, v: u32)
+    ensures { λ r. ⌜ now (table .exit) ≡ set (now (table .entry)) k v ⌝ }
 {
-    if n < table.len() {
-        table[n] = v;
+    if k < table.len() {
+        table[k] = v;
     }
 }
