@@ -1,0 +1,19 @@
+# Check.
+is 0 "$K" check fresh
+says out "fresh  KLA001  30a91a08-daae-48d1-ae75-69804e61d2ea  consistent; cut keeps all 7 + 7 elements, generation 1"
+says out "1 cartridge: 1 consistent"
+says_not out $'\033'
+is 1 "$K" check fresh torn nights defect
+says out "torn  KLA001  30a91a08-daae-48d1-ae75-69804e61d2ea  break 2: "
+says out "cut none leaves a consistent volume"
+says out "keeps 13 + 71 of 13 + 78 elements, generation 4"
+says out "4 cartridges: 1 consistent, 2 to cut, 1 without a cut, 0 refused, 0 unreadable"
+is 1 "$K" check --json torn fresh
+says out '"verdict":"break","break":{"which":2,"number":0,'
+says out '"cut":{"index_construct":0,"data_construct":0,"index_kept":7,"data_kept":7,"generation":1}}'
+says_not out "cartridge"
+checks=$((checks + 1))
+[ "$(wc -l < out)" -eq 2 ] || fail "not one object a line"
+cp -r fresh './-odd "name"'
+is 0 "$K" check --json -- '-odd "name"'
+says out '{"folder":"-odd \"name\"",'

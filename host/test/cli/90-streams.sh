@@ -1,0 +1,17 @@
+# Pipes and terminals.
+is 2 bash -c "'$K' check fresh > /dev/full"
+says err "standard output: No space left on device"
+"$K" extract sparse 1 2> err | head -c 10 > out
+checks=$((checks + 1))
+[ "$(stat -c %s out)" -eq 10 ] && [ ! -s err ] || fail "a closed pipe is not quiet"
+is 2 bash -c "trap '' PIPE; '$K' extract nights 2 | true; exit \${PIPESTATUS[0]}"
+says err "Broken pipe"
+if command -v script > /dev/null; then
+    script -qec "'$K' check fresh fresh fresh fresh fresh fresh fresh fresh" /dev/null > out < /dev/null
+    says out $'\033[32mconsistent'
+    says out "] 7 of 8"
+    script -qec "'$K' show nights" /dev/null > out < /dev/null
+    says out $'\033[32m'
+    NO_COLOR=1 script -qec "'$K' show nights" /dev/null > out < /dev/null
+    says_not out $'\033[3'
+fi
