@@ -5,10 +5,10 @@ use borrow.Author.Tests.{eq-eqb, ne-eqb}
 use native.Mathlib.Omega.{arith}
 use lib.ListN.{length, drop}
 use Rattle.slices.specs.Slices.{same}
-use Rattle.elements.specs.Decoded.{decoded, NextByte}
+use Rattle.texts.specs.Decoded.{decoded, NextByte}
 use borrow.Author.Needs.{needs}
-use Rattle.elements.proofs.texts.same_decoded.Statement.{statement}
-use Rattle.elements.proofs.texts.same_decoded.Tie as tie
+use Rattle.texts.proofs.same_decoded.Statement.{statement}
+use Rattle.texts.proofs.same_decoded.Tie as tie
 
 abbrev Inv-loop : tie.InvT-loop
 Inv-loop a b i₀ j₀ i j = (i ≤ length a) × (j ≤ length b) × (same (decoded a) (decoded b) ≡ same (decoded (drop i a)) (decoded (drop j b)))

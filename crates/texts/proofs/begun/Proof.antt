@@ -1,8 +1,8 @@
 -- `begun` meets its contract: each return by the tests that led there.
 use borrow.Author.Tests.{le-leb, lt-leb}
 use borrow.Author.Needs.{needs}
-use Rattle.elements.proofs.texts.begun.Statement.{statement}
-use Rattle.elements.proofs.texts.begun.Tie as tie
+use Rattle.texts.proofs.begun.Statement.{statement}
+use Rattle.texts.proofs.begun.Tie as tie
 
 returns : tie.Need-returns
 returns c = (rw (lt-leb 128 _ (c .if1 .taken)), search needs)

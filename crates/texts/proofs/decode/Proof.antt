@@ -7,11 +7,11 @@ use lib.ListN.{length, drop, length-set}
 use Rattle.slices.specs.Slices.{written}
 use Rattle.slices.proofs.Writing.{written-nil}
 use Rattle.slices.proofs.Writers.{puts-short, puts-whole}
-use Rattle.elements.specs.Decoded.{decoded, NextByte}
-use Rattle.elements.proofs.Meanings.{written-on}
+use Rattle.texts.specs.Decoded.{decoded, NextByte}
+use Rattle.texts.proofs.Meanings.{written-on}
 use borrow.Author.Needs.{needs}
-use Rattle.elements.proofs.texts.decode.Statement.{statement}
-use Rattle.elements.proofs.texts.decode.Tie as tie
+use Rattle.texts.proofs.decode.Statement.{statement}
+use Rattle.texts.proofs.decode.Tie as tie
 
 abbrev Inv-loop : tie.InvT-loop
 Inv-loop raw out₀ at i₀ k₀ out i k =

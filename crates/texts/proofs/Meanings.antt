@@ -12,7 +12,7 @@ use lib.Seq.{drop-cons, drop-drop}
 use Rattle.slices.specs.Slices.{written}
 use Rattle.slices.proofs.Writing.{written-set, written-then}
 use Rattle.slices.proofs.Equal.{same-eq, lengths-differ}
-use Rattle.elements.specs.Decoded.{begins, Meant, meant, reference, meaning, decodedBehind, decoded, Means}
+use Rattle.texts.specs.Decoded.{begins, Meant, meant, reference, meaning, decodedBehind, decoded, Means}
 
 -- a text that begins with w is no shorter
 begins-fits : (w r : List ℕ) → begins w r ≡ true → length w ≤ length r

@@ -7,7 +7,7 @@ use borrow.Author.Tests.{ne-eqb}
 use lib.ListN.{length}
 use Rattle.slices.specs.Slices.{same}
 use Rattle.xml.specs.Grammar.{Entity, amp, lt, gt, quot, apos}
-use Rattle.elements.specs.Decoded.{reference, meaning, decodedBehind, decoded}
+use Rattle.texts.specs.Decoded.{reference, meaning, decodedBehind, decoded}
 
 -- the byte that a reference stands for
 abbrev pub entityByte : {e : List ℕ} → Entity e → ℕ

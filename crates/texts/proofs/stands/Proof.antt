@@ -4,10 +4,10 @@ use Prim.Native.Nat.{ℕ, _+_, _-_}
 use native.Mathlib.Omega.{arith}
 use lib.ListN.{length, take, drop, length-drop}
 use Rattle.slices.specs.Slices.{same}
-use Rattle.elements.proofs.Meanings.{begins-short}
+use Rattle.texts.proofs.Meanings.{begins-short}
 use borrow.Author.Needs.{needs}
-use Rattle.elements.proofs.texts.stands.Statement.{statement}
-use Rattle.elements.proofs.texts.stands.Tie as tie
+use Rattle.texts.proofs.stands.Statement.{statement}
+use Rattle.texts.proofs.stands.Tie as tie
 
 sub-if1 : tie.Need-sub-if1
 sub-if1 c = search needs

@@ -7,7 +7,7 @@ ghost use Prim.Native.Nat.{_+_, _≤_, _<_};
 ghost use lib.ListN.{length, drop, getD};
 ghost use Rattle.slices.specs.Slices as slices;
 ghost use Rattle.slices.specs.Writers.{Puts};
-ghost use Rattle.elements.specs.Decoded.{begins, meant, reference, decoded, codePoints, continues, NextByte};
+ghost use Rattle.texts.specs.Decoded.{begins, meant, reference, decoded, codePoints, continues, NextByte};
 
 // A byte as it is meant, and the place behind what spells it; or the end of the text.
 pub enum Spelled {

@@ -6,8 +6,8 @@ use Prim.Native.Nat.{ℕ, zero, suc, _+_, _<_, _≤_}
 use lib.Dec.{eqb}
 use lib.ListN.{length, take, drop}
 use Rattle.slices.specs.Slices.{within, same}
-use Rattle.elements.specs.declared.texts.Spelled.{Spelled}
-use Rattle.elements.specs.declared.texts.Spelled.the-variants.{End, Byte}
+use Rattle.texts.specs.declared.Spelled.{Spelled}
+use Rattle.texts.specs.declared.Spelled.the-variants.{End, Byte}
 
 -- whether s begins with w
 abbrev pub begins : List ℕ → List ℕ → Bool

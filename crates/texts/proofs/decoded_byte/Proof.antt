@@ -4,10 +4,10 @@ use mathlib.Core.Path.{_≡_, refl, ap, sym, _∙_, subst}
 use mathlib.Core.List.{List, _∷_}
 use native.Mathlib.Omega.{arith}
 use lib.ListN.{length, drop, getD}
-use Rattle.elements.specs.Decoded.{decoded, NextByte}
+use Rattle.texts.specs.Decoded.{decoded, NextByte}
 use borrow.Author.Needs.{needs}
-use Rattle.elements.proofs.texts.decoded_byte.Statement.{statement}
-use Rattle.elements.proofs.texts.decoded_byte.Tie as tie
+use Rattle.texts.proofs.decoded_byte.Statement.{statement}
+use Rattle.texts.proofs.decoded_byte.Tie as tie
 
 abbrev Inv-loop : tie.InvT-loop
 Inv-loop raw k i₀ left₀ i left = (i ≤ length raw) × (getD (decoded raw) k 0 ≡ getD (decoded (drop i raw)) left 0)

@@ -1,9 +1,9 @@
 -- `next_byte` meets its contract: nothing past the end, a byte that is no `&` means itself, and an `&` what its reference means.
 use native.Mathlib.Omega.{arith}
-use Rattle.elements.proofs.Meanings.{decoded-end, plain-at, reference-at}
+use Rattle.texts.proofs.Meanings.{decoded-end, plain-at, reference-at}
 use borrow.Author.Needs.{needs}
-use Rattle.elements.proofs.texts.next_byte.Statement.{statement}
-use Rattle.elements.proofs.texts.next_byte.Tie as tie
+use Rattle.texts.proofs.next_byte.Statement.{statement}
+use Rattle.texts.proofs.next_byte.Tie as tie
 
 returns : tie.Need-returns
 returns c = decoded-end (c .before .before .args .raw .now) (c .before .before .args .at) (c .if1 .taken)

@@ -1,9 +1,9 @@
 -- `meaning_of` meets its contract: the references are tried in the definition's order.
 use mathlib.Core.Path.{sym, _∙_}
-use Rattle.elements.specs.Decoded.{reference}
+use Rattle.texts.specs.Decoded.{reference}
 use borrow.Author.Needs.{needs}
-use Rattle.elements.proofs.texts.meaning_of.Statement.{statement}
-use Rattle.elements.proofs.texts.meaning_of.Tie as tie
+use Rattle.texts.proofs.meaning_of.Statement.{statement}
+use Rattle.texts.proofs.meaning_of.Tie as tie
 
 slice-aggregate-stands : tie.Need-slice-aggregate-stands
 slice-aggregate-stands c = search needs
