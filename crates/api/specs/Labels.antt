@@ -6,7 +6,7 @@ use Prim.Native.Nat.{ℕ}
 use lib.Dec.{leb, eqb}
 use lib.ListN.{getD}
 use Rattle.elements.specs.Reading.{Inside}
-use Rattle.elements.specs.Decoded.{decoded}
+use Rattle.texts.specs.Decoded.{decoded}
 use Rattle.label.specs.Vol1.{Fields, identifierAt, identifierLength, ownerAt, ownerLength}
 use Rattle.label.specs.Label.{Label}
 use Rattle.label.specs.Text.{isGiven, labelOfGiven}

@@ -2,8 +2,6 @@ pub mod Names
 pub mod Left
 pub mod Rows
 pub mod Parts
-pub mod Meanings
 pub mod Roots
 pub mod Plain
 pub mod Finding
-pub mod Entities

@@ -1,3 +1,2 @@
 pub mod Reading
-pub mod Decoded
 pub mod Starts

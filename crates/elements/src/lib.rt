@@ -1,10 +1,9 @@
-// The elements of a text (01, The XML form), read tag by tag, and texts decoded. Nothing here asks that a text is in the form: a place may
-// lie anywhere, and each answer is what the definitions read off the bytes there.
+// The elements of a text (01, The XML form), read tag by tag. Nothing here asks that a text is in the form: a place may lie anywhere, and
+// each answer is what the definitions read off the bytes there.
 mod heads;
 mod scan;
 mod starts;
 mod tags;
-mod texts;
 
 pub use heads::Span;
 pub use heads::first_child;
@@ -27,10 +26,3 @@ pub use tags::Tag;
 pub use tags::leave;
 pub use tags::next_child;
 pub use tags::next_tag;
-pub use texts::Spelled;
-pub use texts::code_points;
-pub use texts::decode;
-pub use texts::decoded_byte;
-pub use texts::decoded_len;
-pub use texts::next_byte;
-pub use texts::same_decoded;

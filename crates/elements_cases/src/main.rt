@@ -182,7 +182,7 @@ fn show_decoded(raw: &[u8]) {
     let mut out = [46u8; 16];
     put(raw);
     put(b" = ");
-    match elements::decode(raw, &mut out, 2) {
+    match texts::decode(raw, &mut out, 2) {
         Written::To(end) => {
             put(&out);
             number(end);
@@ -192,15 +192,15 @@ fn show_decoded(raw: &[u8]) {
             put(b" refused");
         }
     }
-    number(elements::decoded_len(raw));
-    number(elements::code_points(raw));
-    number(elements::decoded_byte(raw, 1) as usize);
+    number(texts::decoded_len(raw));
+    number(texts::code_points(raw));
+    number(texts::decoded_byte(raw, 1) as usize);
     line(b"");
 }
 
 fn show_same(a: &[u8], b: &[u8]) {
     put(a);
-    if elements::same_decoded(a, b) {
+    if texts::same_decoded(a, b) {
         put(b" means ");
     } else {
         put(b" does not mean ");

@@ -177,7 +177,7 @@ fn name_as(text: &[u8], from: usize, len: usize, expected: &[u8]) -> bool {
     }
     let end = from + len;
     let mut name = [0u8; 2048];
-    match elements::decode(&text[from..end], &mut name, 0) {
+    match texts::decode(&text[from..end], &mut name, 0) {
         Written::Refused(_) => false,
         Written::To(n) => front_as(&name, n, expected),
     }

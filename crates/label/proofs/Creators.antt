@@ -20,9 +20,9 @@ use Rattle.xml.specs.Machine.{Outcome, good, broken, form}
 use Rattle.xml.proofs.Form.{form-reads, same-form}
 use Rattle.xml.proofs.Utf8.{ascii}
 use Rattle.xml.proofs.Written.{leaf, branch}
-use Rattle.elements.specs.Decoded.{decodedBehind, decoded}
+use Rattle.texts.specs.Decoded.{decodedBehind, decoded}
 use Rattle.elements.proofs.Roots.{root-row}
-use Rattle.elements.proofs.Entities.{entityByte, decoded-entity, decoded-plain}
+use Rattle.texts.proofs.Entities.{entityByte, decoded-entity, decoded-plain}
 use Rattle.label.specs.Label.{Label, isFormed}
 use Rattle.label.specs.Text.{escape, escaped, word, texts, letters, numbers, opening, closing, textOf, isLawful, Characters, isGiven}
 use Rattle.label.proofs.Escaping.{escaped-append, decoded-escaped}

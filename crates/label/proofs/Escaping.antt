@@ -14,8 +14,8 @@ use Rattle.slices.proofs.Booleans.{and-both}
 use Rattle.slices.proofs.Every.{every-append}
 use Rattle.xml.specs.Tree.{isNot, notOpen}
 use Rattle.xml.specs.Grammar.{amp, lt, gt}
-use Rattle.elements.specs.Decoded.{decodedBehind, decoded}
-use Rattle.elements.proofs.Entities.{decoded-entity, decoded-plain}
+use Rattle.texts.specs.Decoded.{decodedBehind, decoded}
+use Rattle.texts.proofs.Entities.{decoded-entity, decoded-plain}
 use Rattle.label.specs.Text.{escape, escaped}
 
 pub escaped-append : (s t : List ℕ) → escaped (s ++ t) ≡ escaped s ++ escaped t

@@ -21,7 +21,7 @@ use Rattle.digits.proofs.Numbers.{number-short}
 use Rattle.xml.specs.Tree.{none}
 use Rattle.xml.specs.Machine.{form}
 use Rattle.elements.specs.Reading.{isRow}
-use Rattle.elements.specs.Decoded.{decoded}
+use Rattle.texts.specs.Decoded.{decoded}
 use Rattle.children.specs.Rules.{isMark, rules, longer, placeOf, markOf}
 use Rattle.children.specs.Children.{holds, allKnown, pick, atMostOne, below, lawful, only, textOf as textOfFirst, childrenOf}
 use Rattle.values.specs.Values.{number, boolean, letter, version, isCreator, isTime, isUuid}

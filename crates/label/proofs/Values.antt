@@ -14,7 +14,7 @@ use lib.ListN.{length}
 use Rattle.xml.specs.Machine.{form}
 use Rattle.xml.specs.Tree.{Head, Forest, none, node}
 use Rattle.elements.specs.Reading.{rowAt}
-use Rattle.elements.specs.Decoded.{decoded}
+use Rattle.texts.specs.Decoded.{decoded}
 use Rattle.values.specs.Values.{number, boolean, letter, version, isTime, isUuid, isCreator}
 use Rattle.label.specs.Label.{Texts, isShaped, textsIn, lettersFit, labelFrom, rootOf, firstOf, isFormed, labelOf}
 

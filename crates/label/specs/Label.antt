@@ -16,7 +16,7 @@ use Rattle.quantities.specs.Sizes.{isBlockSize}
 use Rattle.xml.specs.Machine.{Outcome, good, broken, form}
 use Rattle.xml.specs.Tree.{Head, Forest, none, node}
 use Rattle.elements.specs.Reading.{rowAt}
-use Rattle.elements.specs.Decoded.{decoded}
+use Rattle.texts.specs.Decoded.{decoded}
 use Rattle.children.specs.Rules.{Rule, rules}
 use Rattle.children.specs.Children.{lawful, only, textOf, childrenOf}
 use Rattle.values.specs.Values.{number, boolean, letter, version, isTime, isUuid, isCreator}

@@ -5,7 +5,7 @@ use mathlib.Core.List.{List}
 use Prim.Native.Nat.{ℕ}
 use Rattle.refusals.specs.Refusals.{Answer, refused, answer}
 use Rattle.elements.specs.Reading.{headAt, partAt, Inside}
-use Rattle.elements.specs.Decoded.{decoded}
+use Rattle.texts.specs.Decoded.{decoded}
 use Rattle.xml.specs.Tree.{Forest}
 use Rattle.label.specs.Label.{Label, Texts, isShaped, textsIn}
 use Rattle.label.specs.declared.reader.Places.{Places}

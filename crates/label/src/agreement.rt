@@ -18,7 +18,7 @@ fn same_bool(a: bool, b: bool) -> bool
 fn same_texts(s: &[u8], f: Fields, t: &[u8], g: Fields) -> bool
     ensures { λ r. ⌜ r ≡ sameTexts (fieldsIn (now (s .entry)) f) (fieldsIn (now (t .entry)) g) ⌝ }
 {
-    if !elements::same_decoded(elements::part(s, f.creator), elements::part(t, g.creator)) {
+    if !texts::same_decoded(elements::part(s, f.creator), elements::part(t, g.creator)) {
         return false;
     }
     if !slices::same(elements::part(s, f.time), elements::part(t, g.time)) {

@@ -12,7 +12,7 @@ ghost use mathlib.Core.Bool.{_&&_};
 ghost use Rattle.slices.specs.Slices as slices;
 ghost use Rattle.slices.specs.Words.{bytes};
 ghost use Rattle.elements.specs.Reading.{headAt, childrenAt};
-ghost use Rattle.elements.specs.Decoded.{decoded};
+ghost use Rattle.texts.specs.Decoded.{decoded};
 ghost use Rattle.values.specs.Values.{isCreator, isTime, isUuid};
 ghost use Rattle.label.specs.Label.{lettersFit, labelFrom, rootOf, labelOf};
 ghost use Rattle.label.specs.Reading.{textsAt, Finds, ReadsLabel};

@@ -22,7 +22,7 @@ fn part(text: &[u8], w: Span) -> &[u8] {
 // Whether raw means the bytes expected.
 fn means(raw: &[u8], expected: &[u8]) -> bool {
     let mut out = [0u8; 4096];
-    match elements::decode(raw, &mut out, 0) {
+    match texts::decode(raw, &mut out, 0) {
         Written::To(n) => front_is(&out, n, expected),
         Written::Refused(_) => false,
     }

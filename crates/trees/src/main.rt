@@ -21,7 +21,7 @@ fn room() -> [u8; 1048576]
 // A text with references, decoded.
 fn put_spelled(raw: &[u8]) {
     let mut out = io::large_buffer();
-    match elements::decode(raw, &mut out, 0) {
+    match texts::decode(raw, &mut out, 0) {
         Written::To(n) => put(slices::part(&out, 0, n)),
         Written::Refused(_) => put(b"too long"),
     }
@@ -29,7 +29,7 @@ fn put_spelled(raw: &[u8]) {
 
 // A text decoded, behind its length. One without references is as long as it is spelled.
 fn put_decoded(raw: &[u8]) {
-    let n = elements::decoded_len(raw);
+    let n = texts::decoded_len(raw);
     io::print_decimal(1, n as u64);
     put(b" ");
     if n == raw.len() {

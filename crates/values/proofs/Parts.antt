@@ -10,8 +10,8 @@ use lib.Seq.{take-all}
 use Rattle.slices.specs.Words.{bytes}
 use Rattle.quantities.specs.Letters.{isLetter}
 use Rattle.digits.specs.Decimal.{number}
-use Rattle.elements.specs.Decoded.{begins}
-use Rattle.elements.proofs.Meanings.{begins-short}
+use Rattle.texts.specs.Decoded.{begins}
+use Rattle.texts.proofs.Meanings.{begins-short}
 use Rattle.values.specs.Values.{letter, atMost, version}
 
 pub letter-one : (s : List ℕ) → length s ≡ 1 → letter s ≡ cond (isLetter (getD s 0 0)) (some (getD s 0 0)) none

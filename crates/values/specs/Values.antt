@@ -11,7 +11,7 @@ use Rattle.slices.specs.Words.{bytes}
 use Rattle.quantities.specs.Letters.{isLetter}
 use Rattle.digits.specs.Decimal as decimal
 use Rattle.digits.specs.Hex.{isHex}
-use Rattle.elements.specs.Decoded.{begins, codePoints}
+use Rattle.texts.specs.Decoded.{begins, codePoints}
 use Rattle.values.specs.declared.Boolean.{Boolean}
 use Rattle.values.specs.declared.Boolean.the-variants as aBoolean
 use Rattle.values.specs.declared.Letter.{Letter}

@@ -1,6 +1,6 @@
 // Values (01, Values): what the text of an element says, as spelled (raw), and whether it is lawful.
 use digits::Number;
-use elements::Spelled;
+use texts::Spelled;
 ghost use mathlib.Core.Path.{_≡_};
 ghost use mathlib.Core.Bool.{_||_};
 ghost use Prim.Native.Nat.{_+_, _-_, _<_, _≤_};
@@ -8,7 +8,7 @@ ghost use lib.ListN.{length};
 ghost use Rattle.slices.specs.Slices.{within, every};
 ghost use Rattle.digits.specs.Decimal.{valueOf};
 ghost use Rattle.digits.specs.Hex.{hexTable};
-ghost use Rattle.elements.specs.Decoded.{decoded};
+ghost use Rattle.texts.specs.Decoded.{decoded};
 ghost use Rattle.slices.specs.Slices as slices;
 ghost use Rattle.values.specs.Values.{number, boolean, booleanOf, letter, letterOf, version, versionOf, fits, inForm, two, inRanges, isPlain, isTime, isUuid, sameUuid, isCreator, isName, isRootName};
 
@@ -196,7 +196,7 @@ fn all_plain(raw: &[u8], slash: bool) -> bool
 {
     let mut i: usize = 0;
     loop {
-        match elements::next_byte(raw, i) {
+        match texts::next_byte(raw, i) {
             Spelled::End => {
                 return true;
             }
@@ -224,7 +224,7 @@ fn in_count(n: usize) -> bool
 pub fn is_creator(raw: &[u8]) -> bool
     ensures { λ r. ⌜ r ≡ isCreator (decoded (now (raw .entry))) ⌝ }
 {
-    if !in_count(elements::decoded_len(raw)) {
+    if !in_count(texts::decoded_len(raw)) {
         return false;
     }
     all_plain(raw, true)
@@ -234,7 +234,7 @@ pub fn is_creator(raw: &[u8]) -> bool
 pub fn is_name(raw: &[u8]) -> bool
     ensures { λ r. ⌜ r ≡ isName (decoded (now (raw .entry))) ⌝ }
 {
-    if !in_count(elements::code_points(raw)) {
+    if !in_count(texts::code_points(raw)) {
         return false;
     }
     all_plain(raw, false)
@@ -244,7 +244,7 @@ pub fn is_name(raw: &[u8]) -> bool
 pub fn is_root_name(raw: &[u8]) -> bool
     ensures { λ r. ⌜ r ≡ isRootName (decoded (now (raw .entry))) ⌝ }
 {
-    if elements::decoded_len(raw) == 0 {
+    if texts::decoded_len(raw) == 0 {
         return true;
     }
     is_name(raw)

@@ -1,6 +1,6 @@
 -- The rescue and the verdict, from what the tables hold, from the labels, and on the bytes handed in.
 use mathlib.Core.Path.{_≡_, refl, sym, ap, subst, _∙_}
-use mathlib.Core.Bool.{Bool, true, false}
+use mathlib.Core.Bool.{true, false}
 use mathlib.Core.List.{List, _∷_}
 use mathlib.Core.Option.{Option, none, some}
 use Prim.Native.Nat.{ℕ, _-_, _≤_, _<_}
@@ -32,8 +32,9 @@ use Rattle.verdict.proofs.Demand.{demand3}
 use Rattle.verdict.proofs.Orders.{firsts, firsts-suffix, firsts-all}
 use Rattle.verdict.proofs.Partners.{begins-at, length-beginnings}
 use Rattle.volume.specs.Volume.{volumeWith, givenBy, agreed, labels, onVolume, orNoCut, rescueIn, verdictIn}
-use Rattle.volume.specs.Steps.{Located, Listed, EndsAt, JudgesLast, Judges, breakOf, lastBreak, Chains, ChainsOf, ReachTable, Ready, BeginsOf, Searches, ListsOf, ReachesOf, triedCut, cutIs, Cuts}
+use Rattle.volume.specs.Steps.{Located, Listed, Held, FillsOf, JudgesLast, JudgesIndexes, Judges, breakOf, lastBreak, Chains, ChainsOf, Ready, BeginsOf, Searches, triedCut, cutIs, CutsBy, Cuts}
 use Rattle.volume.specs.Answers.{judged, rescued, cutOf, Rescues}
+use Rattle.volume.specs.declared.filling.Filled.{Filled}
 use Rattle.volume.specs.declared.search.Tried.{Tried}
 use Rattle.volume.specs.declared.answers.Rescue.{Rescue}
 use Rattle.volume.specs.declared.answers.Rescue.the-variants as rescueIs
@@ -52,15 +53,20 @@ located-first s table cs c bs p l e n = subst (λ (z : ℕ). Located s (placeIn 
 scan-length : (B : ℕ) (t : Tape) → Below (length t) (standing B t)
 scan-length B t = subst (λ (n : ℕ). Below n (standing B t)) (scan-at B start t ∙ omega arith) (standing-below B t)
 
-module _ (g : Given) (il is dl ds : List ℕ) (i d : Tape) (ei : Encodes il is i) (ed : Encodes dl ds d) where
+module _ (g : Given) (is dl ds : List ℕ) (i d : Tape) (ed : Encodes dl ds d) (ti : List ℕ) (n : ℕ) (ri td : List ℕ) (m : ℕ) (rd : List ℕ)
+    (hi : Held (g .size) is i ti n ri) (hd : Held (g .size) ds d td m rd) where
   abbrev v : Volume
   v = volumeWith g
 
-  module _ (ti td ri rd gens begins : List ℕ) (n m k : ℕ)
-      (ht : (n ≡ length (standing (g .size) i)) × Listed is ti (standing (g .size) i))
-      (hd : (m ≡ length (standing (g .size) d)) × Listed ds td (standing (g .size) d))
-      (hri : ReachTable (g .size) (dataLengths i) ri) (hrd : ReachTable (g .size) (dataLengths d) rd)
-      (hc : Chains v (standing (g .size) d) gens k)
+  few : length (standing (g .size) d) ≤ 21845
+  few = omega (arith, standing-few (g .size) d, ed .elements)
+
+  chain-of : (gens : List ℕ) (k : ℕ) → ChainsOf v ds td m (length {A = ℕ} (replicate 21845 0)) gens k → Chains v (standing (g .size) d) gens k
+  chain-of gens k lc =
+      let room : length {A = ℕ} (replicate 21845 0) ≡ 21845 = length-replicate {A = ℕ} 21845 0 in
+      lc (standing (g .size) d) (hd .listed) (sym (hd .number)) (omega (arith, few, room, hd .number))
+
+  module _ (gens begins : List ℕ) (k : ℕ) (hc : Chains v (standing (g .size) d) gens k)
       (hb : begins ≡ beginnings (firsts k (standing (g .size) d)) (replicate 65536 0)) where
     front : Suffix (firsts k (standing (g .size) d)) (standing (g .size) d)
     front = firsts-suffix (length (standing (g .size) d) - k) (standing (g .size) d)
@@ -83,13 +89,13 @@ module _ (g : Given) (il is dl ds : List ℕ) (i d : Tape) (ei : Encodes il is i
     ready =
         record {
           ds-store = ds;
-          index = ht .1;
-          chain = listed-suffix ds td (firsts k (standing (g .size) d)) (standing (g .size) d) front (hd .1);
+          index = hi .listed;
+          chain = listed-suffix ds td (firsts k (standing (g .size) d)) (standing (g .size) d) front (hd .listed);
           whole = hc .whole;
           generations = hc .generations;
           partners = partners;
-          indexReach = hri;
-          dataReach = hrd;
+          indexReach = hi .reaches;
+          dataReach = hd .reaches;
           indexFits = fits i;
           dataFits = λ c bs suf. fits d c bs (suffix-trans suf front);
         }
@@ -99,81 +105,70 @@ module _ (g : Given) (il is dl ds : List ℕ) (i d : Tape) (ei : Encodes il is i
     unfolding rescue
     found r e = e ∙ ap (λ (x : List Construct). cutAmong (volumeWith g) (dataLengths i) (dataLengths d) x (standing (g .size) i)) (sym (hc .longest))
 
-    pub cuts : (w : Letters) (r : Tried) → Searches g w is ti n td gens begins ri rd r → triedCut r ≡ rescue v i d
-    cuts w r e = found r (e (standing (g .size) i) (firsts k (standing (g .size) d)) (dataLengths i) (dataLengths d) ready (sym (ht .0)))
+    cuts : (w : Letters) (r : Tried) → Searches g w is ti n td gens begins ri rd r → triedCut r ≡ rescue v i d
+    cuts w r e = found r (e (standing (g .size) i) (firsts k (standing (g .size) d)) (dataLengths i) (dataLengths d) ready (sym (hi .number)))
 
--- the same from what the functions promise that fill the tables
-pub cuts-by : (g : Given) (w : Letters) (il is dl ds ti td ri rd gens begins : List ℕ) (n m k x y : ℕ) (r : Tried)
-    → ListsOf (g .size) il is (replicate 87380 0) ti n → ListsOf (g .size) dl ds (replicate 87380 0) td m
-    → ReachesOf (g .size) il is (replicate 65536 0) ri x → ReachesOf (g .size) dl ds (replicate 65536 0) rd y
-    → ChainsOf (volumeWith g) ds td m (length {A = ℕ} (replicate 21845 0)) gens k → BeginsOf td k (replicate 65536 0) begins
-    → Searches g w is ti n td gens begins ri rd r → Cuts g il is dl ds r
-cuts-by g w il is dl ds ti td ri rd gens begins n m k x y r lt ld lri lrd lc lb ls i d ei ed =
-    let a = lt i ei (length-replicate {A = ℕ} 87380 0) in
-    let b = ld d ed (length-replicate {A = ℕ} 87380 0) in
-    let few : length (standing (g .size) d) ≤ 21845 = omega (arith, standing-few (g .size) d, ed .elements) in
-    let room : length {A = ℕ} (replicate 21845 0) ≡ 21845 = length-replicate {A = ℕ} 21845 0 in
-    let c = lc (standing (g .size) d) (b .1) (sym (b .0)) (omega (arith, few, room, b .0)) in
-    cuts g il is dl ds i d ei ed ti td ri rd gens begins n m k a b (lri i ei (length-replicate {A = ℕ} 65536 0) .1) (lrd d ed (length-replicate {A = ℕ} 65536 0) .1) c
-    (lb ds (standing (g .size) d) (b .1) (c .few) (omega (arith, few, c .few))) w r ls
+-- the cut and the breaks from 3 on, by the tables of both partitions
+module _ (g : Given) (is ds ti : List ℕ) (n : ℕ) (ri td : List ℕ) (m : ℕ) (rd gens : List ℕ) (k : ℕ)
+    (lc : ChainsOf (volumeWith g) ds td m (length {A = ℕ} (replicate 21845 0)) gens k) where
+  pub cuts-by : (w : Letters) (begins : List ℕ) (r : Tried) → BeginsOf td k (replicate 65536 0) begins → Searches g w is ti n td gens begins ri rd r
+      → CutsBy g is ds ti n ri td m rd r
+  cuts-by w begins r lb ls dl i d ed hi hd =
+      let c = chain-of g is dl ds i d ed ti n ri td m rd hi hd gens k lc in
+      let f = few g is dl ds i d ed ti n ri td m rd hi hd in
+      cuts g is dl ds i d ed ti n ri td m rd hi hd gens begins k c (lb ds (standing (g .size) d) (hd .listed) (c .few) (omega (arith, f, c .few))) w r ls
 
--- the verdict from what the functions promise that fill the tables
-module _ (g : Given) (il is dl ds ti ri : List ℕ) (n x : ℕ) (b : Bool) (lt : ListsOf (g .size) il is (replicate 87380 0) ti n)
-    (lri : ReachesOf (g .size) il is (replicate 65536 0) ri x) (le : EndsAt ti n x b) where
-  ends-index : (i : Tape) → Encodes il is i → b ≡ endsWith i (standing (g .size) i)
-  ends-index i ei =
-      let a = lt i ei (length-replicate {A = ℕ} 87380 0) in
-      le .told is i (standing (g .size) i) (a .1) (a .0) (lri i ei (length-replicate {A = ℕ} 65536 0) .0)
+  pub judges-3 : k < m → JudgesIndexes g is ds ti n ri td m rd (Broken 3 k)
+  judges-3 h dl i d ed hi hd ei ee =
+      verdict-3 (volumeWith g) i d k ei ee (chain-of g is dl ds i d ed ti n ri td m rd hi hd gens k lc .stops (omega (arith, hd .number)))
 
-  pub judges-1 : b ≡ false → Judges g il is dl ds (Broken 1 0)
-  judges-1 f i d ei ed = verdict-1 (volumeWith g) i d (sym (ends-index i ei) ∙ f)
+  pub judges-rest : (p q generation : ℕ) (r : Judgement) → m ≤ k → p ≡ n - 1 → q ≡ m - 1 → generation ≡ getD gens q 0
+      → JudgesLast g is ti p td q generation ri rd r → JudgesIndexes g is ds ti n ri td m rd r
+  judges-rest p q generation r h hp hq hg w dl i d ed hi hd ei ee =
+      let v = volumeWith g in
+      let ch = chain-of g is dl ds i d ed ti n ri td m rd hi hd gens k lc in
+      let one = ends-some v i d i (standing (g .size) i) ei in
+      let two = ends-some v i d d (standing (g .size) d) ee in
+      let k-all : k ≡ length (standing (g .size) d) = omega (arith, ch .few, hd .number) in
+      let all : firsts k (standing (g .size) d) ≡ standing (g .size) d = ap (λ (z : ℕ). firsts z (standing (g .size) d)) k-all ∙ firsts-all (standing (g .size) d) in
+      let whole : chainBreak v (standing (g .size) d) ≡ none = ap (chainBreak v) (sym all) ∙ ch .whole in
+      let y = last-sound v (two .0) (two .1) (ap (chainBreak v) (sym (two .2)) ∙ whole) in
+      let bs-p : length (one .1) ≡ p = omega (arith, hi .number, ap length (one .2), hp) in
+      let es-q : length (two .1) ≡ q = omega (arith, hd .number, ap length (two .2), hq) in
+      let li = located-first is ti (standing (g .size) i) (one .0) (one .1) p (hi .listed) (one .2) bs-p in
+      let ldd = located-first ds td (standing (g .size) d) (two .0) (two .1) q (hd .listed) (two .2) es-q in
+      let gen : generation ≡ y .0 .generation
+      = hg ∙ ap (λ (z : ℕ). getD gens z 0) (sym es-q) ∙ ch .generations (two .0) (two .1) (here (sym (all ∙ two .2))) ∙ ap generationOf (y .1) in
+      w ds (one .0) (two .0) (dataLengths i) (dataLengths d) li ldd (y .0) (y .1) gen (hi .reaches) (hd .reaches)
+      (one .3 ∙ sym (length-lengths 4 true i)) (two .3 ∙ sym (length-lengths 4 true d))
+      ∙ ap (λ (z : ℕ). lastBreak v z (one .0) (two .0) (dataLengths i) (dataLengths d)) (sym bs-p)
+      ∙ verdict-last v i d (one .0) (one .1) (two .0) (two .1) ei ee whole (one .2) (two .2)
 
-  module _ (td rd : List ℕ) (m y : ℕ) (c : Bool) (ld : ListsOf (g .size) dl ds (replicate 87380 0) td m)
-      (lrd : ReachesOf (g .size) dl ds (replicate 65536 0) rd y) (lf : EndsAt td m y c) (bt : b ≡ true) where
-    ends-data : (d : Tape) → Encodes dl ds d → c ≡ endsWith d (standing (g .size) d)
-    ends-data d ed =
-        let a = ld d ed (length-replicate {A = ℕ} 87380 0) in
-        lf .told ds d (standing (g .size) d) (a .1) (a .0) (lrd d ed (length-replicate {A = ℕ} 65536 0) .0)
+-- the cut and the breaks of lists and stores, over tables that were all zeros before they were filled
+abbrev Fills : Given → List ℕ → List ℕ → List ℕ → List ℕ → Filled → Type 0
+Fills g l s table reach = FillsOf (g .size) l s (replicate 87380 0) table (replicate 65536 0) reach
 
-    pub judges-2 : c ≡ false → Judges g il is dl ds (Broken 2 0)
-    judges-2 f i d ei ed = verdict-2 (volumeWith g) i d (sym (ends-index i ei) ∙ bt) (sym (ends-data d ed) ∙ f)
+module _ (g : Given) (l s table reach : List ℕ) (r : Filled) (h : Fills g l s table reach r) (t : Tape) (e : Encodes l s t) where
+  held : Held (g .size) s t table (r .count) reach
+  held = h t e (length-replicate {A = ℕ} 87380 0) (length-replicate {A = ℕ} 65536 0) .0
 
-    module _ (gens : List ℕ) (k : ℕ) (lc : ChainsOf (volumeWith g) ds td m (length {A = ℕ} (replicate 21845 0)) gens k) (ct : c ≡ true) where
-      chain-of : (d : Tape) → Encodes dl ds d → Chains (volumeWith g) (standing (g .size) d) gens k
-      chain-of d ed =
-          let a = ld d ed (length-replicate {A = ℕ} 87380 0) in
-          let few : length (standing (g .size) d) ≤ 21845 = omega (arith, standing-few (g .size) d, ed .elements) in
-          let room : length {A = ℕ} (replicate 21845 0) ≡ 21845 = length-replicate {A = ℕ} 21845 0 in
-          lc (standing (g .size) d) (a .1) (sym (a .0)) (omega (arith, few, room, a .0))
+  ends-told : r .ends ≡ endsWith t (standing (g .size) t)
+  ends-told = h t e (length-replicate {A = ℕ} 87380 0) (length-replicate {A = ℕ} 65536 0) .1
 
-      pub judges-3 : k < m → Judges g il is dl ds (Broken 3 k)
-      judges-3 h i d ei ed =
-          let a = ld d ed (length-replicate {A = ℕ} 87380 0) in
-          verdict-3 (volumeWith g) i d k (sym (ends-index i ei) ∙ bt) (sym (ends-data d ed) ∙ ct) (chain-of d ed .stops (omega (arith, a .0)))
+module _ (g : Given) (il is dl ds ti ri : List ℕ) (a : Filled) (fi : Fills g il is ti ri a) where
+  pub judges-1 : a .ends ≡ false → Judges g il is dl ds (Broken 1 0)
+  judges-1 f i d ei ed = verdict-1 (volumeWith g) i d (sym (ends-told g il is ti ri a fi i ei) ∙ f)
 
-      pub judges-rest : (p q generation : ℕ) (r : Judgement) → m ≤ k → p ≡ n - 1 → q ≡ m - 1 → generation ≡ getD gens q 0
-          → JudgesLast g is ti p td q generation ri rd r → Judges g il is dl ds r
-      judges-rest p q generation r h hp hq hg w i d ei ed =
-          let v = volumeWith g in
-          let a = lt i ei (length-replicate {A = ℕ} 87380 0) in
-          let e = ld d ed (length-replicate {A = ℕ} 87380 0) in
-          let ch = chain-of d ed in
-          let one = ends-some v i d i (standing (g .size) i) (sym (ends-index i ei) ∙ bt) in
-          let two = ends-some v i d d (standing (g .size) d) (sym (ends-data d ed) ∙ ct) in
-          let k-all : k ≡ length (standing (g .size) d) = omega (arith, ch .few, e .0) in
-          let all : firsts k (standing (g .size) d) ≡ standing (g .size) d = ap (λ (z : ℕ). firsts z (standing (g .size) d)) k-all ∙ firsts-all (standing (g .size) d) in
-          let whole : chainBreak v (standing (g .size) d) ≡ none = ap (chainBreak v) (sym all) ∙ ch .whole in
-          let y = last-sound v (two .0) (two .1) (ap (chainBreak v) (sym (two .2)) ∙ whole) in
-          let bs-p : length (one .1) ≡ p = omega (arith, a .0, ap length (one .2), hp) in
-          let es-q : length (two .1) ≡ q = omega (arith, e .0, ap length (two .2), hq) in
-          let li = located-first is ti (standing (g .size) i) (one .0) (one .1) p (a .1) (one .2) bs-p in
-          let ldd = located-first ds td (standing (g .size) d) (two .0) (two .1) q (e .1) (two .2) es-q in
-          let gen : generation ≡ y .0 .generation
-          = hg ∙ ap (λ (z : ℕ). getD gens z 0) (sym es-q) ∙ ch .generations (two .0) (two .1) (here (sym (all ∙ two .2))) ∙ ap generationOf (y .1) in
-          w ds (one .0) (two .0) (dataLengths i) (dataLengths d) li ldd (y .0) (y .1) gen (lri i ei (length-replicate {A = ℕ} 65536 0) .1) (lrd d ed (length-replicate {A = ℕ} 65536 0) .1)
-          (one .3 ∙ sym (length-lengths 4 true i)) (two .3 ∙ sym (length-lengths 4 true d))
-          ∙ ap (λ (z : ℕ). lastBreak v z (one .0) (two .0) (dataLengths i) (dataLengths d)) (sym bs-p)
-          ∙ verdict-last v i d (one .0) (one .1) (two .0) (two .1) (sym (ends-index i ei) ∙ bt) (sym (ends-data d ed) ∙ ct) whole (one .2) (two .2)
+  module _ (td rd : List ℕ) (b : Filled) (fd : Fills g dl ds td rd b) where
+    pub judges-2 : a .ends ≡ true → b .ends ≡ false → Judges g il is dl ds (Broken 2 0)
+    judges-2 at f i d ei ed = verdict-2 (volumeWith g) i d (sym (ends-told g il is ti ri a fi i ei) ∙ at) (sym (ends-told g dl ds td rd b fd d ed) ∙ f)
+
+    pub judges-by : a .ends ≡ true → b .ends ≡ true → (r : Judgement) → JudgesIndexes g is ds ti (a .count) ri td (b .count) rd r → Judges g il is dl ds r
+    judges-by at bt r w i d ei ed =
+        w dl i d ed (held g il is ti ri a fi i ei) (held g dl ds td rd b fd d ed) (sym (ends-told g il is ti ri a fi i ei) ∙ at) (sym (ends-told g dl ds td rd b fd d ed) ∙ bt)
+
+    pub cuts-with : (r : Tried) → CutsBy g is ds ti (a .count) ri td (b .count) rd r → Cuts g il is dl ds r
+    cuts-with r w i d ei ed = w dl i d ed (held g il is ti ri a fi i ei) (held g dl ds td rd b fd d ed)
 
 module _ {A : Type 0} (ask : Volume → Tape → Tape → Answer A) (il is dl ds : List ℕ) where
   -- where the labels are refused, so is the question

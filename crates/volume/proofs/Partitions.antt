@@ -25,7 +25,7 @@ use Rattle.constructs.proofs.Texts.{table-at, text-at, texts-standing}
 use Rattle.constructs.proofs.Fronts.{Below, below-first}
 use Rattle.verdict.specs.Verdict.{endsWith}
 use Rattle.verdict.specs.Rescue.{through}
-use Rattle.volume.specs.Steps.{Located, Listed, ListsOf, ReachesOf, EndsAt}
+use Rattle.volume.specs.Steps.{Located, Listed, ListsOf, ReachesOf, EndsAt, FillsOf}
 
 same-answer : {A : Type 0} (a b : A) → answer a ≡ answer b → a ≡ b
 same-answer a b e = cc
@@ -113,6 +113,14 @@ ends-last table n count p b z at q = record { told = go }
         let w = l c cs (here refl) in
         let h : p .end ≡ c .upTo = ap (λ (x : Spot). x .end) (at ∙ ap (placeIn table) m) ∙ w .end in
         q ∙ ap (λ (x : ℕ). eqb x count) h ∙ ap (eqb (c .upTo)) f
+
+-- both tables filled
+pub fills-of : (B : ℕ) (l s before table empty reach : List ℕ) (n count : ℕ) (b : Bool) → ListsOf B l s before table n → ReachesOf B l s empty reach count
+    → EndsAt table n count b → FillsOf B l s before table empty reach (record { count = n; ends = b })
+fills-of B l s before table empty reach n count b x y z t e h k =
+    let p = x t e h in
+    let q = y t e k in
+    (record { number = p .0; listed = p .1; reaches = q .1 }, z .told s t (standing B t) (p .1) (p .0) (q .0))
 
 -- no construct of a partition begins past its end
 pub through-past : (n k : ℕ) (ds : List Construct) → Below n ds → n ≤ k → through k ds ≡ []

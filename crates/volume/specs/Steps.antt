@@ -26,6 +26,7 @@ use Rattle.verdict.specs.Partners.{beginnings}
 use Rattle.verdict.proofs.Orders.{firsts}
 use Rattle.volume.specs.Volume.{volumeWith, rowsOfEach}
 use Rattle.volume.specs.declared.sound.Brief.{Brief}
+use Rattle.volume.specs.declared.filling.Filled.{Filled}
 use Rattle.volume.specs.declared.judge.Judgement.{Judgement}
 use Rattle.volume.specs.declared.judge.Judgement.the-variants as judgementIs
 use Rattle.volume.specs.declared.lost.Lost.{Lost}
@@ -178,6 +179,23 @@ ReachesOf B l s before after n =
 pub record EndsAt (table : List ℕ) (n count : ℕ) (r : Bool) : Type 0 where
   pub told : (s : List ℕ) (t : Tape) (ds : List Construct) → Listed s table ds → n ≡ length ds → count ≡ length t → r ≡ endsWith t ds
 
+-- the tables of a partition: its n standing constructs, and how far data blocks reach
+pub record Held (B : ℕ) (s : List ℕ) (t : Tape) (table : List ℕ) (n : ℕ) (reach : List ℕ) : Type 0 where
+  pub number : n ≡ length (standing B t)
+  pub listed : Listed s table (standing B t)
+  pub reaches : ReachTable B (dataLengths t) reach
+
+-- both tables filled, and whether the partition ends with its last construct
+abbrev pub FillsOf : ℕ → List ℕ → List ℕ → List ℕ → List ℕ → List ℕ → List ℕ → Filled → Type 0
+FillsOf B l s before table empty reach r =
+    (t : Tape) → Encodes l s t → length before ≡ 87380 → length empty ≡ 65536
+    → Held B s t table (r .count) reach × (r .ends ≡ endsWith t (standing B t))
+
+-- the cut by the tables of both partitions
+abbrev pub CutsBy : Given → List ℕ → List ℕ → List ℕ → ℕ → List ℕ → List ℕ → ℕ → List ℕ → Tried → Type 0
+CutsBy g is ds ti n ri td m rd r =
+    (dl : List ℕ) (i d : Tape) → Encodes dl ds d → Held (g .size) is i ti n ri → Held (g .size) ds d td m rd → triedCut r ≡ rescue (volumeWith g) i d
+
 -- the cut of the volume with that UUID and those letters
 abbrev pub Cuts : Given → List ℕ → List ℕ → List ℕ → List ℕ → Tried → Type 0
 Cuts g il is dl ds r = (i d : Tape) → Encodes il is i → Encodes dl ds d → triedCut r ≡ rescue (volumeWith g) i d
@@ -199,6 +217,12 @@ JudgesLast g is ti k td j generation ri rd r =
     → (y : Index) → readData (volumeWith g) d ≡ some y → generation ≡ y .generation
     → ReachTable (g .size) li ri → ReachTable (g .size) ld rd → c .upTo ≡ length li → d .upTo ≡ length ld
     → breakOf r ≡ lastBreak (volumeWith g) k c d li ld
+
+-- whether the breaks from 3 on hold, by the tables of partitions that both end with a construct
+abbrev pub JudgesIndexes : Given → List ℕ → List ℕ → List ℕ → ℕ → List ℕ → List ℕ → ℕ → List ℕ → Judgement → Type 0
+JudgesIndexes g is ds ti n ri td m rd r =
+    (dl : List ℕ) (i d : Tape) → Encodes dl ds d → Held (g .size) is i ti n ri → Held (g .size) ds d td m rd
+    → endsWith i (standing (g .size) i) ≡ true → endsWith d (standing (g .size) d) ≡ true → breakOf r ≡ verdict (volumeWith g) i d
 
 -- the verdict on the volume with that UUID and those letters
 abbrev pub Judges : Given → List ℕ → List ℕ → List ℕ → List ℕ → Judgement → Type 0

@@ -13,7 +13,7 @@ use refusals::Refusal;
 ghost use mathlib.Core.Path.{_≡_};
 ghost use Rattle.index.specs.Tests.{given};
 ghost use Rattle.volume.specs.Volume.{verdictIn};
-ghost use Rattle.volume.specs.Steps.{Cuts};
+ghost use Rattle.volume.specs.Steps.{CutsBy, Cuts};
 ghost use Rattle.volume.specs.Answers.{Rescues, judged};
 
 pub enum Verdict {
@@ -28,6 +28,39 @@ pub enum Rescue {
     Refused(Refusal),
 }
 
+// The cut of a volume whose tables are filled.
+fn cut_by(
+    index_store: &[u8],
+    data_store: &[u8],
+    uuid: &[u8],
+    volume: Volume,
+    index_table: &[u32; 87380],
+    n: usize,
+    index_reach: &[u32],
+    data_table: &[u32; 87380],
+    m: usize,
+    data_reach: &[u32],
+) -> Tried
+    ensures { λ r. ⌜ CutsBy (given (now (uuid .entry)) volume) (now («index_store» .entry)) (now («data_store» .entry)) (now («index_table» .entry)) n (now («index_reach» .entry)) (now («data_table» .entry)) m (now («data_reach» .entry)) r ⌝ }
+{
+    let mut generations = [0u64; 21845];
+    let k = chains::chain(data_store, uuid, volume, data_table, m, &mut generations);
+    let mut beginnings = [0u32; 65536];
+    search::put_beginnings(data_table, k, &mut beginnings);
+    search::search(
+        index_store,
+        uuid,
+        volume,
+        index_table,
+        n,
+        data_table,
+        &generations,
+        &beginnings,
+        index_reach,
+        data_reach,
+    )
+}
+
 // The cut of the volume with that UUID and those letters, of two lists that are well formed.
 fn rescue_with(
     index_list: &[u8],
@@ -40,27 +73,33 @@ fn rescue_with(
     ensures { λ r. ⌜ Cuts (given (now (uuid .entry)) volume) (now («index_list» .entry)) (now («index_store» .entry)) (now («data_list» .entry)) (now («data_store» .entry)) r ⌝ }
 {
     let mut index_table = [0u32; 87380];
-    let n = filling::list_constructs(index_list, index_store, volume.size, &mut index_table);
-    let mut data_table = [0u32; 87380];
-    let m = filling::list_constructs(data_list, data_store, volume.size, &mut data_table);
     let mut index_reach = [0u32; 65536];
-    filling::fill_reach(index_list, index_store, volume.size, &mut index_reach);
-    let mut data_reach = [0u32; 65536];
-    filling::fill_reach(data_list, data_store, volume.size, &mut data_reach);
-    let mut generations = [0u64; 21845];
-    let k = chains::chain(data_store, uuid, volume, &data_table, m, &mut generations);
-    let mut beginnings = [0u32; 65536];
-    search::put_beginnings(&data_table, k, &mut beginnings);
-    search::search(
+    let n = filling::fill(
+        index_list,
         index_store,
+        volume.size,
+        &mut index_table,
+        &mut index_reach,
+    );
+    let mut data_table = [0u32; 87380];
+    let mut data_reach = [0u32; 65536];
+    let m = filling::fill(
+        data_list,
+        data_store,
+        volume.size,
+        &mut data_table,
+        &mut data_reach,
+    );
+    cut_by(
+        index_store,
+        data_store,
         uuid,
         volume,
         &index_table,
-        n,
-        &data_table,
-        &generations,
-        &beginnings,
+        n.count,
         &index_reach,
+        &data_table,
+        m.count,
         &data_reach,
     )
 }

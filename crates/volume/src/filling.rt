@@ -1,10 +1,16 @@
 // The tables of a partition: its standing constructs, and how far data blocks reach.
 use constructs::Scanned;
 use tape::Checked;
-ghost use Rattle.volume.specs.Steps.{ListsOf, ReachesOf, EndsAt};
+ghost use Rattle.volume.specs.Steps.{ListsOf, ReachesOf, EndsAt, FillsOf};
+
+// How many constructs stand in a partition, and whether it ends with the last of them.
+pub struct Filled {
+    pub count: usize,
+    pub ends: bool,
+}
 
 // Puts the standing constructs of a partition into the table; their number.
-pub fn list_constructs(list: &[u8], store: &[u8], size: u64, table: &mut [u32; 87380]) -> usize
+fn list_constructs(list: &[u8], store: &[u8], size: u64, table: &mut [u32; 87380]) -> usize
     ensures { λ r. ⌜ ListsOf size (now (list .entry)) (now (store .entry)) (now (table .entry)) (now (table .exit)) r ⌝ }
 {
     match constructs::scan(list, store, size as usize, table) {
@@ -14,7 +20,7 @@ pub fn list_constructs(list: &[u8], store: &[u8], size: u64, table: &mut [u32; 8
 }
 
 // Puts into the table how far data blocks reach from each element on; the number of elements.
-pub fn fill_reach(list: &[u8], store: &[u8], size: u64, table: &mut [u32]) -> usize
+fn fill_reach(list: &[u8], store: &[u8], size: u64, table: &mut [u32]) -> usize
     ensures { λ r. ⌜ ReachesOf size (now (list .entry)) (now (store .entry)) (now (table .entry)) (now (table .exit)) r ⌝ }
 {
     match constructs::reach::reach(list, store, size as usize, table) {
@@ -24,7 +30,7 @@ pub fn fill_reach(list: &[u8], store: &[u8], size: u64, table: &mut [u32]) -> us
 }
 
 // Whether a partition of so many elements ends with the last of n constructs.
-pub fn ends(table: &[u32; 87380], n: usize, count: usize) -> bool
+fn ends(table: &[u32; 87380], n: usize, count: usize) -> bool
     ensures { λ r. ⌜ EndsAt (now (table .entry)) n count r ⌝ }
 {
     if n == 0 {
@@ -32,4 +38,22 @@ pub fn ends(table: &[u32; 87380], n: usize, count: usize) -> bool
     }
     let last = constructs::construct(table, n - 1);
     last.end == count
+}
+
+// Fills both tables of a partition.
+pub fn fill(
+    list: &[u8],
+    store: &[u8],
+    size: u64,
+    table: &mut [u32; 87380],
+    reach: &mut [u32],
+) -> Filled
+    ensures { λ r. ⌜ FillsOf size (now (list .entry)) (now (store .entry)) (now (table .entry)) (now (table .exit)) (now (reach .entry)) (now (reach .exit)) r ⌝ }
+{
+    let count = list_constructs(list, store, size, table);
+    let elements = fill_reach(list, store, size, reach);
+    Filled {
+        count,
+        ends: ends(table, count, elements),
+    }
 }

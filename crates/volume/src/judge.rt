@@ -8,7 +8,7 @@ use index::Volume;
 use quantities::BlockNumber;
 use quantities::Generation;
 ghost use Rattle.index.specs.Tests.{given};
-ghost use Rattle.volume.specs.Steps.{JudgesLast, Judges};
+ghost use Rattle.volume.specs.Steps.{JudgesLast, JudgesIndexes, Judges};
 
 // No break, or which of the five, and its number.
 pub enum Judgement {
@@ -57,6 +57,41 @@ fn judge_last(
     }
 }
 
+// Breaks 3, 4 and 5, of partitions whose tables are filled and that both end with a construct.
+fn judge_indexes(
+    index_store: &[u8],
+    data_store: &[u8],
+    uuid: &[u8],
+    volume: Volume,
+    index_table: &[u32; 87380],
+    n: usize,
+    index_reach: &[u32],
+    data_table: &[u32; 87380],
+    m: usize,
+    data_reach: &[u32],
+) -> Judgement
+    ensures { λ r. ⌜ JudgesIndexes (given (now (uuid .entry)) volume) (now («index_store» .entry)) (now («data_store» .entry)) (now («index_table» .entry)) n (now («index_reach» .entry)) (now («data_table» .entry)) m (now («data_reach» .entry)) r ⌝ }
+{
+    let mut generations = [0u64; 21845];
+    let k = chains::chain(data_store, uuid, volume, data_table, m, &mut generations);
+    if k < m {
+        return Judgement::Broken(3, k as u64);
+    }
+    let last = sound::between(1, m);
+    judge_last(
+        index_store,
+        uuid,
+        volume,
+        index_table,
+        sound::between(1, n),
+        data_table,
+        last,
+        Generation(tables::item(&generations, last)),
+        index_reach,
+        data_reach,
+    )
+}
+
 // The verdict on the volume with that UUID and those letters, of two lists that are well formed.
 pub fn judge(
     index_list: &[u8],
@@ -69,35 +104,39 @@ pub fn judge(
     ensures { λ r. ⌜ Judges (given (now (uuid .entry)) volume) (now («index_list» .entry)) (now («index_store» .entry)) (now («data_list» .entry)) (now («data_store» .entry)) r ⌝ }
 {
     let mut index_table = [0u32; 87380];
-    let n = filling::list_constructs(index_list, index_store, volume.size, &mut index_table);
-    let mut data_table = [0u32; 87380];
-    let m = filling::list_constructs(data_list, data_store, volume.size, &mut data_table);
     let mut index_reach = [0u32; 65536];
-    let index_count = filling::fill_reach(index_list, index_store, volume.size, &mut index_reach);
-    if !filling::ends(&index_table, n, index_count) {
+    let n = filling::fill(
+        index_list,
+        index_store,
+        volume.size,
+        &mut index_table,
+        &mut index_reach,
+    );
+    if !n.ends {
         return Judgement::Broken(1, 0);
     }
+    let mut data_table = [0u32; 87380];
     let mut data_reach = [0u32; 65536];
-    let data_count = filling::fill_reach(data_list, data_store, volume.size, &mut data_reach);
-    if !filling::ends(&data_table, m, data_count) {
+    let m = filling::fill(
+        data_list,
+        data_store,
+        volume.size,
+        &mut data_table,
+        &mut data_reach,
+    );
+    if !m.ends {
         return Judgement::Broken(2, 0);
     }
-    let mut generations = [0u64; 21845];
-    let k = chains::chain(data_store, uuid, volume, &data_table, m, &mut generations);
-    if k < m {
-        return Judgement::Broken(3, k as u64);
-    }
-    let last = sound::between(1, m);
-    judge_last(
+    judge_indexes(
         index_store,
+        data_store,
         uuid,
         volume,
         &index_table,
-        sound::between(1, n),
-        &data_table,
-        last,
-        Generation(tables::item(&generations, last)),
+        n.count,
         &index_reach,
+        &data_table,
+        m.count,
         &data_reach,
     )
 }

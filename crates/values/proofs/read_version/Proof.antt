@@ -5,7 +5,7 @@ use mathlib.Core.Bool.{true}
 use mathlib.Core.Option.{some, none}
 use Rattle.digits.specs.Decimal.{valueOf}
 use Rattle.slices.specs.Words.{bytes}
-use Rattle.elements.specs.Decoded.{begins}
+use Rattle.texts.specs.Decoded.{begins}
 use Rattle.values.proofs.Parts.{version-short, version-other, version-rest}
 use borrow.Author.Needs.{needs}
 use Rattle.values.proofs.read_version.Statement.{statement}

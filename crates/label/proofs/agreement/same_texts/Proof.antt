@@ -5,7 +5,7 @@ use Rattle.slices.specs.Slices as slices
 use Rattle.values.specs.Values.{sameUuid}
 use mathlib.Core.List.{List}
 use Prim.Native.Nat.{ℕ}
-use Rattle.elements.specs.Decoded.{decoded}
+use Rattle.texts.specs.Decoded.{decoded}
 use borrow.Author.Needs.{needs}
 use Rattle.label.proofs.agreement.same_texts.Statement.{statement}
 use Rattle.label.proofs.agreement.same_texts.Tie as tie

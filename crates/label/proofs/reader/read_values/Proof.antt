@@ -4,7 +4,7 @@ use borrow.Author.Tests.{not-true, not-false}
 use mathlib.Core.Bool.{true, false, _&&_}
 use mathlib.Core.Option.{some, none}
 use Rattle.digits.specs.Decimal.{valueOf}
-use Rattle.elements.specs.Decoded.{decoded}
+use Rattle.texts.specs.Decoded.{decoded}
 use Rattle.values.specs.Values.{number, boolean, booleanOf, letter, letterOf, isTime, isUuid, isCreator}
 use Rattle.label.specs.Reading.{textsAt}
 use Rattle.label.proofs.Values.{texts-same, no-texts, no-location, no-index, no-data, letters-unfit, no-size, size-unfit, no-compression, the-label}
