@@ -6,7 +6,7 @@ use constructs::Place;
 use elements::Span;
 use index::Header;
 use index::Read;
-use index::Volume;
+use index_values::Volume;
 use index_files::FileRead;
 use index_files::Filled;
 use quantities::BlockNumber;

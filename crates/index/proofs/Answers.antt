@@ -17,9 +17,9 @@ use Rattle.xml.specs.Machine.{form}
 use Rattle.elements.specs.Reading.{rowAt, isRow}
 use Rattle.values.specs.Values as is
 use Rattle.index_names.specs.Sorts.{index, file}
-use Rattle.index.specs.Elements.{Element, elements, textIn, rowIn}
-use Rattle.index.specs.Entries.{numberSaid, many, entriesOf}
-use Rattle.index.specs.Tests.{Given}
+use Rattle.index_values.specs.Elements.{Element, elements, textIn, rowIn}
+use Rattle.index_values.specs.Entries.{numberSaid, many, entriesOf}
+use Rattle.index_values.specs.Tests.{Given}
 use Rattle.index.specs.Index.{Told, isTrue, said, told, toldBy, headed, structured, bounded, allValued, allOwn, allLawful, standsAt, placeIn, locationIn, filesOf, fileOf, fileCount, childrenRead, tagRead, rootRead, callerRight, indexOf, isGood}
 
 pub caller-last : (g : Given) (letter : ℕ) → isLetter (g .first) ≡ true → isLetter (g .other) ≡ true → eqb (g .first) (g .other) ≡ false

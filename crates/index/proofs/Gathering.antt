@@ -8,8 +8,8 @@ use lib.ListN.{set}
 use Rattle.xml.specs.Tree.{Head, Forest}
 use Rattle.index_names.specs.Sorts.{file}
 use Rattle.index.specs.Structure.{fits}
-use Rattle.index.specs.Entries.{isEntry, uidOf}
-use Rattle.index.specs.Tests.{Given, valued, own}
+use Rattle.index_values.specs.Entries.{isEntry, uidOf}
+use Rattle.index_values.specs.Tests.{Given, valued, own}
 use Rattle.index.specs.Sweep.{All, gathered, more, done, endedSums, begun, settled}
 use Rattle.index.specs.declared.walk.Sums.{Sums}
 

@@ -6,8 +6,8 @@ use Prim.Native.Nat.{ℕ}
 use lib.Dec.{eqb}
 use Rattle.xml.specs.Tree.{Head, Forest, none, node}
 use Rattle.index_names.specs.Sorts.{file, holds}
-use Rattle.index.specs.Elements.{numberOf, sortOf}
-use Rattle.index.specs.Tests.{Given, few, lawful}
+use Rattle.index_values.specs.Elements.{numberOf, sortOf}
+use Rattle.index_values.specs.Tests.{Given, few, lawful}
 use Rattle.index.specs.Sweep.{All, gathered, fresh, marked, ended, endedSums, entered, begun, settled, sweep}
 use Rattle.index.specs.declared.walk.Sums.{Sums}
 

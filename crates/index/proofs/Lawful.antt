@@ -20,7 +20,7 @@ use Rattle.children.proofs.Below.{below-false}
 use Rattle.index_names.specs.Sorts.{index, extent, skipped, unknown, holds, entrySort, fileSort, directorySort, rootSort, contentsSort, extentinfoSort, extentSort, placeSort, indexSort, sort, must, repeats}
 use Rattle.index_names.specs.Names.{names, numberIn, indexNames, placeNames, directoryNames, contentsNames, fileNames, extentinfoNames, extentNames}
 use Rattle.index_rows.proofs.Named.{same-flip, namesOf, number-place}
-use Rattle.index.specs.Elements.{numberOf, sortOf}
+use Rattle.index_values.specs.Elements.{numberOf, sortOf}
 use Rattle.index.specs.Structure.{fits, count, once, complete}
 use Rattle.index.proofs.Counted.{below-ext}
 

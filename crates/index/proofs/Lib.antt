@@ -1,14 +1,8 @@
-pub mod Found
 pub mod Later
 pub mod Steps
 pub mod Gathering
-pub mod RowTable
-pub mod Judging
 pub mod Counted
 pub mod Swept
-pub mod Differ
 pub mod Surveying
 pub mod Answers
-pub mod Shapes
-pub mod Seated
 pub mod Lawful

@@ -9,8 +9,8 @@ use lib.Dec.{eqb}
 use Rattle.xml.specs.Tree.{Forest, none}
 use Rattle.elements.specs.Reading.{rowAt, headAt, childrenAt, FirstOf}
 use Rattle.index_names.specs.Sorts.{file, holds, sort}
-use Rattle.index.specs.Elements.{numberOf, sortOf}
-use Rattle.index.specs.Tests.{Given, few, lawful}
+use Rattle.index_values.specs.Elements.{numberOf, sortOf}
+use Rattle.index_values.specs.Tests.{Given, few, lawful}
 use Rattle.index.specs.Sweep.{All, fresh, marked, ended, entered, begun, sweep}
 use Rattle.index.proofs.Later.{meet, entered-two, later, meet-other}
 

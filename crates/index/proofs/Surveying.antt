@@ -12,11 +12,11 @@ use lib.Seq.{sets, sets-eq, length-sets, take-append-seam}
 use Rattle.xml.specs.Tree.{Forest}
 use Rattle.slices.specs.Slices.{every}
 use Rattle.index_names.specs.Sorts.{index, root, directory, file}
-use Rattle.index.specs.Elements.{Element, elements}
+use Rattle.index_values.specs.Elements.{Element, elements}
 use Rattle.index.specs.Structure.{rightly}
-use Rattle.index.specs.Entries.{isEntry, many, uidsOf, uidOf, entriesOf}
-use Rattle.index.specs.Tests.{Given, few}
-use Rattle.index.specs.Different.{different}
+use Rattle.index_values.specs.Entries.{isEntry, many, uidsOf, uidOf, entriesOf}
+use Rattle.index_values.specs.Tests.{Given, few}
+use Rattle.index_values.specs.Different.{different}
 use Rattle.index.specs.Sweep.{All, gathered, fresh, sweep, entered, ended, endedSums}
 use Rattle.index.specs.Index.{Surveyed, structured, bounded, allValued, fileCount}
 use Rattle.index.specs.declared.walk.Sums.{Sums}
@@ -115,8 +115,6 @@ module _ (g : Given) (k : Forest) (table : List ℕ) (a : Sums) (u : List ℕ) (
     table-length : length u ≡ 4096 → length table ≡ 4096
     table-length e = sym (length-sets table 0 (uidsOf l)) ∙ sym (ap (λ x. length (x .1)) uids-are) ∙ e
 
-    pub table-fits : length u ≡ 4096 → a .entries ≤ length u
-    table-fits e = omega (arith, h, e)
 
     table-is : length u ≡ 4096 → take (a .entries) u ≡ uidsOf l
     table-is e =

@@ -11,10 +11,10 @@ use Rattle.slices.specs.Slices.{every}
 use Rattle.slices.proofs.Every.{every-append}
 use Rattle.xml.specs.Tree.{Head, Forest, none, node}
 use Rattle.index_names.specs.Sorts.{holds}
-use Rattle.index.specs.Elements.{Element, element, elements, numberOf, sortOf}
+use Rattle.index_values.specs.Elements.{Element, element, elements, numberOf, sortOf}
 use Rattle.index.specs.Structure.{fits, complete, rightly}
-use Rattle.index.specs.Entries.{isEntry, uidOf, uidsOf, many}
-use Rattle.index.specs.Tests.{Given, valued, own, few, lawful}
+use Rattle.index_values.specs.Entries.{isEntry, uidOf, uidsOf, many}
+use Rattle.index_values.specs.Tests.{Given, valued, own, few, lawful}
 use Rattle.index.specs.Sweep.{All, more, fresh, marked, done, ended, endedSums, entered, sweep}
 use Rattle.index.proofs.Counted.{tally, done-counts, sat, more-sat, sat-below}
 

@@ -21,11 +21,11 @@ use Rattle.values.specs.Values as is
 use Rattle.extents.specs.Rows.{Row}
 use Rattle.index_names.specs.Sorts.{index, file}
 use Rattle.index_rows.specs.Places.{Placed}
-use Rattle.index.specs.Elements.{Element, elements, textIn, rowIn}
+use Rattle.index_values.specs.Elements.{Element, elements, textIn, rowIn}
 use Rattle.index.specs.Structure.{complete, rightly}
-use Rattle.index.specs.Entries.{orZero, numberSaid, entriesOf, uidsOf, many}
-use Rattle.index.specs.Tests.{Given, isSome, valued, own, few, lawful, letterSaid, rowsOf, lengthOf}
-use Rattle.index.specs.Different.{different}
+use Rattle.index_values.specs.Entries.{orZero, numberSaid, entriesOf, uidsOf, many}
+use Rattle.index_values.specs.Tests.{Given, isSome, valued, own, few, lawful, letterSaid, rowsOf, lengthOf}
+use Rattle.index_values.specs.Different.{different}
 use Rattle.index.specs.declared.walk.Sums.{Sums}
 use Rattle.index.specs.declared.read.Header.{Header}
 use Rattle.index.specs.declared.read.Read.{Read}

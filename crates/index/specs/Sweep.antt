@@ -6,11 +6,11 @@ use lib.ListN.{getD, set, replicate}
 use lib.Dec.{eqb, ltb}
 use Rattle.xml.specs.Tree.{Head, Forest, none, node}
 use Rattle.index_names.specs.Sorts.{file, holds, must, repeats}
-use Rattle.index.specs.Elements.{numberOf, sortOf}
+use Rattle.index_values.specs.Elements.{numberOf, sortOf}
 use Rattle.children.specs.Children.{below}
 use Rattle.index.specs.Structure.{fits, once}
-use Rattle.index.specs.Entries.{isEntry, uidOf}
-use Rattle.index.specs.Tests.{Given, valued, own, few, lawful}
+use Rattle.index_values.specs.Entries.{isEntry, uidOf}
+use Rattle.index_values.specs.Tests.{Given, valued, own, few, lawful}
 use Rattle.index.specs.declared.walk.Sums.{Sums}
 
 -- numbers and flags, and the fileuids

@@ -1,8 +1,6 @@
 // Reading an index's text: the classes of refusals in their order, then its header.
-use crate::rows;
 use crate::survey;
-use crate::tests;
-use crate::tests::Volume;
+use index_values::Volume;
 use elements::Span;
 use elements::Tag;
 use quantities::BlockNumber;
@@ -18,7 +16,7 @@ ghost use Rattle.values.specs.Values as is;
 ghost use Rattle.xml.specs.Form.{height};
 ghost use Rattle.xml.specs.Machine.{good, form};
 ghost use Rattle.elements.specs.Reading.{rowAt, headAt, childrenAt, isRow};
-ghost use Rattle.index.specs.Tests.{given};
+ghost use Rattle.index_values.specs.Tests.{given};
 ghost use Rattle.index.specs.Index.{isTrue, placeIn, standsAt, callerRight, Heads, childrenRead, tagRead, rootRead, indexOf, toldBy, saying};
 
 // What an index says besides its files: the R of its version 2.0.R; its generation; where the update time stands in its text; its location;
@@ -72,14 +70,14 @@ pub fn is_caller_right(uuid: &[u8], volume: Volume, letter: u8) -> bool
 fn letter_named(text: &[u8], at: usize) -> u8
     ensures { λ r. ⌜ r ≡ placeIn (rowAt (now (text .entry)) at) .letter ⌝ }
 {
-    tests::letter_said(rows::text_in(text, at, b"partition"))
+    index_values::letter_said(index_values::text_in(text, at, b"partition"))
 }
 
 // The block that it says.
 fn block_named(text: &[u8], at: usize) -> BlockNumber
     ensures { λ r. ⌜ r .0 ≡ placeIn (rowAt (now (text .entry)) at) .block ⌝ }
 {
-    BlockNumber(tests::number_named(text, at, b"startblock"))
+    BlockNumber(index_values::number_named(text, at, b"startblock"))
 }
 
 // Whether the location whose row is at at is that place.
@@ -123,7 +121,7 @@ fn head_from(text: &[u8], places: &[usize; 16], release: u64, entries: u64, file
     let back = index_rows::row_at(text, places[9]);
     Header {
         release,
-        generation: Generation(tests::number_placed(text, places[2])),
+        generation: Generation(index_values::number_placed(text, places[2])),
         time: index_rows::span_at(text, places[3]),
         letter: letter_named(text, here),
         block: block_named(text, here),
@@ -131,7 +129,7 @@ fn head_from(text: &[u8], places: &[usize; 16], release: u64, entries: u64, file
         back_letter: letter_named(text, back),
         back_block: block_named(text, back),
         allow: is_true(index_rows::text_at(text, places[5])),
-        highest: tests::number_placed(text, places[6]),
+        highest: index_values::number_placed(text, places[6]),
         directories: entries - files,
         files,
     }

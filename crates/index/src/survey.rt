@@ -1,6 +1,5 @@
 // The survey of an index's children: one walk, then the fileuids.
-use crate::tests::Volume;
-use crate::uids;
+use index_values::Volume;
 use crate::walk;
 use crate::walk::Sums;
 use index_names::INDEX;
@@ -10,7 +9,7 @@ ghost use Rattle.xml.specs.Form.{height};
 ghost use Rattle.elements.specs.Reading.{rowAt};
 ghost use Rattle.index_names.specs.Sorts.{index};
 ghost use Rattle.index_rows.specs.Places.{Placed};
-ghost use Rattle.index.specs.Tests.{given};
+ghost use Rattle.index_values.specs.Tests.{given};
 ghost use Rattle.index.specs.Index.{Surveyed};
 
 // What is gathered, and the places of the index's children.
@@ -57,7 +56,7 @@ fn survey_with(
         };
         return Gathered { sums, places };
     }
-    let distinct = uids::unique(table, n as usize);
+    let distinct = index_values::unique(table, n as usize);
     let sums = Sums {
         structure: s.structure,
         few: s.few,

@@ -1,8 +1,6 @@
 // The walk over an index's elements.
-use crate::rows;
-use crate::tests;
-use crate::tests::Judged;
-use crate::tests::Volume;
+use index_values::Judged;
+use index_values::Volume;
 use elements::Next;
 use elements::Start;
 use index_names::DIRECTORY;
@@ -21,10 +19,10 @@ ghost use Rattle.elements.specs.Reading.{rowAt, headAt, childrenAt, Behind};
 ghost use Rattle.elements.specs.Starts.{Shape};
 ghost use Rattle.index_rows.specs.Places.{Placed};
 ghost use Rattle.index_names.specs.Sorts.{holds};
-ghost use Rattle.index.specs.Elements.{numberOf};
+ghost use Rattle.index_values.specs.Elements.{numberOf};
 ghost use Rattle.index.specs.Structure.{fits, once};
-ghost use Rattle.index.specs.Entries.{isEntry, uidOf};
-ghost use Rattle.index.specs.Tests.{given};
+ghost use Rattle.index_values.specs.Entries.{isEntry, uidOf};
+ghost use Rattle.index_values.specs.Tests.{given};
 ghost use Rattle.index.specs.Sweep.{gathered, more, fresh, marked, done, endedSums, begun, settled, sweep};
 
 // What the walk gathers besides the fileuids: whether the structure is right so far, how many directories and files there are, how many
@@ -172,7 +170,7 @@ fn put_uid(text: &[u8], uids: &mut [u64; 4096], row: usize, entry: bool, at: u64
         tables::put(
             uids,
             at as usize,
-            tests::number_named(text, row, b"fileuid"),
+            index_values::number_named(text, row, b"fileuid"),
         );
     }
 }
@@ -192,14 +190,14 @@ fn enter(
 {
     let entry = is_entry(sort);
     let entries = a.entries;
-    put_uid(text, uids, rows::children_row(text, h), entry, entries);
+    put_uid(text, uids, index_values::children_row(text, h), entry, entries);
     let good = fits_at(text, h, sort);
     let raw = elements::part(text, h.text);
     Sums {
         structure: both(a.structure, good),
         few: a.few,
-        values: both(a.values, tests::is_valued(sort, raw)),
-        own: both(a.own, tests::is_own(uuid, volume, sort, raw)),
+        values: both(a.values, index_values::is_valued(sort, raw)),
+        own: both(a.own, index_values::is_own(uuid, volume, sort, raw)),
         lawful: a.lawful,
         entries: bump_if(entry, entries),
         files: bump_if(sort == FILE, a.files),
@@ -282,13 +280,13 @@ pub fn walk(
                 a = enter(text, uuid, uids, h, sort, volume, a);
                 if is_open(sort) {
                     if h.empty {
-                        let v = tests::judge(text, &[0usize; 16], rows, sort, volume);
+                        let v = index_values::judge(text, &[0usize; 16], rows, sort, volume);
                         a = settle(v, finish(sort, &[0u64; 16], a));
                         i = h.at;
                     } else {
                         let w = walk(text, uuid, uids, rows, h.at, sort, depth - 1, volume, a);
                         let held = w.places;
-                        let v = tests::judge(text, &held, rows, sort, volume);
+                        let v = index_values::judge(text, &held, rows, sort, volume);
                         a = settle(v, w.sums);
                         i = w.at;
                     }

@@ -21,10 +21,10 @@ use Rattle.elements.specs.Reading.{rowAt}
 use Rattle.elements.proofs.Roots.{root-row}
 use Rattle.values.specs.Values as is
 use Rattle.index_names.specs.Sorts.{index}
-use Rattle.index.specs.Elements.{elements}
+use Rattle.index_values.specs.Elements.{elements}
 use Rattle.index.specs.Structure.{complete, rightly}
-use Rattle.index.specs.Entries.{orZero}
-use Rattle.index.specs.Tests.{Given, isSome}
+use Rattle.index_values.specs.Entries.{orZero}
+use Rattle.index_values.specs.Tests.{Given, isSome}
 use Rattle.index.specs.Index.{Index, said, structured, bounded, allValued, allOwn, allLawful, standsAt, locationIn, childrenRead, tagRead, rootRead, callerRight, isGood, indexOf}
 
 pub record Accepted (g : Given) (letter : ℕ) (text : List ℕ) (x : Index) : Type 0 where

@@ -16,10 +16,10 @@ use Rattle.xml.specs.Bytes.{isSpace}
 use Rattle.xml.specs.Tree.{Head, Forest, none, node}
 use Rattle.elements.specs.Reading.{leftAt, isRow}
 use Rattle.index_names.specs.Sorts.{index, file, skipped, unknown, holds}
-use Rattle.index.specs.Elements.{Element, element, elements, sortOf}
+use Rattle.index_values.specs.Elements.{Element, element, elements, sortOf}
 use Rattle.index.specs.Structure.{fits, complete, rightly}
 use Rattle.index.specs.Index.{File, fileOf, filesOf}
-use Rattle.index.specs.Tests.{Given}
+use Rattle.index_values.specs.Tests.{Given}
 use Rattle.index.specs.Index.{Index, indexOf}
 use Rattle.index_files.specs.Files.{namesFile, namesSkipped, filesIn, filesLeft}
 use Rattle.index_files.proofs.Accepted.{accepted}

@@ -5,7 +5,7 @@ use Prim.Native.Nat.{ℕ, _+_}
 use lib.ListN.{length, length-append}
 use Rattle.xml.specs.Tree.{Forest}
 use Rattle.elements.specs.Reading.{leftAt, rowAt}
-use Rattle.index.specs.Tests.{rowsIn}
+use Rattle.index_values.specs.Tests.{rowsIn}
 use Rattle.index.specs.Index.{fileOf}
 use Rattle.index_files.specs.Files.{filesLeft, filesFrom, FileAt}
 use Rattle.index_files.specs.Rows.{RowsFrom}

@@ -9,7 +9,7 @@ use Rattle.refusals.specs.declared.Refusal.{Refusal}
 use Rattle.refusals.specs.declared.Refusal.the-variants.{Missing}
 use Rattle.xml.specs.Tree.{Forest}
 use Rattle.elements.specs.Reading.{leftAt, rowAt, FirstOf}
-use Rattle.index.specs.Tests.{Given, rowsIn}
+use Rattle.index_values.specs.Tests.{Given, rowsIn}
 use Rattle.index.specs.Index.{Index, File, Told, told, fileOf, toldBy, indexOf}
 use Rattle.index_files.specs.Files.{filesLeft, filesFrom}
 use Rattle.index_files.specs.Asked.{nth, fileIn, Shown, shown, HeadOf}

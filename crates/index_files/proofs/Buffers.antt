@@ -9,7 +9,7 @@ use Rattle.slices.specs.Slices.{written}
 use Rattle.slices.proofs.Writing.{written-set, written-snoc, written-then, written-nil, length-written, front-written, drop-written}
 use Rattle.xml.specs.Tree.{Forest}
 use Rattle.extents.specs.Rows.{Row}
-use Rattle.index.specs.Tests.{five}
+use Rattle.index_values.specs.Tests.{five}
 use Rattle.index.specs.Index.{File, fileOf}
 use Rattle.index_files.specs.Asked.{HeadOf}
 use Rattle.index_files.specs.Filling.{numbersOf, WritesRows, SaysFiles, HoldsFiles, headNumbers}

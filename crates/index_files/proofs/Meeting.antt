@@ -14,10 +14,10 @@ use Rattle.xml.specs.Tree.{Forest, none}
 use Rattle.elements.specs.Reading.{rowAt, headAt, childrenAt, FirstOf}
 use Rattle.elements.proofs.Rows.{row-past}
 use Rattle.extents.specs.Rows as extents
-use Rattle.index.specs.Elements.{textIn}
-use Rattle.index.specs.Entries.{numberSaid}
-use Rattle.index.specs.Tests.{letterSaid, rowOf, rowsIn}
-use Rattle.index.proofs.Found.{text-here, text-next}
+use Rattle.index_values.specs.Elements.{textIn}
+use Rattle.index_values.specs.Entries.{numberSaid}
+use Rattle.index_values.specs.Tests.{letterSaid, rowOf, rowsIn}
+use Rattle.index_values.proofs.Found.{text-here, text-next}
 use Rattle.index_files.specs.declared.extent_rows.Tags.{Tags}
 use Rattle.index_files.specs.Met.{firstTag, textFrom, textMet, Meets, Along}
 

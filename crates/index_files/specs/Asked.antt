@@ -9,8 +9,8 @@ use Rattle.refusals.specs.declared.Refusal.the-variants.{Missing}
 use Rattle.slices.specs.Words.{bytes}
 use Rattle.xml.specs.Tree.{Forest}
 use Rattle.elements.specs.Reading.{childrenAt, Inside, Spans}
-use Rattle.index.specs.Elements.{textIn}
-use Rattle.index.specs.Tests.{rowsOf, lengthOf}
+use Rattle.index_values.specs.Elements.{textIn}
+use Rattle.index_values.specs.Tests.{rowsOf, lengthOf}
 use Rattle.index.specs.Index.{Index, File, fileOf}
 use Rattle.index_files.specs.declared.asked.Located.{Located}
 use Rattle.index_files.specs.declared.asked.Located.the-variants as located

@@ -10,7 +10,7 @@ use Rattle.refusals.specs.declared.Refusal.the-variants.{Short}
 use Rattle.slices.specs.Slices.{written}
 use Rattle.elements.specs.Reading.{Spans}
 use Rattle.extents.specs.Rows.{Row}
-use Rattle.index.specs.Tests.{five}
+use Rattle.index_values.specs.Tests.{five}
 use Rattle.index.specs.Index.{Index, File}
 use Rattle.index_files.specs.declared.asked.FileHead.{FileHead}
 use Rattle.index_files.specs.declared.filling.Filled.{Filled}

@@ -7,7 +7,7 @@ use lib.Dec.{eqb}
 use Rattle.slices.specs.Slices.{same}
 use Rattle.slices.specs.Words.{bytes}
 use Rattle.elements.specs.Reading.{rowAt, headAt}
-use Rattle.index.specs.Elements.{textIn}
+use Rattle.index_values.specs.Elements.{textIn}
 use Rattle.index_files.specs.declared.extent_rows.Tags.{Tags}
 
 -- the tag of that name once the element at n is met, where p was it before, 0 for none

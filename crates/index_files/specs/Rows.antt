@@ -6,8 +6,8 @@ use lib.ListN.{length}
 use Rattle.slices.specs.Words.{bytes}
 use Rattle.elements.specs.Reading.{rowAt, childrenAt}
 use Rattle.extents.specs.Rows as extents
-use Rattle.index.specs.Elements.{rowIn}
-use Rattle.index.specs.Tests.{rowsIn}
+use Rattle.index_values.specs.Elements.{rowIn}
+use Rattle.index_values.specs.Tests.{rowsIn}
 use Rattle.index_files.specs.declared.extent_rows.Row.{Row}
 use Rattle.index_files.specs.declared.extent_rows.NextRow.{NextRow}
 use Rattle.index_files.specs.declared.extent_rows.NextRow.the-variants.{Found, Done}

@@ -7,15 +7,15 @@ use crate::filling::Filled;
 use elements::Child;
 use elements::Span;
 use index::Read;
-use index::Volume;
+use index_values::Volume;
 use quantities::BlockNumber;
 use quantities::ByteCount;
 use refusals::Refusal;
 ghost use mathlib.Core.Path.{_≡_};
 ghost use lib.ListN.{length};
 ghost use Rattle.elements.specs.Reading.{leftAt, rowAt, childrenAt, Spans};
-ghost use Rattle.index.specs.Elements.{textIn};
-ghost use Rattle.index.specs.Tests.{given, rowsIn};
+ghost use Rattle.index_values.specs.Elements.{textIn};
+ghost use Rattle.index_values.specs.Tests.{given, rowsIn};
 ghost use Rattle.index.specs.Index.{indexOf};
 ghost use Rattle.index_files.specs.Files.{filesLeft};
 ghost use Rattle.index_files.specs.Asked.{nth, fileIn, childrenFound, fileFound, HeadOf, ReadsFile};
@@ -123,7 +123,7 @@ pub(crate) fn head_at(text: &[u8], n: usize) -> FileHead
 {
     let at = elements::first_child(text, n);
     FileHead {
-        length: ByteCount(index::number_said(index::text_in(text, at, b"length"))),
+        length: ByteCount(index_values::number_said(index_values::text_in(text, at, b"length"))),
         name: span_in(text, at, b"name"),
         rows: count_rows(text, extent_rows::first_row(text, n)),
     }

@@ -7,8 +7,8 @@ ghost use mathlib.Core.Bool.{cond, _&&_};
 ghost use lib.Dec.{eqb};
 ghost use lib.ListN.{length};
 ghost use Rattle.elements.specs.Reading.{rowAt};
-ghost use Rattle.index.specs.Entries.{numberSaid};
-ghost use Rattle.index.specs.Tests.{rowOf};
+ghost use Rattle.index_values.specs.Entries.{numberSaid};
+ghost use Rattle.index_values.specs.Tests.{rowOf};
 ghost use Rattle.index_files.specs.Met.{textMet, Meets, Along};
 ghost use Rattle.index_files.specs.Rows.{rowIs, RowsFrom, RowAhead};
 
@@ -32,7 +32,7 @@ pub enum NextRow {
 pub fn first_row(text: &[u8], n: usize) -> usize
     ensures { λ r. ⌜ RowsFrom (now (text .entry)) n r ⌝ }
 {
-    index::row_in(text, elements::first_child(text, n), b"extentinfo")
+    index_values::row_in(text, elements::first_child(text, n), b"extentinfo")
 }
 
 // The places of the tags of an extent's five elements; 0 for one that was not met.
@@ -110,7 +110,7 @@ fn text_met(text: &[u8], p: usize) -> &[u8]
 fn number_met(text: &[u8], p: usize) -> u64
     ensures { λ r. ⌜ r ≡ numberSaid (textMet (now (text .entry)) p) ⌝ }
 {
-    index::number_said(text_met(text, p))
+    index_values::number_said(text_met(text, p))
 }
 
 // The row of the extent whose elements are the row at at.
@@ -119,7 +119,7 @@ fn row_from(text: &[u8], at: usize) -> Row
 {
     let t = tags_in(text, at);
     Row {
-        letter: index::letter_said(text_met(text, t.partition)) as u64,
+        letter: index_values::letter_said(text_met(text, t.partition)) as u64,
         startblock: BlockNumber(number_met(text, t.startblock)),
         byteoffset: ByteCount(number_met(text, t.byteoffset)),
         bytecount: ByteCount(number_met(text, t.bytecount)),

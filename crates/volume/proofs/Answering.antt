@@ -22,8 +22,8 @@ use Rattle.constructs.proofs.Lengths.{length-lengths}
 use Rattle.label.specs.Label.{Label}
 use Rattle.labels.specs.Labels.{labelsOf, labelsIn}
 use Rattle.labels.proofs.Fronts.{labels-front}
-use Rattle.index.specs.Tests.{Given}
-use Rattle.index.specs.declared.tests.Volume.{Volume as Letters}
+use Rattle.index_values.specs.Tests.{Given}
+use Rattle.index_values.specs.declared.tests.Volume.{Volume as Letters}
 use Rattle.verdict.specs.Verdict.{Volume, endsWith, chainBreak, verdict}
 use Rattle.verdict.specs.Rescue.{Cut, generationOf, through, chain, cutAmong, rescue}
 use Rattle.verdict.specs.Partners.{beginnings}

@@ -18,7 +18,7 @@ use Rattle.verdict.specs.Rescue.{generationOf}
 use Rattle.verdict.proofs.Chains.{orElse-none, unless-none}
 use Rattle.slices.proofs.Booleans.{split}
 use Rattle.verdict.proofs.Orders.{firsts, firsts-suffix, firsts-next, firsts-all, break-at, chain-stops, chain-grows, chain-whole}
-use Rattle.index.specs.Tests.{Given}
+use Rattle.index_values.specs.Tests.{Given}
 use Rattle.index.specs.Index.{indexOf}
 use Rattle.volume.specs.Volume.{soundly, volumeWith}
 use Rattle.volume.specs.Steps.{Told, told, toldBy, joined, textIn, Located, Listed, lastGeneration, Links, LinksAt, Generations, Chains, ChainsOf}

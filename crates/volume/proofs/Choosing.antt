@@ -18,7 +18,7 @@ use Rattle.constructs.specs.declared.Place.{Place as Spot}
 use Rattle.constructs.specs.declared.Scanned.{Scanned}
 use Rattle.constructs.proofs.Suffixes.{Suffix, here, there, suffix-length, nil-suffix}
 use Rattle.index.specs.Index.{Told, toldBy, saying, callerRight, indexOf}
-use Rattle.index.specs.Tests.{Given}
+use Rattle.index_values.specs.Tests.{Given}
 use Rattle.index.specs.declared.read.Header.{Header}
 use Rattle.index.specs.declared.read.Read.the-variants as readIs
 use Rattle.verdict.proofs.Orders.{firsts}

@@ -18,12 +18,12 @@ use Rattle.extents.specs.Lawful.{rowLawful, lawful, eachLawful, apart, end, las
 use Rattle.constructs.specs.Reach.{liesBy}
 use Rattle.constructs.proofs.Lying.{lies-by}
 use Rattle.index_names.specs.Sorts.{index, file}
-use Rattle.index.specs.Elements.{Element, elements}
-use Rattle.index.specs.Tests as tests
-use Rattle.index.specs.Tests.{Given, lengthOf, rowsOf}
+use Rattle.index_values.specs.Elements.{Element, elements}
+use Rattle.index_values.specs.Tests as tests
+use Rattle.index_values.specs.Tests.{Given, lengthOf, rowsOf}
 use Rattle.index.specs.Index as text
 use Rattle.index.specs.Index.{File, fileOf, filesOf, indexOf, allLawful, callerRight}
-use Rattle.index.specs.declared.tests.Volume.{Volume as Letters}
+use Rattle.index_values.specs.declared.tests.Volume.{Volume as Letters}
 use Rattle.elements.specs.Reading.{leftAt}
 use Rattle.xml.specs.Tree.{Forest}
 use Rattle.index_files.specs.Files.{filesLeft}

@@ -13,8 +13,8 @@ use Rattle.constructs.specs.declared.Place.{Place as Spot}
 use Rattle.constructs.proofs.Suffixes.{Suffix}
 use Rattle.index.specs.Index as text
 use Rattle.index.specs.Index.{indexOf}
-use Rattle.index.specs.Tests.{Given, given}
-use Rattle.index.specs.declared.tests.Volume.{Volume as Letters}
+use Rattle.index_values.specs.Tests.{Given, given}
+use Rattle.index_values.specs.declared.tests.Volume.{Volume as Letters}
 use Rattle.verdict.specs.Verdict.{Index, Volume, readIndex, badFileIn}
 use Rattle.verdict.specs.Rescue.{cutAmong}
 use Rattle.verdict.proofs.Orders.{firsts, firsts-all, search-on, search-found}

@@ -14,8 +14,8 @@ use Rattle.constructs.specs.Tables.{placeIn}
 use Rattle.constructs.specs.declared.Place.{Place as Spot}
 use Rattle.constructs.proofs.Suffixes.{here}
 use Rattle.index.specs.Index.{indexOf}
-use Rattle.index.specs.Tests.{given}
-use Rattle.index.specs.declared.tests.Volume.{Volume as Letters}
+use Rattle.index_values.specs.Tests.{given}
+use Rattle.index_values.specs.declared.tests.Volume.{Volume as Letters}
 use Rattle.verdict.specs.Verdict.{Index, Volume, numbered, endsWith, readIndex, readData, follows, chainBreak, verdict}
 use Rattle.volume.specs.Volume.{soundly, volumeWith}
 use Rattle.volume.specs.Steps.{told, toldBy, joined, textIn, Located, lostFile, Loses, breakOf, lastBreak, JudgesLast}

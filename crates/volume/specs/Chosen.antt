@@ -10,7 +10,7 @@ use Rattle.refusals.specs.Refusals.{Answer, refused, answer, require, andThen}
 use Rattle.tape.specs.Answers.{tapeIn}
 use Rattle.constructs.specs.Constructs.{Construct, standing}
 use Rattle.index.specs.Index.{Told, toldBy, saying, callerRight, indexOf}
-use Rattle.index.specs.Tests.{Given}
+use Rattle.index_values.specs.Tests.{Given}
 use Rattle.index.specs.declared.read.Read.the-variants as readIs
 use Rattle.constructs.specs.declared.Place.{Place as Spot}
 use Rattle.volume.specs.Steps.{textIn, Located}

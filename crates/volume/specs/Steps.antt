@@ -12,8 +12,8 @@ use Rattle.quantities.specs.Places.{Place}
 use Rattle.extents.specs.Rows.{Row}
 use Rattle.index.specs.Index as text
 use Rattle.index.specs.Index.{indexOf}
-use Rattle.index.specs.Tests.{Given}
-use Rattle.index.specs.declared.tests.Volume.{Volume as Letters}
+use Rattle.index_values.specs.Tests.{Given}
+use Rattle.index_values.specs.declared.tests.Volume.{Volume as Letters}
 use Rattle.tape.specs.Tape.{Tape, Encodes}
 use Rattle.constructs.specs.Constructs.{Construct, standing, dataLengths}
 use Rattle.constructs.specs.Tables.{placeIn}

@@ -10,7 +10,7 @@ use Rattle.tape.specs.Answers.{tapeIn}
 use Rattle.extents.specs.Rows.{Row}
 use Rattle.index.specs.Index as text
 use Rattle.index.specs.Index.{File, indexOf}
-use Rattle.index.specs.Tests.{Given}
+use Rattle.index_values.specs.Tests.{Given}
 use Rattle.label.specs.Label.{Label}
 use Rattle.labels.specs.Labels.{labelsOf}
 use Rattle.verdict.specs.Verdict.{Index, Volume, Break, verdict}

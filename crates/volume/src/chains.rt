@@ -1,10 +1,10 @@
 // The data partition's chain of indexes, from its first construct on.
 use crate::sound;
-use index::Volume;
+use index_values::Volume;
 use quantities::BlockNumber;
 use quantities::Generation;
 ghost use lib.ListN.{length};
-ghost use Rattle.index.specs.Tests.{given};
+ghost use Rattle.index_values.specs.Tests.{given};
 ghost use Rattle.volume.specs.Volume.{volumeWith};
 ghost use Rattle.volume.specs.Steps.{LinksAt, ChainsOf};
 

@@ -4,11 +4,11 @@ use constructs::Place;
 use constructs::Scanned;
 use index::Header;
 use index::Read;
-use index::Volume;
+use index_values::Volume;
 use quantities::BlockNumber;
 use refusals::Refusal;
 ghost use mathlib.Core.Path.{_≡_};
-ghost use Rattle.index.specs.Tests.{given};
+ghost use Rattle.index_values.specs.Tests.{given};
 ghost use Rattle.volume.specs.Chosen.{chosenIn, chosenBy, ReadsPlace};
 
 // Where the construct lies, and its index's header, whose places are those of the text; or a refusal.

@@ -4,10 +4,10 @@ use crate::filling;
 use crate::lost;
 use crate::lost::Lost;
 use crate::sound;
-use index::Volume;
+use index_values::Volume;
 use quantities::BlockNumber;
 use quantities::Generation;
-ghost use Rattle.index.specs.Tests.{given};
+ghost use Rattle.index_values.specs.Tests.{given};
 ghost use Rattle.volume.specs.Steps.{JudgesLast, JudgesIndexes, Judges};
 
 // No break, or which of the five, and its number.

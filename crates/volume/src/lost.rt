@@ -1,12 +1,12 @@
 // Whether the extents of an index lie on what is kept.
-use index::Volume;
+use index_values::Volume;
 use index_files::NextFile;
 use index_files::NextRow;
 use index_files::Row;
 ghost use mathlib.Core.Path.{_≡_};
 ghost use Rattle.slices.specs.Slices.{every};
 ghost use Rattle.elements.specs.Reading.{childrenAt};
-ghost use Rattle.index.specs.Tests.{rowsOf};
+ghost use Rattle.index_values.specs.Tests.{rowsOf};
 ghost use Rattle.index_files.specs.Rows.{rowIs};
 ghost use Rattle.volume.specs.Steps.{liesIn, Loses};
 

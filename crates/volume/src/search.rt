@@ -2,12 +2,12 @@
 use crate::lost;
 use crate::lost::Lost;
 use crate::sound;
-use index::Volume;
+use index_values::Volume;
 use quantities::BlockNumber;
 use quantities::Generation;
 ghost use mathlib.Core.Path.{_≡_};
 ghost use Prim.Native.Nat.{_<_};
-ghost use Rattle.index.specs.Tests.{given};
+ghost use Rattle.index_values.specs.Tests.{given};
 ghost use Rattle.volume.specs.Steps.{BeginsOf, Tries, Searches};
 
 // A cut: both construct numbers, both counts of kept elements, and the generation of the last index kept in the index partition.

@@ -1,12 +1,12 @@
 // An index of the volume, read for the verdict.
 use constructs::Place;
 use index::Read;
-use index::Volume;
+use index_values::Volume;
 use quantities::BlockNumber;
 use quantities::Generation;
 ghost use mathlib.Core.Path.{_≡_};
 ghost use Prim.Native.Nat.{_-_};
-ghost use Rattle.index.specs.Tests.{given};
+ghost use Rattle.index_values.specs.Tests.{given};
 ghost use Rattle.index.specs.Index.{indexOf};
 ghost use Rattle.volume.specs.Volume.{soundly};
 ghost use Rattle.volume.specs.Steps.{told, toldBy, joined, textIn};

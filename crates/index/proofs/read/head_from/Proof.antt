@@ -6,10 +6,10 @@ use native.Mathlib.Omega.{arith}
 use Rattle.xml.specs.Tree.{Forest}
 use Rattle.elements.specs.Reading.{isRow}
 use Rattle.values.specs.Values as is
-use Rattle.index.specs.Entries.{numberSaid}
+use Rattle.index_values.specs.Entries.{numberSaid}
 use Rattle.index.specs.Index.{isTrue, placeIn}
 use Rattle.index.proofs.Answers.{headed-parts}
-use Rattle.index.proofs.Seated.{generation-placed, updatetime-placed, location-placed, allow-placed, highest-placed, back-placed}
+use Rattle.index_values.proofs.Seated.{generation-placed, updatetime-placed, location-placed, allow-placed, highest-placed, back-placed}
 use borrow.Author.Needs.{needs}
 use Rattle.index.proofs.read.head_from.Statement.{statement}
 use Rattle.index.proofs.read.head_from.Tie as tie

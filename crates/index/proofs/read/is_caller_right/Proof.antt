@@ -1,7 +1,7 @@
 -- `is_caller_right` meets its contract: the tests in their order.
 use mathlib.Core.Bool.{Bool, _||_}
 use lib.Dec.{eqb}
-use Rattle.index.specs.Tests.{given}
+use Rattle.index_values.specs.Tests.{given}
 use Rattle.index.proofs.Answers.{caller-last}
 use mathlib.Core.Path.{ap, sym, _∙_}
 use borrow.Author.Tests.{eq-eqb, ne-eqb, not-true, not-false}

@@ -1,7 +1,7 @@
 -- `letter_named` meets its contract: the letter that the text of `partition` says.
 use mathlib.Core.Path.{ap, _∙_}
 use Rattle.slices.specs.Words.{bytes}
-use Rattle.index.specs.Tests.{letterSaid}
+use Rattle.index_values.specs.Tests.{letterSaid}
 use borrow.Author.Needs.{needs}
 use Rattle.index.proofs.read.letter_named.Statement.{statement}
 use Rattle.index.proofs.read.letter_named.Tie as tie

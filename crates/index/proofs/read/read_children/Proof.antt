@@ -6,12 +6,12 @@ use Rattle.refusals.specs.Refusals.{answer}
 use Rattle.xml.specs.Tree.{Forest}
 use Rattle.elements.specs.Reading.{rowAt}
 use Rattle.index_names.specs.Sorts.{index}
-use Rattle.index.specs.Elements.{elements}
-use Rattle.index.specs.Tests.{given}
+use Rattle.index_values.specs.Elements.{elements}
+use Rattle.index_values.specs.Tests.{given}
 use Rattle.index.specs.Index.{standsAt, placeIn}
 use Rattle.index.proofs.Surveying.{files-few}
 use Rattle.index.proofs.Answers.{children-5, children-15, children-6, children-8, children-11, children-12, children-read, headed-told}
-use Rattle.index.proofs.Seated.{location-placed}
+use Rattle.index_values.proofs.Seated.{location-placed}
 use borrow.Author.Needs.{needs}
 use Rattle.index.proofs.read.read_children.Statement.{statement}
 use Rattle.index.proofs.read.read_children.Tie as tie

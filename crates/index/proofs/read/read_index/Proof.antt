@@ -2,7 +2,7 @@
 use mathlib.Core.Path.{ap, sym, _∙_}
 use borrow.Author.Tests.{le-leb, lt-leb, not-true, not-false}
 use Rattle.xml.specs.Machine.{outcomeOf}
-use Rattle.index.specs.Tests.{given}
+use Rattle.index_values.specs.Tests.{given}
 use Rattle.index.specs.Index.{isGood}
 use Rattle.index.proofs.Answers.{index-14, index-15, index-4, index-read}
 use borrow.Author.Needs.{needs}

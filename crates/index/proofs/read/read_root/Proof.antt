@@ -8,7 +8,7 @@ use Rattle.elements.specs.Reading.{rowAt, headAt, childrenAt, NextTag}
 use Rattle.elements.specs.declared.tags.Tag.the-variants.{End, Close, Open, Empty}
 use Rattle.elements.proofs.Roots.{root-height, height-children}
 use Rattle.elements.proofs.Rows.{row-end, row-close, node-open, node-empty}
-use Rattle.index.specs.Tests.{given}
+use Rattle.index_values.specs.Tests.{given}
 use Rattle.index.proofs.Answers.{root-none, root-tag}
 use borrow.Author.Needs.{needs}
 use Rattle.index.proofs.read.read_root.Statement.{statement}

@@ -9,7 +9,7 @@ use Rattle.xml.specs.Form.{height}
 use Rattle.xml.specs.Tree.{Forest}
 use Rattle.elements.specs.Reading.{headAt, childrenAt}
 use Rattle.values.specs.Values as is
-use Rattle.index.specs.Tests.{given}
+use Rattle.index_values.specs.Tests.{given}
 use Rattle.index.specs.Index.{toldBy, childrenRead}
 use Rattle.index.proofs.Answers.{root-name, root-key, root-version, root-read}
 use borrow.Author.Needs.{needs}

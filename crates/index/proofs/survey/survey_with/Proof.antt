@@ -1,8 +1,8 @@
 -- `survey_with` meets its contract: what the walk gathered, and the fileuids in their table.
 use native.Mathlib.Omega.{arith}
 use Rattle.elements.specs.Reading.{rowAt}
-use Rattle.index.specs.Tests.{given}
-use Rattle.index.proofs.Surveying.{surveyed-many, table-fits, surveyed-few}
+use Rattle.index_values.specs.Tests.{given}
+use Rattle.index.proofs.Surveying.{surveyed-many, surveyed-few}
 use borrow.Author.Needs.{needs}
 use Rattle.index.proofs.survey.survey_with.Statement.{statement}
 use Rattle.index.proofs.survey.survey_with.Tie as tie
@@ -14,7 +14,7 @@ returns : tie.Need-returns
 returns c = (surveyed-many (given (c .before .before .before .before .before .before .before .before .args .uuid .now) (c .before .before .before .before .before .before .before .before .args .volume)) (rowAt (c .before .before .before .before .before .before .before .before .args .text .now) (c .before .before .before .before .before .before .before .before .args .at)) (c .before .before .before .before .before .before .before .before .args .table .now) (c .before .before .before .walk .result .sums) (c .before .before .before .walk .last .1 .1 .0) (c .before .before .before .walk .ensures .0) (c .if1 .taken), c .before .before .before .walk .ensures .2)
 
 unique-requires : tie.Need-unique-requires
-unique-requires c κs = table-fits (given (c .before .before .before .before .before .before .before .before .before .before .args .uuid .now) (c .before .before .before .before .before .before .before .before .before .before .args .volume)) (rowAt (c .before .before .before .before .before .before .before .before .before .before .args .text .now) (c .before .before .before .before .before .before .before .before .before .before .args .at)) (c .before .before .before .before .before .before .before .before .before .before .args .table .now) (c .before .before .before .before .before .walk .result .sums) (c .before .before .before .before .before .walk .last .1 .1 .0) (c .before .before .before .before .before .walk .ensures .0) (c .before .before .if1 .left) (omega (arith, c .unique-arg2 .given))
+unique-requires c κs = search needs
 
 both-requires : tie.Need-both-requires
 both-requires c κs = search needs

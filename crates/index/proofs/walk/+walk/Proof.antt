@@ -15,7 +15,7 @@ use Rattle.elements.proofs.Left.{left-end}
 use Rattle.elements.proofs.Plain.{inner-first}
 use Rattle.elements.proofs.Rows.{row-end, row-close, around-end, around-close, first-open, first-empty, children-open, children-empty}
 use Rattle.elements.proofs.Roots.{height-open, height-rest}
-use Rattle.index.specs.Tests.{given}
+use Rattle.index_values.specs.Tests.{given}
 use Rattle.index.specs.Sweep.{gathered, fresh, ended, endedSums, sweep}
 use Rattle.index.specs.declared.walk.Sums.{Sums}
 use Rattle.index_names.specs.Sorts.{file}
@@ -37,7 +37,7 @@ use Rattle.index.proofs.walk.is_open.Reads as is-open-reads
 use Rattle.index.proofs.walk.mark.Reads as mark-reads
 use Rattle.index.proofs.walk.number_at.Reads as number-at-reads
 use Rattle.index.proofs.walk.settle.Reads as settle-reads
-use Rattle.index.proofs.tests.judge.Reads as judge-reads
+use Rattle.index_values.proofs.judge.Reads as judge-reads
 use Rattle.index_names.proofs.sort_in.Reads as sort-in-reads
 use Rattle.index_rows.proofs.note.Reads as note-reads
 use Rattle.index.proofs.walk.+walk.{statement}

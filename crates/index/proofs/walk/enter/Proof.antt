@@ -3,8 +3,8 @@ use mathlib.Core.Path.{refl, ap, _∙_}
 use mathlib.Core.Bool.{Bool, _&&_, cond}
 use lib.ListN.{set}
 use Rattle.index.specs.Sweep.{more}
-use Rattle.index.specs.Tests.{given, valued, own}
-use Rattle.index.specs.Entries.{uidOf}
+use Rattle.index_values.specs.Tests.{given, valued, own}
+use Rattle.index_values.specs.Entries.{uidOf}
 use Rattle.xml.specs.Tree.{Forest}
 use Rattle.elements.specs.Reading.{headAt, childrenAt}
 use Rattle.index.proofs.Gathering.{begun-parts}

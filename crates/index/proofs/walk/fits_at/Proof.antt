@@ -5,7 +5,7 @@ use Rattle.slices.specs.Slices.{every}
 use Rattle.xml.specs.Bytes.{isSpace}
 use Rattle.elements.specs.Reading.{childrenAt, isRow}
 use Rattle.index.specs.Structure.{fits}
-use Rattle.index.proofs.Shapes.{no-row, has-row}
+use Rattle.index_values.proofs.Shapes.{no-row, has-row}
 use borrow.Author.Needs.{needs}
 use Rattle.index.proofs.walk.fits_at.Statement.{statement}
 use Rattle.index.proofs.walk.fits_at.Tie as tie

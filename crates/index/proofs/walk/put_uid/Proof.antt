@@ -3,7 +3,7 @@ use mathlib.Core.Path.{ap, sym, _∙_}
 use Prim.Native.Nat.{ℕ}
 use lib.ListN.{set}
 use Rattle.slices.specs.Words.{bytes}
-use Rattle.index.specs.Entries.{uidOf}
+use Rattle.index_values.specs.Entries.{uidOf}
 use borrow.Author.Needs.{needs}
 use Rattle.index.proofs.walk.put_uid.Statement.{statement}
 use Rattle.index.proofs.walk.put_uid.Tie as tie

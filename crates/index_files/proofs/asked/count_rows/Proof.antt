@@ -5,7 +5,7 @@ use native.Mathlib.Omega.{arith}
 use lib.ListN.{length}
 use Rattle.elements.specs.declared.tags.Child.the-variants.{Done, At}
 use Rattle.elements.specs.Reading.{rowAt, NextChild}
-use Rattle.index.specs.Tests.{rowsIn}
+use Rattle.index_values.specs.Tests.{rowsIn}
 use Rattle.index_files.proofs.Meeting.{rows-over}
 use Rattle.index_files.proofs.Asking.{rows-counted}
 use borrow.Author.Needs.{needs}

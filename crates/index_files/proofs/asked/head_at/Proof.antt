@@ -3,9 +3,9 @@ use mathlib.Core.Path.{ap, _∙_}
 use lib.ListN.{length}
 use Rattle.slices.specs.Words.{bytes}
 use Rattle.xml.specs.Tree.{Forest}
-use Rattle.index.specs.Elements.{textIn}
-use Rattle.index.specs.Entries.{numberSaid}
-use Rattle.index.specs.Tests.{rowsIn}
+use Rattle.index_values.specs.Elements.{textIn}
+use Rattle.index_values.specs.Entries.{numberSaid}
+use Rattle.index_values.specs.Tests.{rowsIn}
 use borrow.Author.Needs.{needs}
 use Rattle.index_files.proofs.asked.head_at.Statement.{statement}
 use Rattle.index_files.proofs.asked.head_at.Tie as tie

@@ -1,7 +1,7 @@
 -- `put_rows` meets its contract: 10 before anything is written.
 use native.Mathlib.Omega.{arith}
 use Rattle.elements.specs.Reading.{rowAt}
-use Rattle.index.specs.Tests.{rowsIn}
+use Rattle.index_values.specs.Tests.{rowsIn}
 use Rattle.index_files.proofs.Putting.{put-short, put-all}
 use borrow.Author.Needs.{needs}
 use Rattle.index_files.proofs.asked.put_rows.Statement.{statement}

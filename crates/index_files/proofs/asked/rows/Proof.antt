@@ -2,7 +2,7 @@
 use mathlib.Core.Path.{ap, sym, _∙_}
 use lib.ListN.{length}
 use Rattle.xml.specs.Tree.{Forest}
-use Rattle.index.specs.Tests.{rowsIn}
+use Rattle.index_values.specs.Tests.{rowsIn}
 use Rattle.index_files.specs.Asked.{fileFound}
 use Rattle.index_files.specs.Filling.{fitting, rowsFor}
 use Rattle.index_files.proofs.Putting.{put-refused, put-as}

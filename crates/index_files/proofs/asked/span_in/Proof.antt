@@ -5,8 +5,8 @@ use native.Mathlib.Omega.{arith}
 use lib.ListN.{length}
 use Rattle.elements.specs.declared.tags.Child.the-variants.{Done, At}
 use Rattle.elements.specs.Reading.{rowAt, NextChild}
-use Rattle.index.specs.Elements.{textIn}
-use Rattle.index.proofs.Found.{text-none, text-here, text-next}
+use Rattle.index_values.specs.Elements.{textIn}
+use Rattle.index_values.proofs.Found.{text-none, text-here, text-next}
 use borrow.Author.Needs.{needs}
 use Rattle.index_files.proofs.asked.span_in.Statement.{statement}
 use Rattle.index_files.proofs.asked.span_in.Tie as tie

@@ -1,7 +1,7 @@
 -- `first_row` meets its contract: the row in the file's extentinfo.
 use mathlib.Core.Path.{ap, _∙_}
 use Rattle.slices.specs.Words.{bytes}
-use Rattle.index.specs.Elements.{rowIn}
+use Rattle.index_values.specs.Elements.{rowIn}
 use borrow.Author.Needs.{needs}
 use Rattle.index_files.proofs.extent_rows.first_row.Statement.{statement}
 use Rattle.index_files.proofs.extent_rows.first_row.Tie as tie

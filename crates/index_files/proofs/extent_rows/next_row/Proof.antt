@@ -5,7 +5,7 @@ use native.Mathlib.Omega.{arith}
 use Rattle.elements.specs.declared.tags.Child.the-variants.{Done, At}
 use Rattle.elements.specs.Reading.{rowAt, NextChild}
 use Rattle.extents.specs.Rows as extents
-use Rattle.index.specs.Tests.{rowOf, rowsIn}
+use Rattle.index_values.specs.Tests.{rowOf, rowsIn}
 use Rattle.index_files.proofs.Meeting.{rows-over, rows-first}
 use borrow.Author.Needs.{needs}
 use Rattle.index_files.proofs.extent_rows.next_row.Statement.{statement}

@@ -1,6 +1,6 @@
 -- `number_met` meets its contract.
 use mathlib.Core.Path.{ap, _∙_}
-use Rattle.index.specs.Entries.{numberSaid}
+use Rattle.index_values.specs.Entries.{numberSaid}
 use borrow.Author.Needs.{needs}
 use Rattle.index_files.proofs.extent_rows.number_met.Statement.{statement}
 use Rattle.index_files.proofs.extent_rows.number_met.Tie as tie

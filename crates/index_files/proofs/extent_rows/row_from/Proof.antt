@@ -1,6 +1,6 @@
 -- `row_from` meets its contract: number by number, as the tags that were met say.
 use mathlib.Core.Path.{ap, _∙_}
-use Rattle.index.specs.Tests.{letterSaid}
+use Rattle.index_values.specs.Tests.{letterSaid}
 use Rattle.index_files.proofs.Meeting.{row-met}
 use borrow.Author.Needs.{needs}
 use Rattle.index_files.proofs.extent_rows.row_from.Statement.{statement}

@@ -5,7 +5,7 @@ use native.Mathlib.Omega.{arith}
 use lib.ListN.{length}
 use Rattle.slices.specs.Slices.{written}
 use Rattle.elements.specs.Reading.{rowAt}
-use Rattle.index.specs.Tests.{rowsIn}
+use Rattle.index_values.specs.Tests.{rowsIn}
 use Rattle.index_files.specs.declared.extent_rows.NextRow.the-variants.{Done, Found}
 use Rattle.index_files.specs.Rows.{rowIs, RowAhead}
 use Rattle.index_files.specs.Filling.{numbersOf}

@@ -3,7 +3,7 @@ use mathlib.Core.Path.{ap, sym, _∙_}
 use native.Mathlib.Omega.{arith}
 use lib.ListN.{length}
 use Rattle.index.specs.Index.{saying}
-use Rattle.index.specs.Tests.{given}
+use Rattle.index_values.specs.Tests.{given}
 use Rattle.index_files.specs.Files.{filesFrom}
 use Rattle.index_files.specs.Filling.{fitting}
 use Rattle.index_files.proofs.Asking.{index-refused, index-found, files-counted}

@@ -2,7 +2,7 @@
 use mathlib.Core.Path.{ap, sym, _∙_}
 use lib.ListN.{length}
 use Rattle.index.specs.Index.{saying}
-use Rattle.index.specs.Tests.{given}
+use Rattle.index_values.specs.Tests.{given}
 use Rattle.index_files.specs.Filling.{fitting, allRows}
 use Rattle.index_files.proofs.Asking.{index-refused, index-found}
 use Rattle.index_files.proofs.Putting.{put-refused, put-as}

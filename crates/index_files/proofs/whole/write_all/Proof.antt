@@ -5,7 +5,7 @@ use native.Mathlib.Omega.{arith}
 use lib.ListN.{length}
 use Rattle.slices.specs.Slices.{written}
 use Rattle.elements.specs.Reading.{rowAt}
-use Rattle.index.specs.Tests.{rowsIn}
+use Rattle.index_values.specs.Tests.{rowsIn}
 use Rattle.index_files.specs.declared.files.NextFile.the-variants.{Done, File}
 use Rattle.index_files.specs.Files.{filesFrom, FileFrom}
 use Rattle.index_files.specs.Filling.{numbersOf, allRows}

@@ -1,6 +1,6 @@
 -- `rescue_with` meets its contract: the cut by the tables that were filled.
 use Rattle.volume.proofs.Answering.{cuts-with}
-use Rattle.index.specs.Tests.{given}
+use Rattle.index_values.specs.Tests.{given}
 use borrow.Author.Needs.{needs}
 use Rattle.volume.proofs.answers.rescue_with.Statement.{statement}
 use Rattle.volume.proofs.answers.rescue_with.Tie as tie

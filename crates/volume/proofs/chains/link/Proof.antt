@@ -1,7 +1,7 @@
 -- `link` meets its contract: what is told of the construct at its place, the first one apart.
 use Rattle.volume.proofs.Chaining.{told-at, at-unsound, at-first, at-behind}
 use Rattle.volume.specs.Volume.{volumeWith}
-use Rattle.index.specs.Tests.{given}
+use Rattle.index_values.specs.Tests.{given}
 use borrow.Author.Tests.{not-true, not-false}
 use borrow.Author.Needs.{needs}
 use Rattle.volume.proofs.chains.link.Statement.{statement}

@@ -1,6 +1,6 @@
 -- `read_construct` meets its contract: 14, 1, 2, then the text.
 use Rattle.volume.proofs.Choosing.{chosen-caller, chosen-list, chosen-missing, chosen-found}
-use Rattle.index.specs.Tests.{given}
+use Rattle.index_values.specs.Tests.{given}
 use Rattle.constructs.specs.Tables.{scannedCount}
 use borrow.Author.Tests.{not-true, not-false}
 use lib.ListN.{replicate, length-replicate}

@@ -1,6 +1,6 @@
 -- `read_place` meets its contract.
 use Rattle.volume.proofs.Choosing.{place-found, place-refused}
-use Rattle.index.specs.Tests.{given}
+use Rattle.index_values.specs.Tests.{given}
 use Rattle.index.specs.Index.{saying}
 use mathlib.Core.Path.{sym, ap, _∙_}
 use borrow.Author.Needs.{needs}

@@ -1,6 +1,6 @@
 -- `judge` meets its contract: breaks 1 and 2, then the breaks by the tables that were filled.
 use Rattle.volume.proofs.Answering.{judges-1, judges-2, judges-by}
-use Rattle.index.specs.Tests.{given}
+use Rattle.index_values.specs.Tests.{given}
 use borrow.Author.Tests.{not-true, not-false}
 use borrow.Author.Needs.{needs}
 use Rattle.volume.proofs.judge.judge.Statement.{statement}

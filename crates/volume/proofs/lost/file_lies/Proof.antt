@@ -2,7 +2,7 @@
 use Rattle.volume.proofs.Extents.{every-end, every-stop, every-on}
 use Rattle.volume.specs.Steps.{liesIn}
 use Rattle.index_files.specs.Rows.{rowIs, RowAhead}
-use Rattle.index.specs.Tests.{rowsOf, rowsIn}
+use Rattle.index_values.specs.Tests.{rowsOf, rowsIn}
 use Rattle.elements.specs.Reading.{rowAt, childrenAt}
 use Rattle.xml.specs.Tree.{Forest}
 use Rattle.slices.specs.Slices.{every}

@@ -4,7 +4,7 @@ use Rattle.volume.specs.declared.lost.Lost.the-variants.{File, Nothing}
 use Rattle.volume.specs.Steps.{liesIn}
 use Rattle.verdict.specs.Verdict.{firstFailing}
 use Rattle.index_files.specs.Files.{filesLeft, FileFrom}
-use Rattle.index.specs.Tests.{rowsOf}
+use Rattle.index_values.specs.Tests.{rowsOf}
 use Rattle.elements.specs.Reading.{leftAt, childrenAt}
 use Rattle.slices.specs.Slices.{every}
 use lib.ListN.{length}

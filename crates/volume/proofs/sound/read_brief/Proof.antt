@@ -1,6 +1,6 @@
 -- `read_brief` meets its contract: a refusal is no sound index.
 use Rattle.volume.proofs.Briefs.{told-found, told-refused}
-use Rattle.index.specs.Tests.{given}
+use Rattle.index_values.specs.Tests.{given}
 use Rattle.index.specs.Index.{indexOf, saying}
 use mathlib.Core.Path.{ap, sym, _∙_}
 use borrow.Author.Needs.{needs}

@@ -1,0 +1,102 @@
+-- What is found by name in a row is what is found by number, by the place of the first element of that number.
+use mathlib.Core.Path.{_≡_, refl, ap, sym, _∙_}
+use mathlib.Core.Bool.{Bool, true, false, cond}
+use mathlib.Core.List.{List}
+use Prim.Native.Nat.{ℕ, _<_}
+use native.Mathlib.Omega.{arith}
+use lib.Dec.{eqb}
+use lib.ListN.{length, getD}
+use Rattle.slices.specs.Slices.{same}
+use Rattle.slices.specs.Words.{bytes}
+use Rattle.xml.specs.Tree.{Forest, none, node}
+use Rattle.children.specs.Children.{textOf, childrenOf}
+use Rattle.children.specs.Rows.{seat}
+use Rattle.index_names.specs.Sorts.{index, file, extent}
+use Rattle.index_names.specs.Names.{names, numberIn, indexNames, fileNames, extentNames}
+use Rattle.index_rows.specs.Places.{firstIn, Placed}
+use Rattle.index_rows.proofs.Named.{ruled, number-own}
+use Rattle.index_values.specs.Elements.{textIn, rowIn}
+
+module _ (kind j : ℕ) (name : List ℕ) (told : (n : List ℕ) → eqb (numberIn (names kind) n) j ≡ same n name) where
+  text-first : (f : Forest) → textIn name f ≡ textOf (firstIn kind j f)
+  unfolding textIn firstIn textOf
+  text-first none = refl
+  text-first (node h c r) = ap (λ (b : Bool). cond b (h .text) (textIn name r)) (sym (told (h .name))) ∙ go (eqb (numberIn (names kind) (h .name)) j) (text-first r)
+    where
+      go : (b : Bool) → textIn name r ≡ textOf (firstIn kind j r) → cond b (h .text) (textIn name r) ≡ textOf (cond b (node h c none) (firstIn kind j r))
+      go true i = refl
+      go false i = i
+
+  row-first : (f : Forest) → rowIn name f ≡ childrenOf (firstIn kind j f)
+  unfolding rowIn firstIn childrenOf
+  row-first none = refl
+  row-first (node h c r) = ap (λ (b : Bool). cond b c (rowIn name r)) (sym (told (h .name))) ∙ go (eqb (numberIn (names kind) (h .name)) j) (row-first r)
+    where
+      go : (b : Bool) → rowIn name r ≡ childrenOf (firstIn kind j r) → cond b c (rowIn name r) ≡ childrenOf (cond b (node h c none) (firstIn kind j r))
+      go true i = refl
+      go false i = i
+
+  module _ (s : List ℕ) (f : Forest) (t : List ℕ) (placed : Placed s kind f t) (h : j < 16) where
+    text-placed : textIn name f ≡ textOf (seat s (getD t j 0))
+    text-placed = text-first f ∙ ap textOf (placed j h)
+
+    row-placed : rowIn name f ≡ childrenOf (seat s (getD t j 0))
+    row-placed = row-first f ∙ ap childrenOf (placed j h)
+
+-- of a file: its length and its extents
+module _ (s : List ℕ) (f : Forest) (t : List ℕ) (placed : Placed s file f t) where
+  pub length-placed : textIn (bytes "length") f ≡ textOf (seat s (getD t 8 0))
+  unfolding names fileNames bytes ruled same
+  length-placed = text-placed file 8 (bytes "length") (λ n. number-own fileNames 8 n refl) s f t placed (omega arith)
+
+  pub extents-placed : rowIn (bytes "extentinfo") f ≡ childrenOf (seat s (getD t 9 0))
+  unfolding names fileNames bytes ruled same
+  extents-placed = row-placed file 9 (bytes "extentinfo") (λ n. number-own fileNames 9 n refl) s f t placed (omega arith)
+
+-- of an extent: its five values
+module _ (s : List ℕ) (f : Forest) (t : List ℕ) (placed : Placed s extent f t) where
+  pub fileoffset-placed : textIn (bytes "fileoffset") f ≡ textOf (seat s (getD t 0 0))
+  unfolding names extentNames bytes ruled same
+  fileoffset-placed = text-placed extent 0 (bytes "fileoffset") (λ n. number-own extentNames 0 n refl) s f t placed (omega arith)
+
+  pub partition-placed : textIn (bytes "partition") f ≡ textOf (seat s (getD t 1 0))
+  unfolding names extentNames bytes ruled same
+  partition-placed = text-placed extent 1 (bytes "partition") (λ n. number-own extentNames 1 n refl) s f t placed (omega arith)
+
+  pub startblock-placed : textIn (bytes "startblock") f ≡ textOf (seat s (getD t 2 0))
+  unfolding names extentNames bytes ruled same
+  startblock-placed = text-placed extent 2 (bytes "startblock") (λ n. number-own extentNames 2 n refl) s f t placed (omega arith)
+
+  pub byteoffset-placed : textIn (bytes "byteoffset") f ≡ textOf (seat s (getD t 3 0))
+  unfolding names extentNames bytes ruled same
+  byteoffset-placed = text-placed extent 3 (bytes "byteoffset") (λ n. number-own extentNames 3 n refl) s f t placed (omega arith)
+
+  pub bytecount-placed : textIn (bytes "bytecount") f ≡ textOf (seat s (getD t 4 0))
+  unfolding names extentNames bytes ruled same
+  bytecount-placed = text-placed extent 4 (bytes "bytecount") (λ n. number-own extentNames 4 n refl) s f t placed (omega arith)
+
+-- of an index: what its header says
+module _ (s : List ℕ) (f : Forest) (t : List ℕ) (placed : Placed s index f t) where
+  pub generation-placed : textIn (bytes "generationnumber") f ≡ textOf (seat s (getD t 2 0))
+  unfolding names indexNames bytes ruled same
+  generation-placed = text-placed index 2 (bytes "generationnumber") (λ n. number-own indexNames 2 n refl) s f t placed (omega arith)
+
+  pub updatetime-placed : textIn (bytes "updatetime") f ≡ textOf (seat s (getD t 3 0))
+  unfolding names indexNames bytes ruled same
+  updatetime-placed = text-placed index 3 (bytes "updatetime") (λ n. number-own indexNames 3 n refl) s f t placed (omega arith)
+
+  pub location-placed : rowIn (bytes "location") f ≡ childrenOf (seat s (getD t 4 0))
+  unfolding names indexNames bytes ruled same
+  location-placed = row-placed index 4 (bytes "location") (λ n. number-own indexNames 4 n refl) s f t placed (omega arith)
+
+  pub allow-placed : textIn (bytes "allowpolicyupdate") f ≡ textOf (seat s (getD t 5 0))
+  unfolding names indexNames bytes ruled same
+  allow-placed = text-placed index 5 (bytes "allowpolicyupdate") (λ n. number-own indexNames 5 n refl) s f t placed (omega arith)
+
+  pub highest-placed : textIn (bytes "highestfileuid") f ≡ textOf (seat s (getD t 6 0))
+  unfolding names indexNames bytes ruled same
+  highest-placed = text-placed index 6 (bytes "highestfileuid") (λ n. number-own indexNames 6 n refl) s f t placed (omega arith)
+
+  pub back-placed : rowIn (bytes "previousgenerationlocation") f ≡ childrenOf (seat s (getD t 9 0))
+  unfolding names indexNames bytes ruled same
+  back-placed = row-placed index 9 (bytes "previousgenerationlocation") (λ n. number-own indexNames 9 n refl) s f t placed (omega arith)
