@@ -115,7 +115,6 @@ module _ (g : Given) (k : Forest) (table : List ℕ) (a : Sums) (u : List ℕ) (
     table-length : length u ≡ 4096 → length table ≡ 4096
     table-length e = sym (length-sets table 0 (uidsOf l)) ∙ sym (ap (λ x. length (x .1)) uids-are) ∙ e
 
-
     table-is : length u ≡ 4096 → take (a .entries) u ≡ uidsOf l
     table-is e =
         ap (λ (x : ℕ × List ℕ). take (x .0) (x .1)) uids-are

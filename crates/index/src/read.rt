@@ -1,8 +1,8 @@
 // Reading an index's text: the classes of refusals in their order, then its header.
 use crate::survey;
-use index_values::Volume;
 use elements::Span;
 use elements::Tag;
+use index_values::Volume;
 use quantities::BlockNumber;
 use quantities::Generation;
 use refusals::Refusal;

@@ -1,8 +1,8 @@
 // The survey of an index's children: one walk, then the fileuids.
-use index_values::Volume;
 use crate::walk;
 use crate::walk::Sums;
 use index_names::INDEX;
+use index_values::Volume;
 ghost use Prim.Native.Nat.{_≤_};
 ghost use lib.ListN.{length};
 ghost use Rattle.xml.specs.Form.{height};

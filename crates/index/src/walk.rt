@@ -1,6 +1,4 @@
 // The walk over an index's elements.
-use index_values::Judged;
-use index_values::Volume;
 use elements::Next;
 use elements::Start;
 use index_names::DIRECTORY;
@@ -10,6 +8,8 @@ use index_names::INDEX;
 use index_names::ROOT;
 use index_names::SKIPPED;
 use index_names::UNKNOWN;
+use index_values::Judged;
+use index_values::Volume;
 ghost use mathlib.Core.Path.{_≡_};
 ghost use mathlib.Core.Bool.{cond, _&&_};
 ghost use Prim.Native.Nat.{_≤_, _<_};
@@ -190,7 +190,13 @@ fn enter(
 {
     let entry = is_entry(sort);
     let entries = a.entries;
-    put_uid(text, uids, index_values::children_row(text, h), entry, entries);
+    put_uid(
+        text,
+        uids,
+        index_values::children_row(text, h),
+        entry,
+        entries,
+    );
     let good = fits_at(text, h, sort);
     let raw = elements::part(text, h.text);
     Sums {

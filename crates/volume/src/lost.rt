@@ -1,8 +1,8 @@
 // Whether the extents of an index lie on what is kept.
-use index_values::Volume;
 use index_files::NextFile;
 use index_files::NextRow;
 use index_files::Row;
+use index_values::Volume;
 ghost use mathlib.Core.Path.{_≡_};
 ghost use Rattle.slices.specs.Slices.{every};
 ghost use Rattle.elements.specs.Reading.{childrenAt};
