@@ -7,6 +7,7 @@
  *   SHIM_FAIL=CALL:N   the N-th call of this name fails with EIO
  *   SHIM_NO_RENAME=1   renameat2 is refused as by a file system without RENAME_NOREPLACE
  *   SHIM_PLANT=KIND    just before the renaming something is put in its place: file or folder
+ *   SHIM_FREE=N        so many bytes are free on every file system
  */
 #define _GNU_SOURCE
 #include <dlfcn.h>
@@ -18,6 +19,7 @@
 #include <stdlib.h>
 #include <string.h>
 #include <sys/stat.h>
+#include <sys/statvfs.h>
 #include <unistd.h>
 
 #define REAL(name) ((__typeof__(&name))dlsym(RTLD_NEXT, #name))
@@ -118,5 +120,15 @@ int renameat2(int from_folder, const char *from, int to_folder, const char *to, 
     int status = *setting("SHIM_NO_RENAME") != '\0'
         ? -1 : REAL(renameat2)(from_folder, from, to_folder, to, flags);
     done("rename", to);
+    return status;
+}
+
+int fstatvfs(int descriptor, struct statvfs *space)
+{
+    int status = REAL(fstatvfs)(descriptor, space);
+    if (*setting("SHIM_FREE") != '\0') {
+        space->f_frsize = 1;
+        space->f_bavail = (fsblkcnt_t)atoll(setting("SHIM_FREE"));
+    }
     return status;
 }
