@@ -34,18 +34,54 @@ static char *draft_name(const char *path)
 static FILE *open_new(const char *path)
 {
     int descriptor = open(path, O_WRONLY | O_CREAT | O_EXCL | O_CLOEXEC, 0666);
-    return descriptor >= 0 ? fdopen(descriptor, "wb") : NULL;
+    if (descriptor < 0)
+        return NULL;
+    FILE *file = fdopen(descriptor, "wb");
+    if (file == NULL) {
+        close(descriptor);
+        unlink(path);
+        errno = ENOMEM;
+    }
+    return file;
+}
+
+/* Drafts that are not ended, for a program that ends without memory. */
+static struct draft *unended;
+
+static void drop_unended(void)
+{
+    while (unended != NULL)
+        draft_drop(unended);
+}
+
+static void note(struct draft *draft)
+{
+    static bool is_asked;
+    if (!is_asked)
+        is_asked = atexit(drop_unended) == 0;
+    draft->next = unended;
+    unended = draft;
+}
+
+static void forget(const struct draft *draft)
+{
+    struct draft **at = &unended;
+    while (*at != draft)
+        at = &(*at)->next;
+    *at = draft->next;
 }
 
 static bool begin(struct draft *draft, const char *path, bool is_folder)
 {
     if (!is_free(path))
         return false;
-    *draft = (struct draft){ .path = path, .temporary = draft_name(path) };
+    *draft = (struct draft){ .path = path, .temporary = draft_name(path), .is_folder = is_folder };
     hold_signals();
     if (is_folder ? mkdir(draft->temporary, 0777) == 0
-                  : (draft->file = open_new(draft->temporary)) != NULL)
+                  : (draft->file = open_new(draft->temporary)) != NULL) {
+        note(draft);
         return true;
+    }
     if (errno == EEXIST)
         complain("%s: its draft %s is there already", path, draft->temporary);
     else
@@ -132,20 +168,21 @@ bool draft_add_sides(struct draft *draft, const struct side sides[2])
 
 /* ---- Removing ---- */
 
+/* Without asking for memory, of which there may be none. */
 static void remove_folder(const struct draft *draft, const char *path)
 {
-    for (int i = 0; i < draft->count; i++) {
-        char *part = format_text("%s/%s", path, draft->parts[i]);
-        unlink(part);
-        free(part);
-    }
+    int folder = open(path, O_PATH | O_DIRECTORY | O_CLOEXEC);
+    for (int i = 0; i < draft->count; i++)
+        unlinkat(folder, draft->parts[i], 0);
+    if (folder >= 0)
+        close(folder);
     rmdir(path);
 }
 
 /* Takes away what the draft made, which is at the path. */
-static void take_away(const struct draft *draft, const char *path, bool is_folder)
+static void take_away(const struct draft *draft, const char *path)
 {
-    if (is_folder)
+    if (draft->is_folder)
         remove_folder(draft, path);
     else
         unlink(path);
@@ -153,16 +190,16 @@ static void take_away(const struct draft *draft, const char *path, bool is_folde
 
 static void end(struct draft *draft)
 {
+    forget(draft);
     free(draft->temporary);
     release_signals();
 }
 
 void draft_drop(struct draft *draft)
 {
-    bool is_folder = draft->file == NULL;
-    if (!is_folder)
+    if (draft->file != NULL)
         fclose(draft->file);
-    take_away(draft, draft->temporary, is_folder);
+    take_away(draft, draft->temporary);
     end(draft);
 }
 
@@ -190,23 +227,30 @@ static bool rename_folder(const struct draft *draft)
     return false;
 }
 
-static bool put_in_place(const struct draft *draft, bool is_folder)
+static bool put_in_place(const struct draft *draft)
 {
     if (renameat2(AT_FDCWD, draft->temporary, AT_FDCWD, draft->path, RENAME_NOREPLACE) == 0)
         return true;
     /* Some file systems can't rename "unless it exists". */
     if (errno != EINVAL && errno != ENOSYS)
         return false;
-    return is_folder ? rename_folder(draft) : link_file(draft);
+    return draft->is_folder ? rename_folder(draft) : link_file(draft);
+}
+
+static bool sync_draft(struct draft *draft)
+{
+    if (draft->is_folder)
+        return sync_folder(draft->temporary);
+    FILE *file = draft->file;
+    draft->file = NULL;
+    return close_whole(file);
 }
 
 /* Where the draft is after a try to finish it: at one of its paths, which `at` names. */
-static bool finish(struct draft *draft, bool is_folder, const char **at)
+static bool finish(struct draft *draft, const char **at)
 {
     *at = draft->temporary;
-    if (is_folder ? !sync_folder(draft->temporary) : !close_whole(draft->file))
-        return false;
-    if (!put_in_place(draft, is_folder))
+    if (!sync_draft(draft) || !put_in_place(draft))
         return false;
     *at = draft->path;
     return sync_parent(draft->temporary);
@@ -215,15 +259,14 @@ static bool finish(struct draft *draft, bool is_folder, const char **at)
 bool draft_finish(struct draft *draft)
 {
     const char *at;
-    bool is_folder = draft->file == NULL;
     if (is_stopped()) {
         draft_drop(draft);
         return false;
     }
-    bool done = finish(draft, is_folder, &at);
+    bool done = finish(draft, &at);
     if (!done) {
         int error = errno;
-        take_away(draft, at, is_folder);
+        take_away(draft, at);
         complain("%s: %s", draft->path, strerror(error));
     }
     end(draft);

@@ -2,7 +2,7 @@
  * New files and folders. What the program writes goes to a draft beside its
  * place and is put there once it is whole and on disk; what exists is never
  * replaced. While there is a draft, signals that end the program wait; one that
- * came before the draft is whole leaves nothing of it.
+ * came before the draft is whole leaves nothing of it, nor does exit().
  */
 #ifndef DRAFT_H
 #define DRAFT_H
@@ -17,9 +17,11 @@ enum { DRAFT_PARTS = 4 };
 struct draft {
     const char *path; /* its place */
     char *temporary;
-    FILE *file;                     /* of a file */
+    bool is_folder;
+    FILE *file;                     /* open, of a file */
     const char *parts[DRAFT_PARTS]; /* the names of a folder's files */
     int count;
+    struct draft *next; /* of those that are not ended */
 };
 
 /* Begins a file. On false nothing was made, and the reason was said. */

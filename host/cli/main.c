@@ -19,7 +19,7 @@ static const struct command {
     { "cut", run_cut, "write the consistent fronts to a new folder" },
     { "files", run_files, "list the files of an index" },
     { "extract", run_extract, "write a file's bytes" },
-    { "label", run_label, "write a VOL1 and an LTFS label" },
+    { "label", run_label, "write the labels of a volume" },
 };
 
 enum { COMMANDS = sizeof commands / sizeof commands[0] };

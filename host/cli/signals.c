@@ -4,7 +4,9 @@
 #include <stddef.h>
 
 /* A closed standard error must not end the program over a draft either: SIGPIPE. */
-static const int ending[] = { SIGHUP, SIGINT, SIGQUIT, SIGTERM, SIGXCPU, SIGPIPE };
+static const int ending[] = {
+    SIGHUP, SIGINT, SIGQUIT, SIGTERM, SIGXCPU, SIGALRM, SIGUSR1, SIGUSR2, SIGPIPE,
+};
 
 enum { ENDING = sizeof ending / sizeof ending[0] };
 

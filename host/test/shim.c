@@ -7,6 +7,7 @@
  *   SHIM_FAIL=CALL:N   the N-th call of this name fails with EIO
  *   SHIM_NO_RENAME=1   renameat2 is refused as by a file system without RENAME_NOREPLACE
  *   SHIM_PLANT=KIND    just before the renaming something is put in its place: file or folder
+ *   SHIM_NO_MEMORY=N   there is none from the N-th time on that it is asked for after a new file was opened
  *   SHIM_FREE=N        so many bytes are free on every file system
  */
 #define _GNU_SOURCE
@@ -64,6 +65,8 @@ static void done(const char *call, const char *what)
     errno = error;
 }
 
+static int has_opened;
+
 /* Only new files: what is read is of no interest. */
 int open(const char *path, int flags, ...)
 {
@@ -72,9 +75,35 @@ int open(const char *path, int flags, ...)
     mode_t mode = (flags & O_CREAT) != 0 ? va_arg(arguments, mode_t) : 0;
     va_end(arguments);
     int descriptor = REAL(open)(path, flags, mode);
-    if ((flags & O_CREAT) != 0)
+    if ((flags & O_CREAT) != 0) {
         done("open", path);
+        has_opened = 1;
+    }
     return descriptor;
+}
+
+static int has_memory(void)
+{
+    static int asked;
+    const char *wish = setting("SHIM_NO_MEMORY");
+    if (!has_opened || *wish == '\0' || ++asked < atoi(wish))
+        return 1;
+    errno = ENOMEM;
+    return 0;
+}
+
+/* The C library's own, by the name that is left of it. */
+void *__libc_malloc(size_t size);
+void *__libc_realloc(void *start, size_t size);
+
+void *malloc(size_t size)
+{
+    return has_memory() ? __libc_malloc(size) : NULL;
+}
+
+void *realloc(void *start, size_t size)
+{
+    return has_memory() ? __libc_realloc(start, size) : NULL;
 }
 
 int mkdir(const char *path, mode_t mode)

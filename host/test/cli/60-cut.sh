@@ -113,3 +113,17 @@ says err "taken: its draft taken.partial-"
 absent victim
 absent taken
 rm taken.partial-*
+
+# Without memory half-way nothing is left either.
+for asked in 1 2 3 4 5 6; do
+    # shellcheck disable=SC2086
+    env $SHIM SHIM_NO_MEMORY=$asked "$K" show nights --svg "memory$asked.svg" > out 2> err
+    checks=$((checks + 1))
+    [ $? -ne 2 ] || [ ! -e "memory$asked.svg" ] || fail "a picture is left without memory"
+    # shellcheck disable=SC2086
+    env $SHIM SHIM_NO_MEMORY=$asked "$K" cut nights "memory$asked" > out 2> err
+    checks=$((checks + 1))
+    [ -e "memory$asked/data.store" ] || [ ! -e "memory$asked" ] || fail "a part of a cut is left without memory"
+done
+says err "out of memory"
+no_drafts
