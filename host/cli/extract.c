@@ -94,19 +94,24 @@ static int write_gap(const struct extraction *this, uint64_t count)
     return done ? GO_ON : FAILED;
 }
 
-/* The stored bytes from a place on, to the end of their block at most; empty where none are. */
+/*
+ * The stored bytes from a place on, to the end of their block at most; empty where none are. What a block has beyond
+ * the block size is at no place.
+ */
 static struct bytes stored_bytes(const struct extraction *this, const uint64_t place[KLAPOUZEN_BYTE])
 {
     const uint8_t *letters = this->chosen->label.letters;
     uint64_t block[KLAPOUZEN_BLOCK], offset = place[KLAPOUZEN_BYTE_OFFSET];
+    uint64_t length = this->chosen->label.block_size;
     uint64_t refusal = klapouzen_block(VOLUME(this->volume), letters[INDEX], letters[DATA],
                                        (uint8_t)place[KLAPOUZEN_BYTE_LETTER],
                                        place[KLAPOUZEN_BYTE_BLOCK], block);
     if (refusal != 0 || offset >= block[KLAPOUZEN_BLOCK_LENGTH])
         return (struct bytes){ NULL, 0 };
+    if (length > block[KLAPOUZEN_BLOCK_LENGTH])
+        length = block[KLAPOUZEN_BLOCK_LENGTH];
     struct bytes store = this->volume->sides[block[KLAPOUZEN_BLOCK_SIDE]].store;
-    return part_of(store, block[KLAPOUZEN_BLOCK_OFFSET] + offset,
-                   block[KLAPOUZEN_BLOCK_LENGTH] - offset);
+    return part_of(store, block[KLAPOUZEN_BLOCK_OFFSET] + offset, length - offset);
 }
 
 static int not_stored(const struct extraction *this, const uint64_t place[KLAPOUZEN_BYTE],

@@ -47,7 +47,7 @@ def expected(begin, end):
         p, last = max(first, begin), min(first + extent["bytecount"], end)
         while p < last:
             block, place = divmod(extent["byteoffset"] + p - first, block_size)
-            piece = blocks[extent["startblock"] + block][place : place + last - p]
+            piece = blocks[extent["startblock"] + block][place : min(block_size, place + last - p)]
             found[p - begin : p - begin + len(piece)] = piece
             p += len(piece)
     return found

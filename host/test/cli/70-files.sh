@@ -107,3 +107,18 @@ same enough gaps
 is 2 env $SHIM SHIM_FREE=100 "$K" extract sparse 0
 says err "standard output: 9,106 bytes have to be stored, 100 are free"
 no_drafts
+
+# A block that is longer than the block size: what it has beyond is no part of a file.
+cp -r nights longer
+end=$(($(offset_of 31 nights/data.list) + 4096))
+{ head -c $end nights/data.store; printf X; tail -c +$((end + 1)) nights/data.store; } > longer/data.store
+python3 - <<'END'
+with open("longer/data.list", "r+b") as file:
+    elements, at = file.read(), 0
+    for _ in range(31):
+        at += 1 if elements[at] == 1 else 5
+    file.seek(at)
+    file.write(b"\2" + (4097).to_bytes(4, "big"))
+END
+is 0 "$K" extract longer wednesday.wav --construct 2
+same out wednesday
