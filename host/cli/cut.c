@@ -11,7 +11,7 @@ static const char help[] =
     "\n"
     "Writes the longest consistent fronts of both partitions to a new folder OUT:\n"
     "index.list, index.store, data.list and data.store. Nothing is written where there\n"
-    "is no cut, where OUT is there already, or where writing fails half-way.\n"
+    "is no cut, where OUT is there already, or where writing fails or is interrupted.\n"
     "\n"
     "  --help  this text\n"
     "\n"

@@ -114,12 +114,15 @@ static bool close_whole(FILE *file)
     return whole;
 }
 
-/* Makes a folder's names last. A file system that can't do it for folders says EINVAL. */
+/*
+ * Makes a folder's names last, as far as that can be asked for: not of a file system that can't do it for folders
+ * (EINVAL), nor of a folder that may be written and not read (EACCES).
+ */
 static bool sync_folder(const char *path)
 {
     int descriptor = open(path, O_RDONLY | O_DIRECTORY | O_CLOEXEC);
     if (descriptor < 0)
-        return false;
+        return errno == EACCES;
     bool synced = fsync(descriptor) == 0 || errno == EINVAL;
     int error = errno;
     close(descriptor);
