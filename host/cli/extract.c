@@ -131,7 +131,7 @@ static int write_piece(const struct extraction *this, const uint64_t *row, uint6
 {
     uint64_t place[KLAPOUZEN_BYTE];
     uint64_t left = row[KLAPOUZEN_ROW_POSITION] + row[KLAPOUZEN_ROW_COUNT] - *position;
-    /* No other row has this position, so the map needs this one alone; with all of them it is slow. */
+    /* No other row has this position: the map needs this one alone, whatever the number of rows. */
     uint64_t refusal = klapouzen_byte_at(row, KLAPOUZEN_ROW, this->length,
                                          this->chosen->label.block_size, *position, place);
     if (refusal != 0) {

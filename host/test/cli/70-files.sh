@@ -89,6 +89,8 @@ printf before > appended
 (ulimit -f 1024; "$K" extract sparse 0 >> appended)
 { printf before; cat gaps; } > wanted
 same appended wanted
+(ulimit -f 1024; "$K" extract sparse 0 >> appended_new)
+same appended_new gaps
 { printf before; "$K" extract sparse 0; printf after; } > between
 { printf before; cat gaps; printf after; } > wanted
 same between wanted
