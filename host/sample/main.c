@@ -134,24 +134,6 @@ static void sparse(struct sample *sample)
     sample_index(sample, 0, &index);
 }
 
-/* As many files as an index has room for; one in sixteen has bytes. */
-static void many(struct sample *sample)
-{
-    uint64_t first = put_run(sample, BLOCK_SIZE, 3);
-    struct extent extent = { 'b', first, 16, 10, 0 };
-    struct index_text index;
-    sample_empty_index(sample, 1);
-    struct index_head head = sample_head(sample, 0);
-    index_begin(&index, &head);
-    for (int i = 0; index.text.length + 1024 < KLAPOUZEN_MAX_INDEX; i++) {
-        char name[16];
-        snprintf(name, sizeof name, "%d.wav", i);
-        index_file(&index, name, i % 16 == 0 ? 10 : 0, &extent, i % 16 == 0);
-    }
-    index_end(&index);
-    sample_index(sample, 0, &index);
-}
-
 /*
  * Files that are hard to extract: names that are numbers, a terabyte of which next to nothing is stored, and
  * 12 MiB in as many rows as may be, the last part of the file first.
@@ -172,6 +154,24 @@ static void extents(struct sample *sample)
     index_file(&index, "terabyte", terabyte, NULL, 0);
     index_file(&index, "terabyte with bytes", terabyte, few, 2);
     index_file(&index, "falling", ALL, falling, KLAPOUZEN_MAX_ROWS);
+    index_end(&index);
+    sample_index(sample, 0, &index);
+}
+
+/* As many files as an index has room for; one in sixteen has bytes. */
+static void many(struct sample *sample)
+{
+    uint64_t first = put_run(sample, BLOCK_SIZE, 3);
+    struct extent extent = { 'b', first, 16, 10, 0 };
+    struct index_text index;
+    sample_empty_index(sample, 1);
+    struct index_head head = sample_head(sample, 0);
+    index_begin(&index, &head);
+    for (int i = 0; index.text.length + 1024 < KLAPOUZEN_MAX_INDEX; i++) {
+        char name[16];
+        snprintf(name, sizeof name, "%d.wav", i);
+        index_file(&index, name, i % 16 == 0 ? 10 : 0, &extent, i % 16 == 0);
+    }
     index_end(&index);
     sample_index(sample, 0, &index);
 }
@@ -202,9 +202,9 @@ static void write_sample(const struct sample *sample, const char *folder)
 int main(int count, char **words)
 {
     static const struct { const char *name; void (*make)(struct sample *); } kinds[] = {
+        { "extents", extents },
         { "fresh", fresh }, { "torn", torn }, { "nights", nights }, { "defect", defect },
         { "sparse", sparse }, { "long", long_one }, { "many", many },
-        { "extents", extents },
     };
     struct sample sample;
     for (size_t i = 0; count == 3 && i < sizeof kinds / sizeof kinds[0]; i++) {
