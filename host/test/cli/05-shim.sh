@@ -26,5 +26,5 @@ one_line() { # FILE: it has one line
 extracted() {
     "$K" files "$1" --json > listing
     checks=$((checks + 1))
-    python3 "$PARTS/../extracted.py" "$1" listing "$2" "$3" > out 2>&1 || fail "$3 is not file $2 of $1" "$(tail -1 out)"
+    python3 -I -S "$PARTS/../extracted.py" "$1" listing "$2" "$3" > out 2>&1 || fail "$3 is not file $2 of $1" "$(tail -1 out)"
 }

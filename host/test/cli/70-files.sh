@@ -115,7 +115,7 @@ no_drafts
 cp -r nights longer
 end=$(($(offset_of 31 nights/data.list) + 4096))
 { head -c $end nights/data.store; printf X; tail -c +$((end + 1)) nights/data.store; } > longer/data.store
-python3 - <<'END'
+python3 -I -S - <<'END'
 with open("longer/data.list", "r+b") as file:
     elements, at = file.read(), 0
     for _ in range(31):
