@@ -1,40 +1,45 @@
 /*
- * New files. What the program writes goes to a draft beside its place and is
- * renamed once it is whole and on disk; an existing file is never replaced.
+ * New files and folders. What the program writes goes to a draft beside its
+ * place and is put there once it is whole and on disk; what exists is never
+ * replaced. While there is a draft, signals that end the program wait; one that
+ * came before the draft is whole leaves nothing of it, nor does exit().
  */
 #ifndef DRAFT_H
 #define DRAFT_H
 
 #include <stdbool.h>
-#include <stddef.h>
-#include <stdint.h>
 #include <stdio.h>
 
-struct draft {
-    const char *path;
-    char *temporary;
-    FILE *file;
-};
+#include "volume.h"
 
-/* True where nothing is at the path; else says what is wrong. */
-bool is_free(const char *path);
+enum { DRAFT_PARTS = 4 };
+
+struct draft {
+    const char *path; /* its place */
+    char *temporary;
+    bool is_folder;
+    FILE *file;                     /* open, of a file */
+    const char *parts[DRAFT_PARTS]; /* the names of a folder's files */
+    int count;
+    struct draft *next; /* of those that are not ended */
+};
 
 /* Begins a file. On false nothing was made, and the reason was said. */
 bool draft_begin(struct draft *draft, const char *path);
 
-/* Puts the whole file in its place. On false nothing is left of it. */
+/* The same for a folder. */
+bool draft_begin_folder(struct draft *draft, const char *path);
+
+/* Writes a file of the folder, whose name must outlive the draft; says why not. */
+bool draft_add(struct draft *draft, const char *name, struct bytes bytes);
+
+/* The four files of a cartridge. */
+bool draft_add_sides(struct draft *draft, const struct side sides[2]);
+
+/* Puts the whole draft in its place. On false nothing is left of it, and the reason was said. */
 bool draft_finish(struct draft *draft);
 
 /* Leaves nothing of the draft. */
 void draft_drop(struct draft *draft);
-
-/* The name of a draft for a path, to be freed. */
-char *draft_name(const char *path);
-
-/* Renames a draft to its place unless something is there; says why not. */
-bool publish(const char *temporary, const char *path);
-
-/* Writes a new file at once, through to the disk; says why not. */
-bool write_new(const char *path, const uint8_t *bytes, size_t length);
 
 #endif

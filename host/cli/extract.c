@@ -1,24 +1,35 @@
 /* klapouzen extract: a file's bytes through the byte map. */
 #include <errno.h>
+#include <fcntl.h>
 #include <inttypes.h>
 #include <stdlib.h>
 #include <string.h>
+#include <sys/stat.h>
+#include <sys/statvfs.h>
+#include <unistd.h>
 
 #include "chosen.h"
 #include "commands.h"
 #include "common.h"
 #include "draft.h"
+#include "signals.h"
 #include "words.h"
 
 static const char help[] =
-    "usage: klapouzen extract [--construct N] [--data] [--output OUT] DIR FILE\n"
+    "usage: klapouzen extract [--construct N] [--data] [--output OUT] DIR FILE|--number N\n"
     "\n"
-    "Writes a file's bytes, zeros where nothing is stored. FILE is a file's number as\n"
-    "`klapouzen files` lists it, or its name where only one file has it.\n"
+    "Writes a file's bytes, zeros where nothing is stored. FILE is the file's name where\n"
+    "only one file has it; where none has it and it is a number, the file with that number\n"
+    "in the list of `klapouzen files`.\n"
     "\n"
+    "  --number N     the file with this number, whatever names there are\n"
     "  --output OUT   to a new file OUT, whole or not at all, and not to standard output\n"
     CHOICE_HELP
     "  --help         this text\n"
+    "\n"
+    "What is not stored takes no space in OUT, nor in a regular file that standard output\n"
+    "writes at the end of (`> FILE`, not `>> FILE`); all else is sent zeros. Nothing is\n"
+    "written where the stored bytes are more than the space that is free.\n"
     "\n"
     "Exit status: 0 written, 1 refused, no such file, or its bytes are not on the tape,\n"
     "2 bad use or a file that can't be read or written.\n";
@@ -29,12 +40,14 @@ struct extraction {
     uint64_t length; /* of the file */
     const struct rows *rows;
     FILE *out;
+    const char *path; /* of the output, in messages */
+    bool is_regular, skips_gaps;
 };
 
 /* ---- Which file ---- */
 
-/* The number of the only file with this name; false where none or several have it. */
-static bool find_name(const struct chosen *chosen, const char *name, uint64_t *number)
+/* How many files have this name, and the number of the last of them. */
+static uint64_t count_named(const struct chosen *chosen, const char *name, uint64_t *number)
 {
     uint64_t *files = read_all_files(chosen), found = 0;
     for (uint64_t i = 0; i < chosen->header[KLAPOUZEN_INDEX_FILES]; i++)
@@ -43,39 +56,22 @@ static bool find_name(const struct chosen *chosen, const char *name, uint64_t *n
             found++;
         }
     free(files);
-    if (found != 1)
-        complain("%s: %s", name, found == 0 ? "no file has this name"
-                                            : "several files have this name; give a number");
-    return found == 1;
+    return found;
 }
 
+/* A number means a file only where none has it as its name. */
 static bool find_file(const struct volume *volume, const struct chosen *chosen, const char *word,
                       uint64_t *number)
 {
-    if (!read_number(word, number))
-        return find_name(chosen, word, number);
-    if (*number < chosen->header[KLAPOUZEN_INDEX_FILES])
+    uint64_t named = count_named(chosen, word, number);
+    if (named == 1 || (named == 0 && read_number(word, number)))
         return true;
-    complain_construct(volume, chosen->side, chosen->construct, KLAPOUZEN_MISSING);
+    complain("%s: %s: %s", volume->folder, word,
+             named == 0 ? "no file has this name" : "several files have this name; give --number");
     return false;
 }
 
 /* ---- Pieces ---- */
-
-/* Where the row that holds a position ends, or else the next row begins. */
-static uint64_t piece_end(const struct extraction *this, uint64_t position)
-{
-    uint64_t end = this->length;
-    for (uint64_t i = 0; i < this->rows->count; i++) {
-        const uint64_t *row = this->rows->numbers + KLAPOUZEN_ROW * i;
-        uint64_t from = row[KLAPOUZEN_ROW_POSITION], to = from + row[KLAPOUZEN_ROW_COUNT];
-        if (from > position && from < end)
-            end = from;
-        if (from <= position && position < to && to < end)
-            end = to;
-    }
-    return end;
-}
 
 static bool write_zeros(FILE *out, uint64_t count)
 {
@@ -89,19 +85,33 @@ static bool write_zeros(FILE *out, uint64_t count)
     return true;
 }
 
-/* The stored bytes from a place on, to the end of their block at most; empty where none are. */
+/* The count is within off_t where gaps are skipped. */
+static int write_gap(const struct extraction *this, uint64_t count)
+{
+    bool done = count == 0
+        || (this->skips_gaps ? fseeko(this->out, (off_t)count, SEEK_CUR) == 0
+                             : write_zeros(this->out, count));
+    return done ? GO_ON : FAILED;
+}
+
+/*
+ * The stored bytes from a place on, to the end of their block at most; empty where none are. What a block has beyond
+ * the block size is at no place.
+ */
 static struct bytes stored_bytes(const struct extraction *this, const uint64_t place[KLAPOUZEN_BYTE])
 {
     const uint8_t *letters = this->chosen->label.letters;
     uint64_t block[KLAPOUZEN_BLOCK], offset = place[KLAPOUZEN_BYTE_OFFSET];
+    uint64_t length = this->chosen->label.block_size;
     uint64_t refusal = klapouzen_block(VOLUME(this->volume), letters[INDEX], letters[DATA],
                                        (uint8_t)place[KLAPOUZEN_BYTE_LETTER],
                                        place[KLAPOUZEN_BYTE_BLOCK], block);
     if (refusal != 0 || offset >= block[KLAPOUZEN_BLOCK_LENGTH])
         return (struct bytes){ NULL, 0 };
+    if (length > block[KLAPOUZEN_BLOCK_LENGTH])
+        length = block[KLAPOUZEN_BLOCK_LENGTH];
     struct bytes store = this->volume->sides[block[KLAPOUZEN_BLOCK_SIDE]].store;
-    return part_of(store, block[KLAPOUZEN_BLOCK_OFFSET] + offset,
-                   block[KLAPOUZEN_BLOCK_LENGTH] - offset);
+    return part_of(store, block[KLAPOUZEN_BLOCK_OFFSET] + offset, length - offset);
 }
 
 static int not_stored(const struct extraction *this, const uint64_t place[KLAPOUZEN_BYTE],
@@ -116,57 +126,126 @@ static int not_stored(const struct extraction *this, const uint64_t place[KLAPOU
     return NOT_SO;
 }
 
-/* Writes what follows a position, as far as it lies in one block or gap, and moves on. */
-static int write_piece(const struct extraction *this, uint64_t *position)
+/* Writes what a row has from a position of the file on, as far as it lies in one block, and moves on. */
+static int write_piece(const struct extraction *this, const uint64_t *row, uint64_t *position)
 {
-    uint64_t place[KLAPOUZEN_BYTE], end = piece_end(this, *position);
-    uint64_t refusal = klapouzen_byte_at(this->rows->numbers, KLAPOUZEN_ROW * this->rows->count,
-                                         this->length, this->chosen->label.block_size, *position,
-                                         place);
+    uint64_t place[KLAPOUZEN_BYTE];
+    uint64_t left = row[KLAPOUZEN_ROW_POSITION] + row[KLAPOUZEN_ROW_COUNT] - *position;
+    /* No other row has this position: the map needs this one alone, whatever the number of rows. */
+    uint64_t refusal = klapouzen_byte_at(row, KLAPOUZEN_ROW, this->length,
+                                         this->chosen->label.block_size, *position, place);
     if (refusal != 0) {
         complain_construct(this->volume, this->chosen->side, this->chosen->construct, refusal);
         return NOT_SO;
     }
-    if (!place[KLAPOUZEN_BYTE_STORED]) {
-        uint64_t gap = end - *position;
-        *position = end;
-        return write_zeros(this->out, gap) ? GO_ON : FAILED;
-    }
     struct bytes stored = stored_bytes(this, place);
     if (stored.length == 0)
         return not_stored(this, place, *position);
-    if (stored.length > end - *position)
-        stored.length = end - *position;
+    if (stored.length > left)
+        stored.length = left;
     *position += stored.length;
-    return fwrite(stored.start, 1, stored.length, this->out) == stored.length ? GO_ON : FAILED;
+    bool written = fwrite(stored.start, 1, stored.length, this->out) == stored.length;
+    return written && !is_stopped() ? GO_ON : FAILED;
+}
+
+/* Writes the zeros before a row, then the row. */
+static int write_row(const struct extraction *this, const uint64_t *row, uint64_t *position)
+{
+    uint64_t begin = row[KLAPOUZEN_ROW_POSITION], end = begin + row[KLAPOUZEN_ROW_COUNT];
+    int status = write_gap(this, begin - *position);
+    *position = begin;
+    while (status == GO_ON && *position < end)
+        status = write_piece(this, row, position);
+    return status;
+}
+
+/* The file ends where the last gap does. */
+static bool end_file(const struct extraction *this)
+{
+    if (fflush(this->out) != 0)
+        return false;
+    return !this->skips_gaps || ftruncate(fileno(this->out), ftello(this->out)) == 0;
 }
 
 static int write_file(const struct extraction *this)
 {
     int status = GO_ON;
     uint64_t position = 0;
-    while (status == GO_ON && position < this->length)
-        status = write_piece(this, &position);
-    if (status == GO_ON && fflush(this->out) != 0)
+    for (uint64_t i = 0; status == GO_ON && i < this->rows->count; i++)
+        status = write_row(this, this->rows->numbers + KLAPOUZEN_ROW * i, &position);
+    if (status == GO_ON)
+        status = write_gap(this, this->length - position);
+    if (status == GO_ON && !end_file(this))
         status = FAILED;
-    /* Of standard output the program says so itself at its end. */
-    if (status == FAILED && this->out != stdout)
-        complain("writing: %s", strerror(errno));
+    /* An error of standard output is said at the program's end; of a signal nothing is. */
+    bool is_said = (this->out == stdout && ferror(stdout)) || is_stopped();
+    if (status == FAILED && !is_said)
+        complain("%s: %s", this->path, strerror(errno));
     return status == GO_ON ? DONE : status;
 }
 
-/* ---- The command ---- */
+/* ---- Where it goes ---- */
+
+/* In a regular file a gap can be left out where nothing is behind the place of writing. */
+static void look_at_output(struct extraction *this)
+{
+    struct stat status;
+    int descriptor = fileno(this->out);
+    off_t at = lseek(descriptor, 0, SEEK_CUR);
+    this->is_regular = fstat(descriptor, &status) == 0 && S_ISREG(status.st_mode);
+    this->skips_gaps = this->is_regular && at == status.st_size
+        && (fcntl(descriptor, F_GETFL) & O_APPEND) == 0;
+}
+
+/* How many bytes the output takes of its file system. */
+static uint64_t bytes_to_store(const struct extraction *this)
+{
+    uint64_t stored = 0;
+    for (uint64_t i = 0; i < this->rows->count; i++)
+        stored += this->rows->numbers[KLAPOUZEN_ROW * i + KLAPOUZEN_ROW_COUNT];
+    return this->skips_gaps ? stored : this->length;
+}
+
+/* A file system that doesn't say its size is not asked for room. */
+static bool has_room(const struct extraction *this)
+{
+    struct statvfs space;
+    uint64_t wanted = bytes_to_store(this), room = UINT64_MAX;
+    if (fstatvfs(fileno(this->out), &space) == 0 && space.f_blocks > 0)
+        room = (uint64_t)space.f_bavail * space.f_frsize;
+    if (wanted > room)
+        complain("%s: %s bytes have to be stored, %s are free", this->path, grouped(wanted),
+                 grouped(room));
+    return wanted <= room;
+}
+
+static bool fits(const struct extraction *this)
+{
+    if (!this->is_regular)
+        return true;
+    if (this->length > INT64_MAX) {
+        complain("%s: %s", this->path, strerror(EFBIG));
+        return false;
+    }
+    return has_room(this);
+}
+
+static int write_out(struct extraction *this, FILE *out, const char *path)
+{
+    this->out = out;
+    this->path = path;
+    look_at_output(this);
+    return fits(this) ? write_file(this) : FAILED;
+}
 
 static int write_to(struct extraction *this, const char *output)
 {
     struct draft draft;
-    this->out = stdout;
     if (output == NULL)
-        return write_file(this);
+        return write_out(this, stdout, "standard output");
     if (!draft_begin(&draft, output))
         return FAILED;
-    this->out = draft.file;
-    int status = write_file(this);
+    int status = write_out(this, draft.file, output);
     if (status != DONE)
         draft_drop(&draft);
     else if (!draft_finish(&draft))
@@ -174,10 +253,32 @@ static int write_to(struct extraction *this, const char *output)
     return status;
 }
 
+/* ---- The command ---- */
+
 struct wish {
     struct choice choice;
-    const char *file, *output;
+    const char *file, *number, *output; /* the number as given, or NULL */
 };
+
+/* The file's number and its numbers; false where there is no such file, which was said. */
+static bool find_wished(const struct volume *volume, const struct chosen *chosen,
+                        const struct wish *wish, uint64_t *number, uint64_t file[KLAPOUZEN_FILE])
+{
+    if (wish->number != NULL ? !read_number(wish->number, number)
+                             : !find_file(volume, chosen, wish->file, number))
+        return false;
+    if (read_chosen_file(chosen, *number, file))
+        return true;
+    complain_construct(volume, chosen->side, chosen->construct, KLAPOUZEN_MISSING);
+    return false;
+}
+
+static int by_position(const void *one, const void *other)
+{
+    uint64_t first = ((const uint64_t *)one)[KLAPOUZEN_ROW_POSITION];
+    uint64_t second = ((const uint64_t *)other)[KLAPOUZEN_ROW_POSITION];
+    return (first > second) - (first < second);
+}
 
 static int extract(const struct volume *volume, const void *data)
 {
@@ -188,9 +289,10 @@ static int extract(const struct volume *volume, const void *data)
     int status = choose_index(volume, &wish->choice, &chosen);
     if (status != GO_ON)
         return status;
-    if (!find_file(volume, &chosen, wish->file, &number) || !read_chosen_file(&chosen, number, file))
+    if (!find_wished(volume, &chosen, wish, &number, file))
         return NOT_SO;
     read_chosen_rows(&chosen, number, file, &rows);
+    qsort(rows.numbers, rows.count, KLAPOUZEN_ROW * sizeof rows.numbers[0], by_position);
     struct extraction extraction = {
         .volume = volume, .chosen = &chosen, .length = file[KLAPOUZEN_FILE_LENGTH], .rows = &rows,
     };
@@ -200,12 +302,18 @@ static int extract(const struct volume *volume, const void *data)
 int run_extract(struct words *words)
 {
     struct wish wish = { .output = NULL };
+    uint64_t number;
     const struct option options[] = {
-        CHOICE_OPTIONS(wish.choice), { "output", &wish.output, NULL }, { NULL, NULL, NULL },
+        CHOICE_OPTIONS(wish.choice), { "output", &wish.output, NULL },
+        { "number", &wish.number, NULL }, { NULL, NULL, NULL },
     };
-    int status = take_words(words, options, help, 2, "a folder and a file wanted");
+    int status = take_options(words, options, help);
     if (status != GO_ON)
         return status;
+    if (words->count != (wish.number == NULL ? 2 : 1))
+        return bad_use(help, "a folder and a file wanted", "");
+    if (wish.number != NULL && !read_number(wish.number, &number))
+        return bad_use(help, "not a file's number", wish.number);
     wish.file = words->words[1];
     return on_volume(words->words[0], extract, &wish);
 }

@@ -1,5 +1,6 @@
 /* klapouzen: the command line. */
 #include <errno.h>
+#include <pthread.h>
 #include <signal.h>
 #include <stdio.h>
 #include <string.h>
@@ -18,10 +19,13 @@ static const struct command {
     { "cut", run_cut, "write the consistent fronts to a new folder" },
     { "files", run_files, "list the files of an index" },
     { "extract", run_extract, "write a file's bytes" },
-    { "label", run_label, "write a VOL1 and an LTFS label" },
+    { "label", run_label, "write the labels of a volume" },
 };
 
 enum { COMMANDS = sizeof commands / sizeof commands[0] };
+
+/* What the library needs, and what the commands do around it. */
+enum { STACK = 8 * KLAPOUZEN_STACK };
 
 static void print_help(FILE *out)
 {
@@ -55,14 +59,52 @@ static int run(int count, char **words)
     return FAILED;
 }
 
-int main(int count, char **words)
+/* The words of the program, and what it ends with. */
+struct work {
+    int count;
+    char **words;
+    sigset_t signals; /* blocked before */
+    int status;
+};
+
+static void *do_work(void *data)
 {
-    /* A file past a limit is an error of writing, not the end of the program. */
-    signal(SIGXFSZ, SIG_IGN);
-    int status = run(count, words);
+    struct work *work = data;
+    pthread_sigmask(SIG_SETMASK, &work->signals, NULL);
+    work->status = run(work->count, work->words);
     if (fflush(stdout) != 0 || ferror(stdout)) {
         complain("standard output: %s", strerror(errno));
+        work->status = FAILED;
+    }
+    return NULL;
+}
+
+/*
+ * The library needs more stack than a limit may leave to main, so all work is
+ * done on a thread with its own. Every signal is that thread's.
+ */
+static int work_on_thread(struct work *work)
+{
+    pthread_t thread;
+    pthread_attr_t attributes;
+    sigset_t all;
+    sigfillset(&all);
+    pthread_sigmask(SIG_SETMASK, &all, &work->signals);
+    pthread_attr_init(&attributes);
+    pthread_attr_setstacksize(&attributes, STACK);
+    int error = pthread_create(&thread, &attributes, do_work, work);
+    if (error != 0) {
+        complain("no memory for a stack: %s", strerror(error));
         return FAILED;
     }
-    return status;
+    pthread_join(thread, NULL);
+    return work->status;
+}
+
+int main(int count, char **words)
+{
+    struct work work = { .count = count, .words = words };
+    /* A file past a limit is an error of writing, not the end of the program. */
+    signal(SIGXFSZ, SIG_IGN);
+    return work_on_thread(&work);
 }

@@ -1,9 +1,11 @@
 #include "volume.h"
 
 #include <errno.h>
+#include <fcntl.h>
 #include <stdlib.h>
 #include <string.h>
 #include <sys/stat.h>
+#include <unistd.h>
 
 #include "common.h"
 
@@ -28,25 +30,54 @@ static bool read_front(FILE *file, size_t most, struct bytes *bytes)
     return !ferror(file);
 }
 
-/* One byte past a bound is enough for the library to refuse it. */
-static bool read_file(const char *folder, const char *side, const char *kind,
-                      size_t bound, struct bytes *bytes)
+/*
+ * Opens a file for reading, without waiting for one that isn't regular. NULL
+ * where there is none; where it can't be read says so and sets *readable false.
+ */
+static FILE *open_regular(const char *path, bool *readable)
 {
-    char *path = format_text("%s/%s.%s", folder, side, kind);
-    FILE *file = fopen(path, "rb");
-    bool readable = file != NULL ? read_front(file, bound + 1, bytes) : errno == ENOENT;
+    struct stat status;
+    int descriptor = open(path, O_RDONLY | O_NONBLOCK | O_CLOEXEC);
+    bool opened = descriptor >= 0 && fstat(descriptor, &status) == 0;
+    *readable = opened ? S_ISREG(status.st_mode) : errno == ENOENT;
+    if (!*readable)
+        complain("%s: %s", path, opened ? "not a regular file" : strerror(errno));
+    if (opened && *readable)
+        return fdopen(descriptor, "rb");
+    if (descriptor >= 0)
+        close(descriptor);
+    return NULL;
+}
+
+/* A file that isn't there leaves the bytes without a start. */
+static bool read_file(const char *path, size_t bound, struct bytes *bytes)
+{
+    bool readable;
+    FILE *file = open_regular(path, &readable);
+    if (file == NULL)
+        return readable;
+    /* One byte past a bound is enough for the library to refuse it. */
+    readable = read_front(file, bound + 1, bytes);
     if (!readable)
         complain("%s: %s", path, strerror(errno));
-    if (file != NULL)
-        fclose(file);
-    free(path);
+    fclose(file);
     return readable;
 }
 
 static bool read_side(const char *folder, struct side *side)
 {
-    return read_file(folder, side->name, "list", KLAPOUZEN_MAX_LIST, &side->list)
-        && read_file(folder, side->name, "store", KLAPOUZEN_MAX_STORE, &side->store);
+    char *list = format_text("%s/%s.list", folder, side->name);
+    char *store = format_text("%s/%s.store", folder, side->name);
+    bool readable = read_file(list, KLAPOUZEN_MAX_LIST, &side->list)
+        && read_file(store, KLAPOUZEN_MAX_STORE, &side->store);
+    free(list);
+    free(store);
+    return readable;
+}
+
+static bool is_there(const struct side *side)
+{
+    return side->list.start != NULL || side->store.start != NULL;
 }
 
 static bool is_folder(const char *path)
@@ -69,11 +100,17 @@ bool volume_open(struct volume *volume, const char *folder)
         .folder = folder,
         .sides = { { .name = "index" }, { .name = "data" } },
     };
-    if (is_folder(folder) && read_side(folder, &volume->sides[INDEX])
-        && read_side(folder, &volume->sides[DATA]))
-        return true;
-    volume_close(volume);
-    return false;
+    struct side *index = &volume->sides[INDEX], *data = &volume->sides[DATA];
+    if (!is_folder(folder) || !read_side(folder, index) || !read_side(folder, data)) {
+        volume_close(volume);
+        return false;
+    }
+    if (!is_there(index) && !is_there(data)) {
+        complain("%s: no cartridge here: no index.list, index.store, data.list or data.store",
+                 folder);
+        return false;
+    }
+    return true;
 }
 
 void volume_close(struct volume *volume)

@@ -33,8 +33,8 @@ enum { INDEX, DATA };
 
 /*
  * Reads the four files of a folder, a missing one as empty. Where one can't be
- * read, says so on standard error and answers false; there is nothing to close
- * then.
+ * read, or none is there, says so on standard error and answers false; there is
+ * nothing to close then.
  */
 bool volume_open(struct volume *volume, const char *folder);
 void volume_close(struct volume *volume);

@@ -134,6 +134,30 @@ static void sparse(struct sample *sample)
     sample_index(sample, 0, &index);
 }
 
+/*
+ * Files that are hard to extract: names that are numbers, a terabyte of which next to nothing is stored, and
+ * 12 MiB in as many rows as may be, the last part of the file first.
+ */
+static void extents(struct sample *sample)
+{
+    enum { TEXT = 3 * BLOCK_SIZE, ALL = KLAPOUZEN_MAX_ROWS * TEXT };
+    static struct extent falling[KLAPOUZEN_MAX_ROWS];
+    uint64_t first = put_run(sample, ALL, 5), terabyte = (uint64_t)1 << 40;
+    struct extent few[] = { { 'b', first, 4000, 200, terabyte / 2 }, { 'b', first + 9, 7, 5000, 100 } };
+    for (uint64_t i = 0; i < KLAPOUZEN_MAX_ROWS; i++)
+        falling[i] = (struct extent){ 'b', first + 3 * (i ^ 5), 0, TEXT, ALL - (i + 1) * TEXT };
+    sample_empty_index(sample, 1);
+    struct index_head head = sample_head(sample, 0);
+    struct index_text index;
+    index_begin(&index, &head);
+    index_file(&index, "3", 10, few, 0);
+    index_file(&index, "terabyte", terabyte, NULL, 0);
+    index_file(&index, "terabyte with bytes", terabyte, few, 2);
+    index_file(&index, "falling", ALL, falling, KLAPOUZEN_MAX_ROWS);
+    index_end(&index);
+    sample_index(sample, 0, &index);
+}
+
 /* As many files as an index has room for; one in sixteen has bytes. */
 static void many(struct sample *sample)
 {
@@ -178,6 +202,7 @@ static void write_sample(const struct sample *sample, const char *folder)
 int main(int count, char **words)
 {
     static const struct { const char *name; void (*make)(struct sample *); } kinds[] = {
+        { "extents", extents },
         { "fresh", fresh }, { "torn", torn }, { "nights", nights }, { "defect", defect },
         { "sparse", sparse }, { "long", long_one }, { "many", many },
     };
@@ -191,6 +216,6 @@ int main(int count, char **words)
         sample_free(&sample);
         return 0;
     }
-    fputs("usage: make_sample fresh|torn|nights|defect|sparse|long|many DIR\n", stderr);
+    fputs("usage: make_sample fresh|torn|nights|defect|sparse|long|many|extents DIR\n", stderr);
     return 2;
 }

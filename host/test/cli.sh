@@ -63,7 +63,7 @@ offset_of() {
         END { print sum }'
 }
 
-for kind in fresh torn nights defect sparse long many; do
+for kind in fresh torn nights defect sparse long many extents; do
     "$SAMPLE" $kind $kind || exit 2
 done
 

@@ -1,5 +1,5 @@
 # Refusals with number, text, file and side.
-mkdir empty
+mkdir empty && touch empty/index.list
 is 1 "$K" check empty
 says out "refused 9: the partition does not begin with block, mark, block, mark (index side: index.list)"
 cp -r fresh bad1 && printf '\003' >> bad1/data.list

@@ -27,11 +27,18 @@ is 0 "$K" extract nights 2 --output wednesday
 same all wednesday
 tail -c +"$(($(offset_of 31 nights/data.list) + 1))" nights/data.store | head -c 150000 > part
 same part wednesday
+extracted nights 2 wednesday
 is 2 "$K" extract nights 2 --output wednesday
 says err "wednesday: File exists"
+is 2 "$K" extract nights 2 --output nowhere/wednesday
+says err "nowhere/wednesday: No such file or directory"
+is 2 bash -c "ulimit -f 16; '$K' extract nights 2 --output full"
+says err "full: File too large"
 is 0 "$K" extract sparse 'gaps & <more>'
 checks=$((checks + 1))
 [ "$(stat -c %s out)" -eq 80000 ] || fail "not 80,000 bytes"
+cp out gaps
+extracted sparse 0 gaps
 is 0 "$K" extract sparse 1
 head -c 100000 /dev/zero > zeros
 same out zeros
@@ -39,12 +46,82 @@ is 0 "$K" extract sparse 2 --output none
 checks=$((checks + 1))
 [ -e none ] && [ ! -s none ] || fail "no empty file"
 is 1 "$K" extract sparse twice
-says err "several files have this name"
+says err "sparse: twice: several files have this name"
 is 1 "$K" extract sparse nobody
-says err "no file has this name"
+says err "sparse: nobody: no file has this name"
 is 1 "$K" extract sparse 6
 says err "refused 2"
 is 1 "$K" extract sparse 5 --output past
 says err "byte 2000 of block 9, which is not there (data side: data.store)"
 absent past
 no_drafts
+
+# A name comes before a number; --number is the number.
+is 0 "$K" extract extents 3 --output named
+extracted extents 0 named
+is 0 "$K" extract extents --number 3 --output numbered
+extracted extents 3 numbered
+is 1 "$K" extract extents --number 4
+says err "refused 2"
+is 2 "$K" extract extents --number three
+says err "not a file's number: three"
+is 2 "$K" extract extents 3 --number 3
+
+# As many rows as may be, the last part first: by the program's own time, whatever else runs.
+TIMEFORMAT=%U
+took=$({ time "$K" extract extents falling > out; } 2>&1)
+checks=$((checks + 1))
+awk -v took="$took" 'BEGIN { exit !(took < 0.7) }' || fail "extracting 12 MiB in 1,024 rows took $took s"
+same out numbered
+
+# Gaps take no space in a new file, and in standard output where it is one; they are zeros everywhere.
+is 0 "$K" extract sparse 1 --output all_gap
+checks=$((checks + 2))
+[ "$(stat -c %b all_gap)" -eq 0 ] || fail "zeros were written"
+same all_gap zeros
+is 0 "$K" extract sparse 1
+[ "$(stat -c %b out)" -eq 0 ] || fail "zeros were written"
+same out zeros
+# A limit keeps a program that goes wrong from filling the disk.
+(ulimit -f 1024; "$K" extract sparse 0 | cat > piped)
+same piped gaps
+printf before > appended
+(ulimit -f 1024; "$K" extract sparse 0 >> appended)
+{ printf before; cat gaps; } > wanted
+same appended wanted
+(ulimit -f 1024; "$K" extract sparse 0 >> appended_new)
+same appended_new gaps
+{ printf before; "$K" extract sparse 0; printf after; } > between
+{ printf before; cat gaps; printf after; } > wanted
+same between wanted
+head -c 80000 /dev/urandom > old
+(ulimit -f 1024; "$K" extract sparse 0 1<> old)
+same old gaps
+
+# No more than is free.
+# shellcheck disable=SC2086
+is 2 env $SHIM SHIM_FREE=9105 "$K" extract sparse 0 --output too_much
+says err "too_much: 9,106 bytes have to be stored, 9,105 are free"
+absent too_much
+# shellcheck disable=SC2086
+is 0 env $SHIM SHIM_FREE=9106 "$K" extract sparse 0 --output enough
+same enough gaps
+# shellcheck disable=SC2086
+is 2 env $SHIM SHIM_FREE=100 "$K" extract sparse 0
+says err "standard output: 9,106 bytes have to be stored, 100 are free"
+no_drafts
+
+# A block that is longer than the block size: what it has beyond is no part of a file.
+cp -r nights longer
+end=$(($(offset_of 31 nights/data.list) + 4096))
+{ head -c $end nights/data.store; printf X; tail -c +$((end + 1)) nights/data.store; } > longer/data.store
+python3 -I -S - <<'END'
+with open("longer/data.list", "r+b") as file:
+    elements, at = file.read(), 0
+    for _ in range(31):
+        at += 1 if elements[at] == 1 else 5
+    file.seek(at)
+    file.write(b"\2" + (4097).to_bytes(4, "big"))
+END
+is 0 "$K" extract longer wednesday.wav --construct 2
+same out wednesday

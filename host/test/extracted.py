@@ -1,0 +1,78 @@
+"""Whether an extracted file has the bytes of its extents: extracted.py DIR FILES_JSON NUMBER EXTRACTED
+
+DIR's lists and stores are read here, the extents come from `klapouzen files --json`. Position p in an extent is in
+block startblock + (byteoffset + p - fileoffset) div B, at the remainder; in no extent it is a zero. What the extracted
+file has no room for on disk (holes) need not be read: it is zeros.
+"""
+import json
+import os
+import re
+import sys
+
+folder, listing, number, extracted = sys.argv[1:]
+
+
+def read(name):
+    with open(os.path.join(folder, name), "rb") as file:
+        return file.read()
+
+
+def blocks_of(side):
+    """The blocks of a side by element number; None for a mark."""
+    elements, store, at, offset = read(side + ".list"), read(side + ".store"), 0, 0
+    blocks = []
+    while at < len(elements):
+        if elements[at] == 1:
+            blocks.append(None)
+            at += 1
+        else:
+            length = int.from_bytes(elements[at + 1 : at + 5], "big")
+            blocks.append(store[offset : offset + length])
+            offset += length
+            at += 5
+    return blocks
+
+
+tapes = {b"a": blocks_of("index"), b"b": blocks_of("data")}
+block_size = int(re.search(rb"<blocksize>(\d+)</blocksize>", read("index.store")).group(1))
+with open(listing, encoding="utf-8") as lines:
+    wanted = [json.loads(line) for line in lines][int(number)]
+
+
+def expected(begin, end):
+    """The bytes from one position up to another."""
+    found = bytearray(end - begin)
+    for extent in wanted["extents"]:
+        first, blocks = extent["fileoffset"], tapes[extent["partition"].encode()]
+        p, last = max(first, begin), min(first + extent["bytecount"], end)
+        while p < last:
+            block, place = divmod(extent["byteoffset"] + p - first, block_size)
+            piece = blocks[extent["startblock"] + block][place : min(block_size, place + last - p)]
+            found[p - begin : p - begin + len(piece)] = piece
+            p += len(piece)
+    return found
+
+
+def parts(file, length):
+    """What the file system stores of the file, in parts of a megabyte at most."""
+    at = 0
+    while at < length:
+        try:
+            at = os.lseek(file, at, os.SEEK_DATA)
+        except OSError:
+            return
+        end = os.lseek(file, at, os.SEEK_HOLE)
+        for begin in range(at, end, 1 << 20):
+            yield begin, min(begin + (1 << 20), end)
+        at = end
+
+
+with open(extracted, "rb") as out:
+    length = os.fstat(out.fileno()).st_size
+    if length != wanted["length"]:
+        sys.exit(f"{length} bytes, not {wanted['length']}")
+    regions = list(parts(out.fileno(), length))
+    regions += [(e["fileoffset"], e["fileoffset"] + e["bytecount"]) for e in wanted["extents"]]
+    for begin, end in regions:
+        if os.pread(out.fileno(), end - begin, begin) != expected(begin, end):
+            sys.exit(f"the bytes from {begin} to {end} differ")
