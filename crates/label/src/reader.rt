@@ -89,7 +89,7 @@ fn find_places(text: &[u8], n: usize) -> Places
 }
 
 // Whether the letters are different, and the location is one of them.
-pub(crate) fn letters_fit(location: u8, index: u8, other: u8) -> bool
+pub fn letters_fit(location: u8, index: u8, other: u8) -> bool
     ensures { λ r. ⌜ r ≡ lettersFit location index other ⌝ }
 {
     if index == other {
