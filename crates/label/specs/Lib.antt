@@ -1,3 +1,4 @@
 pub mod Label
+pub mod Parts
 pub mod Reading
 pub mod Agreement

@@ -26,6 +26,7 @@ use Rattle.children.specs.Children.{holds, allKnown, pick, atMostOne, below, la
 use Rattle.values.specs.Values.{number, boolean, letter, version, isCreator, isTime, isUuid}
 use Rattle.label_writer.specs.declared.Given.{Given}
 use Rattle.label.specs.Label.{Label, Texts, isShaped, textsIn, isFormed, labelFrom, labelOf}
+use Rattle.label.specs.Parts.{fitting, sized}
 use Rattle.label.specs.Reading.{means}
 use Rattle.label_writer.specs.Text.{escaped, word, textOf, labelOfGiven, isLawful, isGiven}
 use Rattle.writing.specs.Writing.{Writes}
@@ -94,8 +95,11 @@ values-read f ok =
     let h : f .blockSize ≤ 1048576 = leb-true (f .blockSize) 1048576 (and-right (leb 4096 (f .blockSize)) (leb (f .blockSize) 1048576) (ok .blockSize)) in
     let d = decoded-escaped (f .creator) in
     let e : (isCreator (decoded (escaped (f .creator))) && isTime (f .time) && isUuid (f .uuid)) ≡ true = rw (d, ok .creator, ok .time, ok .uuid) in
-    sym (the-label 1 (shown f) e (letter-alone _ (ok .location)) (letter-alone _ (ok .indexLetter)) (letter-alone _ (ok .dataLetter)) (ok .fit)
-    (number-short (f .blockSize) (omega arith)) (ok .blockSize) (word-says (f .compression)) _ _ _ refl refl refl)
+    let letters : fitting (letter (f .location ∷ [])) (letter (f .indexLetter ∷ [])) (letter (f .dataLetter ∷ []))
+    ≡ some (record { location = f .location; indexLetter = f .indexLetter; dataLetter = f .dataLetter })
+    = rw (letter-alone (f .location) (ok .location), letter-alone (f .indexLetter) (ok .indexLetter), letter-alone (f .dataLetter) (ok .dataLetter), ok .fit) in
+    let size : sized (number (decimal.short (f .blockSize))) ≡ some (f .blockSize) = rw (number-short (f .blockSize) (omega arith)) (rw (ok .blockSize)) in
+    sym (the-label 1 (shown f) e letters size (word-says (f .compression)) _ _ _ refl refl refl)
     ∙ rw d
 
 -- the text of a label of version 2.0.1 that may be written is that label
