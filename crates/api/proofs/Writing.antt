@@ -11,7 +11,7 @@ use Rattle.refusals.specs.declared.Refusal.the-variants.{Caller}
 use Rattle.refusals.specs.Refusals.{refused, answer, numberOf}
 use Rattle.slices.specs.declared.Written.the-variants.{To, Refused}
 use Rattle.slices.proofs.Writers.{reached, unreached}
-use Rattle.label.specs.Writing.{Writes}
+use Rattle.writing.specs.Writing.{Writes}
 use Rattle.api.specs.Outputs.{writing, WritesOut}
 use Rattle.api.proofs.Showing.{shown, not-shown}
 

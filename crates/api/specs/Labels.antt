@@ -7,9 +7,9 @@ use lib.Dec.{leb, eqb}
 use lib.ListN.{getD}
 use Rattle.elements.specs.Reading.{Inside}
 use Rattle.texts.specs.Decoded.{decoded}
-use Rattle.label.specs.Vol1.{Fields, identifierAt, identifierLength, ownerAt, ownerLength}
+use Rattle.vol1.specs.Vol1.{Fields, identifierAt, identifierLength, ownerAt, ownerLength}
 use Rattle.label.specs.Label.{Label}
-use Rattle.label.specs.Text.{isGiven, labelOfGiven}
+use Rattle.label_writer.specs.Text.{isGiven, labelOfGiven}
 use Rattle.label.specs.declared.reader.Fields.{Fields as Read}
 use Rattle.index_files.specs.Filling.{partTold, TellsPart}
 use Rattle.api.specs.Outputs.{bit}

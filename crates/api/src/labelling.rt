@@ -1,16 +1,16 @@
 // Labels: read, written, and the labels of a volume.
 use crate::numbers::flag;
 use label::Fields;
-use label::Given;
 use label::Label;
-use label::Vol1;
-use label::Vol1Read;
+use label_writer::Given;
 use refusals::Refusal;
 use slices::Written;
+use vol1::Vol1;
+use vol1::Vol1Read;
 ghost use mathlib.Core.Path.{_≡_};
-ghost use Rattle.label.specs.Vol1.{vol1Of, areFields, vol1};
+ghost use Rattle.vol1.specs.Vol1.{vol1Of, areFields, vol1};
 ghost use Rattle.label.specs.Label.{labelOf};
-ghost use Rattle.label.specs.Text.{textOf};
+ghost use Rattle.label_writer.specs.Text.{textOf};
 ghost use Rattle.labels.specs.Labels.{labelsIn};
 ghost use Rattle.api.specs.Outputs.{Shown, Told, WritesOut};
 ghost use Rattle.api.specs.Labels.{vol1Places, labelNumbers, SaysLabel, givenLabel, isWritable};
@@ -39,7 +39,7 @@ fn in_numbers(f: Fields) -> [u64; 12]
 pub extern "C" fn klapouzen_read_vol1(block: &[u8], out: &mut [u64; 4]) -> u64
     ensures { λ r. ⌜ Shown 4 vol1Places (vol1Of (now (block .entry))) r (now (out .exit)) ⌝ }
 {
-    match label::read_vol1(block) {
+    match vol1::read_vol1(block) {
         Vol1Read::Good => {
             *out = [
                 Vol1::IDENTIFIER_AT as u64,
@@ -66,7 +66,7 @@ pub extern "C" fn klapouzen_write_vol1(
 ) -> u64
     ensures { λ r. ⌜ WritesOut (areFields (now (identifier .entry)) (now (owner .entry))) (vol1 (now (identifier .entry)) (now (owner .entry))) (now (out .entry)) (now (out .exit)) r (now (length .exit)) ⌝ }
 {
-    match label::write_vol1(out, identifier, owner) {
+    match vol1::write_vol1(out, identifier, owner) {
         Written::To(n) => {
             *length = n as u64;
             0
@@ -122,7 +122,7 @@ pub extern "C" fn klapouzen_write_label(
         block_size,
         compression: compression == 1,
     };
-    match label::write(out, creator, time, uuid, given) {
+    match label_writer::write(out, creator, time, uuid, given) {
         Written::To(n) => {
             *length = n as u64;
             0

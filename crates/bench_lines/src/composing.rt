@@ -1,16 +1,16 @@
 // The lines, put together piece by piece. Each has a bound of its length, so that a buffer of 256 bytes has room for all.
-use crate::writing::add;
-use crate::writing::add_number;
 use refusals::Refusal;
 use volume::Kept;
 use volume::Rescue;
 use volume::Verdict;
+use writing::add;
+use writing::add_number;
 ghost use Prim.Native.Nat.{_+_};
 ghost use lib.ListN.{length};
 ghost use Rattle.volume.specs.Answers.{judged, rescued};
 ghost use Rattle.volume.specs.Steps.{cutIs};
 ghost use Rattle.bench_lines.specs.Lines.{pair, refusedLine, breakLine, cutLine, rescueLine, linesOf};
-ghost use Rattle.bench_lines.specs.Pieces.{AddsAtMost};
+ghost use Rattle.writing.specs.Writing.{AddsAtMost};
 
 // Adds a word and two numbers with a space between.
 fn add_pair(out: &mut [u8], from: usize, word: &[u8], a: u64, b: u64) -> usize

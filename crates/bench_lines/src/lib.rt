@@ -1,6 +1,5 @@
 // What the program writes for the four files of a volume (01, Bench examples).
 mod composing;
-mod writing;
 
 use refusals::Refusal;
 use slices::Written;

@@ -1,13 +1,4 @@
 pub mod Shape
 pub mod Places
 pub mod Values
-pub mod Adding
-pub mod Blocks
-pub mod Escaping
-pub mod Lengths
-pub mod Fields
 pub mod Tests
-pub mod Plain
-pub mod Elements
-pub mod RoundTrip
-pub mod Creators

@@ -1,10 +1,10 @@
 -- A label from its texts, value by value: each that is missing is refused 6, and where none is, the label.
-use mathlib.Core.Path.{_≡_}
-use mathlib.Core.Bool.{Bool, true, false, _&&_}
+use mathlib.Core.Path.{_≡_, refl, _∙_}
+use mathlib.Core.Bool.{Bool, true, false, cond, _&&_}
 use mathlib.Core.List.{List}
-use mathlib.Core.Option.{some, none as nothing}
+use mathlib.Core.Option.{Option, some, none as nothing}
 use Prim.Native.Nat.{ℕ, _<_, _≤_}
-use Rattle.refusals.specs.Refusals.{refused, answer}
+use Rattle.refusals.specs.Refusals.{Answer, refused, answer, require}
 use Rattle.refusals.specs.declared.Refusal.the-variants.{Form, Structure, Value, Version, TooMany}
 use Rattle.slices.specs.Slices.{same}
 use Rattle.slices.specs.Words.{bytes}
@@ -16,57 +16,88 @@ use Rattle.xml.specs.Tree.{Head, Forest, none, node}
 use Rattle.elements.specs.Reading.{rowAt}
 use Rattle.texts.specs.Decoded.{decoded}
 use Rattle.values.specs.Values.{number, boolean, letter, version, isTime, isUuid, isCreator}
-use Rattle.label.specs.Label.{Texts, isShaped, textsIn, lettersFit, labelFrom, rootOf, firstOf, isFormed, labelOf}
+use Rattle.label.specs.Label.{Label, Texts, isShaped, textsIn, told, lettersFit, labelFrom, rootOf, firstOf, isFormed, labelOf}
+use Rattle.label.specs.Parts.{Three, fitting, sized}
 
 pub texts-same : {c c′ t t′ u u′ : List ℕ} → c ≡ c′ → t ≡ t′ → u ≡ u′
     → (isCreator (decoded c) && isTime t && isUuid u) ≡ (isCreator (decoded c′) && isTime t′ && isUuid u′)
 texts-same p q r = cc
+
+pub letters-same : {l l′ i i′ d d′ : List ℕ} → l ≡ l′ → i ≡ i′ → d ≡ d′ → fitting (letter l) (letter i) (letter d) ≡ fitting (letter l′) (letter i′) (letter d′)
+letters-same p q r = cc
+
+-- the letters are told together
+letters-together : (a b c : Option ℕ) (next : ℕ → ℕ → ℕ → Answer Label)
+    → told a Value (λ l. told b Value (λ i. told c Value (λ d. require (lettersFit l i d) Value (next l i d))))
+    ≡ told (fitting a b c) Value (λ x. next (x .location) (x .indexLetter) (x .dataLetter))
+letters-together nothing b c next = refl
+letters-together (some l) nothing c next = refl
+letters-together (some l) (some i) nothing next = refl
+letters-together (some l) (some i) (some d) next = go (lettersFit l i d)
+  where
+    go : (t : Bool) → require t Value (next l i d) ≡ told (cond t (some (record { location = l; indexLetter = i; dataLetter = d })) nothing) Value (λ (x : Three). next (x .location) (x .indexLetter) (x .dataLetter))
+    go true = refl
+    go false = refl
+
+-- and so is the block size
+size-together : (a : Option ℕ) (next : ℕ → Answer Label) → told a Value (λ b. require (isBlockSize b) Value (next b)) ≡ told (sized a) Value next
+size-together nothing next = refl
+size-together (some b) next = go (isBlockSize b)
+  where
+    go : (t : Bool) → require t Value (next b) ≡ told (cond t (some b) nothing) Value next
+    go true = refl
+    go false = refl
 
 module _ (release : ℕ) (t : Texts) where
   pub no-texts : (isCreator (decoded (t .creator)) && isTime (t .time) && isUuid (t .uuid)) ≡ false → refused Value ≡ labelFrom release t
   unfolding labelFrom
   no-texts e = rw e
 
+  -- the values behind the letters
+  abbrev behind : Option ℕ → ℕ → ℕ → ℕ → Answer Label
+  behind size l i d =
+      told size Value (λ b.
+      told (boolean (t .compression)) Value (λ c.
+      answer (record { release = release; creator = decoded (t .creator); time = t .time; uuid = t .uuid; location = l; indexLetter = i; dataLetter = d; blockSize = b; compression = c })))
+
+  abbrev letters : Option Three
+  letters = fitting (letter (t .location)) (letter (t .indexLetter)) (letter (t .dataLetter))
+
+  abbrev size : Option ℕ
+  size = sized (number (t .blockSize))
+
   module _ (e₀ : (isCreator (decoded (t .creator)) && isTime (t .time) && isUuid (t .uuid)) ≡ true) where
-    pub no-location : letter (t .location) ≡ nothing → refused Value ≡ labelFrom release t
+    in-parts : labelFrom release t ≡ told letters Value (λ (x : Three). behind size (x .location) (x .indexLetter) (x .dataLetter))
     unfolding labelFrom
-    no-location e = rw (e₀, e)
+    in-parts =
+        rw e₀
+        (letters-together (letter (t .location)) (letter (t .indexLetter)) (letter (t .dataLetter)) (λ l i d.
+        told (number (t .blockSize)) Value (λ b.
+        require (isBlockSize b) Value
+        (told (boolean (t .compression)) Value (λ c.
+        answer (record { release = release; creator = decoded (t .creator); time = t .time; uuid = t .uuid; location = l; indexLetter = i; dataLetter = d; blockSize = b; compression = c }))))) ∙ go letters)
+      where
+        go : (x : Option Three)
+            → told x Value (λ (y : Three). told (number (t .blockSize)) Value (λ b. require (isBlockSize b) Value (behind (some b) (y .location) (y .indexLetter) (y .dataLetter))))
+            ≡ told x Value (λ (y : Three). behind size (y .location) (y .indexLetter) (y .dataLetter))
+        go nothing = refl
+        go (some y) = size-together (number (t .blockSize)) (λ b. behind (some b) (y .location) (y .indexLetter) (y .dataLetter))
 
-    module _ {l : ℕ} (e₁ : letter (t .location) ≡ some l) where
-      pub no-index : letter (t .indexLetter) ≡ nothing → refused Value ≡ labelFrom release t
-      unfolding labelFrom
-      no-index e = rw (e₀, e₁, e)
+    pub no-letters : letters ≡ nothing → refused Value ≡ labelFrom release t
+    no-letters e = rw (in-parts, e)
 
-      module _ {i : ℕ} (e₂ : letter (t .indexLetter) ≡ some i) where
-        pub no-data : letter (t .dataLetter) ≡ nothing → refused Value ≡ labelFrom release t
-        unfolding labelFrom
-        no-data e = rw (e₀, e₁, e₂, e)
+    module _ {l i d : ℕ} (e₁ : letters ≡ some (record { location = l; indexLetter = i; dataLetter = d })) where
+      pub no-size : size ≡ nothing → refused Value ≡ labelFrom release t
+      no-size e = rw (in-parts, e₁, e)
 
-        module _ {d : ℕ} (e₃ : letter (t .dataLetter) ≡ some d) where
-          pub letters-unfit : lettersFit l i d ≡ false → refused Value ≡ labelFrom release t
-          unfolding labelFrom
-          letters-unfit e = rw (e₀, e₁, e₂, e₃, e)
+      module _ {b : ℕ} (e₂ : size ≡ some b) where
+        pub no-compression : boolean (t .compression) ≡ nothing → refused Value ≡ labelFrom release t
+        no-compression e = rw (in-parts, e₁, e₂, e)
 
-          module _ (e₄ : lettersFit l i d ≡ true) where
-            pub no-size : number (t .blockSize) ≡ nothing → refused Value ≡ labelFrom release t
-            unfolding labelFrom
-            no-size e = rw (e₀, e₁, e₂, e₃, e₄, e)
-
-            module _ {b : ℕ} (e₅ : number (t .blockSize) ≡ some b) where
-              pub size-unfit : isBlockSize b ≡ false → refused Value ≡ labelFrom release t
-              unfolding labelFrom
-              size-unfit e = rw (e₀, e₁, e₂, e₃, e₄, e₅) (rw e)
-
-              module _ (e₆ : isBlockSize b ≡ true) where
-                pub no-compression : boolean (t .compression) ≡ nothing → refused Value ≡ labelFrom release t
-                unfolding labelFrom
-                no-compression e = rw (e₀, e₁, e₂, e₃, e₄, e₅) (rw (e₆, e))
-
-                pub the-label : {c : Bool} → boolean (t .compression) ≡ some c → (x y z : List ℕ) → x ≡ t .creator → y ≡ t .time → z ≡ t .uuid
-                    → answer (record { release = release; creator = decoded x; time = y; uuid = z; location = l; indexLetter = i; dataLetter = d; blockSize = b; compression = c })
-                    ≡ labelFrom release t
-                unfolding labelFrom
-                the-label e x y z p q r = rw (p, q, r, e₀, e₁, e₂, e₃, e₄, e₅) (rw (e₆, e))
+        pub the-label : {c : Bool} → boolean (t .compression) ≡ some c → (x y z : List ℕ) → x ≡ t .creator → y ≡ t .time → z ≡ t .uuid
+            → answer (record { release = release; creator = decoded x; time = y; uuid = z; location = l; indexLetter = i; dataLetter = d; blockSize = b; compression = c })
+            ≡ labelFrom release t
+        the-label e x y z p q r = rw (p, q, r, in-parts, e₁, e₂, e)
 
 module _ (h : Head) (f : Forest) where
   pub no-root : (same (h .name) (bytes "ltfslabel") && same (h .key) (bytes "version")) ≡ false → refused Structure ≡ rootOf h f

@@ -1,6 +1,4 @@
 pub mod Label
+pub mod Parts
 pub mod Reading
-pub mod Text
-pub mod Writing
-pub mod Vol1
 pub mod Agreement

@@ -1,17 +1,9 @@
-// The labels of a partition (01, VOL1, LTFS label): read, written, and compared.
+// The LTFS label of a partition (01, LTFS label): read, and the labels of two partitions compared.
 mod agreement;
 mod reader;
-mod vol1;
-mod writer;
-mod writing;
 
 pub use agreement::labels_agree;
 pub use reader::Fields;
 pub use reader::Label;
+pub use reader::letters_fit;
 pub use reader::read;
-pub use vol1::Vol1;
-pub use vol1::Vol1Read;
-pub use vol1::read_vol1;
-pub use vol1::write_vol1;
-pub use writer::Given;
-pub use writer::write;

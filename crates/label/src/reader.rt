@@ -13,8 +13,10 @@ ghost use Rattle.slices.specs.Slices as slices;
 ghost use Rattle.slices.specs.Words.{bytes};
 ghost use Rattle.elements.specs.Reading.{headAt, childrenAt};
 ghost use Rattle.texts.specs.Decoded.{decoded};
-ghost use Rattle.values.specs.Values.{isCreator, isTime, isUuid};
+ghost use Rattle.digits.specs.Decimal.{valueOf};
+ghost use Rattle.values.specs.Values.{number, letter, isCreator, isTime, isUuid};
 ghost use Rattle.label.specs.Label.{lettersFit, labelFrom, rootOf, labelOf};
+ghost use Rattle.label.specs.Parts.{sized, fitting, lettersOf};
 ghost use Rattle.label.specs.Reading.{textsAt, Finds, ReadsLabel};
 
 // Whether the children of the root are lawful, and the places of the elements that hold the values.
@@ -46,6 +48,12 @@ pub struct Fields {
 pub enum Label {
     Says(Fields),
     Refused(Refusal),
+}
+
+// The letters of a location, of an index and of a data partition.
+enum Letters {
+    Fit(u8, u8, u8),
+    Nothing,
 }
 
 fn all_three(a: bool, b: bool, c: bool) -> bool
@@ -89,7 +97,7 @@ fn find_places(text: &[u8], n: usize) -> Places
 }
 
 // Whether the letters are different, and the location is one of them.
-pub(crate) fn letters_fit(location: u8, index: u8, other: u8) -> bool
+pub fn letters_fit(location: u8, index: u8, other: u8) -> bool
     ensures { λ r. ⌜ r ≡ lettersFit location index other ⌝ }
 {
     if index == other {
@@ -114,6 +122,38 @@ fn texts_lawful(creator: &[u8], time: &[u8], uuid: &[u8]) -> bool
     values::is_uuid(uuid)
 }
 
+// The letters that the texts of a location, of an index and of a data partition say, if they fit.
+fn read_letters(location: &[u8], index: &[u8], other: &[u8]) -> Letters
+    ensures { λ r. ⌜ lettersOf r ≡ fitting (letter (now (location .entry))) (letter (now (index .entry))) (letter (now (other .entry))) ⌝ }
+{
+    let Letter::Value(l) = values::read_letter(location) else {
+        return Letters::Nothing;
+    };
+    let Letter::Value(i) = values::read_letter(index) else {
+        return Letters::Nothing;
+    };
+    let Letter::Value(d) = values::read_letter(other) else {
+        return Letters::Nothing;
+    };
+    if !letters_fit(l, i, d) {
+        return Letters::Nothing;
+    }
+    Letters::Fit(l, i, d)
+}
+
+// The block size that a text says, if it is one.
+fn read_size(raw: &[u8]) -> Number
+    ensures { λ r. ⌜ valueOf r ≡ sized (number (now (raw .entry))) ⌝ }
+{
+    let Number::Value(n) = values::read_number(raw) else {
+        return Number::Nothing;
+    };
+    if !quantities::is_block_size(n) {
+        return Number::Nothing;
+    }
+    Number::Value(n)
+}
+
 // The values at the places.
 fn read_values(text: &[u8], p: Places, release: u64) -> Label
     ensures { λ r. ⌜ ReadsLabel (now (text .entry)) (labelFrom release (textsAt (now (text .entry)) p)) r ⌝ }
@@ -125,25 +165,16 @@ fn read_values(text: &[u8], p: Places, release: u64) -> Label
     ) {
         return Label::Refused(Refusal::Value);
     }
-    let Letter::Value(location) = values::read_letter(elements::text_of(text, p.location)) else {
+    let Letters::Fit(location, index, other) = read_letters(
+        elements::text_of(text, p.location),
+        elements::text_of(text, p.index_letter),
+        elements::text_of(text, p.data_letter),
+    ) else {
         return Label::Refused(Refusal::Value);
     };
-    let Letter::Value(index) = values::read_letter(elements::text_of(text, p.index_letter)) else {
+    let Number::Value(block_size) = read_size(elements::text_of(text, p.block_size)) else {
         return Label::Refused(Refusal::Value);
     };
-    let Letter::Value(other) = values::read_letter(elements::text_of(text, p.data_letter)) else {
-        return Label::Refused(Refusal::Value);
-    };
-    if !letters_fit(location, index, other) {
-        return Label::Refused(Refusal::Value);
-    }
-    let Number::Value(block_size) = values::read_number(elements::text_of(text, p.block_size))
-    else {
-        return Label::Refused(Refusal::Value);
-    };
-    if !quantities::is_block_size(block_size) {
-        return Label::Refused(Refusal::Value);
-    }
     let Boolean::Value(compression) = values::read_boolean(elements::text_of(text, p.compression))
     else {
         return Label::Refused(Refusal::Value);

@@ -1,8 +1,8 @@
 // Cases of the LTFS label.
 use elements::Span;
 use label::Fields;
-use label::Given;
 use label::Label;
+use label_writer::Given;
 use slices::Written;
 
 // The part of a text, or nothing where the text has no such part.
@@ -150,7 +150,7 @@ fn written_as(
     refusal: u64,
     after: &[u8],
 ) -> bool {
-    match label::write(out, creator, time, uuid, g) {
+    match label_writer::write(out, creator, time, uuid, g) {
         Written::To(n) => {
             if refusal != 0 {
                 return false;

@@ -1,13 +1,13 @@
 // Cases of VOL1.
-use label::Vol1Read;
 use slices::Written;
+use vol1::Vol1Read;
 
 // A block; the refusal expected.
 pub fn read_case(fd: i32) -> bool {
     let mut block = [0u8; 512];
     let n = case_files::bytes(fd, &mut block);
     let refusal = case_files::number(fd);
-    match label::read_vol1(&block[..n]) {
+    match vol1::read_vol1(&block[..n]) {
         Vol1Read::Good => refusal == 0,
         Vol1Read::Refused(r) => refusals::number(r) == refusal,
     }
@@ -15,7 +15,7 @@ pub fn read_case(fd: i32) -> bool {
 
 // Whether the label is written to out as expected; out is compared whole.
 fn written_as(out: &mut [u8], identifier: &[u8], owner: &[u8], refusal: u64, after: &[u8]) -> bool {
-    match label::write_vol1(out, identifier, owner) {
+    match vol1::write_vol1(out, identifier, owner) {
         Written::To(n) => {
             if refusal != 0 {
                 return false;

@@ -13,7 +13,7 @@ use Rattle.slices.specs.Slices.{same}
 use Rattle.tape.specs.Tape.{Tape}
 use Rattle.tape.specs.Answers.{tapeIn}
 use Rattle.label.specs.Label.{Label, labelOf}
-use Rattle.label.specs.Vol1.{Fields, vol1, vol1Of, identifierIn, ownerIn, isPrinted}
+use Rattle.vol1.specs.Vol1.{Fields, vol1, vol1Of, identifierIn, ownerIn, isPrinted}
 use Rattle.label.specs.Agreement.{agree}
 use Rattle.labels.specs.Labels.{isLaid, labelsFrom, labelsOf, labelsIn}
 use Rattle.labels.proofs.Blocks.{LaidOut}

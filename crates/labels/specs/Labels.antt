@@ -10,7 +10,7 @@ use Rattle.refusals.specs.declared.Refusal.the-variants.{Layout, Foreign}
 use Rattle.tape.specs.Tape.{Element, mark, block, Tape}
 use Rattle.tape.specs.Answers.{tapeIn}
 use Rattle.label.specs.Label.{Label, labelOf}
-use Rattle.label.specs.Vol1.{vol1Of}
+use Rattle.vol1.specs.Vol1.{vol1Of}
 use Rattle.label.specs.Agreement.{agree}
 
 abbrev pub isMark : Option Element → Bool

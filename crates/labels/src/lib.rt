@@ -2,10 +2,10 @@
 use elements::Span;
 use label::Fields;
 use label::Label;
-use label::Vol1Read;
 use refusals::Refusal;
 use tape::Checked;
 use tape::Entry;
+use vol1::Vol1Read;
 ghost use mathlib.Core.Path.{_≡_};
 ghost use Prim.Native.Nat.{_+_, _≤_};
 ghost use Rattle.tape.specs.Reading.{entryAt};
@@ -110,10 +110,10 @@ fn in_store(said: Label, n: usize, by: usize) -> Label
 fn read_sides(v: &[u8], s: &[u8], w: &[u8], t: &[u8]) -> Label
     ensures { λ r. ⌜ means (now (s .entry)) r ≡ labelsFrom (now (v .entry)) (now (s .entry)) (now (w .entry)) (now (t .entry)) ⌝ }
 {
-    let Vol1Read::Good = label::read_vol1(v) else {
+    let Vol1Read::Good = vol1::read_vol1(v) else {
         return Label::Refused(Refusal::Vol1);
     };
-    let Vol1Read::Good = label::read_vol1(w) else {
+    let Vol1Read::Good = vol1::read_vol1(w) else {
         return Label::Refused(Refusal::Vol1);
     };
     match label::read(s) {

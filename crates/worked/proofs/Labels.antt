@@ -17,10 +17,10 @@ use Rattle.xml.specs.Bytes.{declaration, isSpace, isLetter, isNameByte}
 use Rattle.xml.specs.Machine.{reads, char, inText, inside, tagEnd, outside, leave, innermost, noText, step, ended, run, form}
 use Rattle.values.specs.Values.{fits, inForm, inRanges, isTime, isUuid, isCreator}
 use Rattle.label.specs.Label.{Label, lettersFit, isFormed}
-use Rattle.label.specs.Text.{escape, escaped, word, texts, letters, numbers, opening, closing, textOf, areNumbers, isLawful, isGiven}
-use Rattle.label.specs.Writing.{answered}
-use Rattle.label.proofs.Fields.{in-rules}
-use Rattle.label.proofs.Lengths.{length-text, time-length, uuid-length}
+use Rattle.label_writer.specs.Text.{escape, escaped, word, texts, letters, numbers, opening, closing, textOf, areNumbers, isLawful, isGiven}
+use Rattle.writing.specs.Writing.{answered}
+use Rattle.label_writer.proofs.Fields.{in-rules}
+use Rattle.label_writer.proofs.Lengths.{length-text, time-length, uuid-length}
 use Rattle.worked.specs.Cases.{isBench, sample, refuses, benchLength, benchShort}
 
 pub one : isBench sample ≡ true

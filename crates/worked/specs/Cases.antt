@@ -16,8 +16,8 @@ use Rattle.extents.specs.Map.{Place, stored, unstored, byteMap}
 use Rattle.tape.specs.Tape.{Tape, mark, block, list}
 use Rattle.constructs.specs.Constructs.{Construct, standing}
 use Rattle.label.specs.Label.{Label, told}
-use Rattle.label.specs.Text.{escaped, textOf, isGiven}
-use Rattle.label.specs.Writing.{answered}
+use Rattle.label_writer.specs.Text.{escaped, textOf, isGiven}
+use Rattle.writing.specs.Writing.{answered}
 
 -- VOL1, mark, label, mark, mark, one index block, mark; the blocks' bytes don't matter here
 abbrev pub fresh : Tape

@@ -5,7 +5,7 @@ use mathlib.Core.Bool.{true, false}
 use Prim.Native.Nat.{ℕ}
 use lib.ListN.{length-replicate}
 use borrow.Author.Tests.{not-true, not-false}
-use Rattle.bench_lines.proofs.Pieces.{delivers}
+use Rattle.writing.proofs.Pieces.{delivers}
 use Rattle.bench_lines.specs.Lines.{bounded, linesOf}
 use borrow.Author.Needs.{needs}
 use Rattle.bench_lines.proofs.write.Statement.{statement}

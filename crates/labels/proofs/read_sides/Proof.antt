@@ -1,6 +1,6 @@
 -- `read_sides` meets its contract: a check at each return.
 use mathlib.Core.Path.{ap, sym, _∙_}
-use Rattle.label.specs.Vol1.{meansVol1}
+use Rattle.vol1.specs.Vol1.{meansVol1}
 use Rattle.label.specs.Reading.{means}
 use Rattle.labels.proofs.Sides.{vol1-refused, no-vol1, no-data-vol1, no-label, no-data-label, disagreed, agreed}
 use borrow.Author.Needs.{needs}

@@ -1,7 +1,7 @@
 -- `klapouzen_write_label` meets its contract: the compression is tested first, then the writer answers.
 use mathlib.Core.Path.{subst}
 use borrow.Author.Tests.{le-leb, lt-leb}
-use Rattle.label.specs.Writing.{Writes}
+use Rattle.writing.specs.Writing.{Writes}
 use Rattle.api.proofs.Writing.{wrote, unwritten, refused-before, passed-before}
 use borrow.Author.Needs.{needs}
 use Rattle.api.proofs.labelling.klapouzen_write_label.Statement.{statement}

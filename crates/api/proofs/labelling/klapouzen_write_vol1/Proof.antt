@@ -1,6 +1,6 @@
 -- `klapouzen_write_vol1` meets its contract: what the writer answers.
 use mathlib.Core.Path.{subst}
-use Rattle.label.specs.Writing.{Writes}
+use Rattle.writing.specs.Writing.{Writes}
 use Rattle.api.proofs.Writing.{wrote, unwritten}
 use borrow.Author.Needs.{needs}
 use Rattle.api.proofs.labelling.klapouzen_write_vol1.Statement.{statement}

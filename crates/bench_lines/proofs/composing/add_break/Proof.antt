@@ -1,6 +1,6 @@
 -- `add_break` meets its contract: the pair, and the line's end.
 use native.Mathlib.Omega.{arith}
-use Rattle.bench_lines.proofs.Pieces.{then, within}
+use Rattle.writing.proofs.Pieces.{then, within}
 use Rattle.slices.specs.Words.{bytes}
 use Rattle.bench_lines.specs.Lines.{breakLine}
 use borrow.Author.Needs.{needs}

@@ -3,7 +3,7 @@ use native.Mathlib.Omega.{arith}
 use mathlib.Core.Path.{sym, ap}
 use Rattle.volume.specs.declared.answers.Verdict.{Verdict}
 use Rattle.volume.specs.Answers.{judged, rescued}
-use Rattle.bench_lines.proofs.Pieces.{then, within, the-same}
+use Rattle.writing.proofs.Pieces.{then, within, the-same}
 use Rattle.slices.specs.Words.{bytes}
 use Rattle.bench_lines.specs.Lines.{consistentLine, linesOf}
 use borrow.Author.Needs.{needs}

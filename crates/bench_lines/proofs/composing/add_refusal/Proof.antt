@@ -1,6 +1,6 @@
 -- `add_refusal` meets its contract: the pieces one after the other.
 use native.Mathlib.Omega.{arith}
-use Rattle.bench_lines.proofs.Pieces.{then, within, the-same}
+use Rattle.writing.proofs.Pieces.{then, within, the-same}
 use Rattle.slices.specs.Words.{bytes}
 use Rattle.bench_lines.specs.Lines.{refusedLine}
 use mathlib.Core.Path.{ap}

@@ -3,7 +3,7 @@ use native.Mathlib.Omega.{arith}
 use mathlib.Core.Path.{sym, ap}
 use Rattle.volume.specs.declared.answers.Rescue.{Rescue}
 use Rattle.volume.specs.Answers.{rescued}
-use Rattle.bench_lines.proofs.Pieces.{within, the-same}
+use Rattle.writing.proofs.Pieces.{within, the-same}
 use Rattle.slices.specs.Words.{bytes}
 use Rattle.bench_lines.specs.Lines.{noneLine, rescueLine}
 use borrow.Author.Needs.{needs}

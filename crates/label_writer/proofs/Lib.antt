@@ -1,0 +1,7 @@
+pub mod Escaping
+pub mod Lengths
+pub mod Fields
+pub mod Plain
+pub mod Elements
+pub mod RoundTrip
+pub mod Creators

@@ -1,0 +1,33 @@
+-- `add_number` meets its contract: what was written is added, and where nothing was written there was no room.
+use native.Mathlib.Omega.{arith}
+use Rattle.writing.proofs.Pieces.{piece, no-piece}
+use Rattle.digits.proofs.Short.{length-short}
+use borrow.Author.Needs.{needs}
+use Rattle.writing.proofs.add_number.Statement.{statement}
+use Rattle.writing.proofs.add_number.Tie as tie
+
+write-requires : tie.Need-write-requires
+write-requires c κs = search needs
+
+enum-known-end : tie.Need-enum-known-end
+enum-known-end c = search needs
+
+enum-told : tie.Need-enum-told
+enum-told c = search needs
+
+same-length : tie.Need-same-length
+same-length c = search needs
+
+returns : tie.Need-returns
+returns c = piece (c .before .end .given .0 .0) (length-short 20 (c .before .before .before .before .before .before .before .before .args .n) (omega arith) (omega arith)) (c .before .before .before .before .before .write .ensures) (c .before .end .given .1)
+
+same-length-2 : tie.Need-same-length-2
+same-length-2 c = search needs
+
+returns-2 : tie.Need-returns-2
+returns-2 c = no-piece (c .enum-told .given .0 .0) (c .before .before .before .before .before .before .before .args .at) (length-short 20 (c .before .before .before .before .before .before .before .args .n) (omega arith) (omega arith)) (c .before .before .before .before .write .ensures) (c .enum-told .given .1)
+
+pub add-number-spec : {M : Type 1} → statement M
+add-number-spec =
+    tie.close
+    (tie.spec write-requires enum-known-end enum-told same-length returns same-length-2 returns-2)
