@@ -19,7 +19,6 @@ says out "refused 9"
 is 1 "$K" show bad1
 is 0 "$K" show nights --svg picture.svg
 says picture.svg "</svg>"
-says picture.svg "cut: keep 71"
 cp picture.svg before.svg
 is 2 "$K" show nights --svg picture.svg
 says err "picture.svg: File exists"
