@@ -31,3 +31,14 @@ says out "1 cartridge: 0 consistent, 0 to cut, 1 without a cut, 0 refused, 0 unr
 is 1 "$K" check nights
 says out "1 cartridge: 0 consistent, 1 to cut, 0 without a cut, 0 refused, 0 unreadable"
 is 1 "$K" check --json nights
+
+# Each break with its number.
+cp -r fresh torn_index && head -c -1 fresh/index.list > torn_index/index.list
+is 1 "$K" check torn_index
+says out "break 1: the index partition does not end with a whole index; cut none leaves"
+cp -r nights behind && printf '\001' >> behind/data.list
+is 1 "$K" check behind
+says out "break 3: index 4 of the data partition is unsound or breaks the chain of back pointers; cut keeps 13 + 71 of 13 + 79"
+is 1 "$K" check --json sparse
+says out '"break":{"which":5,"number":5,"text":"file 5 of the last index does not lie on the tape"}'
+is_json out

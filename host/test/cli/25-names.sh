@@ -23,12 +23,12 @@ checks=$((checks + 1))
 python3 -I -S -c 'import json, sys; sys.exit(json.load(open("out"))["folder"] != sys.argv[1])' "$ODD" || fail "a folder's name does not come back from JSON"
 
 # A name that is no UTF-8: its bytes come back from JSON. Nothing else has the bytes.
-BROKEN=$'broken \377\303( \355\240\200'
+BROKEN=$'broken \377\303( \355\240\200 \340\200\257 \364\220\200\200'
 cp -r torn "$BROKEN"
 is 1 "$K" check --json "$BROKEN" fresh
 is_visible out
 is_json out
-says out '{"folder":"broken \ufffd\ufffd( \ufffd\ufffd\ufffd","folder_bytes":"62726f6b656e20ffc32820eda080",'
+says out '{"folder":"broken \ufffd\ufffd( \ufffd\ufffd\ufffd \ufffd\ufffd\ufffd \ufffd\ufffd\ufffd\ufffd","folder_bytes":"62726f6b656e20ffc32820eda08020e080af20f4908080",'
 says out '{"folder":"fresh","identifier"'
 checks=$((checks + 1))
 python3 -I -S -c '
@@ -37,7 +37,7 @@ name = bytes.fromhex(json.loads(open("out").readline())["folder_bytes"])
 os.stat(os.path.join(name, b"index.list"))' 2> /dev/null || fail "a folder can't be opened again from JSON"
 is 1 "$K" check "$BROKEN"
 is_visible out
-says out 'broken \xff\xc3( \xed\xa0\x80  KLA001'
+says out 'broken \xff\xc3( \xed\xa0\x80 \xe0\x80\xaf \xf4\x90\x80\x80  KLA001'
 is 2 "$K" check --json $'not there \377'
 says out '{"folder":"not there \ufffd","folder_bytes":"6e6f7420746865726520ff","verdict":"unreadable"}'
 is_visible err

@@ -28,12 +28,29 @@ for entry in labels "data run" "sound index" "not sound" "indexes and data, too 
     says picture.svg ">$entry</text>"
 done
 checks=$((checks + 1))
-[ "$(grep -c 'class="pointer"' picture.svg)" -eq 7 ] || fail "not six arrows and their legend"
 [ "$(grep -c 'class="cut"' picture.svg)" -eq 2 ] || fail "not one cut and its legend"
+# The arrows, by the numbers of the boxes in their tracks: index 1, 2, 3 to data 1, 3, 7, and a data index to the one before.
+checks=$((checks + 1))
+python3 -I -S - > arrows <<'PYTHON' || fail "the arrows: $(cat arrows)"
+import re, sys, xml.dom.minidom
+picture = xml.dom.minidom.parse("picture.svg")
+boxes = {"160": [], "280": []}
+for box in picture.getElementsByTagName("rect"):
+    if box.getAttribute("y") in boxes and box.getAttribute("class") != "dropped":
+        boxes[box.getAttribute("y")].append(float(box.getAttribute("x")) + float(box.getAttribute("width")) / 2)
+arrows = []
+for path in picture.getElementsByTagName("path"):
+    ends = re.fullmatch(r"M([\d.]+) (\d+) C.* ([\d.]+) (\d+)", path.getAttribute("d"))
+    if ends:
+        side = "160" if float(ends[2]) < 250 else "280"
+        near = lambda x, middles: min(range(len(middles)), key=lambda i: abs(middles[i] - float(x)))
+        arrows.append((side, near(ends[1], boxes[side]), near(ends[3], boxes["280"])))
+print(arrows)
+sys.exit(arrows != [("160", 1, 1), ("160", 2, 3), ("160", 3, 7), ("280", 3, 1), ("280", 5, 3), ("280", 7, 5)])
+PYTHON
 
 # Colour by soundness, hatched where dropped.
 draws picture.svg labels=2 index=7 data=4 unsound=1 mixed=0 dropped=2
-cp -r nights behind && printf '\001' >> behind/data.list
 is 0 "$K" show behind --svg behind.svg
 says behind.svg ">refused 4</text>"
 draws behind.svg unsound=1 dropped=2
@@ -60,6 +77,8 @@ checks=$((checks + 1))
 
 # As many generations as fit: all of them drawn, the one unsound and the few dropped seen, and the file small.
 "$SAMPLE" full filled || exit 2
+is 1 "$K" check filled
+says out "break 4: the last index of the index partition, index 18092, is unsound or does not follow the data partition's last; cut keeps 54,283 + 63,329 of 54,283 + 63,332 elements, generation 18093"
 is 0 "$K" show filled --svg filled.svg
 says out "18,078 runs more, 1 of them not sound; --all shows them"
 says filled.svg ">cut: keep 63,329, drop 3</text>"
