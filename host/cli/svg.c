@@ -152,20 +152,35 @@ static void put_captions(const struct picture *picture, int side, const struct d
     put_inside(picture, run, track_top[side] + TRACK / 2 + 13, "small", text);
 }
 
-static void put_box(FILE *out, const struct drawn *run, int y, const char *class)
+static void put_box(FILE *out, double x, double width, int y, const char *class)
 {
-    double gap = run->width > 6 ? 1 : 0.25;
+    double gap = width > 6 ? 1 : 0.25;
     fprintf(out, "<rect x=\"%.1f\" y=\"%d\" width=\"%.1f\" height=\"%d\" rx=\"%d\" class=\"%s\"/>\n",
-            run->x + gap, y, run->width - 2 * gap, TRACK, run->width > 12 ? 3 : 1, class);
+            x + gap, y, width - 2 * gap, TRACK, width > 12 ? 3 : 1, class);
 }
 
-/* Coloured by what it is, hatched where the cut drops it. */
-static void put_run(const struct picture *picture, int side, const struct drawn *run)
+/* The first run that the cut drops; NULL where it drops none. */
+static const struct drawn *first_dropped(const struct track *track)
 {
-    put_box(picture->out, run, track_top[side], class_of(run));
-    if (!run->is_kept)
-        put_box(picture->out, run, track_top[side], "dropped");
-    put_captions(picture, side, run);
+    for (size_t i = 0; i < track->count; i++)
+        if (!track->runs[i].is_kept)
+            return &track->runs[i];
+    return NULL;
+}
+
+/* Runs coloured by what they are, and what the cut drops hatched over them. */
+static void put_runs(const struct picture *picture, int side)
+{
+    const struct track *track = &picture->tracks[side];
+    const struct drawn *dropped = first_dropped(track), *last = &track->runs[track->count - 1];
+    for (size_t i = 0; i < track->count; i++)
+        put_box(picture->out, track->runs[i].x, track->runs[i].width, track_top[side],
+                class_of(&track->runs[i]));
+    if (dropped != NULL)
+        put_box(picture->out, dropped->x, last->x + last->width - dropped->x, track_top[side],
+                "dropped");
+    for (size_t i = 0; i < track->count; i++)
+        put_captions(picture, side, &track->runs[i]);
 }
 
 /* A note beside a mark at x: to its right, or to its left where the page would end. */
@@ -179,19 +194,17 @@ static void put_note(FILE *out, double x, double y, const char *text)
 
 static void put_cut(const struct picture *picture, int side)
 {
-    const struct track *track = &picture->tracks[side];
+    const struct drawn *dropped = first_dropped(&picture->tracks[side]);
     uint64_t kept = kept_elements(picture->found, side);
     int top = track_top[side];
     char note[96];
+    if (dropped == NULL)
+        return;
     snprintf(note, sizeof note, "cut: keep %s, drop %s", grouped(kept),
-             grouped(track->layout->elements - kept));
-    for (size_t i = 0; i < track->count; i++) {
-        if (track->runs[i].is_kept || (i > 0 && !track->runs[i - 1].is_kept))
-            continue;
-        double x = track->runs[i].x;
-        fprintf(picture->out, "<path d=\"M%.1f %d V%d\" class=\"cut\"/>\n", x, top - 14, top + TRACK + 8);
-        put_note(picture->out, x, top - 6, note);
-    }
+             grouped(picture->found->elements[side] - kept));
+    fprintf(picture->out, "<path d=\"M%.1f %d V%d\" class=\"cut\"/>\n", dropped->x, top - 14,
+            top + TRACK + 8);
+    put_note(picture->out, dropped->x, top - 6, note);
 }
 
 /* Where an element lies in its drawn run. */
@@ -231,8 +244,8 @@ static void put_track(const struct picture *picture, int side)
     begin_text(picture->out, MARGIN, track_top[side] + TRACK / 2 + 16, "note");
     print_counted(picture->out, track->layout->elements, "element", "elements");
     end_text(picture->out);
-    for (size_t i = 0; i < track->count; i++)
-        put_run(picture, side, &track->runs[i]);
+    if (track->count > 0)
+        put_runs(picture, side);
 }
 
 /* ---- Back pointers ---- */

@@ -17,8 +17,8 @@ struct bytes bytes_of(const char *text);
  * A text as characters that can be seen. Those that a terminal obeys or does not
  * draw (controls, C1, marks of direction, separators, zero widths) and bytes that
  * are no UTF-8 are written as numbers: \x1b for a byte, \u202e for a character,
- * and \\ is a backslash, so that no two texts print alike. JSON has \u alone, and
- * U+FFFD for a byte that is no UTF-8; is_utf8 says whether there is one.
+ * and \\ is a backslash, so that texts that differ are printed differently. JSON has
+ * \u alone, and U+FFFD for a byte that is no UTF-8; is_utf8 says whether one is.
  * `spelled`: references are decoded first.
  */
 void print_text(FILE *out, enum form form, struct bytes text, bool spelled);

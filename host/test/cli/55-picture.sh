@@ -48,12 +48,25 @@ for path in picture.getElementsByTagName("path"):
 print(arrows)
 sys.exit(arrows != [("160", 1, 1), ("160", 2, 3), ("160", 3, 7), ("280", 3, 1), ("280", 5, 3), ("280", 7, 5)])
 PYTHON
+# The hatching goes from the cut to the end of the track.
+checks=$((checks + 1))
+python3 -I -S - > hatched <<'PYTHON' || fail "the hatching: $(cat hatched)"
+import sys, xml.dom.minidom
+picture = xml.dom.minidom.parse("picture.svg")
+places = [(box.getAttribute("class"), float(box.getAttribute("x")), float(box.getAttribute("x")) + float(box.getAttribute("width")))
+          for box in picture.getElementsByTagName("rect") if box.getAttribute("y") == "280"]
+cut = min(float(path.getAttribute("d")[1:].split()[0]) for path in picture.getElementsByTagName("path")
+          if path.getAttribute("class") == "cut" and float(path.getAttribute("d").split()[1]) < 390)
+runs, hatched = [p for p in places if p[0] != "dropped"], [p for p in places if p[0] == "dropped"]
+print(cut, runs, hatched)
+sys.exit(len(hatched) != 1 or hatched[0][1:] != (runs[8][1], runs[9][2]) or not runs[7][2] <= cut <= runs[8][1])
+PYTHON
 
 # Colour by soundness, hatched where dropped.
-draws picture.svg labels=2 index=7 data=4 unsound=1 mixed=0 dropped=2
+draws picture.svg labels=2 index=7 data=4 unsound=1 mixed=0 dropped=1
 is 0 "$K" show behind --svg behind.svg
 says behind.svg ">refused 4</text>"
-draws behind.svg unsound=1 dropped=2
+draws behind.svg unsound=1 dropped=1
 is 0 "$K" show fresh --svg fresh.svg
 draws fresh.svg labels=2 index=2 dropped=0 unsound=0
 
