@@ -10,12 +10,16 @@ struct assessment {
     uint64_t verdict[KLAPOUZEN_BREAK];
     bool has_cut;
     uint64_t cut[KLAPOUZEN_CUT];
-    uint64_t elements[2]; /* of each list, 0 where it is malformed */
+    uint64_t elements[2]; /* of each list */
+    bool malformed[2];    /* the list: there are 0 then */
 };
 
 void assess(const struct volume *volume, struct assessment *found);
 
 bool is_consistent(const struct assessment *found);
+
+/* Elements kept of a side by the cut; all where there is none. */
+uint64_t kept_elements(const struct assessment *found, int side);
 
 /* What the cut does: "keeps all 7 + 7 elements, generation 1" or the like. */
 void print_cut(FILE *out, const struct assessment *found);

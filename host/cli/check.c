@@ -81,29 +81,61 @@ static void print_json_verdict(const struct assessment *found)
     fputs("\"}", stdout);
 }
 
+/* Of each list; null where it is malformed. */
+static void print_json_elements(const struct assessment *found)
+{
+    static const char *const keys[] = { ",\"elements\":{\"index\":", ",\"data\":" };
+    for (int side = INDEX; side <= DATA; side++) {
+        fputs(keys[side], stdout);
+        if (found->malformed[side])
+            fputs("null", stdout);
+        else
+            printf("%" PRIu64, found->elements[side]);
+    }
+    putchar('}');
+}
+
 static void print_json_cut(const struct assessment *found)
 {
-    static const char *const names[KLAPOUZEN_CUT] = {
-        "index_construct", "data_construct", "index_kept", "data_kept", "generation",
-    };
     if (!found->has_cut) {
         fputs(",\"cut\":null", stdout);
         return;
     }
-    for (int i = 0; i < KLAPOUZEN_CUT; i++)
-        printf("%s\"%s\":%" PRIu64, i == 0 ? ",\"cut\":{" : ",", names[i], found->cut[i]);
-    putchar('}');
+    const uint64_t *cut = found->cut;
+    uint64_t index = kept_elements(found, INDEX), data = kept_elements(found, DATA);
+    printf(",\"cut\":{\"index_construct\":%" PRIu64 ",\"data_construct\":%" PRIu64,
+           cut[KLAPOUZEN_CUT_INDEX_CONSTRUCT], cut[KLAPOUZEN_CUT_DATA_CONSTRUCT]);
+    printf(",\"index_kept\":%" PRIu64 ",\"index_dropped\":%" PRIu64, index,
+           found->elements[INDEX] - index);
+    printf(",\"data_kept\":%" PRIu64 ",\"data_dropped\":%" PRIu64, data,
+           found->elements[DATA] - data);
+    printf(",\"generation\":%" PRIu64 "}", cut[KLAPOUZEN_CUT_GENERATION]);
+}
+
+/* The name as text, and where it is no UTF-8 its bytes too, in hex: a text alone would lose it. */
+static void print_json_folder(const char *folder)
+{
+    struct bytes name = bytes_of(folder);
+    fputs("{\"folder\":", stdout);
+    print_json(stdout, name, false);
+    if (is_utf8(name))
+        return;
+    fputs(",\"folder_bytes\":\"", stdout);
+    for (size_t i = 0; i < name.length; i++)
+        printf("%02x", name.start[i]);
+    putchar('"');
 }
 
 static void print_object(const struct volume *volume, const struct assessment *found)
 {
-    fputs("{\"folder\":", stdout);
-    print_json(stdout, bytes_of(volume->folder), false);
+    print_json_folder(volume->folder);
     if (found->refusal != 0) {
         print_json_refusal(volume, found->refusal);
+        print_json_elements(found);
     } else {
         print_json_labels(&found->label);
         print_json_verdict(found);
+        print_json_elements(found);
         print_json_cut(found);
     }
     fputs("}\n", stdout);
@@ -111,8 +143,7 @@ static void print_object(const struct volume *volume, const struct assessment *f
 
 static void print_unreadable(const char *folder)
 {
-    fputs("{\"folder\":", stdout);
-    print_json(stdout, bytes_of(folder), false);
+    print_json_folder(folder);
     fputs(",\"verdict\":\"unreadable\"}\n", stdout);
 }
 

@@ -5,17 +5,21 @@
 #include <stdlib.h>
 
 #include "progress.h"
+#include "text.h"
 
 void complain(const char *format, ...)
 {
+    /* Not allocated: this also says that memory is out. */
+    char text[3 * 4096];
     va_list arguments;
     va_start(arguments, format);
+    vsnprintf(text, sizeof text, format, arguments);
+    va_end(arguments);
     clear_progress();
     fflush(stdout);
     fputs("klapouzen: ", stderr);
-    vfprintf(stderr, format, arguments);
+    print_bytes(stderr, bytes_of(text));
     fputc('\n', stderr);
-    va_end(arguments);
 }
 
 static void *given(void *start)

@@ -12,7 +12,7 @@ enum {
     FAILED = 2  /* bad use, a file that can't be read or written */
 };
 
-/* A line on standard error, after the program's name. */
+/* A line on standard error, after the program's name, in characters that can be seen. */
 void complain(const char *format, ...) __attribute__((format(printf, 1, 2)));
 
 /* Memory that is there; without it the program ends with FAILED. */

@@ -135,11 +135,23 @@ void layout_free(struct layout *layout)
     free(layout->segments);
 }
 
-uint64_t kept_elements(const struct assessment *found, int side)
+/* ---- Asking a layout ---- */
+
+enum look look_of(const struct segment *segment)
 {
-    if (!found->has_cut)
-        return found->elements[side];
-    return found->cut[side == INDEX ? KLAPOUZEN_CUT_INDEX_KEPT : KLAPOUZEN_CUT_DATA_KEPT];
+    switch (segment->kind) {
+    case DATA_RUN:
+        return LOOKS_DATA;
+    case LABELS:
+        return LOOKS_LABELS;
+    default:
+        return segment->stands && segment->refusal == 0 ? LOOKS_INDEX : LOOKS_UNSOUND;
+    }
+}
+
+bool is_within(const struct segment *segment, uint64_t element)
+{
+    return segment->first <= element && element - segment->first < segment->elements;
 }
 
 const struct segment *segment_at(const struct layout *layout, uint64_t first_block)

@@ -21,6 +21,11 @@ struct segment {
     uint64_t header[KLAPOUZEN_INDEX];
 };
 
+/* What a run is drawn as; where several share a place, the highest is. */
+enum look { LOOKS_DATA, LOOKS_LABELS, LOOKS_INDEX, LOOKS_UNSOUND };
+
+enum look look_of(const struct segment *segment);
+
 struct defect {
     const char *what; /* NULL where there is none */
     uint64_t element;
@@ -42,8 +47,8 @@ void layout_read(struct layout *layout, const struct volume *volume,
                  const struct assessment *found, int side);
 void layout_free(struct layout *layout);
 
-/* Elements kept of a side by the cut; all where there is none. */
-uint64_t kept_elements(const struct assessment *found, int side);
+/* Whether a segment has the element. */
+bool is_within(const struct segment *segment, uint64_t element);
 
 /* The segment with this standing construct whose first block is this element; or NULL. */
 const struct segment *segment_at(const struct layout *layout, uint64_t first_block);

@@ -32,8 +32,29 @@ static void print_help(FILE *out)
     fputs("usage: klapouzen COMMAND [WORD..]\n\n", out);
     for (int i = 0; i < COMMANDS; i++)
         fprintf(out, "  %-8s  %s\n", commands[i].name, commands[i].what);
-    fputs("\nklapouzen COMMAND --help says more. A cartridge is a folder with index.list,\n"
+    fputs("\nklapouzen help COMMAND says more. A cartridge is a folder with index.list,\n"
           "index.store, data.list and data.store; a missing file counts as empty.\n", out);
+}
+
+static int run_command(const char *name, struct words *words)
+{
+    for (int i = 0; i < COMMANDS; i++)
+        if (strcmp(name, commands[i].name) == 0)
+            return commands[i].run(words);
+    complain("unknown command: %s", name);
+    print_help(stderr);
+    return FAILED;
+}
+
+/* `help COMMAND` is `COMMAND --help`. */
+static int help(const struct words *words)
+{
+    char option[] = "--help", *only[] = { option };
+    struct words asked = { 1, only };
+    if (words->count > 0)
+        return run_command(words->words[0], &asked);
+    print_help(stdout);
+    return DONE;
 }
 
 static int run(int count, char **words)
@@ -43,7 +64,9 @@ static int run(int count, char **words)
         print_help(stderr);
         return FAILED;
     }
-    if (strcmp(words[1], "--help") == 0) {
+    if (strcmp(words[1], "help") == 0)
+        return help(&rest);
+    if (is_help(words[1])) {
         print_help(stdout);
         return DONE;
     }
@@ -51,12 +74,7 @@ static int run(int count, char **words)
         puts("klapouzen " KLAPOUZEN_VERSION);
         return DONE;
     }
-    for (int i = 0; i < COMMANDS; i++)
-        if (strcmp(words[1], commands[i].name) == 0)
-            return commands[i].run(&rest);
-    complain("unknown command: %s", words[1]);
-    print_help(stderr);
-    return FAILED;
+    return run_command(words[1], &rest);
 }
 
 /* The words of the program, and what it ends with. */

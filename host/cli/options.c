@@ -43,6 +43,11 @@ static int take(const struct option *option, const struct words *words, int at)
     return 2;
 }
 
+bool is_help(const char *word)
+{
+    return strcmp(word, "--help") == 0 || strcmp(word, "-h") == 0;
+}
+
 int take_options(struct words *words, const struct option *options, const char *help)
 {
     int operands = 0, at = 0;
@@ -52,7 +57,7 @@ int take_options(struct words *words, const struct option *options, const char *
             at++;
             break;
         }
-        if (strcmp(word, "--help") == 0) {
+        if (is_help(word)) {
             fputs(help, stdout);
             return DONE;
         }

@@ -19,6 +19,9 @@ struct option {
 
 enum { GO_ON = -1 };
 
+/* Whether a word asks for help: `--help` or `-h`. */
+bool is_help(const char *word);
+
 /*
  * Takes the options out of the words; the table ends with a name NULL. `--help`
  * prints the help. Answers GO_ON or the status to end with.

@@ -23,52 +23,42 @@ static const char help[] =
     "Exit status: 0 drawn, 1 the labels are refused, 2 bad use or a file that can't be\n"
     "read or written.\n";
 
-static bool is_within(const struct segment *segment, uint64_t element)
-{
-    return segment->first <= element && element - segment->first < segment->elements;
-}
-
 /* ---- The bar ---- */
 
 enum { BAR = 72 };
 
-/* What a run shows as; where several share a cell, the highest does. */
-enum rank { SHOWS_DATA, SHOWS_LABELS, SHOWS_INDEX, SHOWS_UNSOUND, SHOWS_DEFECT };
+/* The first defect is drawn over whatever it lies in. */
+enum { LOOKS_DEFECT = LOOKS_UNSOUND + 1 };
 
 static const struct mark {
     char kept, dropped;
     enum colour colour;
 } marks[] = {
-    [SHOWS_DATA] = { '=', '-', BLUE },      [SHOWS_LABELS] = { 'L', 'l', CYAN },
-    [SHOWS_INDEX] = { 'I', 'i', GREEN },    [SHOWS_UNSOUND] = { '?', '?', YELLOW },
-    [SHOWS_DEFECT] = { '!', '!', RED },
+    [LOOKS_DATA] = { '=', '-', BLUE },      [LOOKS_LABELS] = { 'L', 'l', CYAN },
+    [LOOKS_INDEX] = { 'I', 'i', GREEN },    [LOOKS_UNSOUND] = { '?', '?', YELLOW },
+    [LOOKS_DEFECT] = { '!', '!', RED },
 };
 
-static enum rank rank_of(const struct segment *segment)
+/* Sets the colour of a mark; what is dropped has it too, dimmed. */
+static void set_colour(const struct mark *mark, bool is_kept)
 {
-    switch (segment->kind) {
-    case DATA_RUN:
-        return SHOWS_DATA;
-    case LABELS:
-        return SHOWS_LABELS;
-    default:
-        return segment->stands && segment->refusal == 0 ? SHOWS_INDEX : SHOWS_UNSOUND;
-    }
+    fputs(is_kept ? "" : colour_code(stdout, DIM), stdout);
+    fputs(colour_code(stdout, mark->colour), stdout);
 }
 
-/* The highest rank of the segments within elements from..to. */
-static enum rank rank_between(const struct layout *layout, uint64_t from, uint64_t to)
+/* The highest look of the segments within elements from..to. */
+static int look_between(const struct layout *layout, uint64_t from, uint64_t to)
 {
-    enum rank highest = SHOWS_DATA;
+    enum look highest = LOOKS_DATA;
     for (size_t i = 0; i < layout->count; i++) {
         const struct segment *segment = &layout->segments[i];
         bool within = segment->first < to && segment->first + segment->elements > from;
-        if (within && rank_of(segment) > highest)
-            highest = rank_of(segment);
+        if (within && look_of(segment) > highest)
+            highest = look_of(segment);
     }
     bool defect = layout->defect.what != NULL && layout->defect.element >= from
         && layout->defect.element < to;
-    return defect ? SHOWS_DEFECT : highest;
+    return defect ? LOOKS_DEFECT : (int)highest;
 }
 
 static void print_bar(const struct layout *layout, uint64_t kept)
@@ -79,12 +69,12 @@ static void print_bar(const struct layout *layout, uint64_t kept)
     fputs("  [", stdout);
     for (uint64_t cell = 0; cell < cells; cell++) {
         uint64_t from = cell * layout->elements / cells, to = (cell + 1) * layout->elements / cells;
-        const struct mark *mark = &marks[rank_between(layout, from, to)];
+        const struct mark *mark = &marks[look_between(layout, from, to)];
         bool is_kept = from < kept;
-        printf("%s%c", colour_code(stdout, is_kept ? mark->colour : DIM),
-               is_kept ? mark->kept : mark->dropped);
+        set_colour(mark, is_kept);
+        printf("%c%s", is_kept ? mark->kept : mark->dropped, colour_code(stdout, PLAIN));
     }
-    printf("%s]\n", colour_code(stdout, PLAIN));
+    puts("]");
 }
 
 /* ---- The lines ---- */
@@ -144,7 +134,7 @@ static void print_range(uint64_t first, uint64_t elements)
 
 static void print_segment(const struct layout *layout, const struct segment *segment, bool is_kept)
 {
-    fputs(colour_code(stdout, is_kept ? marks[rank_of(segment)].colour : DIM), stdout);
+    set_colour(&marks[look_of(segment)], is_kept);
     print_range(segment->first, segment->elements);
     print_what(layout, segment);
     printf("%s\n", colour_code(stdout, PLAIN));
@@ -186,7 +176,7 @@ static size_t print_left_out(const struct layout *layout, size_t i, uint64_t kep
 {
     size_t count = 0, unsound = 0;
     while (i + count < layout->count && !is_shown(layout, i + count, kept, false)) {
-        unsound += rank_of(&layout->segments[i + count]) == SHOWS_UNSOUND;
+        unsound += look_of(&layout->segments[i + count]) == LOOKS_UNSOUND;
         count++;
     }
     printf("%s  %11s  ", colour_code(stdout, DIM), "...");

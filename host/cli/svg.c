@@ -1,213 +1,262 @@
 #include "svg.h"
 
 #include <inttypes.h>
-#include <stdlib.h>
+#include <string.h>
 
 #include "common.h"
 #include "draft.h"
+#include "track.h"
 #include "words.h"
 
 /* ---- Measures, in the picture's units ---- */
 
 enum {
     WIDTH = 1000,
-    HEIGHT = 400,
+    HEIGHT = 450,
     MARGIN = 28,
-    LEFT = 126,      /* where the tracks begin, right of their names */
-    TRACK = 46,      /* a track's height */
-    WIDEST_UNIT = 22 /* so that a fresh volume isn't stretched over the page */
+    LEFT = 146,   /* where the tracks begin, right of their names */
+    TRACK = 46,   /* a track's height */
+    LEGEND = 402, /* its upper row */
+    FOLDER = 66   /* columns of a folder's name */
 };
 
-static const int track_top[2] = { 150, 270 };
+static const int track_top[2] = { 160, 280 };
 
-/* A picture being drawn: where each segment of each side begins. */
 struct picture {
     FILE *out;
     const struct volume *volume;
     const struct assessment *found;
-    const struct layout *layouts;
-    double *starts[2]; /* one more than there are segments */
+    struct track tracks[2];
 };
 
-/* Units that a segment takes: a data run's by the number of digits of its bytes. */
-static double weight(const struct segment *segment)
-{
-    if (segment->kind != DATA_RUN)
-        return segment->kind == LABELS ? 2.5 : 3.5;
-    double units = 1;
-    for (uint64_t bytes = segment->bytes; bytes > 0; bytes /= 8)
-        units += 0.5;
-    return units;
-}
-
-static double total_weight(const struct layout *layout)
-{
-    double total = 0;
-    for (size_t i = 0; i < layout->count; i++)
-        total += weight(&layout->segments[i]);
-    return total;
-}
-
-/* Both sides in the same unit. */
-static double unit_for(const struct layout layouts[2])
-{
-    double index = total_weight(&layouts[INDEX]), data = total_weight(&layouts[DATA]);
-    double most = index > data ? index : data;
-    double unit = most > 0 ? (WIDTH - LEFT - MARGIN) / most : WIDEST_UNIT;
-    return unit < WIDEST_UNIT ? unit : WIDEST_UNIT;
-}
-
-static double *starts_of(const struct layout *layout, double unit)
-{
-    double *starts = allocate((layout->count + 1) * sizeof *starts);
-    starts[0] = LEFT;
-    for (size_t i = 0; i < layout->count; i++)
-        starts[i + 1] = starts[i] + unit * weight(&layout->segments[i]);
-    return starts;
-}
-
 /* ---- Text ---- */
-
-static void put_escaped(FILE *out, struct bytes text)
-{
-    for (size_t i = 0; i < text.length; i++) {
-        uint8_t byte = text.start[i];
-        if (byte == '&' || byte == '<' || byte == '>')
-            fprintf(out, "&#%d;", byte);
-        else
-            fputc(byte >= 0x20 && byte < 0x7f ? byte : '?', out);
-    }
-}
 
 static void begin_text(FILE *out, double x, double y, const char *class)
 {
     fprintf(out, "<text x=\"%.1f\" y=\"%.1f\" class=\"%s\">", x, y, class);
 }
 
+static void end_text(FILE *out)
+{
+    fputs("</text>\n", out);
+}
+
+static void put_text(FILE *out, struct bytes text)
+{
+    print_text(out, TO_XML, text, false);
+}
+
+/* Of a long name the end, which tells deliveries apart. */
+static void put_folder(const struct picture *picture)
+{
+    struct bytes whole = bytes_of(picture->volume->folder), end = last_columns(whole, FOLDER);
+    begin_text(picture->out, MARGIN, 38, "title");
+    fputs(end.length < whole.length ? "&#8230;" : "", picture->out);
+    put_text(picture->out, end);
+    end_text(picture->out);
+}
+
+static void put_labels(FILE *out, const struct label *label)
+{
+    begin_text(out, MARGIN, 64, "text");
+    fputs("<tspan class=\"name\">", out);
+    put_text(out, label->identifier);
+    fputs("</tspan> <tspan class=\"note\">", out);
+    put_text(out, label->uuid);
+    fputs("</tspan>", out);
+    end_text(out);
+}
+
 static void put_head(const struct picture *picture)
 {
     FILE *out = picture->out;
     const struct assessment *found = picture->found;
-    begin_text(out, MARGIN, 40, "title");
-    if (found->refusal == 0) {
-        put_escaped(out, found->label.identifier);
-        fputs("</text>\n", out);
-        begin_text(out, MARGIN + 110, 40, "note");
-        put_escaped(out, found->label.uuid);
-        fputs("</text>\n", out);
-        begin_text(out, MARGIN, 70, "text");
-        print_verdict(out, found->verdict);
-        fputs("</text>\n", out);
-        begin_text(out, MARGIN, 92, "text");
-        fputs("cut ", out);
-        print_cut(out, found);
-    } else {
-        put_escaped(out, bytes_of(picture->volume->folder));
-        fputs("</text>\n", out);
-        begin_text(out, MARGIN, 70, "text");
+    put_folder(picture);
+    if (found->refusal != 0) {
+        begin_text(out, MARGIN, 64, "text");
         print_refusal(out, picture->volume, found->refusal);
+        end_text(out);
+        return;
     }
-    fputs("</text>\n", out);
+    put_labels(out, &found->label);
+    begin_text(out, MARGIN, 88, "text");
+    print_verdict(out, found->verdict);
+    end_text(out);
+    begin_text(out, MARGIN, 109, "text");
+    fputs("cut ", out);
+    print_cut(out, found);
+    end_text(out);
 }
 
 /* ---- Tracks ---- */
 
-static const char *class_of(const struct segment *segment, bool is_kept)
+static const char *class_of(const struct drawn *run)
 {
-    if (!is_kept)
-        return "dropped";
-    if (segment->kind == LABELS)
-        return "labels";
-    if (segment->kind == DATA_RUN)
-        return "data";
-    return segment->stands && segment->refusal == 0 ? "index" : "unsound";
+    if (has_look(run, LOOKS_UNSOUND))
+        return "unsound";
+    if (has_look(run, LOOKS_INDEX))
+        return has_look(run, LOOKS_DATA) ? "mixed" : "index";
+    return has_look(run, LOOKS_LABELS) ? "labels" : "data";
 }
 
-static void put_caption(FILE *out, const struct segment *segment)
+enum { CAPTION = 48 };
+
+static void caption_of(char text[CAPTION], const struct segment *segment)
 {
     if (segment->kind == LABELS)
-        fputs("labels", out);
+        snprintf(text, CAPTION, "labels");
     else if (segment->kind == DATA_RUN)
-        print_counted(out, segment->blocks, "block", "blocks");
+        snprintf(text, CAPTION, "%s block%s", grouped(segment->blocks),
+                 segment->blocks == 1 ? "" : "s");
     else if (!segment->stands)
-        fputs(segment->is_closed ? "no index" : "open", out);
+        snprintf(text, CAPTION, segment->is_closed ? "no index" : "open");
     else if (segment->refusal != 0)
-        fprintf(out, "refused %" PRIu64, segment->refusal);
+        snprintf(text, CAPTION, "refused %" PRIu64, segment->refusal);
     else
-        fprintf(out, "gen %" PRIu64, segment->header[KLAPOUZEN_INDEX_GENERATION]);
+        snprintf(text, CAPTION, "gen %" PRIu64, segment->header[KLAPOUZEN_INDEX_GENERATION]);
 }
 
-static void put_segment(const struct picture *picture, int side, size_t i)
+static void caption_of_many(char text[CAPTION], const struct track *track, const struct drawn *run)
 {
-    const struct segment *segment = &picture->layouts[side].segments[i];
-    double x = picture->starts[side][i], width = picture->starts[side][i + 1] - x;
-    bool is_kept = segment->first < kept_elements(picture->found, side);
-    fprintf(picture->out, "<rect x=\"%.1f\" y=\"%d\" width=\"%.1f\" height=\"%d\" rx=\"3\" class=\"%s\"/>\n",
-            x + 1, track_top[side], width > 2 ? width - 2 : width, TRACK, class_of(segment, is_kept));
-    if (width < 44)
+    size_t sound = count_look(track, run, LOOKS_INDEX), not = count_look(track, run, LOOKS_UNSOUND);
+    if (not > 0)
+        snprintf(text, CAPTION, "%s of %s not sound", grouped(not), grouped(sound + not));
+    else
+        snprintf(text, CAPTION, "%s index%s", grouped(sound), sound == 1 ? "" : "es");
+}
+
+/* A line in the middle of a run, where it has room. */
+static void put_inside(const struct picture *picture, const struct drawn *run, double y,
+                       const char *class, const char *text)
+{
+    if (run->width < 6.5 * (double)strlen(text) + 6)
         return;
-    begin_text(picture->out, x + width / 2, track_top[side] + TRACK / 2 - 3, "caption");
-    put_caption(picture->out, segment);
-    fputs("</text>\n", picture->out);
-    begin_text(picture->out, x + width / 2, track_top[side] + TRACK / 2 + 13, "small");
-    fprintf(picture->out, "%" PRIu64 "&#8211;%" PRIu64 "</text>\n", segment->first,
-            segment->first + segment->elements - 1);
+    begin_text(picture->out, run->x + run->width / 2, y, class);
+    put_text(picture->out, bytes_of(text));
+    end_text(picture->out);
+}
+
+static void put_captions(const struct picture *picture, int side, const struct drawn *run)
+{
+    const struct track *track = &picture->tracks[side];
+    const struct segment *only = only_segment(track, run), *segments = track->layout->segments;
+    uint64_t first = segments[run->first].first;
+    uint64_t last = segments[run->end - 1].first + segments[run->end - 1].elements - 1;
+    char text[CAPTION];
+    if (only != NULL)
+        caption_of(text, only);
+    else
+        caption_of_many(text, track, run);
+    put_inside(picture, run, track_top[side] + TRACK / 2 - 3, "caption", text);
+    snprintf(text, sizeof text, first < last ? "%" PRIu64 "-%" PRIu64 : "%" PRIu64, first, last);
+    put_inside(picture, run, track_top[side] + TRACK / 2 + 13, "small", text);
+}
+
+static void put_box(FILE *out, double x, double width, int y, const char *class)
+{
+    double gap = width > 6 ? 1 : 0.25;
+    fprintf(out, "<rect x=\"%.1f\" y=\"%d\" width=\"%.1f\" height=\"%d\" rx=\"%d\" class=\"%s\"/>\n",
+            x + gap, y, width - 2 * gap, TRACK, width > 12 ? 3 : 1, class);
+}
+
+/* The first run that the cut drops; NULL where it drops none. */
+static const struct drawn *first_dropped(const struct track *track)
+{
+    for (size_t i = 0; i < track->count; i++)
+        if (!track->runs[i].is_kept)
+            return &track->runs[i];
+    return NULL;
+}
+
+/* Runs coloured by what they are, and what the cut drops hatched over them. */
+static void put_runs(const struct picture *picture, int side)
+{
+    const struct track *track = &picture->tracks[side];
+    const struct drawn *dropped = first_dropped(track), *last = &track->runs[track->count - 1];
+    for (size_t i = 0; i < track->count; i++)
+        put_box(picture->out, track->runs[i].x, track->runs[i].width, track_top[side],
+                class_of(&track->runs[i]));
+    if (dropped != NULL)
+        put_box(picture->out, dropped->x, last->x + last->width - dropped->x, track_top[side],
+                "dropped");
+    for (size_t i = 0; i < track->count; i++)
+        put_captions(picture, side, &track->runs[i]);
+}
+
+/* A note beside a mark at x: to its right, or to its left where the page would end. */
+static void put_note(FILE *out, double x, double y, const char *text)
+{
+    bool is_left = x + 8 + 7.5 * (double)strlen(text) > WIDTH;
+    fprintf(out, "<text x=\"%.1f\" y=\"%.1f\" class=\"cutnote\"%s>%s", is_left ? x - 8 : x + 8, y,
+            is_left ? " text-anchor=\"end\"" : "", text);
+    end_text(out);
 }
 
 static void put_cut(const struct picture *picture, int side)
 {
-    const struct layout *layout = &picture->layouts[side];
+    const struct drawn *dropped = first_dropped(&picture->tracks[side]);
     uint64_t kept = kept_elements(picture->found, side);
-    for (size_t i = 0; i < layout->count; i++) {
-        if (layout->segments[i].first != kept)
-            continue;
-        double x = picture->starts[side][i];
-        fprintf(picture->out, "<path d=\"M%.1f %d V%d\" class=\"cut\"/>\n", x, track_top[side] - 10,
-                track_top[side] + TRACK + 10);
-        begin_text(picture->out, x + 5, track_top[side] - 5, "cutnote");
-        fprintf(picture->out, "cut: keep %" PRIu64 "</text>\n", kept);
-    }
+    int top = track_top[side];
+    char note[96];
+    if (dropped == NULL)
+        return;
+    snprintf(note, sizeof note, "cut: keep %s, drop %s", grouped(kept),
+             grouped(picture->found->elements[side] - kept));
+    fprintf(picture->out, "<path d=\"M%.1f %d V%d\" class=\"cut\"/>\n", dropped->x, top - 14,
+            top + TRACK + 8);
+    put_note(picture->out, dropped->x, top - 6, note);
+}
+
+/* Where an element lies in its drawn run. */
+static double place_of(const struct track *track, uint64_t element)
+{
+    const struct segment *segments = track->layout->segments;
+    size_t i = 0;
+    while (!is_within(&segments[i], element))
+        i++;
+    const struct drawn *run = drawn_with(track, i);
+    const struct segment *last = &segments[run->end - 1];
+    uint64_t first = segments[run->first].first, elements = last->first + last->elements - first;
+    return run->x + run->width * ((double)(element - first) + 0.5) / (double)elements;
 }
 
 static void put_defect(const struct picture *picture, int side)
 {
-    const struct layout *layout = &picture->layouts[side];
-    for (size_t i = 0; i < layout->count && layout->defect.what != NULL; i++) {
-        const struct segment *segment = &layout->segments[i];
-        uint64_t within = layout->defect.element - segment->first;
-        if (layout->defect.element < segment->first || within >= segment->elements)
-            continue;
-        double x = picture->starts[side][i];
-        double width = picture->starts[side][i + 1] - x;
-        fprintf(picture->out, "<circle cx=\"%.1f\" cy=\"%d\" r=\"5\" class=\"defect\"><title>%s</title></circle>\n",
-                x + width * ((double)within + 0.5) / (double)segment->elements,
-                track_top[side] + TRACK + 7, layout->defect.what);
-    }
+    const struct defect *defect = &picture->tracks[side].layout->defect;
+    if (defect->what == NULL)
+        return;
+    double x = place_of(&picture->tracks[side], defect->element);
+    int y = track_top[side] + TRACK + 8;
+    char note[96];
+    snprintf(note, sizeof note, "%s: %s", grouped(defect->element), defect->what);
+    fprintf(picture->out, "<circle cx=\"%.1f\" cy=\"%d\" r=\"5\" class=\"defect\"/>\n", x, y);
+    put_note(picture->out, x, y + 4, note);
 }
 
 static void put_track(const struct picture *picture, int side)
 {
-    begin_text(picture->out, MARGIN, track_top[side] + TRACK / 2 + 5, "text");
+    const struct track *track = &picture->tracks[side];
+    begin_text(picture->out, MARGIN, track_top[side] + TRACK / 2 - 1, "text");
     fputs(picture->volume->sides[side].name, picture->out);
     if (picture->found->refusal == 0)
         fprintf(picture->out, " %c", picture->found->label.letters[side]);
-    fputs("</text>\n", picture->out);
-    for (size_t i = 0; i < picture->layouts[side].count; i++)
-        put_segment(picture, side, i);
-    put_defect(picture, side);
-    put_cut(picture, side);
+    end_text(picture->out);
+    begin_text(picture->out, MARGIN, track_top[side] + TRACK / 2 + 16, "note");
+    print_counted(picture->out, track->layout->elements, "element", "elements");
+    end_text(picture->out);
+    if (track->count > 0)
+        put_runs(picture, side);
 }
 
 /* ---- Back pointers ---- */
 
-static double middle(const struct picture *picture, int side, size_t i)
+static double middle(const struct drawn *run)
 {
-    return (picture->starts[side][i] + picture->starts[side][i + 1]) / 2;
+    return run->x + run->width / 2;
 }
 
-static void put_pointer(const struct picture *picture, int side, size_t i, size_t target)
+static void put_pointer(const struct picture *picture, int side, double from, double to)
 {
-    double from = middle(picture, side, i), to = middle(picture, DATA, target);
     int top = track_top[DATA], bottom = top + TRACK;
     if (side == INDEX)
         fprintf(picture->out, "<path d=\"M%.1f %d C%.1f %d %.1f %d %.1f %d\" class=\"pointer\"/>\n",
@@ -217,19 +266,37 @@ static void put_pointer(const struct picture *picture, int side, size_t i, size_
                 from, bottom, from, bottom + 34, to, bottom + 34, to, bottom + 1);
 }
 
-/* Only between indexes of the data partition: others point at nothing. */
+/* The segment of a run that an arrow can begin or end at; else NULL. */
+static const struct segment *arrow_end(const struct track *track, const struct drawn *run)
+{
+    /* Arrows closer together than this can't be told apart. */
+    return run->width > 10 ? only_segment(track, run) : NULL;
+}
+
+/* The run that an index points back to; NULL where no arrow can be drawn. */
+static const struct drawn *target_of(const struct picture *picture, const struct segment *segment)
+{
+    const struct track *data = &picture->tracks[DATA];
+    if (segment == NULL || !segment->stands || segment->refusal != 0
+        || !segment->header[KLAPOUZEN_INDEX_HAS_BACK]
+        || segment->header[KLAPOUZEN_INDEX_BACK_LETTER] != picture->found->label.letters[DATA])
+        return NULL;
+    const struct segment *target =
+        segment_at(data->layout, segment->header[KLAPOUZEN_INDEX_BACK_BLOCK]);
+    if (target == NULL)
+        return NULL;
+    const struct drawn *run = drawn_with(data, (size_t)(target - data->layout->segments));
+    return arrow_end(data, run) != NULL ? run : NULL;
+}
+
 static void put_pointers(const struct picture *picture, int side)
 {
-    const struct layout *layout = &picture->layouts[side], *data = &picture->layouts[DATA];
-    for (size_t i = 0; i < layout->count; i++) {
-        const struct segment *segment = &layout->segments[i];
-        const uint64_t *header = segment->header;
-        if (!segment->stands || segment->refusal != 0 || !header[KLAPOUZEN_INDEX_HAS_BACK]
-            || header[KLAPOUZEN_INDEX_BACK_LETTER] != picture->found->label.letters[DATA])
-            continue;
-        const struct segment *target = segment_at(data, header[KLAPOUZEN_INDEX_BACK_BLOCK]);
+    const struct track *track = &picture->tracks[side];
+    for (size_t i = 0; i < track->count; i++) {
+        const struct drawn *run = &track->runs[i];
+        const struct drawn *target = target_of(picture, arrow_end(track, run));
         if (target != NULL)
-            put_pointer(picture, side, i, (size_t)(target - data->segments));
+            put_pointer(picture, side, middle(run), middle(target));
     }
 }
 
@@ -238,48 +305,76 @@ static void put_pointers(const struct picture *picture, int side)
 static const char style[] =
     "<style>\n"
     "text{font-family:system-ui,sans-serif;fill:#24292f;font-size:14px}\n"
-    ".title{font-size:22px;font-weight:700}.note{font-size:13px;fill:#57606a}\n"
+    ".title{font-size:20px;font-weight:700}.name{font-weight:700}.note{font-size:13px;fill:#57606a}\n"
     ".caption{font-size:12px;font-weight:600;text-anchor:middle}\n"
     ".small{font-size:10px;fill:#57606a;text-anchor:middle}\n"
+    ".caption,.small,.cutnote{paint-order:stroke;stroke:#ffffff;stroke-opacity:.75;stroke-width:3px}\n"
     ".cutnote{font-size:12px;fill:#a40e26;font-weight:600}\n"
-    ".labels{fill:#c8d1da}.data{fill:#b6d7f2}.index{fill:#a6e0b4}.unsound{fill:#f4d28a}\n"
-    ".dropped{fill:#f6f8fa;stroke:#c4ccd4;stroke-dasharray:3 3}\n"
+    ".labels{fill:#c8d1da}.data{fill:#b6d7f2}.index{fill:#97dba8}.unsound{fill:#f0a92e}.mixed{fill:url(#mixed)}\n"
+    ".dropped{fill:url(#hatch);stroke:#57606a;stroke-width:.7;stroke-dasharray:3 3}\n"
     ".cut{stroke:#a40e26;stroke-width:2;stroke-dasharray:5 3;fill:none}\n"
     ".pointer{stroke:#6e7781;stroke-width:1.3;fill:none;marker-end:url(#head)}\n"
     ".defect{fill:#cf222e}\n"
     "</style>\n";
 
+static const char patterns[] =
+    "<defs>\n"
+    "<marker id=\"head\" viewBox=\"0 0 8 8\" refX=\"7\" refY=\"4\" markerWidth=\"7\" markerHeight=\"7\" "
+    "orient=\"auto\"><path d=\"M0 0L8 4L0 8z\" fill=\"#6e7781\"/></marker>\n"
+    "<pattern id=\"mixed\" width=\"6\" height=\"6\" patternUnits=\"userSpaceOnUse\">"
+    "<path d=\"M0 0H3V6H0z\" fill=\"#97dba8\"/><path d=\"M3 0H6V6H3z\" fill=\"#b6d7f2\"/></pattern>\n"
+    "<pattern id=\"hatch\" width=\"7\" height=\"7\" patternUnits=\"userSpaceOnUse\" "
+    "patternTransform=\"rotate(45)\"><path d=\"M0 0H7V7H0z\" fill=\"#ffffff\" fill-opacity=\".45\"/>"
+    "<path d=\"M1 0V7\" stroke=\"#57606a\" stroke-opacity=\".7\"/></pattern>\n"
+    "</defs>\n";
+
+static void put_legend_entry(FILE *out, double x, int y, const char *class)
+{
+    if (strcmp(class, "defect") == 0)
+        fprintf(out, "<circle cx=\"%.1f\" cy=\"%d\" r=\"5\" class=\"defect\"/>\n", x + 7, y + 7);
+    else if (strcmp(class, "cut") == 0)
+        fprintf(out, "<path d=\"M%.1f %d V%d\" class=\"cut\"/>\n", x + 7, y - 1, y + 15);
+    else if (strcmp(class, "pointer") == 0)
+        fprintf(out, "<path d=\"M%.1f %d H%.1f\" class=\"pointer\"/>\n", x, y + 7, x + 15);
+    else
+        fprintf(out, "<rect x=\"%.1f\" y=\"%d\" width=\"14\" height=\"14\" rx=\"2\" class=\"%s\"/>\n", x, y, class);
+}
+
 static void put_legend(FILE *out)
 {
     static const struct { const char *class, *text; } entries[] = {
-        { "labels", "labels" },       { "data", "data run" },        { "index", "index" },
-        { "unsound", "not sound" },   { "dropped", "dropped by the cut" },
+        { "labels", "labels" },     { "data", "data run" },      { "index", "sound index" },
+        { "unsound", "not sound" }, { "mixed", "indexes and data, too narrow to tell apart" },
+        { "cut", "cut" },           { "dropped", "dropped by it" }, { "pointer", "points back to" },
+        { "defect", "first defect" },
     };
-    double x = MARGIN;
-    for (size_t i = 0; i < sizeof entries / sizeof entries[0]; i++, x += 130) {
-        fprintf(out, "<rect x=\"%.1f\" y=\"%d\" width=\"14\" height=\"14\" rx=\"2\" class=\"%s\"/>\n", x,
-                HEIGHT - 32, entries[i].class);
-        begin_text(out, x + 20, HEIGHT - 20, "note");
-        fprintf(out, "%s</text>\n", entries[i].text);
+    enum { COLUMNS = 5, COLUMN = 160 };
+    for (int i = 0; i < (int)(sizeof entries / sizeof entries[0]); i++) {
+        double x = MARGIN + COLUMN * (i % COLUMNS);
+        int y = LEGEND + 24 * (i / COLUMNS);
+        put_legend_entry(out, x, y, entries[i].class);
+        begin_text(out, x + 21, y + 12, "note");
+        fputs(entries[i].text, out);
+        end_text(out);
     }
 }
 
-static void put_picture(const struct picture *picture, double unit)
+static void put_picture(const struct picture *picture)
 {
     FILE *out = picture->out;
-    fprintf(out, "<svg xmlns=\"http://www.w3.org/2000/svg\" viewBox=\"0 0 %d %d\" role=\"img\">\n%s",
-            WIDTH, HEIGHT, style);
-    fputs("<defs><marker id=\"head\" viewBox=\"0 0 8 8\" refX=\"7\" refY=\"4\" markerWidth=\"7\" "
-          "markerHeight=\"7\" orient=\"auto\"><path d=\"M0 0L8 4L0 8z\" fill=\"#6e7781\"/></marker></defs>\n",
-          out);
-    fprintf(out, "<rect width=\"%d\" height=\"%d\" fill=\"#ffffff\"/>\n", WIDTH, HEIGHT);
+    fprintf(out, "<svg xmlns=\"http://www.w3.org/2000/svg\" viewBox=\"0 0 %d %d\" role=\"img\">\n<title>",
+            WIDTH, HEIGHT);
+    put_text(out, bytes_of(picture->volume->folder));
+    fprintf(out, "</title>\n%s%s<rect width=\"%d\" height=\"%d\" fill=\"#ffffff\"/>\n", style, patterns,
+            WIDTH, HEIGHT);
     put_head(picture);
     put_track(picture, INDEX);
     put_track(picture, DATA);
-    /* Arrows closer together than this can't be told apart. */
-    if (unit > 2) {
-        put_pointers(picture, INDEX);
-        put_pointers(picture, DATA);
+    put_pointers(picture, INDEX);
+    put_pointers(picture, DATA);
+    for (int side = INDEX; side <= DATA; side++) {
+        put_defect(picture, side);
+        put_cut(picture, side);
     }
     put_legend(out);
     fputs("</svg>\n", out);
@@ -291,16 +386,14 @@ bool write_svg(const char *path, const struct volume *volume, const struct asses
     struct draft draft;
     if (!draft_begin(&draft, path))
         return false;
-    double unit = unit_for(layouts);
-    struct picture picture = {
-        .out = draft.file,
-        .volume = volume,
-        .found = found,
-        .layouts = layouts,
-        .starts = { starts_of(&layouts[INDEX], unit), starts_of(&layouts[DATA], unit) },
-    };
-    put_picture(&picture, unit);
-    free(picture.starts[INDEX]);
-    free(picture.starts[DATA]);
+    struct picture picture = { .out = draft.file, .volume = volume, .found = found };
+    double width = WIDTH - LEFT - MARGIN, unit = unit_for(layouts, width);
+    for (int side = INDEX; side <= DATA; side++) {
+        track_read(&picture.tracks[side], &layouts[side], kept_elements(found, side), unit);
+        track_place(&picture.tracks[side], LEFT, width);
+    }
+    put_picture(&picture);
+    track_free(&picture.tracks[INDEX]);
+    track_free(&picture.tracks[DATA]);
     return draft_finish(&draft);
 }

@@ -26,158 +26,6 @@ const char *colour_code(FILE *out, enum colour colour)
     return takes_colour(out) ? codes[colour] : "";
 }
 
-/* ---- Texts from a tape ---- */
-
-struct bytes bytes_of(const char *text)
-{
-    return (struct bytes){ .start = (const uint8_t *)text, .length = strlen(text) };
-}
-
-/* A byte of a decoded text and how many bytes it took as spelled. */
-struct decoded {
-    uint8_t byte;
-    size_t taken;
-};
-
-/* The next byte of a text, or the character of a reference. */
-static struct decoded decode(struct bytes text)
-{
-    static const struct { const char *reference; char character; } references[] = {
-        { "&amp;", '&' }, { "&lt;", '<' }, { "&gt;", '>' }, { "&quot;", '"' }, { "&apos;", '\'' },
-    };
-    for (size_t i = 0; i < sizeof references / sizeof references[0]; i++) {
-        size_t length = strlen(references[i].reference);
-        if (text.length >= length && memcmp(text.start, references[i].reference, length) == 0)
-            return (struct decoded){ (uint8_t)references[i].character, length };
-    }
-    return (struct decoded){ text.start[0], 1 };
-}
-
-/* How many bytes of well-formed UTF-8 the text begins with, for one character; else 0. */
-static size_t utf8_length(struct bytes text)
-{
-    uint8_t lead = text.start[0];
-    size_t length = lead < 0x80 ? 1 : lead < 0xc2 ? 0 : lead < 0xe0 ? 2 : lead < 0xf0 ? 3
-                  : lead < 0xf5 ? 4 : 0;
-    if (length > text.length)
-        return 0;
-    for (size_t i = 1; i < length; i++)
-        if ((text.start[i] & 0xc0) != 0x80)
-            return 0;
-    uint8_t second = length > 1 ? text.start[1] : 0x80;
-    bool overlong = (lead == 0xe0 && second < 0xa0) || (lead == 0xf0 && second < 0x90);
-    bool outside = (lead == 0xed && second >= 0xa0) || (lead == 0xf4 && second >= 0x90);
-    return overlong || outside ? 0 : length;
-}
-
-static struct bytes rest_of(struct bytes text, size_t taken)
-{
-    return part_of(text, taken, text.length - taken);
-}
-
-/* C0, DEL and, in UTF-8, C1. */
-static bool is_control(struct bytes text, size_t length)
-{
-    uint8_t lead = text.start[0];
-    return lead < 0x20 || lead == 0x7f || (length == 2 && lead == 0xc2 && text.start[1] < 0xa0);
-}
-
-/* Prints one character of a text that isn't a reference; answers its length. */
-static size_t print_visible(FILE *out, struct bytes text)
-{
-    size_t length = utf8_length(text);
-    if (length > 0 && !is_control(text, length)) {
-        fwrite(text.start, 1, length, out);
-        return length;
-    }
-    fprintf(out, "\\x%02x", text.start[0]);
-    return 1;
-}
-
-void print_bytes(FILE *out, struct bytes text)
-{
-    while (text.length > 0)
-        text = rest_of(text, print_visible(out, text));
-}
-
-void print_spelled(FILE *out, struct bytes text)
-{
-    while (text.length > 0) {
-        struct decoded next = decode(text);
-        if (next.taken > 1)
-            fputc(next.byte, out);
-        text = rest_of(text, next.taken > 1 ? next.taken : print_visible(out, text));
-    }
-}
-
-static void print_json_byte(FILE *out, uint8_t byte)
-{
-    if (byte == '"' || byte == '\\')
-        fprintf(out, "\\%c", byte);
-    else if (byte < 0x20)
-        fprintf(out, "\\u%04x", byte);
-    else
-        fputc(byte, out);
-}
-
-/* Prints one character of a text that isn't a reference; answers its length. */
-static size_t print_json_character(FILE *out, struct bytes text)
-{
-    size_t length = utf8_length(text);
-    if (length == 1)
-        print_json_byte(out, text.start[0]);
-    else if (length > 1)
-        fwrite(text.start, 1, length, out);
-    else
-        fputs("\\ufffd", out);
-    return length > 0 ? length : 1;
-}
-
-void print_json(FILE *out, struct bytes text, bool spelled)
-{
-    fputc('"', out);
-    while (text.length > 0) {
-        struct decoded next = decode(text);
-        bool reference = spelled && next.taken > 1;
-        if (reference)
-            print_json_byte(out, next.byte);
-        text = rest_of(text, reference ? next.taken : print_json_character(out, text));
-    }
-    fputc('"', out);
-}
-
-bool spells(struct bytes spelled, const char *text)
-{
-    while (spelled.length > 0 && *text != '\0') {
-        struct decoded next = decode(spelled);
-        if (next.byte != (uint8_t)*text++)
-            return false;
-        spelled = rest_of(spelled, next.taken);
-    }
-    return spelled.length == 0 && *text == '\0';
-}
-
-const char *grouped(uint64_t number)
-{
-    static char texts[4][32];
-    static int turn;
-    char digits[24];
-    int length = snprintf(digits, sizeof digits, "%" PRIu64, number);
-    char *text = texts[turn = (turn + 1) % 4], *end = text;
-    for (int i = 0; i < length; i++) {
-        if (i > 0 && (length - i) % 3 == 0)
-            *end++ = ',';
-        *end++ = digits[i];
-    }
-    *end = '\0';
-    return text;
-}
-
-void print_counted(FILE *out, uint64_t number, const char *one, const char *many)
-{
-    fprintf(out, "%s %s", grouped(number), number == 1 ? one : many);
-}
-
 /* ---- Refusals and verdicts ---- */
 
 static bool lacks_labels(const struct volume *volume, int side)
@@ -239,7 +87,9 @@ void print_refusal(FILE *out, const struct volume *volume, uint64_t refusal)
 void complain_refusal(const struct volume *volume, uint64_t refusal)
 {
     fflush(stdout);
-    fprintf(stderr, "klapouzen: %s: ", volume->folder);
+    fputs("klapouzen: ", stderr);
+    print_bytes(stderr, bytes_of(volume->folder));
+    fputs(": ", stderr);
     print_refusal(stderr, volume, refusal);
     fputc('\n', stderr);
 }

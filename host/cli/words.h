@@ -1,7 +1,8 @@
-/* What the library's numbers say, in words; texts made fit to print. */
+/* What the library's numbers say, in words. */
 #ifndef WORDS_H
 #define WORDS_H
 
+#include "text.h"
 #include "volume.h"
 
 /* ---- Colour ---- */
@@ -13,31 +14,6 @@ bool takes_colour(FILE *out);
 
 /* The sequence that sets a colour; empty where none is wanted. */
 const char *colour_code(FILE *out, enum colour colour);
-
-/* ---- Texts from a tape ---- */
-
-/*
- * A text as spelled, its references decoded. Control characters are shown as
- * \xNN so that no tape writes to a terminal as it likes.
- */
-void print_spelled(FILE *out, struct bytes text);
-
-/* The same for text without references. */
-void print_bytes(FILE *out, struct bytes text);
-
-/* A JSON string; bytes that are no UTF-8 become U+FFFD. `spelled`: decode references. */
-void print_json(FILE *out, struct bytes text, bool spelled);
-
-struct bytes bytes_of(const char *text);
-
-/* Whether a text as spelled, decoded, is this one. */
-bool spells(struct bytes spelled, const char *text);
-
-/* 12,345,678: digits in threes. The text stands until the fourth call after. */
-const char *grouped(uint64_t number);
-
-/* "1 block", "1,200 blocks": the plural is given whole. */
-void print_counted(FILE *out, uint64_t number, const char *one, const char *many);
 
 /* ---- Refusals and verdicts ---- */
 

@@ -70,13 +70,19 @@ static size_t below(size_t bound)
     return bound == 0 ? 0 : (size_t)(draw() % bound);
 }
 
+/* The bytes of a buffer from a place on. An empty one may have no bytes to count from. */
+static const uint8_t *bytes_from(const struct buffer *buffer, size_t place)
+{
+    return place < buffer->length ? buffer->bytes + place : NULL;
+}
+
 /* The input with the bytes from..to replaced. */
 static void splice(struct buffer *input, size_t from, size_t to, const uint8_t *bytes, size_t length)
 {
     struct buffer changed = { 0 };
     put_bytes(&changed, input->bytes, from);
     put_bytes(&changed, bytes, length);
-    put_bytes(&changed, input->bytes + to, input->length - to);
+    put_bytes(&changed, bytes_from(input, to), input->length - to);
     buffer_free(input);
     *input = changed;
 }
@@ -85,7 +91,7 @@ static void splice_other(struct buffer *input, size_t from, size_t to)
 {
     const struct buffer *other = &corpus[below(inputs)];
     size_t start = below(other->length), length = below(other->length - start + 1);
-    splice(input, from, to, other->bytes + start, length < 512 ? length : 512);
+    splice(input, from, to, bytes_from(other, start), length < 512 ? length : 512);
 }
 
 static void change(struct buffer *input)

@@ -176,6 +176,50 @@ static void many(struct sample *sample)
     sample_index(sample, 0, &index);
 }
 
+/* Names with characters that a terminal obeys or does not draw, and some that it draws. */
+static void odd(struct sample *sample)
+{
+    static const char *const names[] = {
+        "del\x7f",
+        "csi\xc2\x9b[31m",
+        "override\xe2\x80\xaegpj",
+        "isolate\xe2\x81\xa6",
+        "mark\xd8\x9c",
+        "line\xe2\x80\xa8" "end",
+        "width\xe2\x80\x8b",
+        "bom\xef\xbb\xbf",
+        "tag\xf3\xa0\x80\x81",
+        "back\\x1b",
+        "quote&quot;&amp;amp;&lt;",
+        "Stra\xc3\x9f" "e \xf0\x9f\x8e\xb5",
+    };
+    sample_empty_index(sample, 1);
+    struct index_head head = sample_head(sample, 0);
+    struct index_text index;
+    index_begin(&index, &head);
+    for (size_t i = 0; i < sizeof names / sizeof names[0]; i++)
+        index_file(&index, names[i], 0, NULL, 0);
+    index_end(&index);
+    sample_index(sample, 0, &index);
+}
+
+/* As many generations as the stores have room for; one index is unsound, and the last is of the data side alone. */
+static void full(struct sample *sample)
+{
+    enum { UNSOUND = 9000, ROOM = 4096 };
+    while (sample->sides[1].store.length + ROOM < KLAPOUZEN_MAX_STORE) {
+        struct buffer *store = &sample->sides[0].store;
+        size_t before = store->length;
+        if (sample->generation % 2 == 0)
+            sample_data(sample, 1, "take", 4);
+        sample_unmount(sample);
+        if (sample->generation == UNSOUND)
+            store->bytes[before] = '?';
+        sample->generation++;
+    }
+    sample_empty_index(sample, 1);
+}
+
 /* ---- Writing ---- */
 
 static void write_part(const char *folder, const char *name, const struct buffer *bytes)
@@ -204,7 +248,8 @@ int main(int count, char **words)
     static const struct { const char *name; void (*make)(struct sample *); } kinds[] = {
         { "extents", extents },
         { "fresh", fresh }, { "torn", torn }, { "nights", nights }, { "defect", defect },
-        { "sparse", sparse }, { "long", long_one }, { "many", many },
+        { "sparse", sparse }, { "long", long_one }, { "many", many }, { "odd", odd },
+        { "full", full },
     };
     struct sample sample;
     for (size_t i = 0; count == 3 && i < sizeof kinds / sizeof kinds[0]; i++) {
@@ -216,6 +261,6 @@ int main(int count, char **words)
         sample_free(&sample);
         return 0;
     }
-    fputs("usage: make_sample fresh|torn|nights|defect|sparse|long|many|extents DIR\n", stderr);
+    fputs("usage: make_sample fresh|torn|nights|defect|sparse|long|many|extents|odd|full DIR\n", stderr);
     return 2;
 }

@@ -25,14 +25,14 @@ static uint8_t *make_room(struct buffer *buffer, size_t length)
 
 void put_bytes(struct buffer *buffer, const void *bytes, size_t length)
 {
-    uint8_t *end = make_room(buffer, length);
     if (length > 0)
-        memcpy(end, bytes, length);
+        memcpy(make_room(buffer, length), bytes, length);
 }
 
 void put_byte(struct buffer *buffer, uint8_t byte, size_t times)
 {
-    memset(make_room(buffer, times), byte, times);
+    if (times > 0)
+        memset(make_room(buffer, times), byte, times);
 }
 
 void put(struct buffer *buffer, const char *format, ...)

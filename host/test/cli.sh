@@ -18,6 +18,8 @@ fail() {
     echo "FAILED: $1"
     shift
     [ $# -gt 0 ] && printf '  %s\n' "$@"
+    # For variants.sh one is enough.
+    [ -z "${FIRST:-}" ] || exit 1
 }
 
 # is STATUS COMMAND..: runs it, keeps its output in out and err.
@@ -53,6 +55,24 @@ absent() {
 no_drafts() {
     checks=$((checks + 1))
     [ -z "$(find . -name '*.partial-*')" ] || fail "drafts are left: $(find . -name '*.partial-*')"
+}
+
+# Each line of the file is one JSON text.
+is_json() {
+    checks=$((checks + 1))
+    python3 -I -S -m json.tool --json-lines "$1" > /dev/null 2>&1 || fail "$1 is not JSON" "$(head -5 "$1" | cat -v)"
+}
+
+is_xml() {
+    checks=$((checks + 1))
+    python3 -I -S -c 'import sys, xml.dom.minidom; xml.dom.minidom.parse(sys.argv[1])' "$1" 2> xml_error || fail "$1 is not XML" "$(tail -1 xml_error)"
+}
+
+# The file is UTF-8 without controls but line ends, and without format characters and separators.
+is_visible() {
+    checks=$((checks + 1))
+    iconv -f UTF-8 -t UTF-8 "$1" > /dev/null 2>&1 && ! LC_ALL=C.UTF-8 grep -aqP '[\p{Cc}\p{Cf}\p{Zl}\p{Zp}]' "$1" \
+        || fail "a terminal obeys $1" "$(head -5 "$1" | cat -v)"
 }
 
 # Where element N of a list begins in its store.

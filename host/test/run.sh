@@ -1,24 +1,42 @@
 #!/usr/bin/env bash
-# Runs every test of the host; the last line says how many passed. Called by make test.
+# Runs every test of the host, two at a time; the last line says how many passed. Called by make test.
 set -u
-cd "$(dirname "$0")/.."
+cd "$(dirname "$0")/.." || exit 2
 T=target
 CC=${CC:-cc}
 CASES=${CASES:-10000}
-passed=0
-failed=0
+LOGS=$T/test/logs
+rm -rf $LOGS
+mkdir -p $LOGS
+names=()
 
-run() { # name, command..
-    local name=$1
+# start NAME COMMAND..: beside the others, JOBS (2) at a time; its output and its status in files of its own.
+start() {
+    local log=$LOGS/${#names[@]}
+    names+=("$1")
     shift
-    if "$@" > $T/test/log 2>&1; then
-        passed=$((passed + 1))
-        echo "ok      $name$(tail -n 1 $T/test/log | sed 's/^./: &/')"
-    else
-        failed=$((failed + 1))
-        echo "FAILED  $name"
-        cat $T/test/log
-    fi
+    while [ "$(jobs -pr | wc -l)" -ge "${JOBS:-2}" ]; do
+        wait -n
+    done
+    { "$@" > "$log" 2>&1; echo $? > "$log.status"; } &
+}
+
+# All of them in the order in which they were started; the status is 0 where every one's was.
+finish() {
+    local i passed=0 failed=0
+    wait
+    for i in "${!names[@]}"; do
+        if [ "$(cat $LOGS/"$i".status)" = 0 ]; then
+            passed=$((passed + 1))
+            echo "ok      ${names[i]}$(tail -n 1 $LOGS/"$i" | sed 's/^./: &/')"
+        else
+            failed=$((failed + 1))
+            echo "FAILED  ${names[i]}"
+            cat $LOGS/"$i"
+        fi
+    done
+    echo "host: $passed passed, $failed failed"
+    [ $failed -eq 0 ]
 }
 
 header_alone() { # compiler words..
@@ -59,21 +77,21 @@ missing_files() {
     test "$(cd "$at" && "$program")" = "refused 1"
 }
 
-run "header in C11" header_alone "$CC" -std=c11 -x c
-run "header in C99" header_alone "$CC" -std=c99 -x c
+# The long ones first, so that none runs alone at the end.
+start "against the reference" $T/test/differential "$CASES"
+start "command line" test/cli.sh $T/klapouzen $T/make_sample
+for target in volume label index form rows; do
+    start "fuzz $target" $T/fuzz/${target}_mutate $T/fuzz/corpus/$target "${FUZZ_SECONDS:-3}"
+done
+start "smallest and largest sizes" $T/test/bounds
+start "stack" $T/test/stack
+start "installed" installed
+start "the build" test/build.sh
+start "the program without its files" missing_files
+start "header in C11" header_alone "$CC" -std=c11 -x c
+start "header in C99" header_alone "$CC" -std=c99 -x c
 # gcc without g++ has no C++ in it.
 if "$CC" -x c++ -fsyntax-only /dev/null 2> /dev/null; then
-    run "header in C++" header_alone "$CC" -std=c++11 -x c++
+    start "header in C++" header_alone "$CC" -std=c++11 -x c++
 fi
-run "smallest and largest sizes" $T/test/bounds
-run "stack" $T/test/stack
-run "against the reference" $T/test/differential "$CASES"
-run "command line" test/cli.sh $T/klapouzen $T/make_sample
-run "installed" installed
-run "the program without its files" missing_files
-for target in volume label index form rows; do
-    run "fuzz $target" $T/fuzz/${target}_mutate $T/fuzz/corpus/$target "${FUZZ_SECONDS:-3}"
-done
-
-echo "host: $passed passed, $failed failed"
-[ $failed -eq 0 ]
+finish

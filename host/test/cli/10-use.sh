@@ -9,6 +9,20 @@ for command in check show cut files extract label; do
     is 2 "$K" $command --nonsense
     says err "unknown option: --nonsense"
 done
+for command in check show cut files extract label; do
+    "$K" $command --help > wanted
+    is 0 "$K" $command -h
+    same out wanted
+    is 0 "$K" help $command
+    same out wanted
+done
+"$K" --help > wanted
+is 0 "$K" -h
+same out wanted
+is 0 "$K" help
+same out wanted
+is 2 "$K" help nonsense
+says err "unknown command: nonsense"
 is 0 "$K" --version
 says out "klapouzen 0."
 is 2 "$K"

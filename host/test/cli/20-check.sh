@@ -10,10 +10,35 @@ says out "keeps 13 + 71 of 13 + 78 elements, generation 4"
 says out "4 cartridges: 1 consistent, 2 to cut, 1 without a cut, 0 refused, 0 unreadable"
 is 1 "$K" check --json torn fresh
 says out '"verdict":"break","break":{"which":2,"number":0,'
-says out '"cut":{"index_construct":0,"data_construct":0,"index_kept":7,"data_kept":7,"generation":1}}'
+says out '"verdict":"consistent","elements":{"index":7,"data":7},"cut":{'
+says out '"cut":{"index_construct":0,"data_construct":0,"index_kept":7,"index_dropped":0,"data_kept":7,"data_dropped":0,"generation":1}}'
+says out '"elements":{"index":7,"data":6},"cut":null}'
 says_not out "cartridge"
 checks=$((checks + 1))
 [ "$(wc -l < out)" -eq 2 ] || fail "not one object a line"
+is_json out
+is 1 "$K" check --json nights defect
+is_json out
+says out '"elements":{"index":13,"data":78},"cut":{"index_construct":2,"data_construct":3,"index_kept":13,"index_dropped":0,"data_kept":71,"data_dropped":7,"generation":4}}'
+says out '"elements":{"index":13,"data":17},"cut":{"index_construct":1,"data_construct":1,"index_kept":10,"index_dropped":3,"data_kept":13,"data_dropped":4,"generation":2}}'
 cp -r fresh './-odd "name"'
 is 0 "$K" check --json -- '-odd "name"'
 says out '{"folder":"-odd \"name\"",'
+
+# Each status by itself, and the summary of cartridges that differ in number.
+is 1 "$K" check torn
+says out "1 cartridge: 0 consistent, 0 to cut, 1 without a cut, 0 refused, 0 unreadable"
+is 1 "$K" check nights
+says out "1 cartridge: 0 consistent, 1 to cut, 0 without a cut, 0 refused, 0 unreadable"
+is 1 "$K" check --json nights
+
+# Each break with its number.
+cp -r fresh torn_index && head -c -1 fresh/index.list > torn_index/index.list
+is 1 "$K" check torn_index
+says out "break 1: the index partition does not end with a whole index; cut none leaves"
+cp -r nights behind && printf '\001' >> behind/data.list
+is 1 "$K" check behind
+says out "break 3: index 4 of the data partition is unsound or breaks the chain of back pointers; cut keeps 13 + 71 of 13 + 79"
+is 1 "$K" check --json sparse
+says out '"break":{"which":5,"number":5,"text":"file 5 of the last index does not lie on the tape"}'
+is_json out

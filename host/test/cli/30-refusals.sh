@@ -11,6 +11,23 @@ says out "refused 3: not a VOL1 label of an LTFS volume (data side: data.store, 
 cp -r fresh bad4 && printf '?' | dd of=bad4/index.store bs=1 seek=80 conv=notrunc status=none
 is 1 "$K" check --json bad4
 says out '"refusal":{"number":4,"text":"the text is not in the XML form","side":"index","file":"index.store, element 2"}'
+is_json out
+says out '"elements":{"index":7,"data":7}}'
+cp -r fresh bad1i && printf '\003' >> bad1i/index.list
+is 1 "$K" check bad1i
+says out "(index side: index.list with index.store)"
+is 1 "$K" check --json bad1i
+is_json out
+says out '"elements":{"index":null,"data":7}}'
+cp -r fresh bad3i && printf 'X' | dd of=bad3i/index.store conv=notrunc status=none
+is 1 "$K" check bad3i
+says out "(index side: index.store, element 0)"
+cp -r fresh bad4d && printf '?' | dd of=bad4d/data.store bs=1 seek=80 conv=notrunc status=none
+is 1 "$K" check bad4d
+says out "refused 4: the text is not in the XML form (data side: data.store, element 2)"
+mkdir headless && cp fresh/data.* headless && head -c 6 fresh/index.list > headless/index.list && head -c 80 fresh/index.store > headless/index.store
+is 1 "$K" check headless
+says out "refused 9: the partition does not begin with block, mark, block, mark (index side: index.list)"
 mkdir swapped
 cp fresh/index.list swapped/data.list && cp fresh/index.store swapped/data.store
 cp fresh/data.list swapped/index.list && cp fresh/data.store swapped/index.store

@@ -12,6 +12,12 @@ if command -v script > /dev/null; then
     says out "] 7 of 8"
     script -qec "'$K' show nights" /dev/null > out < /dev/null
     says out $'\033[32m'
+    # What is dropped is dimmed and keeps its colour.
+    says out $'\033[2m\033[34m        71-75  data'
+    says out $'\033[2m\033[33m        76-77  index run'
+    says out $'\033[32m        68-70  index 3'
+    TERM=dumb script -qec "'$K' show nights" /dev/null > out < /dev/null
+    says_not out $'\033'
     NO_COLOR=1 script -qec "'$K' show nights" /dev/null > out < /dev/null
     says_not out $'\033[3'
 fi

@@ -1,0 +1,47 @@
+/* Texts made fit to print: one printer for terminals, JSON and pictures. */
+#ifndef TEXT_H
+#define TEXT_H
+
+#include <stdbool.h>
+#include <stdint.h>
+#include <stdio.h>
+
+#include "volume.h"
+
+/* Where a text goes. */
+enum form { TO_TERMINAL, TO_JSON, TO_XML };
+
+struct bytes bytes_of(const char *text);
+
+/*
+ * A text as characters that can be seen. Those that a terminal obeys or does not
+ * draw (controls, C1, marks of direction, separators, zero widths) and bytes that
+ * are no UTF-8 are written as numbers: \x1b for a byte, \u202e for a character,
+ * and \\ is a backslash, so that texts that differ are printed differently. JSON has
+ * \u alone, and U+FFFD for a byte that is no UTF-8; is_utf8 says whether one is.
+ * `spelled`: references are decoded first.
+ */
+void print_text(FILE *out, enum form form, struct bytes text, bool spelled);
+
+/* To a terminal: a text from a tape as spelled, and any other text. */
+void print_spelled(FILE *out, struct bytes text);
+void print_bytes(FILE *out, struct bytes text);
+
+/* A JSON string with its quotes. */
+void print_json(FILE *out, struct bytes text, bool spelled);
+
+bool is_utf8(struct bytes text);
+
+/* The end of a text that takes at most so many columns where it is printed. */
+struct bytes last_columns(struct bytes text, size_t columns);
+
+/* Whether a text as spelled, decoded, is this one. */
+bool spells(struct bytes spelled, const char *text);
+
+/* 12,345,678: digits in threes. The text stands until the fourth call after. */
+const char *grouped(uint64_t number);
+
+/* "1 block", "1,200 blocks": the plural is given whole. */
+void print_counted(FILE *out, uint64_t number, const char *one, const char *many);
+
+#endif
