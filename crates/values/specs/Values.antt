@@ -71,7 +71,7 @@ letter (b ∷ c ∷ s) = none
 abbrev pub isPlain : Bool → ℕ → Bool
 isPlain slash b = leb 32 b && (slash || not (eqb b 47))
 
--- Creator: 1 to 255 bytes decoded, none below 32. That it is UTF-8 in XML's characters is the form's duty; for one that a caller gives see label/Text
+-- Creator: 1 to 255 bytes decoded, none below 32. That it is UTF-8 in XML's characters is the form's duty; for one that a caller gives see label_writer/Text
 unfoldable pub isCreator : List ℕ → Bool
 isCreator s = within 1 255 (length s) && every (isPlain true) s
 
