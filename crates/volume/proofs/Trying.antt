@@ -1,6 +1,6 @@
 -- One index construct tried, and the search over them, by what the tables hold.
 use mathlib.Core.Path.{_≡_, refl, sym, ap, subst, _∙_}
-use mathlib.Core.Bool.{true, false}
+use mathlib.Core.Bool.{Bool, true, false}
 use mathlib.Core.List.{List, _∷_}
 use mathlib.Core.Option.{Option, none, some}
 use Prim.Native.Nat.{ℕ, _+_, _-_, _≤_, _<_}
@@ -19,7 +19,7 @@ use Rattle.verdict.specs.Verdict.{Index, Volume, readIndex, badFileIn}
 use Rattle.verdict.specs.Rescue.{cutAmong}
 use Rattle.verdict.proofs.Orders.{firsts, firsts-all, search-on, search-found}
 use Rattle.volume.specs.Volume.{soundly, volumeWith}
-use Rattle.volume.specs.Steps.{told, toldBy, joined, textIn, Located, ReachTable, Ready, lostFile, Loses, cutIs, Tries, Searches}
+use Rattle.volume.specs.Steps.{told, toldBy, joined, textIn, Located, ReachTable, Ready, lostFile, Loses, Fitting, apart, losing, fitting, cutIs, Tries, Searches}
 use Rattle.volume.specs.declared.sound.Brief.{Brief}
 use Rattle.volume.specs.declared.lost.Lost.{Lost}
 use Rattle.volume.specs.declared.search.Kept.{Kept}
@@ -87,7 +87,7 @@ module _ (u : List ℕ) (w : Letters) (is ti : List ℕ) (k : ℕ) (td gens begi
 
   module _ (j : ℕ) (at-begin : getD begins (b .block .0) 0 ≡ j) (some-one : j ≡ 0 → ⊥) (there : Spot) (at-there : there ≡ placeIn td (j - 1))
       (generation : ℕ) (is-generation : generation ≡ getD gens (j - 1) 0) where
-    pub tries-apart : joined (toldBy b) (w .other) (there .first) generation ≡ false → Tries (given u w) w is ti k td gens begins ri rd Fails
+    tries-apart : joined (toldBy b) (w .other) (there .first) generation ≡ false → Tries (given u w) w is ti k td gens begins ri rd Fails
     unfolding v
     tries-apart f cs ds li ld r c bs suf n =
         let p = there-is cs ds li ld r c bs suf n j at-begin some-one in
@@ -95,7 +95,7 @@ module _ (u : List ℕ) (w : Letters) (is ti : List ℕ) (k : ℕ) (td gens begi
         (located-there cs ds li ld r c bs suf n j at-begin some-one there at-there .first) (is-generation ∙ p .generation) f)
 
     module _ (f : joined (toldBy b) (w .other) (there .first) generation ≡ true) (lost : Lost) (l : Loses t w ri (here .end) rd (there .end) lost) where
-      pub tries-lost : (m : ℕ) → lostFile lost ≡ some m → Tries (given u w) w is ti k td gens begins ri rd Fails
+      tries-lost : (m : ℕ) → lostFile lost ≡ some m → Tries (given u w) w is ti k td gens begins ri rd Fails
       unfolding v
       tries-lost m e cs ds li ld r c bs suf n =
           let p = there-is cs ds li ld r c bs suf n j at-begin some-one in
@@ -104,7 +104,7 @@ module _ (u : List ℕ) (w : Letters) (is ti : List ℕ) (k : ℕ) (td gens begi
           (located-there cs ds li ld r c bs suf n j at-begin some-one there at-there .first) (is-generation ∙ p .generation) f m
           (lost-here cs ds li ld r c bs suf n j at-begin some-one there at-there lost l s ∙ e))
 
-      pub tries-fits : lostFile lost ≡ none → (a : Kept) → a .«index_construct» ≡ k → a .«data_construct» ≡ j - 1 → a .«index_kept» ≡ here .end
+      tries-fits : lostFile lost ≡ none → (a : Kept) → a .«index_construct» ≡ k → a .«data_construct» ≡ j - 1 → a .«index_kept» ≡ here .end
           → a .«data_kept» ≡ there .end → a .generation .0 ≡ b .generation .0 → Tries (given u w) w is ti k td gens begins ri rd (Fits a)
       unfolding v
       tries-fits e a a₁ a₂ a₃ a₄ a₅ cs ds li ld r c bs suf n =
@@ -117,6 +117,19 @@ module _ (u : List ℕ) (w : Letters) (is ti : List ℕ) (k : ℕ) (td gens begi
           ∙ sym (try-fits (volumeWith (given u w)) li ld c bs ds b (told-here cs ds li ld r c bs suf n) gens (r .ds-store) td j p (there .first) generation
           (q .first) (is-generation ∙ p .generation) f
           (lost-here cs ds li ld r c bs suf n j at-begin some-one there at-there lost l s ∙ e))
+
+    -- by one test of both
+    pub tries-not : (r : Bool) → Fitting t b w (here .end) there generation ri rd r → r ≡ false → Tries (given u w) w is ti k td gens begins ri rd Fails
+    tries-not r (apart e f) z = tries-apart f
+    tries-not r (losing l m e f h q) z = tries-lost f l h m q
+    tries-not r (fitting l e f h q) z = let x : _≡_ {A = Bool} true false = sym e ∙ z in let y : _≡_ {A = ℕ} 0 1 = cc in absurd (omega arith)
+
+    pub tries-so : (r : Bool) → Fitting t b w (here .end) there generation ri rd r → r ≡ true → (a : Kept) → a .«index_construct» ≡ k
+        → a .«data_construct» ≡ j - 1 → a .«index_kept» ≡ here .end → a .«data_kept» ≡ there .end → a .generation .0 ≡ b .generation .0
+        → Tries (given u w) w is ti k td gens begins ri rd (Fits a)
+    tries-so r (apart e f) z = let x : _≡_ {A = Bool} false true = sym e ∙ z in let y : _≡_ {A = ℕ} 0 1 = cc in absurd (omega arith)
+    tries-so r (losing l m e f h q) z = let x : _≡_ {A = Bool} false true = sym e ∙ z in let y : _≡_ {A = ℕ} 0 1 = cc in absurd (omega arith)
+    tries-so r (fitting l e f h q) z = tries-fits f l h q
 
 -- the constructs from k on are no cut
 abbrev pub SearchesAt : Given → List ℕ → List ℕ → ℕ → List ℕ → List ℕ → List ℕ → List ℕ → List ℕ → ℕ → Type 0

@@ -121,6 +121,15 @@ Loses t w ri ki rd kd r =
     (g : Given) (letter block : ℕ) (x : text.Index) → indexOf g letter block t ≡ answer x
     → lostFile r ≡ firstFailing (every (liesIn w ri ki rd kd)) 0 (rowsOfEach (x .files))
 
+-- whether an index that has the text t and says b follows the construct at there, and by the tables its extents all lie on the ki elements
+-- of its partition and on those of the other up to that construct's end
+pub data Fitting (t : List ℕ) (b : Brief) (w : Letters) (ki : ℕ) (there : Spot) (generation : ℕ) (ri rd : List ℕ) (r : Bool) : Type 0 where
+  apart : r ≡ false → joined (toldBy b) (w .other) (there .first) generation ≡ false → Fitting t b w ki there generation ri rd r
+  losing : (l : Lost) (m : ℕ) → r ≡ false → joined (toldBy b) (w .other) (there .first) generation ≡ true → Loses t w ri ki rd (there .end) l
+      → lostFile l ≡ some m → Fitting t b w ki there generation ri rd r
+  fitting : (l : Lost) → r ≡ true → joined (toldBy b) (w .other) (there .first) generation ≡ true → Loses t w ri ki rd (there .end) l
+      → lostFile l ≡ none → Fitting t b w ki there generation ri rd r
+
 -- a table of how far data blocks reach, by the lengths of a partition's data blocks
 pub record ReachTable (B : ℕ) (lengths table : List ℕ) : Type 0 where
   pub rest : List ℕ

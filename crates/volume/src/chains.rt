@@ -26,14 +26,7 @@ fn link(
     ensures { λ r. ⌜ LinksAt (volumeWith (given (now (uuid .entry)) volume)) (now (store .entry)) (now (table .entry)) k (before .0) r ⌝ }
 {
     let here = constructs::construct(table, k);
-    let text = sound::text_at(store, here);
-    let b = sound::read_brief(
-        text,
-        uuid,
-        volume,
-        volume.other,
-        BlockNumber(here.first as u64),
-    );
+    let b = sound::brief_at(store, uuid, volume, volume.other, here);
     let generation = b.generation;
     if k == 0 {
         if !b.sound {

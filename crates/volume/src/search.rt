@@ -2,13 +2,15 @@
 use crate::lost;
 use crate::lost::Lost;
 use crate::sound;
+use crate::sound::Brief;
+use constructs::Place;
 use index_values::Volume;
 use quantities::BlockNumber;
 use quantities::Generation;
 ghost use mathlib.Core.Path.{_≡_};
 ghost use Prim.Native.Nat.{_<_};
 ghost use Rattle.index_values.specs.Tests.{given};
-ghost use Rattle.volume.specs.Steps.{BeginsOf, Tries, Searches};
+ghost use Rattle.volume.specs.Steps.{BeginsOf, textIn, Fitting, Tries, Searches};
 
 // A cut: both construct numbers, both counts of kept elements, and the generation of the last index kept in the index partition.
 pub struct Kept {
@@ -45,6 +47,36 @@ pub fn put_beginnings(table: &[u32; 87380], n: usize, beginnings: &mut [u32])
     }
 }
 
+// Whether an index at here that says b follows the data partition's construct at there, which has an index of that generation, and its
+// extents all lie on what is kept up to both.
+fn cut_fits(
+    store: &[u8],
+    here: Place,
+    b: Brief,
+    volume: Volume,
+    there: Place,
+    generation: Generation,
+    index_reach: &[u32],
+    data_reach: &[u32],
+) -> bool
+    ensures { λ r. ⌜ Fitting (textIn (now (store .entry)) here) b volume (here .end) there (generation .0) (now («index_reach» .entry)) (now («data_reach» .entry)) r ⌝ }
+{
+    if !sound::joins(b, volume.other, BlockNumber(there.first as u64), generation) {
+        return false;
+    }
+    match lost::first_lost(
+        sound::text_at(store, here),
+        volume,
+        index_reach,
+        here.end as u64,
+        data_reach,
+        there.end as u64,
+    ) {
+        Lost::File(_) => false,
+        Lost::Nothing => true,
+    }
+}
+
 // The cut after construct k of the index partition and the construct of the chain that its index points at.
 fn try_cut(
     store: &[u8],
@@ -61,41 +93,33 @@ fn try_cut(
     ensures { λ r. ⌜ Tries (given (now (uuid .entry)) volume) volume (now (store .entry)) (now («index_table» .entry)) k (now («data_table» .entry)) (now (generations .entry)) (now (beginnings .entry)) (now («index_reach» .entry)) (now («data_reach» .entry)) r ⌝ }
 {
     let here = constructs::construct(index_table, k);
-    let text = sound::text_at(store, here);
-    let b = sound::read_brief(
-        text,
-        uuid,
-        volume,
-        volume.first,
-        BlockNumber(here.first as u64),
-    );
+    let b = sound::brief_at(store, uuid, volume, volume.first, here);
     let j = tables::item32(beginnings, b.block.0 as usize) as usize;
     if j == 0 {
         return Tried::Fails;
     }
     let there = constructs::construct(data_table, j - 1);
     let generation = Generation(tables::item(generations, j - 1));
-    if !sound::joins(b, volume.other, BlockNumber(there.first as u64), generation) {
+    if !cut_fits(
+        store,
+        here,
+        b,
+        volume,
+        there,
+        generation,
+        index_reach,
+        data_reach,
+    ) {
         return Tried::Fails;
     }
     let own = b.generation;
-    match lost::first_lost(
-        text,
-        volume,
-        index_reach,
-        here.end as u64,
-        data_reach,
-        there.end as u64,
-    ) {
-        Lost::File(_) => Tried::Fails,
-        Lost::Nothing => Tried::Fits(Kept {
-            index_construct: k as u64,
-            data_construct: (j - 1) as u64,
-            index_kept: here.end as u64,
-            data_kept: there.end as u64,
-            generation: own,
-        }),
-    }
+    Tried::Fits(Kept {
+        index_construct: k as u64,
+        data_construct: (j - 1) as u64,
+        index_kept: here.end as u64,
+        data_kept: there.end as u64,
+        generation: own,
+    })
 }
 
 // The first cut that fits, from construct n - 1 of the index partition back.

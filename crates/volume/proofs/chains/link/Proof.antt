@@ -1,7 +1,9 @@
 -- `link` meets its contract: what is told of the construct at its place, the first one apart.
 use Rattle.volume.proofs.Chaining.{told-at, at-unsound, at-first, at-behind}
 use Rattle.volume.specs.Volume.{volumeWith}
+use Rattle.volume.specs.Steps.{textIn}
 use Rattle.index_values.specs.Tests.{given}
+use mathlib.Core.Path.{refl}
 use borrow.Author.Tests.{not-true, not-false}
 use borrow.Author.Needs.{needs}
 use Rattle.volume.proofs.chains.link.Statement.{statement}
@@ -10,22 +12,19 @@ use Rattle.volume.proofs.chains.link.Tie as tie
 construct-requires : tie.Need-construct-requires
 construct-requires c κs = search needs
 
-text-at-requires : tie.Need-text-at-requires
-text-at-requires c κs = search needs
-
-read-brief-requires : tie.Need-read-brief-requires
-read-brief-requires c κs = search needs
+brief-at-requires : tie.Need-brief-at-requires
+brief-at-requires c κs = search needs
 
 returns : tie.Need-returns
 returns c =
-    at-unsound (volumeWith (given (c .before .before .before .before .before .before .before .before .before .args .uuid .now) (c .before .before .before .before .before .before .before .before .before .args .volume))) (c .before .before .before .before .before .before .before .before .before .args .store .now) (c .before .before .before .before .before .before .before .before .before .args .table .now) (c .before .before .before .before .before .before .before .before .before .args .k) (c .before .before .before .before .before .before .before .before .before .args .before .0) (c .before .before .before .before .read-brief .result)
-    (told-at (given (c .before .before .before .before .before .before .before .before .before .args .uuid .now) (c .before .before .before .before .before .before .before .before .before .args .volume)) (c .before .before .before .before .before .before .before .before .before .args .store .now) (c .before .before .before .before .before .before .before .before .before .args .table .now) (c .before .before .before .before .before .before .before .before .before .args .volume .other) (c .before .before .before .before .before .before .before .before .before .args .k) (c .before .before .before .before .before .before .construct .result) (c .before .before .before .before .before .text-at .result .now) (c .before .before .before .before .read-brief .result) (c .before .before .before .before .before .before .construct .ensures) (c .before .before .before .before .before .text-at .ensures) (c .before .before .before .before .read-brief .ensures))
+    at-unsound (volumeWith (given (c .before .before .before .before .before .before .before .before .args .uuid .now) (c .before .before .before .before .before .before .before .before .args .volume))) (c .before .before .before .before .before .before .before .before .args .store .now) (c .before .before .before .before .before .before .before .before .args .table .now) (c .before .before .before .before .before .before .before .before .args .k) (c .before .before .before .before .before .before .before .before .args .before .0) (c .before .before .before .before .brief-at .result)
+    (told-at (given (c .before .before .before .before .before .before .before .before .args .uuid .now) (c .before .before .before .before .before .before .before .before .args .volume)) (c .before .before .before .before .before .before .before .before .args .store .now) (c .before .before .before .before .before .before .before .before .args .table .now) (c .before .before .before .before .before .before .before .before .args .volume .other) (c .before .before .before .before .before .before .before .before .args .k) (c .before .before .before .before .before .construct .result) (textIn (c .before .before .before .before .before .before .before .before .args .store .now) (c .before .before .before .before .before .construct .result)) (c .before .before .before .before .brief-at .result) (c .before .before .before .before .before .construct .ensures) refl (c .before .before .before .before .brief-at .ensures))
     _ (c .before .before .if1 .taken) (not-true _ (c .if2 .taken))
 
 returns-2 : tie.Need-returns-2
 returns-2 c =
-    at-first (volumeWith (given (c .before .before .before .before .before .before .before .before .before .before .args .uuid .now) (c .before .before .before .before .before .before .before .before .before .before .args .volume))) (c .before .before .before .before .before .before .before .before .before .before .args .store .now) (c .before .before .before .before .before .before .before .before .before .before .args .table .now) (c .before .before .before .before .before .before .before .before .before .before .args .k) (c .before .before .before .before .before .before .before .before .before .before .args .before .0) (c .before .before .before .before .before .read-brief .result)
-    (told-at (given (c .before .before .before .before .before .before .before .before .before .before .args .uuid .now) (c .before .before .before .before .before .before .before .before .before .before .args .volume)) (c .before .before .before .before .before .before .before .before .before .before .args .store .now) (c .before .before .before .before .before .before .before .before .before .before .args .table .now) (c .before .before .before .before .before .before .before .before .before .before .args .volume .other) (c .before .before .before .before .before .before .before .before .before .before .args .k) (c .before .before .before .before .before .before .before .construct .result) (c .before .before .before .before .before .before .text-at .result .now) (c .before .before .before .before .before .read-brief .result) (c .before .before .before .before .before .before .before .construct .ensures) (c .before .before .before .before .before .before .text-at .ensures) (c .before .before .before .before .before .read-brief .ensures))
+    at-first (volumeWith (given (c .before .before .before .before .before .before .before .before .before .args .uuid .now) (c .before .before .before .before .before .before .before .before .before .args .volume))) (c .before .before .before .before .before .before .before .before .before .args .store .now) (c .before .before .before .before .before .before .before .before .before .args .table .now) (c .before .before .before .before .before .before .before .before .before .args .k) (c .before .before .before .before .before .before .before .before .before .args .before .0) (c .before .before .before .before .before .brief-at .result)
+    (told-at (given (c .before .before .before .before .before .before .before .before .before .args .uuid .now) (c .before .before .before .before .before .before .before .before .before .args .volume)) (c .before .before .before .before .before .before .before .before .before .args .store .now) (c .before .before .before .before .before .before .before .before .before .args .table .now) (c .before .before .before .before .before .before .before .before .before .args .volume .other) (c .before .before .before .before .before .before .before .before .before .args .k) (c .before .before .before .before .before .before .construct .result) (textIn (c .before .before .before .before .before .before .before .before .before .args .store .now) (c .before .before .before .before .before .before .construct .result)) (c .before .before .before .before .before .brief-at .result) (c .before .before .before .before .before .before .construct .ensures) refl (c .before .before .before .before .before .brief-at .ensures))
     (c .before .before .before .if1 .taken) (not-false _ (c .before .if2 .left))
 
 sub-construct : tie.Need-sub-construct
@@ -39,8 +38,8 @@ joins-requires c κs = search needs
 
 returns-3 : tie.Need-returns-3
 returns-3 c =
-    at-behind (volumeWith (given (c .before .before .before .before .before .before .before .before .before .args .uuid .now) (c .before .before .before .before .before .before .before .before .before .args .volume))) (c .before .before .before .before .before .before .before .before .before .args .store .now) (c .before .before .before .before .before .before .before .before .before .args .table .now) (c .before .before .before .before .before .before .before .before .before .args .k) (c .before .before .before .before .before .before .before .before .before .args .before .0) (c .before .before .before .before .read-brief .result)
-    (told-at (given (c .before .before .before .before .before .before .before .before .before .args .uuid .now) (c .before .before .before .before .before .before .before .before .before .args .volume)) (c .before .before .before .before .before .before .before .before .before .args .store .now) (c .before .before .before .before .before .before .before .before .before .args .table .now) (c .before .before .before .before .before .before .before .before .before .args .volume .other) (c .before .before .before .before .before .before .before .before .before .args .k) (c .before .before .before .before .before .before .construct .result) (c .before .before .before .before .before .text-at .result .now) (c .before .before .before .before .read-brief .result) (c .before .before .before .before .before .before .construct .ensures) (c .before .before .before .before .before .text-at .ensures) (c .before .before .before .before .read-brief .ensures))
+    at-behind (volumeWith (given (c .before .before .before .before .before .before .before .before .args .uuid .now) (c .before .before .before .before .before .before .before .before .args .volume))) (c .before .before .before .before .before .before .before .before .args .store .now) (c .before .before .before .before .before .before .before .before .args .table .now) (c .before .before .before .before .before .before .before .before .args .k) (c .before .before .before .before .before .before .before .before .args .before .0) (c .before .before .before .before .brief-at .result)
+    (told-at (given (c .before .before .before .before .before .before .before .before .args .uuid .now) (c .before .before .before .before .before .before .before .before .args .volume)) (c .before .before .before .before .before .before .before .before .args .store .now) (c .before .before .before .before .before .before .before .before .args .table .now) (c .before .before .before .before .before .before .before .before .args .volume .other) (c .before .before .before .before .before .before .before .before .args .k) (c .before .before .before .before .before .construct .result) (textIn (c .before .before .before .before .before .before .before .before .args .store .now) (c .before .before .before .before .before .construct .result)) (c .before .before .before .before .brief-at .result) (c .before .before .before .before .before .construct .ensures) refl (c .before .before .before .before .brief-at .ensures))
     (c .before .before .if1 .left) (c .before .construct2 .result) (c .joins .result) (c .before .construct2 .ensures) (c .joins .ensures)
 
 pub link-spec : {M : Type 1} → statement M
@@ -48,8 +47,7 @@ link-spec =
     tie.close
     (tie.spec
     construct-requires
-    text-at-requires
-    read-brief-requires
+    brief-at-requires
     returns
     returns-2
     sub-construct

@@ -1,8 +1,8 @@
 -- `try_cut` meets its contract: each answer is one case of the law.
-use Rattle.volume.proofs.Trying.{tries-nowhere, tries-apart, tries-lost, tries-fits}
-use Rattle.volume.specs.Steps.{lostFile}
+use Rattle.volume.proofs.Trying.{tries-nowhere, tries-not, tries-so}
+use Rattle.volume.specs.Steps.{textIn}
 use borrow.Author.Tests.{not-true, not-false}
-use mathlib.Core.Path.{refl, sym, ap, _∙_}
+use mathlib.Core.Path.{refl, sym, _∙_}
 use borrow.Author.Needs.{needs}
 use Rattle.volume.proofs.search.try_cut.Statement.{statement}
 use Rattle.volume.proofs.search.try_cut.Tie as tie
@@ -10,11 +10,8 @@ use Rattle.volume.proofs.search.try_cut.Tie as tie
 construct-requires : tie.Need-construct-requires
 construct-requires c κs = search needs
 
-text-at-requires : tie.Need-text-at-requires
-text-at-requires c κs = search needs
-
-read-brief-requires : tie.Need-read-brief-requires
-read-brief-requires c κs = search needs
+brief-at-requires : tie.Need-brief-at-requires
+brief-at-requires c κs = search needs
 
 item32-requires : tie.Need-item32-requires
 item32-requires c κs = search needs
@@ -24,8 +21,8 @@ cast-j c = search needs
 
 returns : tie.Need-returns
 returns c =
-    tries-nowhere (c .before .before .before .before .before .before .before .before .before .before .before .args .uuid .now) (c .before .before .before .before .before .before .before .before .before .before .before .args .volume) (c .before .before .before .before .before .before .before .before .before .before .before .args .store .now) (c .before .before .before .before .before .before .before .before .before .before .before .args .index-table .now) (c .before .before .before .before .before .before .before .before .before .before .before .args .k) (c .before .before .before .before .before .before .before .before .before .before .before .args .data-table .now) (c .before .before .before .before .before .before .before .before .before .before .before .args .generations .now) (c .before .before .before .before .before .before .before .before .before .before .before .args .beginnings .now) (c .before .before .before .before .before .before .before .before .before .before .before .args .index-reach .now) (c .before .before .before .before .before .before .before .before .before .before .before .args .data-reach .now)
-    (c .before .before .before .before .construct .result) (c .before .before .before .text-at .result .now) (c .before .before .read-brief .result) (c .before .before .before .before .construct .ensures) (c .before .before .before .text-at .ensures) (c .before .before .read-brief .ensures)
+    tries-nowhere (c .before .before .before .before .before .before .before .before .before .before .args .uuid .now) (c .before .before .before .before .before .before .before .before .before .before .args .volume) (c .before .before .before .before .before .before .before .before .before .before .args .store .now) (c .before .before .before .before .before .before .before .before .before .before .args .index-table .now) (c .before .before .before .before .before .before .before .before .before .before .args .k) (c .before .before .before .before .before .before .before .before .before .before .args .data-table .now) (c .before .before .before .before .before .before .before .before .before .before .args .generations .now) (c .before .before .before .before .before .before .before .before .before .before .args .beginnings .now) (c .before .before .before .before .before .before .before .before .before .before .args .index-reach .now) (c .before .before .before .before .before .before .before .before .before .before .args .data-reach .now)
+    (c .before .before .before .construct .result) (textIn (c .before .before .before .before .before .before .before .before .before .before .args .store .now) (c .before .before .before .construct .result)) (c .before .before .brief-at .result) (c .before .before .before .construct .ensures) refl (c .before .before .brief-at .ensures)
     (sym (c .before .item32 .ensures) ∙ c .if1 .taken)
 
 sub-construct : tie.Need-sub-construct
@@ -40,49 +37,30 @@ sub-item c = search needs
 item-requires : tie.Need-item-requires
 item-requires c κs = search needs
 
-joins-requires : tie.Need-joins-requires
-joins-requires c κs = search needs
+cut-fits-requires : tie.Need-cut-fits-requires
+cut-fits-requires c κs = search needs
 
 returns-2 : tie.Need-returns-2
 returns-2 c =
-    tries-apart (c .before .before .before .before .before .before .before .before .before .before .before .before .before .before .before .args .uuid .now) (c .before .before .before .before .before .before .before .before .before .before .before .before .before .before .before .args .volume) (c .before .before .before .before .before .before .before .before .before .before .before .before .before .before .before .args .store .now) (c .before .before .before .before .before .before .before .before .before .before .before .before .before .before .before .args .index-table .now) (c .before .before .before .before .before .before .before .before .before .before .before .before .before .before .before .args .k) (c .before .before .before .before .before .before .before .before .before .before .before .before .before .before .before .args .data-table .now) (c .before .before .before .before .before .before .before .before .before .before .before .before .before .before .before .args .generations .now) (c .before .before .before .before .before .before .before .before .before .before .before .before .before .before .before .args .beginnings .now) (c .before .before .before .before .before .before .before .before .before .before .before .before .before .before .before .args .index-reach .now) (c .before .before .before .before .before .before .before .before .before .before .before .before .before .before .before .args .data-reach .now)
-    (c .before .before .before .before .before .before .before .before .construct .result) (c .before .before .before .before .before .before .before .text-at .result .now) (c .before .before .before .before .before .before .read-brief .result) (c .before .before .before .before .before .before .before .before .construct .ensures) (c .before .before .before .before .before .before .before .text-at .ensures) (c .before .before .before .before .before .before .read-brief .ensures)
-    (c .before .before .before .before .before .item32 .result) (sym (c .before .before .before .before .before .item32 .ensures)) (c .before .before .before .before .if1 .left) (c .before .before .before .construct2 .result) (c .before .before .before .construct2 .ensures) (c .before .before .item .result) (c .before .before .item .ensures)
-    (sym (c .before .joins .ensures) ∙ not-true _ (c .if2 .taken))
+    tries-not (c .before .before .before .before .before .before .before .before .before .before .before .before .before .before .args .uuid .now) (c .before .before .before .before .before .before .before .before .before .before .before .before .before .before .args .volume) (c .before .before .before .before .before .before .before .before .before .before .before .before .before .before .args .store .now) (c .before .before .before .before .before .before .before .before .before .before .before .before .before .before .args .index-table .now) (c .before .before .before .before .before .before .before .before .before .before .before .before .before .before .args .k) (c .before .before .before .before .before .before .before .before .before .before .before .before .before .before .args .data-table .now) (c .before .before .before .before .before .before .before .before .before .before .before .before .before .before .args .generations .now) (c .before .before .before .before .before .before .before .before .before .before .before .before .before .before .args .beginnings .now) (c .before .before .before .before .before .before .before .before .before .before .before .before .before .before .args .index-reach .now) (c .before .before .before .before .before .before .before .before .before .before .before .before .before .before .args .data-reach .now)
+    (c .before .before .before .before .before .before .before .construct .result) (textIn (c .before .before .before .before .before .before .before .before .before .before .before .before .before .before .args .store .now) (c .before .before .before .before .before .before .before .construct .result)) (c .before .before .before .before .before .before .brief-at .result) (c .before .before .before .before .before .before .before .construct .ensures) refl (c .before .before .before .before .before .before .brief-at .ensures)
+    (c .before .before .before .before .before .item32 .result) (sym (c .before .before .before .before .before .item32 .ensures)) (c .before .before .before .before .if1 .left) (c .before .before .before .construct2 .result) (c .before .before .before .construct2 .ensures) (c .before .before .item .result) (c .before .before .item .ensures) (c .before .cut-fits .result) (c .before .cut-fits .ensures) (not-true _ (c .if2 .taken))
 
-first-lost-requires : tie.Need-first-lost-requires
-first-lost-requires c κs = search needs
-
-enum-told : tie.Need-enum-told
-enum-told c = search needs
-
-enum-told-2 : tie.Need-enum-told-2
-enum-told-2 c = search needs
-
-sub-t28 : tie.Need-sub-t28
-sub-t28 c = search needs
+sub-t18 : tie.Need-sub-t18
+sub-t18 c = search needs
 
 returns-3 : tie.Need-returns-3
 returns-3 c =
-    tries-lost (c .before .before .before .before .before .before .before .before .before .before .before .before .before .before .before .before .before .before .before .args .uuid .now) (c .before .before .before .before .before .before .before .before .before .before .before .before .before .before .before .before .before .before .before .args .volume) (c .before .before .before .before .before .before .before .before .before .before .before .before .before .before .before .before .before .before .before .args .store .now) (c .before .before .before .before .before .before .before .before .before .before .before .before .before .before .before .before .before .before .before .args .index-table .now) (c .before .before .before .before .before .before .before .before .before .before .before .before .before .before .before .before .before .before .before .args .k) (c .before .before .before .before .before .before .before .before .before .before .before .before .before .before .before .before .before .before .before .args .data-table .now) (c .before .before .before .before .before .before .before .before .before .before .before .before .before .before .before .before .before .before .before .args .generations .now) (c .before .before .before .before .before .before .before .before .before .before .before .before .before .before .before .before .before .before .before .args .beginnings .now) (c .before .before .before .before .before .before .before .before .before .before .before .before .before .before .before .before .before .before .before .args .index-reach .now) (c .before .before .before .before .before .before .before .before .before .before .before .before .before .before .before .before .before .before .before .args .data-reach .now)
-    (c .before .before .before .before .before .before .before .before .before .before .before .before .construct .result) (c .before .before .before .before .before .before .before .before .before .before .before .text-at .result .now) (c .before .before .before .before .before .before .before .before .before .before .read-brief .result) (c .before .before .before .before .before .before .before .before .before .before .before .before .construct .ensures) (c .before .before .before .before .before .before .before .before .before .before .before .text-at .ensures) (c .before .before .before .before .before .before .before .before .before .before .read-brief .ensures)
-    (c .before .before .before .before .before .before .before .before .before .item32 .result) (sym (c .before .before .before .before .before .before .before .before .before .item32 .ensures)) (c .before .before .before .before .before .before .before .before .if1 .left) (c .before .before .before .before .before .before .before .construct2 .result) (c .before .before .before .before .before .before .before .construct2 .ensures) (c .before .before .before .before .before .before .item .result) (c .before .before .before .before .before .before .item .ensures)
-    (sym (c .before .before .before .before .before .joins .ensures) ∙ not-false _ (c .before .before .before .before .if2 .left)) (c .before .before .first-lost .result) (c .before .before .first-lost .ensures) (c .enum-told .given .0 .0) (ap lostFile (c .enum-told .given .1))
-
-returns-4 : tie.Need-returns-4
-returns-4 c =
-    tries-fits (c .before .before .before .before .before .before .before .before .before .before .before .before .before .before .before .before .before .before .before .args .uuid .now) (c .before .before .before .before .before .before .before .before .before .before .before .before .before .before .before .before .before .before .before .args .volume) (c .before .before .before .before .before .before .before .before .before .before .before .before .before .before .before .before .before .before .before .args .store .now) (c .before .before .before .before .before .before .before .before .before .before .before .before .before .before .before .before .before .before .before .args .index-table .now) (c .before .before .before .before .before .before .before .before .before .before .before .before .before .before .before .before .before .before .before .args .k) (c .before .before .before .before .before .before .before .before .before .before .before .before .before .before .before .before .before .before .before .args .data-table .now) (c .before .before .before .before .before .before .before .before .before .before .before .before .before .before .before .before .before .before .before .args .generations .now) (c .before .before .before .before .before .before .before .before .before .before .before .before .before .before .before .before .before .before .before .args .beginnings .now) (c .before .before .before .before .before .before .before .before .before .before .before .before .before .before .before .before .before .before .before .args .index-reach .now) (c .before .before .before .before .before .before .before .before .before .before .before .before .before .before .before .before .before .before .before .args .data-reach .now)
-    (c .before .before .before .before .before .before .before .before .before .before .before .before .construct .result) (c .before .before .before .before .before .before .before .before .before .before .before .text-at .result .now) (c .before .before .before .before .before .before .before .before .before .before .read-brief .result) (c .before .before .before .before .before .before .before .before .before .before .before .before .construct .ensures) (c .before .before .before .before .before .before .before .before .before .before .before .text-at .ensures) (c .before .before .before .before .before .before .before .before .before .before .read-brief .ensures)
-    (c .before .before .before .before .before .before .before .before .before .item32 .result) (sym (c .before .before .before .before .before .before .before .before .before .item32 .ensures)) (c .before .before .before .before .before .before .before .before .if1 .left) (c .before .before .before .before .before .before .before .construct2 .result) (c .before .before .before .before .before .before .before .construct2 .ensures) (c .before .before .before .before .before .before .item .result) (c .before .before .before .before .before .before .item .ensures)
-    (sym (c .before .before .before .before .before .joins .ensures) ∙ not-false _ (c .before .before .before .before .if2 .left)) (c .before .before .first-lost .result) (c .before .before .first-lost .ensures) (ap lostFile (c .enum-told2 .given .1)) _ refl refl refl refl refl
+    tries-so (c .before .before .before .before .before .before .before .before .before .before .before .before .before .before .before .args .uuid .now) (c .before .before .before .before .before .before .before .before .before .before .before .before .before .before .before .args .volume) (c .before .before .before .before .before .before .before .before .before .before .before .before .before .before .before .args .store .now) (c .before .before .before .before .before .before .before .before .before .before .before .before .before .before .before .args .index-table .now) (c .before .before .before .before .before .before .before .before .before .before .before .before .before .before .before .args .k) (c .before .before .before .before .before .before .before .before .before .before .before .before .before .before .before .args .data-table .now) (c .before .before .before .before .before .before .before .before .before .before .before .before .before .before .before .args .generations .now) (c .before .before .before .before .before .before .before .before .before .before .before .before .before .before .before .args .beginnings .now) (c .before .before .before .before .before .before .before .before .before .before .before .before .before .before .before .args .index-reach .now) (c .before .before .before .before .before .before .before .before .before .before .before .before .before .before .before .args .data-reach .now)
+    (c .before .before .before .before .before .before .before .before .construct .result) (textIn (c .before .before .before .before .before .before .before .before .before .before .before .before .before .before .before .args .store .now) (c .before .before .before .before .before .before .before .before .construct .result)) (c .before .before .before .before .before .before .before .brief-at .result) (c .before .before .before .before .before .before .before .before .construct .ensures) refl (c .before .before .before .before .before .before .before .brief-at .ensures)
+    (c .before .before .before .before .before .before .item32 .result) (sym (c .before .before .before .before .before .before .item32 .ensures)) (c .before .before .before .before .before .if1 .left) (c .before .before .before .before .construct2 .result) (c .before .before .before .before .construct2 .ensures) (c .before .before .before .item .result) (c .before .before .before .item .ensures) (c .before .before .cut-fits .result) (c .before .before .cut-fits .ensures) (not-false _ (c .before .if2 .left)) _ refl refl refl refl refl
 
 pub try-cut-spec : {M : Type 1} → statement M
 try-cut-spec =
     tie.close
     (tie.spec
     construct-requires
-    text-at-requires
-    read-brief-requires
+    brief-at-requires
     item32-requires
     cast-j
     returns
@@ -90,11 +68,7 @@ try-cut-spec =
     construct-requires-2
     sub-item
     item-requires
-    joins-requires
+    cut-fits-requires
     returns-2
-    first-lost-requires
-    enum-told
-    enum-told-2
-    sub-t28
-    returns-3
-    returns-4)
+    sub-t18
+    returns-3)
