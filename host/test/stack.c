@@ -61,7 +61,7 @@ static void make_volume(void)
 
 static void call_all(void)
 {
-    uint64_t out[KLAPOUZEN_CONSTRUCT_NUMBERS];
+    uint64_t out[KLAPOUZEN_CHOSEN];
     uint8_t buffer[KLAPOUZEN_MAX_LABEL];
     const struct tape *data = &volume.sides[1];
     klapouzen_check_list(TAPE(*data), out);
