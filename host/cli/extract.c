@@ -16,7 +16,7 @@
 #include "words.h"
 
 static const char help[] =
-    "usage: klapouzen extract [--construct N] [--data] [--output OUT] DIR FILE|--number N\n"
+    "usage: klapouzen extract [--construct N] [--data] [--output OUT] DIR (FILE | --number N)\n"
     "\n"
     "Writes a file's bytes, zeros where nothing is stored. FILE is the file's name where\n"
     "only one file has it; where none has it and it is a number, the file with that number\n"
@@ -269,7 +269,8 @@ static bool find_wished(const struct volume *volume, const struct chosen *chosen
         return false;
     if (read_chosen_file(chosen, *number, file))
         return true;
-    complain_construct(volume, chosen->side, chosen->construct, KLAPOUZEN_MISSING);
+    complain("%s: %s: no file has this number", volume->folder,
+             wish->number != NULL ? wish->number : wish->file);
     return false;
 }
 
