@@ -42,7 +42,9 @@
  * function writes (`out`, *count, *length, `table`, and where they are not
  * const `buffer`, `rows` and `files`) must not overlap anything else that it is
  * given. `out`, `table` and the pointers to single numbers must not be NULL, and
- * must have room for as many numbers as the declaration says.
+ * must have room for as many numbers as the declaration says. The names of the
+ * numbers in `out` and in a row are an enum above the function; its last name is
+ * how many they are.
  *
  * Stack: a call needs less than KLAPOUZEN_STACK bytes.
  */
@@ -69,13 +71,12 @@ extern "C" {
 #define KLAPOUZEN_MAX_NESTING 64        /* elements within elements, the root being 1 */
 #define KLAPOUZEN_MAX_ENTRIES 4096      /* directories and files of an index, its root too */
 #define KLAPOUZEN_MAX_ROWS 1024         /* extents of a file */
-#define KLAPOUZEN_ROW 5                 /* numbers of an extent's row */
 #define KLAPOUZEN_MIN_BLOCK_SIZE 4096
 #define KLAPOUZEN_MAX_BLOCK_SIZE 1048576
 #define KLAPOUZEN_VOL1_LENGTH 80        /* bytes of a VOL1 label */
 #define KLAPOUZEN_CONSTRUCT_TABLE 87380 /* numbers of klapouzen_constructs' table */
 
-/* Bytes of stack that no call needs as many of; host/test/stack measures it. */
+/* A stack of so many bytes is enough for every call; host/test/stack measures it. */
 #define KLAPOUZEN_STACK 2097152
 
 /* ---- Refusals ---- */
@@ -195,7 +196,13 @@ uint64_t klapouzen_constructs(const uint8_t *list, size_t list_length,
 /* ---- Texts and labels ---- */
 
 /*
- * Whether a text of any length is in the XML form of labels and indexes.
+ * Whether a text, of any length, is in the XML form of labels and indexes. This
+ * form is a part of XML 1.0: UTF-8; the declaration
+ * <?xml version="1.0" encoding="UTF-8"?>, spelled so, and one root element;
+ * names of ASCII letters, digits, _ - and .; no more than one attribute in a
+ * tag; of references only &amp; &lt; &gt; &quot; and &apos;; no comments, CDATA,
+ * DOCTYPE or instructions; nothing but white space beside child elements; and
+ * elements nested no deeper than KLAPOUZEN_MAX_NESTING.
  * Refusals: 4.
  */
 uint64_t klapouzen_check_form(const uint8_t *text, size_t length);
@@ -237,7 +244,7 @@ enum klapouzen_label {
     KLAPOUZEN_LABEL_RELEASE, /* the R of version 2.0.R */
     KLAPOUZEN_LABEL_CREATOR,
     KLAPOUZEN_LABEL_CREATOR_LENGTH,
-    KLAPOUZEN_LABEL_TIME,
+    KLAPOUZEN_LABEL_TIME, /* of formatting */
     KLAPOUZEN_LABEL_TIME_LENGTH,
     KLAPOUZEN_LABEL_UUID,
     KLAPOUZEN_LABEL_UUID_LENGTH,
@@ -300,7 +307,7 @@ uint64_t klapouzen_check_labels(const uint8_t *index_list, size_t index_list_len
  * Refusals: 14, 15 (over 1,048,576 bytes), 4, 5 (root and its version
  * attribute), 7, 5 (the rest), 15 (over 4,096 entries, or over 1,024 extents of
  * a file), 6, 8 (another UUID, a letter that is neither of the two), 11, 12.
- * 14 is of the caller's words alone, whatever the text is:
+ * 14 is about what is given beside the text, and looked for first:
  *   uuid        not 8-4-4-4-12 hex digits
  *   letters     index_letter or data_letter outside a to z, or both the same;
  *               `letter` neither of them
@@ -360,7 +367,8 @@ enum klapouzen_row {
     KLAPOUZEN_ROW_STARTBLOCK, /* element number of its first block */
     KLAPOUZEN_ROW_BYTEOFFSET, /* of its first byte, from that block's beginning */
     KLAPOUZEN_ROW_BYTECOUNT,  /* how many bytes it has, over as many blocks as needed */
-    KLAPOUZEN_ROW_FILEOFFSET  /* of its first byte, from the file's beginning */
+    KLAPOUZEN_ROW_FILEOFFSET, /* of its first byte, from the file's beginning */
+    KLAPOUZEN_ROW
 };
 
 uint64_t klapouzen_read_rows(const uint8_t *text, size_t length,

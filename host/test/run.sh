@@ -74,6 +74,7 @@ for target in volume label index form rows; do
     start "fuzz $target" $T/fuzz/${target}_mutate $T/fuzz/corpus/$target "${FUZZ_SECONDS:-3}"
 done
 start "smallest and largest sizes" $T/test/bounds
+start "what 14 is" $T/test/given
 start "stack" $T/test/stack
 start "installed" installed
 start "the build" test/build.sh
