@@ -181,7 +181,7 @@ uint64_t klapouzen_block(const uint8_t *index_list, size_t index_list_length,
  */
 enum klapouzen_construct_row {
     KLAPOUZEN_CONSTRUCT_FIRST_BLOCK, /* element number of its first block */
-    KLAPOUZEN_CONSTRUCT_KEPT,        /* how many elements end with its closing mark */
+    KLAPOUZEN_CONSTRUCT_KEPT,        /* elements of the list up to its closing mark, that included */
     KLAPOUZEN_CONSTRUCT_BEGIN,       /* its text's first byte, from the store's beginning */
     KLAPOUZEN_CONSTRUCT_END,         /* the byte behind its text, likewise */
     KLAPOUZEN_CONSTRUCT
@@ -306,7 +306,8 @@ uint64_t klapouzen_check_labels(const uint8_t *index_list, size_t index_list_len
  * sound.
  * Refusals: 14, 15 (over 1,048,576 bytes), 4, 5 (root and its version
  * attribute), 7, 5 (the rest), 15 (over 4,096 entries, or over 1,024 extents of
- * a file), 6, 8 (another UUID, a letter that is neither of the two), 11, 12.
+ * a file), 6, 8 (another UUID, a letter that is neither of the two), 11 (as
+ * klapouzen_byte_at has it), 12.
  * 14 is about what is given beside the text, and looked for first:
  *   uuid        not 8-4-4-4-12 hex digits
  *   letters     index_letter or data_letter outside a to z, or both the same;
@@ -420,7 +421,7 @@ uint64_t klapouzen_read_all_rows(const uint8_t *text, size_t length,
  */
 enum klapouzen_chosen {
     KLAPOUZEN_CHOSEN_FIRST_BLOCK, /* element number of its first block */
-    KLAPOUZEN_CHOSEN_KEPT,        /* how many elements end with its closing mark */
+    KLAPOUZEN_CHOSEN_KEPT,        /* elements of the list up to its closing mark, that included */
     KLAPOUZEN_CHOSEN_TEXT,        /* its text's first byte, from the store's beginning */
     KLAPOUZEN_CHOSEN_TEXT_LENGTH,
     KLAPOUZEN_CHOSEN_HEADER, /* here enum klapouzen_index_header begins */
@@ -440,7 +441,9 @@ uint64_t klapouzen_index(const uint8_t *list, size_t list_length,
  * 0. rows_length counts numbers. What is on the tape is not looked at:
  * klapouzen_block says whether there is such a block, and how long it is.
  * Refusals: 14 (block_size outside 4,096 to 1,048,576, a row's letter outside a
- * to z, or rows_length no multiple of KLAPOUZEN_ROW), 15 (over 1,024 rows), 11,
+ * to z, or rows_length no multiple of KLAPOUZEN_ROW), 15 (over 1,024 rows), 11
+ * (a row without bytes, one that begins behind its first block or ends behind
+ * the file, a position in two rows, or a block number that 64 bits can't hold),
  * 2 (the position is not below the length).
  */
 enum klapouzen_byte_place {
@@ -467,7 +470,8 @@ uint64_t klapouzen_byte_at(const uint64_t *rows, size_t rows_length,
  *      generation than that
  *   4  the index partition's last index is not sound, does not point back at
  *      the data partition's last, or has a lower generation
- *   5  an extent of a file of that index does not lie on the tape
+ *   5  an extent of a file of that index does not lie on the tape: one of its
+ *      blocks is no data block, or too short for it
  * Refusals: those of klapouzen_check_labels.
  */
 enum klapouzen_break {
