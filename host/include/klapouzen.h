@@ -181,7 +181,7 @@ uint64_t klapouzen_block(const uint8_t *index_list, size_t index_list_length,
  */
 enum klapouzen_construct_row {
     KLAPOUZEN_CONSTRUCT_FIRST_BLOCK, /* element number of its first block */
-    KLAPOUZEN_CONSTRUCT_KEPT,        /* elements of the list up to its closing mark, that included */
+    KLAPOUZEN_CONSTRUCT_KEPT,        /* elements of the list through its closing mark */
     KLAPOUZEN_CONSTRUCT_BEGIN,       /* its text's first byte, from the store's beginning */
     KLAPOUZEN_CONSTRUCT_END,         /* the byte behind its text, likewise */
     KLAPOUZEN_CONSTRUCT
@@ -421,7 +421,7 @@ uint64_t klapouzen_read_all_rows(const uint8_t *text, size_t length,
  */
 enum klapouzen_chosen {
     KLAPOUZEN_CHOSEN_FIRST_BLOCK, /* element number of its first block */
-    KLAPOUZEN_CHOSEN_KEPT,        /* elements of the list up to its closing mark, that included */
+    KLAPOUZEN_CHOSEN_KEPT,        /* elements of the list through its closing mark */
     KLAPOUZEN_CHOSEN_TEXT,        /* its text's first byte, from the store's beginning */
     KLAPOUZEN_CHOSEN_TEXT_LENGTH,
     KLAPOUZEN_CHOSEN_HEADER, /* here enum klapouzen_index_header begins */
