@@ -29,6 +29,17 @@ uint64_t kept_elements(const struct assessment *found, int side)
     return found->cut[side == INDEX ? KLAPOUZEN_CUT_INDEX_KEPT : KLAPOUZEN_CUT_DATA_KEPT];
 }
 
+void print_cut_clause(FILE *out, const struct assessment *found)
+{
+    if (!found->has_cut) {
+        fprintf(out, "%sno cut%s leaves a consistent volume", colour_code(out, RED),
+                colour_code(out, PLAIN));
+        return;
+    }
+    fputs("cut ", out);
+    print_cut(out, found);
+}
+
 void print_cut(FILE *out, const struct assessment *found)
 {
     if (!found->has_cut) {

@@ -21,7 +21,10 @@ bool is_consistent(const struct assessment *found);
 /* Elements kept of a side by the cut; all where there is none. */
 uint64_t kept_elements(const struct assessment *found, int side);
 
-/* What the cut does: "keeps all 7 + 7 elements, generation 1" or the like. */
+/* What the cut does: "keeps all 7 + 7 elements, generation 1" or "none leaves a consistent volume". */
 void print_cut(FILE *out, const struct assessment *found);
+
+/* The same after other words: "cut keeps .." or "no cut leaves a consistent volume". */
+void print_cut_clause(FILE *out, const struct assessment *found);
 
 #endif

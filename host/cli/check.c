@@ -47,8 +47,8 @@ static void print_line(const struct volume *volume, const struct assessment *fou
         print_bytes(stdout, found->label.uuid);
         fputs("  ", stdout);
         print_verdict(stdout, found->verdict);
-        fputs("; cut ", stdout);
-        print_cut(stdout, found);
+        fputs("; ", stdout);
+        print_cut_clause(stdout, found);
     }
     putchar('\n');
 }

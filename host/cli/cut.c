@@ -47,8 +47,8 @@ static bool write_fronts(const struct volume *volume, const uint64_t cut[KLAPOUZ
 static void print_done(const char *out, const struct assessment *found)
 {
     print_bytes(stdout, bytes_of(out));
-    fputs("  cut ", stdout);
-    print_cut(stdout, found);
+    fputs("  ", stdout);
+    print_cut_clause(stdout, found);
     putchar('\n');
     fflush(stdout);
 }

@@ -16,7 +16,7 @@
 #include "words.h"
 
 static const char help[] =
-    "usage: klapouzen extract [--construct N] [--data] [--output OUT] DIR FILE|--number N\n"
+    "usage: klapouzen extract [--construct N] [--data] [--output OUT] DIR (FILE | --number N)\n"
     "\n"
     "Writes a file's bytes, zeros where nothing is stored. FILE is the file's name where\n"
     "only one file has it; where none has it and it is a number, the file with that number\n"
@@ -130,7 +130,7 @@ static int not_stored(const struct extraction *this, const uint64_t place[KLAPOU
 static int write_piece(const struct extraction *this, const uint64_t *row, uint64_t *position)
 {
     uint64_t place[KLAPOUZEN_BYTE];
-    uint64_t left = row[KLAPOUZEN_ROW_POSITION] + row[KLAPOUZEN_ROW_COUNT] - *position;
+    uint64_t left = row[KLAPOUZEN_ROW_FILEOFFSET] + row[KLAPOUZEN_ROW_BYTECOUNT] - *position;
     /* No other row has this position: the map needs this one alone, whatever the number of rows. */
     uint64_t refusal = klapouzen_byte_at(row, KLAPOUZEN_ROW, this->length,
                                          this->chosen->label.block_size, *position, place);
@@ -151,7 +151,7 @@ static int write_piece(const struct extraction *this, const uint64_t *row, uint6
 /* Writes the zeros before a row, then the row. */
 static int write_row(const struct extraction *this, const uint64_t *row, uint64_t *position)
 {
-    uint64_t begin = row[KLAPOUZEN_ROW_POSITION], end = begin + row[KLAPOUZEN_ROW_COUNT];
+    uint64_t begin = row[KLAPOUZEN_ROW_FILEOFFSET], end = begin + row[KLAPOUZEN_ROW_BYTECOUNT];
     int status = write_gap(this, begin - *position);
     *position = begin;
     while (status == GO_ON && *position < end)
@@ -202,7 +202,7 @@ static uint64_t bytes_to_store(const struct extraction *this)
 {
     uint64_t stored = 0;
     for (uint64_t i = 0; i < this->rows->count; i++)
-        stored += this->rows->numbers[KLAPOUZEN_ROW * i + KLAPOUZEN_ROW_COUNT];
+        stored += this->rows->numbers[KLAPOUZEN_ROW * i + KLAPOUZEN_ROW_BYTECOUNT];
     return this->skips_gaps ? stored : this->length;
 }
 
@@ -269,14 +269,15 @@ static bool find_wished(const struct volume *volume, const struct chosen *chosen
         return false;
     if (read_chosen_file(chosen, *number, file))
         return true;
-    complain_construct(volume, chosen->side, chosen->construct, KLAPOUZEN_MISSING);
+    complain("%s: %s: no file has this number", volume->folder,
+             wish->number != NULL ? wish->number : wish->file);
     return false;
 }
 
 static int by_position(const void *one, const void *other)
 {
-    uint64_t first = ((const uint64_t *)one)[KLAPOUZEN_ROW_POSITION];
-    uint64_t second = ((const uint64_t *)other)[KLAPOUZEN_ROW_POSITION];
+    uint64_t first = ((const uint64_t *)one)[KLAPOUZEN_ROW_FILEOFFSET];
+    uint64_t second = ((const uint64_t *)other)[KLAPOUZEN_ROW_FILEOFFSET];
     return (first > second) - (first < second);
 }
 

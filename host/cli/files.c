@@ -43,9 +43,9 @@ static void print_file(const struct chosen *chosen, uint64_t number,
     for (uint64_t i = 0; i < file[KLAPOUZEN_FILE_ROWS]; i++) {
         const uint64_t *row = rows + KLAPOUZEN_ROW * i;
         printf("%s        %c %s+%s, %s bytes at %s%s\n", colour_code(stdout, DIM),
-               (char)row[KLAPOUZEN_ROW_LETTER], grouped(row[KLAPOUZEN_ROW_BLOCK]),
-               grouped(row[KLAPOUZEN_ROW_OFFSET]), grouped(row[KLAPOUZEN_ROW_COUNT]),
-               grouped(row[KLAPOUZEN_ROW_POSITION]), colour_code(stdout, PLAIN));
+               (char)row[KLAPOUZEN_ROW_LETTER], grouped(row[KLAPOUZEN_ROW_STARTBLOCK]),
+               grouped(row[KLAPOUZEN_ROW_BYTEOFFSET]), grouped(row[KLAPOUZEN_ROW_BYTECOUNT]),
+               grouped(row[KLAPOUZEN_ROW_FILEOFFSET]), colour_code(stdout, PLAIN));
     }
 }
 
@@ -60,8 +60,8 @@ static void print_object(const struct chosen *chosen, uint64_t number,
         const uint64_t *row = rows + KLAPOUZEN_ROW * i;
         printf("%s{\"partition\":\"%c\",\"startblock\":%" PRIu64 ",\"byteoffset\":%" PRIu64
                ",\"bytecount\":%" PRIu64 ",\"fileoffset\":%" PRIu64 "}", i > 0 ? "," : "",
-               (char)row[KLAPOUZEN_ROW_LETTER], row[KLAPOUZEN_ROW_BLOCK],
-               row[KLAPOUZEN_ROW_OFFSET], row[KLAPOUZEN_ROW_COUNT], row[KLAPOUZEN_ROW_POSITION]);
+               (char)row[KLAPOUZEN_ROW_LETTER], row[KLAPOUZEN_ROW_STARTBLOCK],
+               row[KLAPOUZEN_ROW_BYTEOFFSET], row[KLAPOUZEN_ROW_BYTECOUNT], row[KLAPOUZEN_ROW_FILEOFFSET]);
     }
     fputs("]}\n", stdout);
 }

@@ -15,11 +15,12 @@
 #include "words.h"
 
 static const char help[] =
-    "usage: klapouzen label --identifier ID --creator TEXT [OPTION..] --into DIR|VOL1 LABEL\n"
+    "usage: klapouzen label --identifier ID --creator TEXT [OPTION..] (--into DIR | VOL1 LABEL)\n"
     "\n"
     "Writes the labels of both partitions, a VOL1 label and an LTFS label, version 2.0.1,\n"
     "of each, to a new folder; or those of one partition to two new files, VOL1 and LABEL.\n"
-    "All are written or none is. Prints identifier, UUID and time.\n"
+    "All are written or none is. Prints identifier, UUID and time. Behind a semicolon\n"
+    "stands what is taken where an option is not given.\n"
     "\n"
     "  --into DIR         both partitions, to the new folder DIR: index.vol1, index.label,\n"
     "                     data.vol1 and data.label\n"
@@ -27,7 +28,7 @@ static const char help[] =
     "                     index.list, index.store, data.list and data.store\n"
     "  --identifier ID    volume identifier, 6 characters\n"
     "  --owner TEXT       owner, up to 14 characters, filled up with spaces; none\n"
-    "  --creator TEXT     who writes the label\n"
+    "  --creator TEXT     who writes the label, 1 to 255 bytes\n"
     "  --time TIME        format time as 2026-11-15T20:00:00.000000000Z; now\n"
     "  --uuid UUID        8-4-4-4-12 hex digits; a new random one\n"
     "  --location LETTER  without --into: the label's own partition; the index partition\n"

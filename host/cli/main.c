@@ -32,8 +32,9 @@ static void print_help(FILE *out)
     fputs("usage: klapouzen COMMAND [WORD..]\n\n", out);
     for (int i = 0; i < COMMANDS; i++)
         fprintf(out, "  %-8s  %s\n", commands[i].name, commands[i].what);
-    fputs("\nklapouzen help COMMAND says more. A cartridge is a folder with index.list,\n"
-          "index.store, data.list and data.store; a missing file counts as empty.\n", out);
+    fputs("\nklapouzen help COMMAND says more, klapouzen --version the version. A cartridge is\n"
+          "a folder with index.list, index.store, data.list and data.store; a missing file\n"
+          "counts as empty.\n", out);
 }
 
 static int run_command(const char *name, struct words *words)

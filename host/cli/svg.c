@@ -83,8 +83,7 @@ static void put_head(const struct picture *picture)
     print_verdict(out, found->verdict);
     end_text(out);
     begin_text(out, MARGIN, 109, "text");
-    fputs("cut ", out);
-    print_cut(out, found);
+    print_cut_clause(out, found);
     end_text(out);
 }
 

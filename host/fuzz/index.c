@@ -22,10 +22,10 @@ static void try_rows(const struct index *index, uint64_t length, uint64_t count)
     for (uint64_t i = 0; i < count; i += 1 + count / 16) {
         const uint64_t *row = rows + KLAPOUZEN_ROW * i;
         must(klapouzen_byte_at(rows, KLAPOUZEN_ROW * count, length, index->block_size,
-                               row[KLAPOUZEN_ROW_POSITION], FILLED(place)) == 0);
+                               row[KLAPOUZEN_ROW_FILEOFFSET], FILLED(place)) == 0);
         must(place[KLAPOUZEN_BYTE_STORED] == 1 && place[KLAPOUZEN_BYTE_LETTER] == row[KLAPOUZEN_ROW_LETTER]
-             && place[KLAPOUZEN_BYTE_BLOCK] == row[KLAPOUZEN_ROW_BLOCK]
-             && place[KLAPOUZEN_BYTE_OFFSET] == row[KLAPOUZEN_ROW_OFFSET]);
+             && place[KLAPOUZEN_BYTE_BLOCK] == row[KLAPOUZEN_ROW_STARTBLOCK]
+             && place[KLAPOUZEN_BYTE_OFFSET] == row[KLAPOUZEN_ROW_BYTEOFFSET]);
     }
 }
 

@@ -60,7 +60,7 @@ static void try_cut(const struct volume *volume, const uint64_t cut[KLAPOUZEN_CU
 /* The index of a construct says what is read of the text where the table has it. */
 static void try_indexes(const struct volume *volume, int side, const uint64_t label[KLAPOUZEN_LABEL])
 {
-    uint64_t standing[1], index[KLAPOUZEN_CONSTRUCT_NUMBERS], header[KLAPOUZEN_INDEX];
+    uint64_t standing[1], index[KLAPOUZEN_CHOSEN], header[KLAPOUZEN_INDEX];
     uint64_t block_size = label[KLAPOUZEN_LABEL_BLOCK_SIZE];
     uint8_t letters[2] = { (uint8_t)label[KLAPOUZEN_LABEL_INDEX_LETTER], (uint8_t)label[KLAPOUZEN_LABEL_DATA_LETTER] };
     const uint8_t *store = volume->parts[2 * side + 1].start;
@@ -76,10 +76,10 @@ static void try_indexes(const struct volume *volume, int side, const uint64_t la
              == refusal);
         if (refusal != 0)
             continue;
-        must(index[KLAPOUZEN_CONSTRUCT_ELEMENT] == row[KLAPOUZEN_CONSTRUCT_FIRST_BLOCK]
-             && index[KLAPOUZEN_CONSTRUCT_ELEMENTS] == row[KLAPOUZEN_CONSTRUCT_KEPT]
-             && index[KLAPOUZEN_CONSTRUCT_TEXT] == begin && index[KLAPOUZEN_CONSTRUCT_TEXT_LENGTH] == length);
-        must(memcmp(index + KLAPOUZEN_CONSTRUCT_INDEX, header, sizeof header) == 0);
+        must(index[KLAPOUZEN_CHOSEN_FIRST_BLOCK] == row[KLAPOUZEN_CONSTRUCT_FIRST_BLOCK]
+             && index[KLAPOUZEN_CHOSEN_KEPT] == row[KLAPOUZEN_CONSTRUCT_KEPT]
+             && index[KLAPOUZEN_CHOSEN_TEXT] == begin && index[KLAPOUZEN_CHOSEN_TEXT_LENGTH] == length);
+        must(memcmp(index + KLAPOUZEN_CHOSEN_HEADER, header, sizeof header) == 0);
     }
 #undef GIVEN
 }

@@ -1,26 +1,50 @@
 /*
  * klapouzen.h: the library's interface for C.
  *
- * A cartridge that was read to disk is, for each of its two partitions, a list
- * and a store. An element of the list is a byte 1 for a file mark, or a byte 2
- * and four bytes of length, high byte first, for a block. The store holds the
- * blocks' bytes in list order with nothing between. Elements number from 0;
- * file marks count too. One side of a volume is the index partition, the other
- * the data partition.
+ * An LTFS volume has two partitions, the index partition and the data partition,
+ * each with a letter of its own, a to z (in numbers: its ASCII code). A partition
+ * that was read to disk is a list and a store. The list has an element for each
+ * file mark, a byte 1, and for each block, a byte 2 and four bytes of length,
+ * high byte first. The store holds the blocks' bytes in the same order with
+ * nothing between. An element's number is its place in the list, from 0; file
+ * marks count too. Every block number below is such a number.
+ *
+ * A partition's first four elements are its labels: the VOL1 block, a mark, the
+ * block with the LTFS label, a mark. Data and indexes follow in turns: a run of
+ * data blocks, which may be empty, a mark, the blocks of an index, a mark, and
+ * so on. A mark, the blocks of an index and the mark behind them are an index
+ * construct; the bytes of these blocks are the index's text. A defect is what
+ * can't be in such an order: a block above the block size, an index without a
+ * block, a block of an index that is shorter than the block size and not its
+ * last. Constructs that are closed before the first defect stand; they are
+ * numbered from 0 on each partition.
+ *
+ * How the functions go together: klapouzen_check_labels gives the UUID, the
+ * letters and the block size of a volume, klapouzen_constructs with that block
+ * size where the texts of its indexes are, and klapouzen_read_index and the
+ * readers behind it take all of these. klapouzen_verdict and klapouzen_rescue
+ * do it all by themselves, and klapouzen_keep says what a cut leaves.
  *
  * Every function
  *   - answers a refusal number, enum klapouzen_refusal, 0 for none. The
  *     comments name the numbers that a function can answer in the order in
  *     which it looks for them: the first that applies is answered;
- *   - on a refusal sets every number that it hands out to 0 and changes no
- *     byte of a lent buffer;
+ *   - fills all of `out`, *count and *length: with its answer, or on a refusal
+ *     with zeros. On a refusal `buffer`, `rows`, `files` and `table` keep every
+ *     byte;
  *   - takes NULL for a slice of length 0, and takes any bytes in a slice: there
  *     is nothing that a caller must check before;
  *   - writes only to the memory named in its comment, keeps no pointer,
  *     allocates nothing, and may be called from several threads at once.
  *
- * `out` and the pointers to single numbers must not be NULL, must have room for
- * as many numbers as the declaration says, and must not overlap a slice.
+ * A slice is a pointer and a length: in bytes, or for 64-bit numbers (`rows`,
+ * `files`) in numbers. Slices that are only read may overlap each other. What a
+ * function writes (`out`, *count, *length, `table`, and where they are not
+ * const `buffer`, `rows` and `files`) must not overlap anything else that it is
+ * given. `out`, `table` and the pointers to single numbers must not be NULL, and
+ * must have room for as many numbers as the declaration says. The names of the
+ * numbers in `out` and in a row are an enum above the function; its last name is
+ * how many they are.
  *
  * Stack: a call needs less than KLAPOUZEN_STACK bytes.
  */
@@ -47,13 +71,12 @@ extern "C" {
 #define KLAPOUZEN_MAX_NESTING 64        /* elements within elements, the root being 1 */
 #define KLAPOUZEN_MAX_ENTRIES 4096      /* directories and files of an index, its root too */
 #define KLAPOUZEN_MAX_ROWS 1024         /* extents of a file */
-#define KLAPOUZEN_ROW 5                 /* numbers of an extent's row */
 #define KLAPOUZEN_MIN_BLOCK_SIZE 4096
 #define KLAPOUZEN_MAX_BLOCK_SIZE 1048576
 #define KLAPOUZEN_VOL1_LENGTH 80        /* bytes of a VOL1 label */
 #define KLAPOUZEN_CONSTRUCT_TABLE 87380 /* numbers of klapouzen_constructs' table */
 
-/* Bytes of stack that no call needs as many of; host/test/stack measures it. */
+/* A stack of so many bytes is enough for every call; host/test/stack measures it. */
 #define KLAPOUZEN_STACK 2097152
 
 /* ---- Refusals ---- */
@@ -105,7 +128,9 @@ static inline const char *klapouzen_refusal_text(uint64_t refusal)
 
 /*
  * Checks a list with its store. *count: the number of elements.
- * Refusals: 1.
+ * Refusals: 1 (another byte than 1 and 2 where an element begins, an element
+ * that is cut off, a block of no bytes, or more of anything than the bounds
+ * above; or the blocks' lengths do not add up to the store's).
  */
 uint64_t klapouzen_check_list(const uint8_t *list, size_t list_length,
                               const uint8_t *store, size_t store_length,
@@ -117,8 +142,8 @@ uint64_t klapouzen_check_list(const uint8_t *list, size_t list_length,
  * Refusals: 1.
  */
 enum klapouzen_kept {
-    KLAPOUZEN_KEPT_LIST,
-    KLAPOUZEN_KEPT_STORE,
+    KLAPOUZEN_KEPT_LIST,  /* bytes of the list */
+    KLAPOUZEN_KEPT_STORE, /* bytes of the store */
     KLAPOUZEN_KEPT
 };
 
@@ -127,15 +152,14 @@ uint64_t klapouzen_keep(const uint8_t *list, size_t list_length,
                         uint64_t n, uint64_t out[KLAPOUZEN_KEPT]);
 
 /*
- * The block with this element number on the partition `letter`, which is one of
- * the two letters: the side whose store holds it (0 index, 1 data), and its
- * offset and length there.
- * Refusals: 14 (letters equal or outside a to z, or `letter` neither), 1, 2 (a
- * mark, or no such element).
+ * Where the block with this element number lies on the partition `letter`.
+ * Refusals: 14 (index_letter or data_letter outside a to z, or both the same;
+ * `letter` neither of them), 1 (index side first), 2 (a mark, or no such
+ * element).
  */
 enum klapouzen_block_place {
-    KLAPOUZEN_BLOCK_SIDE,
-    KLAPOUZEN_BLOCK_OFFSET,
+    KLAPOUZEN_BLOCK_SIDE,   /* 0: in index_store, 1: in data_store */
+    KLAPOUZEN_BLOCK_OFFSET, /* from that store's beginning */
     KLAPOUZEN_BLOCK_LENGTH,
     KLAPOUZEN_BLOCK
 };
@@ -149,16 +173,17 @@ uint64_t klapouzen_block(const uint8_t *index_list, size_t index_list_length,
                          uint64_t out[KLAPOUZEN_BLOCK]);
 
 /*
- * The index constructs that stand on a partition, those closed before its first
- * defect. *count: how many. Each has a row of four numbers at the front of the
- * table; the rest of the table is unchanged.
- * Refusals: 14 (block size), 1.
+ * The index constructs that stand on a partition. *count: how many. Each has a
+ * row of KLAPOUZEN_CONSTRUCT numbers at the front of the table, the first one's
+ * first; the rest of the table is unchanged. It has room for the 21,845 rows
+ * that a list of the most elements can need, and must have it for every list.
+ * Refusals: 14 (block_size outside 4,096 to 1,048,576), 1.
  */
 enum klapouzen_construct_row {
     KLAPOUZEN_CONSTRUCT_FIRST_BLOCK, /* element number of its first block */
-    KLAPOUZEN_CONSTRUCT_KEPT,        /* elements through its closing mark */
-    KLAPOUZEN_CONSTRUCT_BEGIN,       /* where its text begins in the store */
-    KLAPOUZEN_CONSTRUCT_END,         /* where its text ends */
+    KLAPOUZEN_CONSTRUCT_KEPT,        /* elements of the list through its closing mark */
+    KLAPOUZEN_CONSTRUCT_BEGIN,       /* its text's first byte, from the store's beginning */
+    KLAPOUZEN_CONSTRUCT_END,         /* the byte behind its text, likewise */
     KLAPOUZEN_CONSTRUCT
 };
 
@@ -171,20 +196,26 @@ uint64_t klapouzen_constructs(const uint8_t *list, size_t list_length,
 /* ---- Texts and labels ---- */
 
 /*
- * Whether a text of any length is in the XML form of labels and indexes.
+ * Whether a text, of any length, is in the XML form of labels and indexes. This
+ * form is a part of XML 1.0: UTF-8; the declaration
+ * <?xml version="1.0" encoding="UTF-8"?>, spelled so, and one root element;
+ * names of ASCII letters, digits, _ - and .; no more than one attribute in a
+ * tag; of references only &amp; &lt; &gt; &quot; and &apos;; no comments, CDATA,
+ * DOCTYPE or instructions; nothing but white space beside child elements; and
+ * elements nested no deeper than KLAPOUZEN_MAX_NESTING.
  * Refusals: 4.
  */
 uint64_t klapouzen_check_form(const uint8_t *text, size_t length);
 
 /*
- * Reads a VOL1 label. out: offset and length of the volume identifier and of
- * the owner identifier, which are always the same.
+ * Reads a VOL1 label, the whole block. Where the two fields stand, padding
+ * spaces included; they stand at the same place in every VOL1 label.
  * Refusals: 3.
  */
 enum klapouzen_vol1 {
-    KLAPOUZEN_VOL1_IDENTIFIER,
+    KLAPOUZEN_VOL1_IDENTIFIER, /* the volume identifier, from the block's beginning */
     KLAPOUZEN_VOL1_IDENTIFIER_LENGTH,
-    KLAPOUZEN_VOL1_OWNER,
+    KLAPOUZEN_VOL1_OWNER, /* the owner identifier, likewise */
     KLAPOUZEN_VOL1_OWNER_LENGTH,
     KLAPOUZEN_VOL1
 };
@@ -194,9 +225,9 @@ uint64_t klapouzen_read_vol1(const uint8_t *block, size_t length,
 
 /*
  * Writes a VOL1 label to the front of the buffer; the bytes after it keep their
- * values. *length: 80. The identifier has 6 bytes and the owner 14, all of them
- * 32 to 126.
- * Refusals: 14, 10 (the buffer has under 80 bytes).
+ * values. *length: 80, KLAPOUZEN_VOL1_LENGTH.
+ * Refusals: 14 (identifier_length not 6, owner_length not 14, or a byte of
+ * either outside 32 to 126), 10 (the buffer has under 80 bytes).
  */
 uint64_t klapouzen_write_vol1(uint8_t *buffer, size_t buffer_length,
                               const uint8_t *identifier, size_t identifier_length,
@@ -204,8 +235,8 @@ uint64_t klapouzen_write_vol1(uint8_t *buffer, size_t buffer_length,
                               uint64_t *length);
 
 /*
- * Reads an LTFS label's text. Offsets count from the text's beginning; a
- * creator is given as it is spelled, with its references.
+ * Reads an LTFS label's text. Offsets count from the text's beginning. The
+ * creator is told as the text spells it, with &amp; and the like.
  * Refusals: 15 (over 4,096 bytes), 4, 5 (root and its version attribute), 7,
  * 5 (the rest), 6.
  */
@@ -213,7 +244,7 @@ enum klapouzen_label {
     KLAPOUZEN_LABEL_RELEASE, /* the R of version 2.0.R */
     KLAPOUZEN_LABEL_CREATOR,
     KLAPOUZEN_LABEL_CREATOR_LENGTH,
-    KLAPOUZEN_LABEL_TIME,
+    KLAPOUZEN_LABEL_TIME, /* of formatting */
     KLAPOUZEN_LABEL_TIME_LENGTH,
     KLAPOUZEN_LABEL_UUID,
     KLAPOUZEN_LABEL_UUID_LENGTH,
@@ -230,9 +261,19 @@ uint64_t klapouzen_read_label(const uint8_t *text, size_t length,
 
 /*
  * Writes an LTFS label's text, version 2.0.1, to the front of the buffer; the
- * bytes after it keep their values. *length: the text's length. The creator is
- * given decoded: 1 to 255 bytes of UTF-8 in XML's characters, none below 32.
- * Refusals: 14 (a field outside its rule, or compression above 1), 10.
+ * bytes after it keep their values. *length: the text's length, for which
+ * KLAPOUZEN_MAX_LABEL bytes are always enough. The creator is given as plain
+ * text; & < > are written as references.
+ * Refusals: 14, 10 (the buffer is shorter than the text). 14 is any of
+ *   creator      not 1 to 255 bytes, a byte below 32, not UTF-8, or a character
+ *                that XML 1.0 does not have
+ *   time         not as 2026-11-15T20:00:00.000000000Z, or no such month, day
+ *                (1 to 31), hour, minute or second (0 to 59)
+ *   uuid         not 8-4-4-4-12 hex digits
+ *   letters      one outside a to z, index_letter and data_letter the same, or
+ *                location neither of them
+ *   block_size   outside 4,096 to 1,048,576
+ *   compression  above 1
  */
 uint64_t klapouzen_write_label(uint8_t *buffer, size_t buffer_length,
                                const uint8_t *creator, size_t creator_length,
@@ -243,10 +284,11 @@ uint64_t klapouzen_write_label(uint8_t *buffer, size_t buffer_length,
                                uint64_t compression, uint64_t *length);
 
 /*
- * Checks the labels of both sides, index side first at each step. out: as
- * klapouzen_read_label of the index side's label, with offsets in the index
- * store.
- * Refusals: 1, 9, 3, then those of a label's text, 8 (the sides disagree).
+ * Checks the labels of both partitions, and that they are of one volume. out:
+ * what klapouzen_read_label says of the index partition's label, but offsets
+ * count from the beginning of index_store.
+ * Refusals: 1, 9, 3, those of klapouzen_read_label, each of these four steps on
+ * the index side first; then 8 (the two disagree).
  */
 uint64_t klapouzen_check_labels(const uint8_t *index_list, size_t index_list_length,
                                 const uint8_t *index_store, size_t index_store_length,
@@ -260,20 +302,28 @@ uint64_t klapouzen_check_labels(const uint8_t *index_list, size_t index_list_len
  * The readers of an index are given its text, the volume's UUID, letters and
  * block size as its label says them, and where the index stands: the letter of
  * its partition and the element number of its first block. Offsets count from
- * the text's beginning.
+ * the text's beginning. An index that klapouzen_read_index does not refuse is
+ * sound.
  * Refusals: 14, 15 (over 1,048,576 bytes), 4, 5 (root and its version
- * attribute), 7, 5 (the rest), 15 (entries, extents of a file), 6, 8, 11, 12.
+ * attribute), 7, 5 (the rest), 15 (over 4,096 entries, or over 1,024 extents of
+ * a file), 6, 8 (another UUID, a letter that is neither of the two), 11 (as
+ * klapouzen_byte_at has it), 12.
+ * 14 is about what is given beside the text, and looked for first:
+ *   uuid        not 8-4-4-4-12 hex digits
+ *   letters     index_letter or data_letter outside a to z, or both the same;
+ *               `letter` neither of them
+ *   block_size  outside 4,096 to 1,048,576
  */
 enum klapouzen_index_header {
     KLAPOUZEN_INDEX_RELEASE, /* the R of version 2.0.R */
     KLAPOUZEN_INDEX_GENERATION,
-    KLAPOUZEN_INDEX_TIME,
+    KLAPOUZEN_INDEX_TIME, /* of its update */
     KLAPOUZEN_INDEX_TIME_LENGTH,
-    KLAPOUZEN_INDEX_LETTER,
-    KLAPOUZEN_INDEX_BLOCK,
-    KLAPOUZEN_INDEX_HAS_BACK, /* 0: no back pointer, and the next two are 0 */
-    KLAPOUZEN_INDEX_BACK_LETTER,
-    KLAPOUZEN_INDEX_BACK_BLOCK,
+    KLAPOUZEN_INDEX_LETTER,      /* where it says that it stands: */
+    KLAPOUZEN_INDEX_BLOCK,       /* as it was given, or else 12 */
+    KLAPOUZEN_INDEX_HAS_BACK,    /* 0: no back pointer, and the next two are 0 */
+    KLAPOUZEN_INDEX_BACK_LETTER, /* the partition and the first block of the */
+    KLAPOUZEN_INDEX_BACK_BLOCK,  /* index that it points back at */
     KLAPOUZEN_INDEX_POLICY_UPDATE, /* 0 or 1 */
     KLAPOUZEN_INDEX_HIGHEST_UID,
     KLAPOUZEN_INDEX_DIRECTORIES, /* the root directory too */
@@ -288,15 +338,15 @@ uint64_t klapouzen_read_index(const uint8_t *text, size_t length,
                               uint64_t out[KLAPOUZEN_INDEX]);
 
 /*
- * A file of an index by its number, from 0 in text order. Its name is given as
- * it is spelled, with its references.
- * Refusals: as klapouzen_read_index, then 2.
+ * A file of an index by its number; the first in the text has number 0. Its name
+ * is told as the text spells it, with &amp; and the like.
+ * Refusals: as klapouzen_read_index, then 2 (no such file).
  */
 enum klapouzen_file {
-    KLAPOUZEN_FILE_LENGTH,
-    KLAPOUZEN_FILE_NAME,
-    KLAPOUZEN_FILE_NAME_LENGTH,
-    KLAPOUZEN_FILE_ROWS,
+    KLAPOUZEN_FILE_LENGTH,      /* of the file, in bytes */
+    KLAPOUZEN_FILE_NAME,        /* from the beginning of the index's text */
+    KLAPOUZEN_FILE_NAME_LENGTH, /* in bytes of that text */
+    KLAPOUZEN_FILE_ROWS,        /* how many extents it has */
     KLAPOUZEN_FILE
 };
 
@@ -307,17 +357,19 @@ uint64_t klapouzen_read_file(const uint8_t *text, size_t length,
                              uint64_t file, uint64_t out[KLAPOUZEN_FILE]);
 
 /*
- * A file's extents as rows of five numbers at the front of the lent buffer, in
- * text order; the rest of the buffer is unchanged. rows_length counts numbers,
- * *count rows.
- * Refusals: as klapouzen_read_index, then 2, 10.
+ * A file's extents as rows of KLAPOUZEN_ROW numbers at the front of `rows`, in
+ * the order of the text; the rest of it is unchanged. rows_length counts
+ * numbers, *count rows. The numbers have the names of an extent's elements.
+ * Refusals: as klapouzen_read_index, then 2 (no such file), 10 (rows_length is
+ * below KLAPOUZEN_ROW times the file's rows).
  */
 enum klapouzen_row {
-    KLAPOUZEN_ROW_LETTER,
-    KLAPOUZEN_ROW_BLOCK,
-    KLAPOUZEN_ROW_OFFSET,
-    KLAPOUZEN_ROW_COUNT,
-    KLAPOUZEN_ROW_POSITION /* in the file */
+    KLAPOUZEN_ROW_LETTER,     /* of its partition */
+    KLAPOUZEN_ROW_STARTBLOCK, /* element number of its first block */
+    KLAPOUZEN_ROW_BYTEOFFSET, /* of its first byte, from that block's beginning */
+    KLAPOUZEN_ROW_BYTECOUNT,  /* how many bytes it has, over as many blocks as needed */
+    KLAPOUZEN_ROW_FILEOFFSET, /* of its first byte, from the file's beginning */
+    KLAPOUZEN_ROW
 };
 
 uint64_t klapouzen_read_rows(const uint8_t *text, size_t length,
@@ -328,11 +380,12 @@ uint64_t klapouzen_read_rows(const uint8_t *text, size_t length,
                              uint64_t *count);
 
 /*
- * All files of an index in one reading: the four numbers of each, as
- * klapouzen_read_file has them, at the front of the lent buffer, in text order;
- * the rest of the buffer is unchanged. files_length counts numbers, *count
- * files; KLAPOUZEN_INDEX_FILES says how many there are.
- * Refusals: as klapouzen_read_index, then 10.
+ * All files of an index in one reading: the KLAPOUZEN_FILE numbers of each, as
+ * klapouzen_read_file has them, at the front of `files`, file 0 first; the rest
+ * of it is unchanged. files_length counts numbers, *count files;
+ * KLAPOUZEN_INDEX_FILES of klapouzen_read_index says how many there are.
+ * Refusals: as klapouzen_read_index, then 10 (files_length is below
+ * KLAPOUZEN_FILE times the files).
  */
 uint64_t klapouzen_read_files(const uint8_t *text, size_t length,
                               const uint8_t *uuid, size_t uuid_length,
@@ -343,10 +396,11 @@ uint64_t klapouzen_read_files(const uint8_t *text, size_t length,
 
 /*
  * The rows of all files in one reading: those of file 0, then those of file 1,
- * and so on, each as klapouzen_read_rows has it, at the front of the lent
- * buffer; the rest of the buffer is unchanged. rows_length counts numbers,
- * *count rows; KLAPOUZEN_FILE_ROWS says how many are a file's.
- * Refusals: as klapouzen_read_index, then 10.
+ * and so on, each as klapouzen_read_rows has it, at the front of `rows`; the
+ * rest of it is unchanged. rows_length counts numbers, *count rows;
+ * KLAPOUZEN_FILE_ROWS of klapouzen_read_files says how many are a file's.
+ * Refusals: as klapouzen_read_index, then 10 (rows_length is below KLAPOUZEN_ROW
+ * times all rows).
  */
 uint64_t klapouzen_read_all_rows(const uint8_t *text, size_t length,
                                  const uint8_t *uuid, size_t uuid_length,
@@ -356,18 +410,22 @@ uint64_t klapouzen_read_all_rows(const uint8_t *text, size_t length,
                                  uint64_t *count);
 
 /*
- * The index of a partition by the number of its construct, from 0. `letter` is
- * the partition's own. out: where the construct is, then the numbers of
- * klapouzen_read_index from KLAPOUZEN_CONSTRUCT_INDEX on.
- * Refusals: 14, 1, 2, then those of the text.
+ * The index of a partition by the number of its construct among those that
+ * stand. `letter` is that of the partition whose list and store are given. out:
+ * where the construct is, then what klapouzen_read_index says of its text, so
+ * that the generation is out[KLAPOUZEN_CHOSEN_HEADER +
+ * KLAPOUZEN_INDEX_GENERATION]. The offset of the text counts from the store's
+ * beginning, that of the time, KLAPOUZEN_INDEX_TIME, from the text's.
+ * Refusals: 14 (as klapouzen_read_index), 1, 2 (no such construct), then those
+ * of klapouzen_read_index.
  */
-enum klapouzen_construct_place {
-    KLAPOUZEN_CONSTRUCT_ELEMENT,     /* element number of its first block */
-    KLAPOUZEN_CONSTRUCT_ELEMENTS,    /* elements through its closing mark */
-    KLAPOUZEN_CONSTRUCT_TEXT,        /* its text's offset in the store */
-    KLAPOUZEN_CONSTRUCT_TEXT_LENGTH,
-    KLAPOUZEN_CONSTRUCT_INDEX,
-    KLAPOUZEN_CONSTRUCT_NUMBERS = KLAPOUZEN_CONSTRUCT_INDEX + KLAPOUZEN_INDEX
+enum klapouzen_chosen {
+    KLAPOUZEN_CHOSEN_FIRST_BLOCK, /* element number of its first block */
+    KLAPOUZEN_CHOSEN_KEPT,        /* elements of the list through its closing mark */
+    KLAPOUZEN_CHOSEN_TEXT,        /* its text's first byte, from the store's beginning */
+    KLAPOUZEN_CHOSEN_TEXT_LENGTH,
+    KLAPOUZEN_CHOSEN_HEADER, /* here enum klapouzen_index_header begins */
+    KLAPOUZEN_CHOSEN = KLAPOUZEN_CHOSEN_HEADER + KLAPOUZEN_INDEX
 };
 
 uint64_t klapouzen_index(const uint8_t *list, size_t list_length,
@@ -375,20 +433,24 @@ uint64_t klapouzen_index(const uint8_t *list, size_t list_length,
                          const uint8_t *uuid, size_t uuid_length,
                          uint8_t index_letter, uint8_t data_letter,
                          uint64_t block_size, uint8_t letter, uint64_t number,
-                         uint64_t out[KLAPOUZEN_CONSTRUCT_NUMBERS]);
+                         uint64_t out[KLAPOUZEN_CHOSEN]);
 
 /*
  * Where the byte at a position of a file is, by the file's rows, its length and
  * the block size. A byte in no row is a zero that is not stored: all of out is
- * 0. rows_length counts numbers.
- * Refusals: 14 (block size, a row's letter, numbers not in fives), 15 (over
- * 1,024 rows), 11, 2.
+ * 0. rows_length counts numbers. What is on the tape is not looked at:
+ * klapouzen_block says whether there is such a block, and how long it is.
+ * Refusals: 14 (block_size outside 4,096 to 1,048,576, a row's letter outside a
+ * to z, or rows_length no multiple of KLAPOUZEN_ROW), 15 (over 1,024 rows), 11
+ * (a row without bytes, one that begins behind its first block or ends behind
+ * the file, a position in two rows, or a block number that 64 bits can't hold),
+ * 2 (the position is not below the length).
  */
 enum klapouzen_byte_place {
     KLAPOUZEN_BYTE_STORED, /* 0 or 1 */
-    KLAPOUZEN_BYTE_LETTER,
-    KLAPOUZEN_BYTE_BLOCK,
-    KLAPOUZEN_BYTE_OFFSET, /* in the block */
+    KLAPOUZEN_BYTE_LETTER, /* of the partition */
+    KLAPOUZEN_BYTE_BLOCK,  /* element number of the block */
+    KLAPOUZEN_BYTE_OFFSET, /* from the block's beginning */
     KLAPOUZEN_BYTE
 };
 
@@ -399,19 +461,22 @@ uint64_t klapouzen_byte_at(const uint64_t *rows, size_t rows_length,
 /* ---- Volumes ---- */
 
 /*
- * Whether a volume is consistent: break 0 if it is, else the first break that
- * holds, with the number of its construct or file.
- *   1  the index partition does not end with a standing construct (number 0)
- *   2  the data partition does not (number 0)
- *   3  an index of the data partition is not sound or breaks the chain
- *   4  the index partition's last index is not sound, does not point at the
- *      data partition's last, or has a lower generation
- *   5  an extent of a file of that index does not lie on the tape
+ * Whether a volume is consistent: break 0 if it is, else the first of these that
+ * holds:
+ *   1  the index partition does not end with a construct that stands
+ *   2  the data partition does not
+ *   3  an index of the data partition is not sound, does not point back at the
+ *      one before it (the first one: points back at all), or has a lower
+ *      generation than that
+ *   4  the index partition's last index is not sound, does not point back at
+ *      the data partition's last, or has a lower generation
+ *   5  an extent of a file of that index does not lie on the tape: one of its
+ *      blocks is no data block, or too short for it
  * Refusals: those of klapouzen_check_labels.
  */
 enum klapouzen_break {
-    KLAPOUZEN_BREAK_WHICH,
-    KLAPOUZEN_BREAK_NUMBER,
+    KLAPOUZEN_BREAK_WHICH,  /* 0 to 5 */
+    KLAPOUZEN_BREAK_NUMBER, /* of 3 and 4 the construct's, of 5 the file's, else 0 */
     KLAPOUZEN_BREAK
 };
 
@@ -423,17 +488,15 @@ uint64_t klapouzen_verdict(const uint8_t *index_list, size_t index_list_length,
 
 /*
  * The cut that leaves a consistent volume with the most index constructs on the
- * index partition: the last construct kept on each side, how many elements to
- * keep of each (klapouzen_keep gives the bytes), and the generation of the last
- * index kept on the index partition.
+ * index partition. klapouzen_keep turns the numbers of elements into bytes.
  * Refusals: those of klapouzen_check_labels, then 13 (no cut leaves one).
  */
 enum klapouzen_cut {
-    KLAPOUZEN_CUT_INDEX_CONSTRUCT,
-    KLAPOUZEN_CUT_DATA_CONSTRUCT,
-    KLAPOUZEN_CUT_INDEX_KEPT,
-    KLAPOUZEN_CUT_DATA_KEPT,
-    KLAPOUZEN_CUT_GENERATION,
+    KLAPOUZEN_CUT_INDEX_CONSTRUCT, /* number of the last construct kept, index partition */
+    KLAPOUZEN_CUT_DATA_CONSTRUCT,  /* data partition */
+    KLAPOUZEN_CUT_INDEX_KEPT,      /* how many elements to keep of the index partition */
+    KLAPOUZEN_CUT_DATA_KEPT,       /* of the data partition */
+    KLAPOUZEN_CUT_GENERATION,      /* of the last index kept on the index partition */
     KLAPOUZEN_CUT
 };
 

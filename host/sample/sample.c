@@ -112,7 +112,7 @@ static void entry(struct index_text *index, int depth, const char *name)
 
 void index_begin(struct index_text *index, const struct index_head *head)
 {
-    *index = (struct index_text){ .indented = head->indented };
+    *index = (struct index_text){ .indented = head->indented, .depth = 1 };
     put(&index->text, "<?xml version=\"1.0\" encoding=\"UTF-8\"?>\n<ltfsindex version=\"2.0.1\">");
     value(index, 1, "creator", "klapouzen sample");
     value(index, 1, "volumeuuid", SAMPLE_UUID);
@@ -123,39 +123,70 @@ void index_begin(struct index_text *index, const struct index_head *head)
         place(index, "previousgenerationlocation", head->back_letter, head->back_block);
     value(index, 1, "allowpolicyupdate", "true");
     number(index, 1, "highestfileuid", 4096);
-    tag(index, 1, "<directory>");
-    entry(index, 2, "sample");
-    tag(index, 2, "<contents>");
+    index_directory(index, "sample");
 }
 
-static void put_extent(struct index_text *index, const struct extent *extent)
+void index_directory(struct index_text *index, const char *name)
 {
-    tag(index, 5, "<extent>");
-    letter(index, 6, extent->letter);
-    number(index, 6, "startblock", extent->block);
-    number(index, 6, "byteoffset", extent->offset);
-    number(index, 6, "bytecount", extent->count);
-    number(index, 6, "fileoffset", extent->position);
-    tag(index, 5, "</extent>");
+    tag(index, index->depth++, "<directory>");
+    entry(index, index->depth, name);
+    tag(index, index->depth++, "<contents>");
+}
+
+void index_leave(struct index_text *index)
+{
+    tag(index, --index->depth, "</contents>");
+    tag(index, --index->depth, "</directory>");
+}
+
+static void put_extent(struct index_text *index, int depth, const struct extent *extent)
+{
+    tag(index, depth, "<extent>");
+    letter(index, depth + 1, extent->letter);
+    number(index, depth + 1, "startblock", extent->startblock);
+    number(index, depth + 1, "byteoffset", extent->byteoffset);
+    number(index, depth + 1, "bytecount", extent->bytecount);
+    number(index, depth + 1, "fileoffset", extent->fileoffset);
+    tag(index, depth, "</extent>");
+}
+
+/* A file's front, to the end of its length. */
+static void begin_file(struct index_text *index, const char *name, uint64_t length)
+{
+    tag(index, index->depth, "<file>");
+    entry(index, index->depth + 1, name);
+    number(index, index->depth + 1, "length", length);
 }
 
 void index_file(struct index_text *index, const char *name, uint64_t length,
                 const struct extent *extents, size_t count)
 {
-    tag(index, 3, "<file>");
-    entry(index, 4, name);
-    number(index, 4, "length", length);
-    tag(index, 4, "<extentinfo>");
+    int depth = index->depth + 1;
+    begin_file(index, name, length);
+    tag(index, depth, "<extentinfo>");
     for (size_t i = 0; i < count; i++)
-        put_extent(index, &extents[i]);
-    tag(index, 4, "</extentinfo>");
-    tag(index, 3, "</file>");
+        put_extent(index, depth + 1, &extents[i]);
+    tag(index, depth, "</extentinfo>");
+    tag(index, index->depth, "</file>");
+}
+
+void index_attributes(struct index_text *index, const char *name, int nesting)
+{
+    int depth = index->depth + 1;
+    begin_file(index, name, 0);
+    tag(index, depth, "<extendedattributes>");
+    for (int i = 1; i <= nesting; i++)
+        tag(index, depth + i, "<x>");
+    for (int i = nesting; i >= 1; i--)
+        tag(index, depth + i, "</x>");
+    tag(index, depth, "</extendedattributes>");
+    tag(index, index->depth, "</file>");
 }
 
 void index_end(struct index_text *index)
 {
-    tag(index, 2, "</contents>");
-    tag(index, 1, "</directory>");
+    while (index->depth > 1)
+        index_leave(index);
     tag(index, 0, "</ltfsindex>");
     put(&index->text, "\n");
 }

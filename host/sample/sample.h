@@ -31,20 +31,30 @@ struct index_head {
 
 struct extent {
     char letter;
-    uint64_t block, offset, count, position;
+    uint64_t startblock, byteoffset, bytecount, fileoffset;
 };
 
 /* A text being written; the names go in as spelled. */
 struct index_text {
     struct buffer text;
     bool indented;
+    int depth; /* elements around what is written next */
     uint64_t last_uid;
 };
 
+/* To the contents of the root directory, and from any directory to the end. */
 void index_begin(struct index_text *index, const struct index_head *head);
+void index_end(struct index_text *index);
+
+/* To the contents of a directory, and back. */
+void index_directory(struct index_text *index, const char *name);
+void index_leave(struct index_text *index);
+
 void index_file(struct index_text *index, const char *name, uint64_t length,
                 const struct extent *extents, size_t count);
-void index_end(struct index_text *index);
+
+/* A file without bytes whose extended attributes are so many elements, one within the other. */
+void index_attributes(struct index_text *index, const char *name, int nesting);
 
 /* A text of about this many bytes and no more: files of one extent each. */
 struct buffer index_of_size(size_t size, bool indented);

@@ -23,7 +23,7 @@ static void expect(const char *what, uint64_t found, uint64_t wanted)
 }
 
 /* Outputs are filled before each call and must be zero after a refusal. */
-static uint64_t out[KLAPOUZEN_CONSTRUCT_NUMBERS];
+static uint64_t out[KLAPOUZEN_CHOSEN];
 
 static uint64_t *filled(void)
 {
@@ -130,7 +130,7 @@ static void smallest_indexes(void)
     expect("read_all_rows of nothing", klapouzen_read_all_rows(NONE, GIVEN, 'a', 5, NONE, filled()), 4);
     expect_zeros("its count", 1);
     expect("index of nothing", klapouzen_index(NONE, NONE, GIVEN, 'a', 0, filled()), 2);
-    expect_zeros("its header", KLAPOUZEN_CONSTRUCT_NUMBERS);
+    expect_zeros("its header", KLAPOUZEN_CHOSEN);
     expect("byte_at without rows", klapouzen_byte_at(NONE, 1, 4096, 0, filled()), 0);
     expect_zeros("its place", KLAPOUZEN_BYTE);
     expect("byte_at past the end", klapouzen_byte_at(NONE, 0, 4096, 0, filled()), 2);
@@ -400,8 +400,8 @@ static void most_rows(void)
     struct slice text = index_of_rows(FILES);
     uint64_t *rows = all_of("most rows", klapouzen_read_all_rows, text, COUNT, KLAPOUZEN_ROW);
     for (uint64_t i = 0; i < COUNT; i++) {
-        expect("a block", rows[KLAPOUZEN_ROW * i + KLAPOUZEN_ROW_BLOCK], i);
-        expect("a position", rows[KLAPOUZEN_ROW * i + KLAPOUZEN_ROW_POSITION], i % KLAPOUZEN_MAX_ROWS);
+        expect("a block", rows[KLAPOUZEN_ROW * i + KLAPOUZEN_ROW_STARTBLOCK], i);
+        expect("a position", rows[KLAPOUZEN_ROW * i + KLAPOUZEN_ROW_FILEOFFSET], i % KLAPOUZEN_MAX_ROWS);
     }
     guarded_free(rows, KLAPOUZEN_ROW * COUNT * sizeof *rows);
     drop(text);

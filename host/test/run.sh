@@ -67,16 +67,6 @@ END
         && "$at/bin/klapouzen" --help > /dev/null && test -s "$at/share/man/man1/klapouzen.1"
 }
 
-# Document 01's program where files are missing, which are empty: no labels, and a store without its list.
-missing_files() {
-    local at=$T/test/missing program=$PWD/$T/programs/bench
-    rm -rf "$at"
-    mkdir -p "$at" || return 1
-    test "$(cd "$at" && "$program")" = "refused 9" || return 1
-    printf 'VOL1' > "$at/data.store"
-    test "$(cd "$at" && "$program")" = "refused 1"
-}
-
 # The long ones first, so that none runs alone at the end.
 start "against the reference" $T/test/differential "$CASES"
 start "command line" test/cli.sh $T/klapouzen $T/make_sample
@@ -84,10 +74,11 @@ for target in volume label index form rows; do
     start "fuzz $target" $T/fuzz/${target}_mutate $T/fuzz/corpus/$target "${FUZZ_SECONDS:-3}"
 done
 start "smallest and largest sizes" $T/test/bounds
+start "what 14 is" $T/test/given
 start "stack" $T/test/stack
 start "installed" installed
 start "the build" test/build.sh
-start "the program without its files" missing_files
+start "the program of four files" test/program.sh $T/programs/bench $T/make_sample
 start "header in C11" header_alone "$CC" -std=c11 -x c
 start "header in C99" header_alone "$CC" -std=c99 -x c
 # gcc without g++ has no C++ in it.

@@ -65,6 +65,11 @@ static void done(const char *call, const char *what)
     errno = error;
 }
 
+ssize_t read(int descriptor, void *bytes, size_t length)
+{
+    return fails("read") ? -1 : REAL(read)(descriptor, bytes, length);
+}
+
 static int has_opened;
 
 /* Only new files: what is read is of no interest. */

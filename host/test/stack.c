@@ -11,85 +11,145 @@
 #include "klapouzen.h"
 #include "sample.h"
 
-enum { STACK = 8 << 20, PAINT = 0x6b, OWN = 16384 };
+enum { STACK = 8 << 20, PAINT = 0x6b, OWN = 16384, CONSTRUCTS = 2000 };
 
 static struct sample volume;
 static struct buffer index_text;
 static uint32_t table[KLAPOUZEN_CONSTRUCT_TABLE];
-static uint64_t files[KLAPOUZEN_FILE * 2], rows[KLAPOUZEN_ROW * KLAPOUZEN_MAX_ROWS];
+static uint64_t files[KLAPOUZEN_FILE * 3], rows[KLAPOUZEN_ROW * KLAPOUZEN_MAX_ROWS];
 
-#define UUID (const uint8_t *)SAMPLE_UUID, 36
+#define WORD(text, length) (const uint8_t *)(text), length
+#define UUID WORD(SAMPLE_UUID, 36)
 #define GIVEN index_text.bytes, index_text.length, UUID, 'a', 'b', 4096, 'a', 5
 
-/* An index of the deepest nesting and a file of the most extents. */
+/* Extended attributes down to the deepest nesting. */
+static void put_attributes(struct index_text *index)
+{
+    enum { FILE_AND_ATTRIBUTES = 2 };
+    index_attributes(index, "attributes", KLAPOUZEN_MAX_NESTING - index->depth - FILE_AND_ATTRIBUTES);
+}
+
+/*
+ * An index of a file with the most extents, of directories in directories as deep as can be, and of attributes down
+ * to the deepest nesting, below the root directory and below the last but one. The last directory's contents are of
+ * nesting 63, and nothing is in them: an entry has elements in it.
+ */
+static void put_deepest(struct index_text *index, const struct index_head *head)
+{
+    static struct extent extents[KLAPOUZEN_MAX_ROWS];
+    for (size_t i = 0; i < KLAPOUZEN_MAX_ROWS; i++)
+        extents[i] = (struct extent){ 'b', 4, 0, 1, KLAPOUZEN_MAX_ROWS - 1 - i };
+    index_begin(index, head);
+    index_file(index, "rows", KLAPOUZEN_MAX_ROWS, extents, KLAPOUZEN_MAX_ROWS);
+    put_attributes(index);
+    while (index->depth < KLAPOUZEN_MAX_NESTING - 3)
+        index_directory(index, "d");
+    put_attributes(index);
+    index_directory(index, "last");
+    index_end(index);
+}
+
 static void make_index(void)
 {
     struct index_head head = { .generation = 1, .letter = 'a', .block = 5 };
-    static struct extent extents[KLAPOUZEN_MAX_ROWS];
     struct index_text index;
-    for (size_t i = 0; i < KLAPOUZEN_MAX_ROWS; i++)
-        extents[i] = (struct extent){ 'b', 4, 0, 1, KLAPOUZEN_MAX_ROWS - 1 - i };
-    index_begin(&index, &head);
-    index_file(&index, "rows", KLAPOUZEN_MAX_ROWS, extents, KLAPOUZEN_MAX_ROWS);
-    put(&index.text, "<file><extendedattributes>");
-    /* ltfsindex, directory, contents, file, extendedattributes, and 59 more */
-    for (int i = 0; i < 59; i++)
-        put(&index.text, "<x>");
-    for (int i = 0; i < 59; i++)
-        put(&index.text, "</x>");
-    put(&index.text, "</extendedattributes>");
-    put(&index.text, "<fileuid>99</fileuid><name>f</name><readonly>0</readonly><length>0</length>");
-    static const char *const times[] = { "creation", "change", "modify", "access", "backup" };
-    for (int i = 0; i < 5; i++)
-        put(&index.text, "<%stime>%s</%stime>", times[i], SAMPLE_TIME, times[i]);
-    put(&index.text, "</file>");
-    index_end(&index);
+    put_deepest(&index, &head);
     index_text = index.text;
 }
 
-/* Many constructs on both sides, one file with the most extents at the end. */
+static void put_deepest_construct(int side)
+{
+    struct index_head head = sample_head(&volume, side);
+    struct index_text index;
+    put_deepest(&index, &head);
+    sample_index(&volume, side, &index);
+}
+
+/* Many constructs on both sides, the last ones with the deepest index. */
 static void make_volume(void)
 {
     sample_begin(&volume, 4096);
-    for (int i = 0; i < 2000; i++) {
+    for (int i = 0; i < CONSTRUCTS - 1; i++) {
         tape_filled_block(&volume.sides[1], 'x', 4096);
         volume.generation++;
-        sample_empty_index(&volume, 1);
-        sample_empty_index(&volume, 0);
+        sample_unmount(&volume);
     }
+    put_deepest_construct(1);
+    put_deepest_construct(0);
 }
 
-static void call_all(void)
+static void must(bool holds)
 {
-    uint64_t out[KLAPOUZEN_CONSTRUCT_NUMBERS];
-    uint8_t buffer[KLAPOUZEN_MAX_LABEL];
-    const struct tape *data = &volume.sides[1];
-    klapouzen_check_list(TAPE(*data), out);
-    klapouzen_keep(TAPE(*data), 1000, out);
-    klapouzen_block(SAMPLE(&volume), 'a', 'b', 'b', 4, out);
-    klapouzen_constructs(TAPE(*data), 4096, table, out);
-    klapouzen_check_form(index_text.bytes, index_text.length);
-    klapouzen_read_vol1(data->store.bytes, KLAPOUZEN_VOL1_LENGTH, out);
-    klapouzen_write_vol1(buffer, sizeof buffer, UUID, UUID, out);
-    klapouzen_read_label(index_text.bytes, index_text.length, out);
-    klapouzen_write_label(buffer, sizeof buffer, UUID, (const uint8_t *)SAMPLE_TIME, 30, UUID, 'a', 'a', 'b', 4096, 0,
-                          out);
-    klapouzen_check_labels(SAMPLE(&volume), out);
-    if (klapouzen_read_index(GIVEN, out) != 0)
+    if (!holds)
         abort();
-    klapouzen_read_file(GIVEN, 1, out);
-    klapouzen_read_rows(GIVEN, 0, rows, sizeof rows / sizeof rows[0], out);
-    klapouzen_read_files(GIVEN, files, sizeof files / sizeof files[0], out);
-    klapouzen_read_all_rows(GIVEN, rows, sizeof rows / sizeof rows[0], out);
-    klapouzen_byte_at(rows, sizeof rows / sizeof rows[0], KLAPOUZEN_MAX_ROWS, 4096, 0, out);
-    klapouzen_index(TAPE(*data), UUID, 'a', 'b', 4096, 'b', 1, out);
-    klapouzen_verdict(SAMPLE(&volume), out);
-    klapouzen_rescue(SAMPLE(&volume), out);
+}
+
+/* A call that is refused does not get to the bottom. */
+static void answered(uint64_t refusal)
+{
+    must(refusal == 0);
+}
+
+static void call_lists(void)
+{
+    uint64_t out[KLAPOUZEN_BLOCK];
+    const struct tape *data = &volume.sides[1];
+    answered(klapouzen_check_list(TAPE(*data), out));
+    answered(klapouzen_keep(TAPE(*data), 1000, out));
+    answered(klapouzen_block(SAMPLE(&volume), 'a', 'b', 'b', 4, out));
+    answered(klapouzen_constructs(TAPE(*data), 4096, table, out));
+}
+
+static void call_labels(void)
+{
+    uint64_t out[KLAPOUZEN_LABEL], length;
+    uint8_t buffer[KLAPOUZEN_MAX_LABEL];
+    answered(klapouzen_write_vol1(buffer, sizeof buffer, WORD(SAMPLE_UUID, 6), WORD(SAMPLE_UUID, 14), &length));
+    answered(klapouzen_read_vol1(buffer, length, out));
+    answered(klapouzen_write_label(buffer, sizeof buffer, UUID, WORD(SAMPLE_TIME, 30), UUID, 'a', 'a', 'b', 4096, 0,
+                                   &length));
+    answered(klapouzen_read_label(buffer, length, out));
+    answered(klapouzen_check_labels(SAMPLE(&volume), out));
+}
+
+/* The root directory, at nesting 2, and below it one at every second nesting up to 62. */
+static void check_index(const uint64_t header[KLAPOUZEN_INDEX])
+{
+    must(header[KLAPOUZEN_INDEX_DIRECTORIES] == 31);
+    must(header[KLAPOUZEN_INDEX_FILES] == 3);
+}
+
+static void call_indexes(void)
+{
+    uint64_t out[KLAPOUZEN_CHOSEN];
+    answered(klapouzen_check_form(index_text.bytes, index_text.length));
+    answered(klapouzen_read_index(GIVEN, out));
+    check_index(out);
+    answered(klapouzen_read_file(GIVEN, 2, out));
+    answered(klapouzen_read_rows(GIVEN, 0, rows, sizeof rows / sizeof rows[0], out));
+    answered(klapouzen_read_files(GIVEN, files, sizeof files / sizeof files[0], out));
+    answered(klapouzen_read_all_rows(GIVEN, rows, sizeof rows / sizeof rows[0], out));
+    answered(klapouzen_byte_at(rows, sizeof rows / sizeof rows[0], KLAPOUZEN_MAX_ROWS, 4096, 0, out));
+    answered(klapouzen_index(TAPE(volume.sides[1]), UUID, 'a', 'b', 4096, 'b', CONSTRUCTS - 1, out));
+    check_index(out + KLAPOUZEN_CHOSEN_HEADER);
+}
+
+static void call_volumes(void)
+{
+    uint64_t out[KLAPOUZEN_CUT];
+    answered(klapouzen_verdict(SAMPLE(&volume), out));
+    must(out[KLAPOUZEN_BREAK_WHICH] == 0);
+    answered(klapouzen_rescue(SAMPLE(&volume), out));
+    must(out[KLAPOUZEN_CUT_INDEX_CONSTRUCT] == CONSTRUCTS - 1);
+    must(out[KLAPOUZEN_CUT_DATA_CONSTRUCT] == CONSTRUCTS - 1);
 }
 
 static void *run(void *nothing)
 {
-    call_all();
+    call_lists();
+    call_labels();
+    call_indexes();
+    call_volumes();
     return nothing;
 }
 

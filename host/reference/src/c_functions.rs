@@ -308,12 +308,16 @@ unsafe fn given_label(
     }
 }
 
+fn place_at(letter: u8, block: u64) -> Place {
+    Place {
+        letter,
+        start_block: block,
+    }
+}
+
 fn index_numbers(text: &[u8], index: &Index) -> [u64; 13] {
     let time = spelled(only(&tree(text), "updatetime"));
-    let back = index.back_pointer.unwrap_or(Place {
-        letter: 0,
-        start_block: 0,
-    });
+    let back = index.back_pointer.unwrap_or(place_at(0, 0));
     [
         u64::from(index.version.2),
         index.generation,
@@ -346,10 +350,7 @@ pub unsafe extern "C" fn reference_read_index(
 ) -> u64 {
     let text = shared(text, length);
     let label = given_label(uuid, uuid_length, index_letter, data_letter, block_size);
-    let place = Place {
-        letter,
-        start_block: block,
-    };
+    let place = place_at(letter, block);
     let read = index::read(text, &label, place);
     answer(read.map(|index| index_numbers(text, &index)), out)
 }
@@ -370,10 +371,7 @@ pub unsafe extern "C" fn reference_read_file(
 ) -> u64 {
     let text = shared(text, length);
     let label = given_label(uuid, uuid_length, index_letter, data_letter, block_size);
-    let place = Place {
-        letter,
-        start_block: block,
-    };
+    let place = place_at(letter, block);
     let read = index::read(text, &label, place);
     answer(read.and_then(|index| file_numbers(text, &index, file)), out)
 }
@@ -412,10 +410,7 @@ pub unsafe extern "C" fn reference_read_files(
 ) -> u64 {
     let text = shared(text, length);
     let label = given_label(uuid, uuid_length, index_letter, data_letter, block_size);
-    let place = Place {
-        letter,
-        start_block: block,
-    };
+    let place = place_at(letter, block);
     let read = index::read(text, &label, place).and_then(|index| {
         let numbers = all_file_numbers(text, &index);
         index::put_numbers(&numbers.concat(), lent(files, files_length))?;
@@ -441,10 +436,7 @@ pub unsafe extern "C" fn reference_read_rows(
     count: *mut u64,
 ) -> u64 {
     let label = given_label(uuid, uuid_length, index_letter, data_letter, block_size);
-    let place = Place {
-        letter,
-        start_block: block,
-    };
+    let place = place_at(letter, block);
     let read = index::file_rows(
         shared(text, length),
         &label,
@@ -471,10 +463,7 @@ pub unsafe extern "C" fn reference_read_all_rows(
     count: *mut u64,
 ) -> u64 {
     let label = given_label(uuid, uuid_length, index_letter, data_letter, block_size);
-    let place = Place {
-        letter,
-        start_block: block,
-    };
+    let place = place_at(letter, block);
     let read = index::all_rows(shared(text, length), &label, place, lent(rows, rows_length));
     answer(read.map(|rows| [rows as u64]), count)
 }

@@ -2,13 +2,14 @@
 SHIM="LD_PRELOAD=$WORK/shim.so SHIM_LOG=$WORK/calls"
 ${CC:-cc} -std=gnu11 -Wall -Wextra -shared -fPIC "$PARTS/../shim.c" -o shim.so -ldl || fail "no shim"
 
-# stops SIGNAL CALL COMMAND..: the signal comes after the first such call, and the program ends by it.
+# stops SIGNAL CALL COMMAND..: the signal comes after the first such call, and the program ends by it, also where the
+# tests themselves run with signals ignored, as a shell starts them in the background.
 stops() {
     local signal=$1 call=$2
     shift 2
     rm -f calls
     # shellcheck disable=SC2016,SC2086
-    is $((128 + signal)) bash -c 'ulimit -c 0; "$@"; exit $?' - env $SHIM SHIM_SIGNAL="$signal" SHIM_AT="$call" "$@"
+    is $((128 + signal)) bash -c 'ulimit -c 0; "$@"; exit $?' - env --default-signal $SHIM SHIM_SIGNAL="$signal" SHIM_AT="$call" "$@"
     says calls "signal $signal"
 }
 

@@ -5,7 +5,7 @@ says out "1 cartridge: 1 consistent"
 says_not out $'\033'
 is 1 "$K" check fresh torn nights defect
 says out "torn  KLA001  30a91a08-daae-48d1-ae75-69804e61d2ea  break 2: "
-says out "cut none leaves a consistent volume"
+says out "; no cut leaves a consistent volume"
 says out "keeps 13 + 71 of 13 + 78 elements, generation 4"
 says out "4 cartridges: 1 consistent, 2 to cut, 1 without a cut, 0 refused, 0 unreadable"
 is 1 "$K" check --json torn fresh
@@ -35,7 +35,7 @@ is 1 "$K" check --json nights
 # Each break with its number.
 cp -r fresh torn_index && head -c -1 fresh/index.list > torn_index/index.list
 is 1 "$K" check torn_index
-says out "break 1: the index partition does not end with a whole index; cut none leaves"
+says out "break 1: the index partition does not end with a whole index; no cut leaves"
 cp -r nights behind && printf '\001' >> behind/data.list
 is 1 "$K" check behind
 says out "break 3: index 4 of the data partition is unsound or breaks the chain of back pointers; cut keeps 13 + 71 of 13 + 79"

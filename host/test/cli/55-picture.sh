@@ -21,6 +21,8 @@ says picture.svg ">KLA001</tspan>"
 says picture.svg ">30a91a08-daae-48d1-ae75-69804e61d2ea</tspan>"
 says picture.svg ">break 2: the data partition does not end with a whole index</text>"
 says picture.svg ">cut keeps 13 + 71 of 13 + 78 elements, generation 4</text>"
+is 0 "$K" show torn --svg no_cut.svg
+says no_cut.svg ">no cut leaves a consistent volume</text>"
 says picture.svg ">cut: keep 71, drop 7</text>"
 says picture.svg ">gen 4</text>"
 says picture.svg ">68-70</text>"

@@ -50,7 +50,7 @@ says err "sparse: twice: several files have this name"
 is 1 "$K" extract sparse nobody
 says err "sparse: nobody: no file has this name"
 is 1 "$K" extract sparse 6
-says err "refused 2"
+says err "sparse: 6: no file has this number"
 is 1 "$K" extract sparse 5 --output past
 says err "byte 2000 of block 9, which is not there (data side: data.store)"
 absent past
@@ -62,7 +62,7 @@ extracted extents 0 named
 is 0 "$K" extract extents --number 3 --output numbered
 extracted extents 3 numbered
 is 1 "$K" extract extents --number 4
-says err "refused 2"
+says err "extents: 4: no file has this number"
 is 2 "$K" extract extents --number three
 says err "not a file's number: three"
 is 2 "$K" extract extents 3 --number 3

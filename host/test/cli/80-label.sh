@@ -50,7 +50,7 @@ says given/data.label "<location><partition>d</partition></location>"
 is 0 "$K" label --identifier KLA002 --creator LTFS --into unwritten --fresh
 uuid=$(awk '{ print $2 }' out)
 is 1 "$K" check unwritten
-says out "unwritten  KLA002  $uuid  break 1: the index partition does not end with a whole index; cut none"
+says out "unwritten  KLA002  $uuid  break 1: the index partition does not end with a whole index; no cut"
 is 0 "$K" show unwritten
 says out "[LLLL]"
 for side in index data; do

@@ -1,0 +1,207 @@
+/*
+ * What a caller gives outside its rule: 14, once for each cause that klapouzen.h
+ * names, and once with nothing wrong. Every output is zero then, and no byte of a
+ * buffer is changed.
+ */
+#include <inttypes.h>
+#include <stdio.h>
+#include <string.h>
+
+#include "klapouzen.h"
+#include "sample.h"
+
+static int failures;
+
+#define NONE NULL, 0
+#define NO_VOLUME NONE, NONE, NONE, NONE
+#define WORD(text) (const uint8_t *)(text), strlen(text)
+
+/* What a function may write, filled before each call. */
+static uint64_t out[KLAPOUZEN_CHOSEN], numbers[KLAPOUZEN_ROW];
+static uint8_t buffer[KLAPOUZEN_MAX_LABEL];
+static uint32_t table[KLAPOUZEN_CONSTRUCT_TABLE];
+
+static void fill(void)
+{
+    memset(out, 0xa5, sizeof out);
+    memset(numbers, 0xa5, sizeof numbers);
+    memset(buffer, 0xa5, sizeof buffer);
+    memset(table, 0xa5, sizeof table);
+}
+
+static int is_filled(const void *memory, size_t size)
+{
+    const uint8_t *bytes = memory;
+    while (size > 0 && bytes[size - 1] == 0xa5)
+        size--;
+    return size == 0;
+}
+
+static void fail(const char *function, const char *what, uint64_t found)
+{
+    fprintf(stderr, "%s, %s: %" PRIu64 "\n", function, what, found);
+    failures++;
+}
+
+/* So many zeros at the front of out, and all else as it was. */
+static int is_as_refused(size_t handed)
+{
+    static const uint64_t zeros[KLAPOUZEN_CHOSEN];
+    size_t size = handed * sizeof *out;
+    return memcmp(out, zeros, size) == 0 && is_filled(out + handed, sizeof out - size)
+        && is_filled(numbers, sizeof numbers) && is_filled(buffer, sizeof buffer) && is_filled(table, sizeof table);
+}
+
+/* The answer; where it is 14, what the function leaves in memory too. */
+static void expect(const char *function, const char *what, uint64_t found, uint64_t wanted, size_t handed)
+{
+    if (found != wanted)
+        fail(function, what, found);
+    if (wanted == 14 && !is_as_refused(handed))
+        fail(function, "its outputs and buffers", found);
+    fill();
+}
+
+/* ---- The readers of indexes, blocks and constructs ---- */
+
+/* 0 for nothing wrong: the empty text, list or volume is looked at then. */
+static const struct volume_given {
+    uint64_t refusal;
+    const char *what, *uuid;
+    uint8_t index, data, letter;
+    uint64_t size;
+} volumes[] = {
+    { 0, "nothing wrong", SAMPLE_UUID, 'a', 'z', 'z', 4096 },
+    { 0, "the largest blocks", SAMPLE_UUID, 'z', 'a', 'z', 1048576 },
+    { 14, "no UUID", "", 'a', 'b', 'a', 4096 },
+    { 14, "a digit less", "30a91a08-daae-48d1-ae75-69804e61d2e", 'a', 'b', 'a', 4096 },
+    { 14, "a digit more", "30a91a08-daae-48d1-ae75-69804e61d2eaa", 'a', 'b', 'a', 4096 },
+    { 14, "no hex digit", "30a91a08-daae-48d1-ae75-69804e61d2eg", 'a', 'b', 'a', 4096 },
+    { 14, "a hyphen elsewhere", "30a91a0-8daae-48d1-ae75-69804e61d2ea", 'a', 'b', 'a', 4096 },
+    { 14, "index letter before a", SAMPLE_UUID, '`', 'b', 'b', 4096 },
+    { 14, "data letter behind z", SAMPLE_UUID, 'a', '{', 'a', 4096 },
+    { 14, "the same letter twice", SAMPLE_UUID, 'a', 'a', 'a', 4096 },
+    { 14, "a letter that is neither", SAMPLE_UUID, 'a', 'b', 'c', 4096 },
+    { 14, "small blocks", SAMPLE_UUID, 'a', 'b', 'a', 4095 },
+    { 14, "large blocks", SAMPLE_UUID, 'a', 'b', 'a', 1048577 },
+};
+
+static void read_with(const struct volume_given *v)
+{
+    uint64_t wanted = v->refusal == 14 ? 14 : KLAPOUZEN_BAD_FORM;
+    uint64_t missing = v->refusal == 14 ? 14 : KLAPOUZEN_MISSING;
+#define TEXT NONE, WORD(v->uuid), v->index, v->data, v->size, v->letter, 5
+    expect("read_index", v->what, klapouzen_read_index(TEXT, out), wanted, KLAPOUZEN_INDEX);
+    expect("read_file", v->what, klapouzen_read_file(TEXT, 0, out), wanted, KLAPOUZEN_FILE);
+    expect("read_rows", v->what, klapouzen_read_rows(TEXT, 0, numbers, KLAPOUZEN_ROW, out), wanted, 1);
+    expect("read_files", v->what, klapouzen_read_files(TEXT, numbers, KLAPOUZEN_ROW, out), wanted, 1);
+    expect("read_all_rows", v->what, klapouzen_read_all_rows(TEXT, numbers, KLAPOUZEN_ROW, out), wanted, 1);
+    expect("index", v->what,
+           klapouzen_index(NONE, NONE, WORD(v->uuid), v->index, v->data, v->size, v->letter, 0, out), missing,
+           KLAPOUZEN_CHOSEN);
+#undef TEXT
+}
+
+/* These are given the letters alone, or the block size alone. */
+static void find_with(const struct volume_given *v)
+{
+    int is_outside = v->index < 'a' || v->data > 'z' || v->index == v->data;
+    int is_neither = v->letter != v->index && v->letter != v->data;
+    int has_size = v->size >= KLAPOUZEN_MIN_BLOCK_SIZE && v->size <= KLAPOUZEN_MAX_BLOCK_SIZE;
+    expect("block", v->what, klapouzen_block(NO_VOLUME, v->index, v->data, v->letter, 0, out),
+           is_outside || is_neither ? 14 : KLAPOUZEN_MISSING, KLAPOUZEN_BLOCK);
+    expect("constructs", v->what, klapouzen_constructs(NONE, NONE, v->size, table, out), has_size ? 0 : 14, 1);
+}
+
+/* ---- The writers ---- */
+
+static const struct {
+    uint64_t refusal;
+    const char *what, *identifier, *owner;
+} vol1s[] = {
+    { 0, "nothing wrong", " ~0001", "              " },
+    { 14, "an identifier of 5", "KLA00", "Klapouzen     " },
+    { 14, "an identifier of 7", "KLA0001", "Klapouzen     " },
+    { 14, "an owner of 13", "KLA001", "Klapouzen    " },
+    { 14, "an owner of 15", "KLA001", "Klapouzen      " },
+    { 14, "a byte 31", "KLA00\x1f", "Klapouzen     " },
+    { 14, "a byte 127", "KLA001", "Klapouzen    \x7f" },
+};
+
+#define TIME SAMPLE_TIME
+#define LETTERS 'a', 'a', 'b'
+
+static const struct label_given {
+    uint64_t refusal;
+    const char *what, *creator, *time, *uuid;
+    uint8_t location, index, data;
+    uint64_t size, compression;
+} labels[] = {
+    { 0, "nothing wrong", "c <&> \xc3\x9f", TIME, SAMPLE_UUID, LETTERS, 4096, 1 },
+    { 14, "no creator", "", TIME, SAMPLE_UUID, LETTERS, 4096, 1 },
+    { 14, "a byte 31", "c\x1f", TIME, SAMPLE_UUID, LETTERS, 4096, 1 },
+    { 14, "a cut character", "c\xc3", TIME, SAMPLE_UUID, LETTERS, 4096, 1 },
+    { 14, "U+FFFF, not XML's", "\xef\xbf\xbf", TIME, SAMPLE_UUID, LETTERS, 4096, 1 },
+    { 14, "no fraction", "c", "2026-11-15T05:00:00Z", SAMPLE_UUID, LETTERS, 4096, 1 },
+    { 14, "month 13", "c", "2026-13-15T05:00:00.000000000Z", SAMPLE_UUID, LETTERS, 4096, 1 },
+    { 14, "day 0", "c", "2026-11-00T05:00:00.000000000Z", SAMPLE_UUID, LETTERS, 4096, 1 },
+    { 0, "day 31 of any month", "c", "2026-02-31T05:00:00.000000000Z", SAMPLE_UUID, LETTERS, 4096, 1 },
+    { 14, "hour 24", "c", "2026-11-15T24:00:00.000000000Z", SAMPLE_UUID, LETTERS, 4096, 1 },
+    { 14, "second 60", "c", "2026-11-15T05:00:60.000000000Z", SAMPLE_UUID, LETTERS, 4096, 1 },
+    { 14, "no UUID", "c", TIME, "", LETTERS, 4096, 1 },
+    { 14, "a location that is neither", "c", TIME, SAMPLE_UUID, 'c', 'a', 'b', 4096, 1 },
+    { 14, "the same letter twice", "c", TIME, SAMPLE_UUID, 'a', 'a', 'a', 4096, 1 },
+    { 14, "index letter before a", "c", TIME, SAMPLE_UUID, 'b', '`', 'b', 4096, 1 },
+    { 14, "small blocks", "c", TIME, SAMPLE_UUID, LETTERS, 4095, 1 },
+    { 14, "large blocks", "c", TIME, SAMPLE_UUID, LETTERS, 1048577, 1 },
+    { 14, "compression 2", "c", TIME, SAMPLE_UUID, LETTERS, 4096, 2 },
+};
+
+static void write_with(const struct label_given *l)
+{
+    expect("write_label", l->what,
+           klapouzen_write_label(buffer, sizeof buffer, WORD(l->creator), WORD(l->time), WORD(l->uuid), l->location,
+                                 l->index, l->data, l->size, l->compression, out),
+           l->refusal, 1);
+}
+
+static void creator_of(size_t length, uint64_t wanted)
+{
+    char creator[257];
+    memset(creator, '&', length);
+    creator[length] = '\0';
+    write_with(&(struct label_given){ wanted, "a long creator", creator, TIME, SAMPLE_UUID, LETTERS, 4096, 1 });
+}
+
+/* ---- Rows ---- */
+
+static void map_with(const char *what, uint8_t letter, size_t length, uint64_t size, uint64_t wanted)
+{
+    const uint64_t row[KLAPOUZEN_ROW + 1] = { letter, 4, 0, 1, 0 };
+    expect("byte_at", what, klapouzen_byte_at(row, length, 1, size, 0, out), wanted, KLAPOUZEN_BYTE);
+}
+
+int main(void)
+{
+    fill();
+    for (size_t i = 0; i < sizeof volumes / sizeof volumes[0]; i++) {
+        read_with(&volumes[i]);
+        find_with(&volumes[i]);
+    }
+    for (size_t i = 0; i < sizeof vol1s / sizeof vol1s[0]; i++)
+        expect("write_vol1", vol1s[i].what,
+               klapouzen_write_vol1(buffer, sizeof buffer, WORD(vol1s[i].identifier), WORD(vol1s[i].owner), out),
+               vol1s[i].refusal, 1);
+    for (size_t i = 0; i < sizeof labels / sizeof labels[0]; i++)
+        write_with(&labels[i]);
+    creator_of(255, 0);
+    creator_of(256, 14);
+    map_with("nothing wrong", 'z', KLAPOUZEN_ROW, 1048576, 0);
+    map_with("a letter before a", '`', KLAPOUZEN_ROW, 4096, 14);
+    map_with("a letter behind z", '{', KLAPOUZEN_ROW, 4096, 14);
+    map_with("a number less", 'b', KLAPOUZEN_ROW - 1, 4096, 14);
+    map_with("a number more", 'b', KLAPOUZEN_ROW + 1, 4096, 14);
+    map_with("small blocks", 'b', KLAPOUZEN_ROW, 4095, 14);
+    map_with("large blocks", 'b', KLAPOUZEN_ROW, 1048577, 14);
+    return failures > 0;
+}
