@@ -2,5 +2,5 @@ pub mod Showing
 pub mod Saying
 pub mod Writing
 pub mod Headers
-pub mod Rescuing
+pub mod Demands
 pub mod Sizing

@@ -1,4 +1,4 @@
--- What is shown of a volume: its verdict, and the rescue's cut with demand 3.
+-- What is shown of a volume: its verdict and the rescue's cut, with demand 3.
 use mathlib.Core.Path.{_≡_}
 use mathlib.Core.Bool.{cond}
 use mathlib.Core.List.{List, [], _∷_}
@@ -6,11 +6,10 @@ use mathlib.Core.Option.{Option, none, some}
 use Prim.Native.Nat.{ℕ}
 use lib.Dec.{eqb}
 use lib.ListN.{getD}
-use Rattle.tape.specs.Tape.{Tape, Encodes}
-use Rattle.verdict.specs.Verdict.{Volume, Break}
+use Rattle.verdict.specs.Verdict.{Break}
 use Rattle.verdict.specs.Rescue.{Cut}
-use Rattle.verdict.specs.Demand.{Demand3}
-use Rattle.volume.specs.Volume.{labels, rescueIn}
+use Rattle.volume.specs.Volume.{verdictIn, rescueIn}
+use Rattle.volume.specs.Answers.{VerdictOwes, RescueOwes}
 use Rattle.api.specs.Outputs.{Shown}
 
 -- which of the five breaks, 0 for none, and its number
@@ -36,7 +35,15 @@ cutTold returned out =
     }))
     none
 
--- the rescue's answer; and where the lists are well formed and the labels are sound and agree, all that demand 3 asks of it
+-- no break: 0 is returned, and 0 for which it is
+abbrev pub NoBreak : ℕ → List ℕ → Type 0
+NoBreak returned out = (returned ≡ 0) × (getD out 0 0 ≡ 0)
+
+-- the answers, and demand 3 of what is told
+pub record JudgesOut (il is dl ds : List ℕ) (returned : ℕ) (out : List ℕ) : Type 0 where
+  pub answers : Shown 2 breakNumbers (verdictIn il is dl ds) returned out
+  pub demand : VerdictOwes il is dl ds (NoBreak returned out)
+
 pub record RescuesOut (il is dl ds : List ℕ) (returned : ℕ) (out : List ℕ) : Type 0 where
   pub answers : Shown 5 cutNumbers (rescueIn il is dl ds) returned out
-  pub demand : (i d : Tape) → Encodes il is i → Encodes dl ds d → (v : Volume) → labels i d ≡ some v → Demand3 labels v i d (cutTold returned out)
+  pub demand : RescueOwes il is dl ds (cutTold returned out)

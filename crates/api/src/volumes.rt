@@ -1,9 +1,7 @@
 // A volume: its verdict, and the rescue.
 use volume::Rescue;
 use volume::Verdict;
-ghost use Rattle.volume.specs.Volume.{verdictIn};
-ghost use Rattle.api.specs.Outputs.{Shown};
-ghost use Rattle.api.specs.Volumes.{breakNumbers, RescuesOut};
+ghost use Rattle.api.specs.Volumes.{JudgesOut, RescuesOut};
 
 // Whether the volume is consistent, or which break comes first.
 #[no_mangle]
@@ -14,7 +12,7 @@ pub extern "C" fn klapouzen_verdict(
     data_store: &[u8],
     out: &mut [u64; 2],
 ) -> u64
-    ensures { λ r. ⌜ Shown 2 breakNumbers (verdictIn (now («index_list» .entry)) (now («index_store» .entry)) (now («data_list» .entry)) (now («data_store» .entry))) r (now (out .exit)) ⌝ }
+    ensures { λ r. ⌜ JudgesOut (now («index_list» .entry)) (now («index_store» .entry)) (now («data_list» .entry)) (now («data_store» .entry)) r (now (out .exit)) ⌝ }
 {
     match volume::find_break(index_list, index_store, data_list, data_store) {
         Verdict::Consistent => {

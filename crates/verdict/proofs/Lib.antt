@@ -3,3 +3,4 @@ pub mod Cuts
 pub mod Demand
 pub mod Orders
 pub mod Partners
+pub mod Judged

@@ -1,4 +1,4 @@
--- Demand 3, of two tapes whose labels are sound and agree: what the rescue answers, and what the verdict says.
+-- Demand 3, of two tapes whose labels are sound and agree: what the rescue owes, and what the verdict.
 use mathlib.Core.Path.{_≡_}
 use mathlib.Core.Logic.{_⊎_, _↔_}
 use mathlib.Core.Option.{Option, none, some}
@@ -30,6 +30,10 @@ module _ (labels : Tape → Tape → Option Volume) (v : Volume) (i d : Tape) wh
     pub reads : readIndex v last ≡ some index
     pub is : g ≡ index .generation
 
+  -- the rescue's pair drops nothing
+  abbrev pub DropsNothing : Option Cut → Type 0
+  DropsNothing answered = (a : Cut) × (answered ≡ some a) × (a .indexKept ≡ length i) × (a .dataKept ≡ length d)
+
   -- what the rescue owes, if that is its answer: a cut, or none
   pub record Demand3 (answered : Option Cut) : Type 0 where
     -- the answer is a pair that leaves a consistent volume
@@ -45,4 +49,9 @@ module _ (labels : Tape → Tape → Option Volume) (v : Volume) (i d : Tape) wh
     pub best : (a : Cut) → answered ≡ some a → (n m : ℕ) → Leaves n m
         → ((n ≡ a .indexKept) × (m ≡ a .dataKept)) ⊎ (keeps n < keeps (a .indexKept))
     -- the uncut volume is consistent exactly when the pair drops nothing
-    pub uncut : Consistent labels i d ↔ ((a : Cut) × (answered ≡ some a) × (a .indexKept ≡ length i) × (a .dataKept ≡ length d))
+    pub uncut : Consistent labels i d ↔ DropsNothing answered
+
+  -- what the verdict owes, if noBreak is that it tells of none, and the rescue's answer is that
+  pub record Verdict3 (noBreak : Type 0) (answered : Option Cut) : Type 0 where
+    pub consistent : noBreak ↔ Consistent labels i d
+    pub uncut : noBreak ↔ DropsNothing answered

@@ -21,29 +21,27 @@ use Rattle.constructs.proofs.Fronts.{Below, standing-at, standing-below, below-
 use Rattle.constructs.proofs.Lengths.{length-lengths}
 use Rattle.label.specs.Label.{Label}
 use Rattle.labels.specs.Labels.{labelsOf, labelsIn}
-use Rattle.labels.proofs.Fronts.{labels-front}
 use Rattle.index_values.specs.Tests.{Given}
 use Rattle.index_values.specs.declared.tests.Volume.{Volume as Letters}
 use Rattle.verdict.specs.Verdict.{Volume, endsWith, chainBreak, verdict}
 use Rattle.verdict.specs.Rescue.{Cut, generationOf, through, chain, cutAmong, rescue}
 use Rattle.verdict.specs.Partners.{beginnings}
 use Rattle.verdict.specs.Demand.{Demand3}
-use Rattle.verdict.proofs.Demand.{demand3}
 use Rattle.verdict.proofs.Orders.{firsts, firsts-suffix, firsts-all}
 use Rattle.verdict.proofs.Partners.{begins-at, length-beginnings}
-use Rattle.volume.specs.Volume.{volumeWith, givenBy, agreed, labels, onVolume, orNoCut, rescueIn, verdictIn}
-use Rattle.volume.specs.Steps.{Located, Listed, Held, FillsOf, JudgesLast, JudgesIndexes, Judges, breakOf, lastBreak, Chains, ChainsOf, Ready, BeginsOf, Searches, triedCut, cutIs, CutsBy, Cuts}
-use Rattle.volume.specs.Answers.{judged, rescued, cutOf, Rescues}
+use Rattle.volume.specs.Volume.{volumeWith, givenBy, labels, onVolume, orNoCut, rescueIn, verdictIn}
+use Rattle.volume.specs.Steps.{Located, Listed, Held, FillsOf, JudgesLast, JudgesIndexes, Breaks, breakOf, lastBreak, Chains, ChainsOf, Ready, BeginsOf, Searches, triedCut, cutIs, CutsBy, Cuts}
+use Rattle.volume.specs.Answers.{judged, rescued, answered, Rescues, Judges}
 use Rattle.volume.specs.declared.filling.Filled.{Filled}
 use Rattle.volume.specs.declared.search.Tried.{Tried}
 use Rattle.volume.specs.declared.answers.Rescue.{Rescue}
-use Rattle.volume.specs.declared.answers.Rescue.the-variants as rescueIs
 use Rattle.volume.specs.declared.judge.Judgement.{Judgement}
 use Rattle.volume.specs.declared.judge.Judgement.the-variants.{Broken}
 use Rattle.volume.specs.declared.answers.Verdict.{Verdict}
 use Rattle.volume.proofs.Chaining.{last-sound}
 use Rattle.volume.proofs.Verdicts.{verdict-1, verdict-2, verdict-3, verdict-last, ends-some}
-use Rattle.volume.proofs.Partitions.{tape-read, through-past, listed-suffix}
+use Rattle.volume.proofs.Demands.{rescue-owes, verdict-owes, no-break}
+use Rattle.volume.proofs.Partitions.{through-past, listed-suffix}
 
 -- the last construct of a list
 located-first : (s table : List ℕ) (cs : List Construct) (c : Construct) (bs : List Construct) (p : ℕ) → Listed s table cs → cs ≡ c ∷ bs → length bs ≡ p
@@ -156,14 +154,14 @@ module _ (g : Given) (l s table reach : List ℕ) (r : Filled) (h : Fills g l s 
   ends-told = h t e (length-replicate {A = ℕ} 87380 0) (length-replicate {A = ℕ} 65536 0) .1
 
 module _ (g : Given) (il is dl ds ti ri : List ℕ) (a : Filled) (fi : Fills g il is ti ri a) where
-  pub judges-1 : a .ends ≡ false → Judges g il is dl ds (Broken 1 0)
+  pub judges-1 : a .ends ≡ false → Breaks g il is dl ds (Broken 1 0)
   judges-1 f i d ei ed = verdict-1 (volumeWith g) i d (sym (ends-told g il is ti ri a fi i ei) ∙ f)
 
   module _ (td rd : List ℕ) (b : Filled) (fd : Fills g dl ds td rd b) where
-    pub judges-2 : a .ends ≡ true → b .ends ≡ false → Judges g il is dl ds (Broken 2 0)
+    pub judges-2 : a .ends ≡ true → b .ends ≡ false → Breaks g il is dl ds (Broken 2 0)
     judges-2 at f i d ei ed = verdict-2 (volumeWith g) i d (sym (ends-told g il is ti ri a fi i ei) ∙ at) (sym (ends-told g dl ds td rd b fd d ed) ∙ f)
 
-    pub judges-by : a .ends ≡ true → b .ends ≡ true → (r : Judgement) → JudgesIndexes g is ds ti (a .count) ri td (b .count) rd r → Judges g il is dl ds r
+    pub judges-by : a .ends ≡ true → b .ends ≡ true → (r : Judgement) → JudgesIndexes g is ds ti (a .count) ri td (b .count) rd r → Breaks g il is dl ds r
     judges-by at bt r w i d ei ed =
         w dl i d ed (held g il is ti ri a fi i ei) (held g dl ds td rd b fd d ed) (sym (ends-told g il is ti ri a fi i ei) ∙ at) (sym (ends-told g dl ds td rd b fd d ed) ∙ bt)
 
@@ -207,28 +205,16 @@ module _ {A : Type 0} (ask : Volume → Tape → Tape → Answer A) (il is dl ds
   ask-labelled f l = rw (l .indexRead, l .otherRead, l .says)
 
 -- an answer that is the definition's keeps demand 3
-cut-of : (r : Rescue) (o : Option Cut) → rescued r ≡ orNoCut o → cutOf r ≡ o
-cut-of (rescueIs.Cut k) none e = let z : _≡_ {A = ℕ} 0 1 = cc in absurd (omega arith)
-cut-of (rescueIs.Cut k) (some a) e = let z : cutIs k ≡ a = cc in ap some z
-cut-of (rescueIs.Refused q) none e = refl
-cut-of (rescueIs.Refused q) (some a) e = let z : _≡_ {A = ℕ} 0 1 = cc in absurd (omega arith)
-
-agreed-label : (a : Answer Label) (v : Volume) → agreed a ≡ some v → (f : Label) × (a ≡ answer f) × (volumeWith (givenBy f) ≡ v)
-agreed-label (refused r) v e = let z : _≡_ {A = ℕ} 0 1 = cc in absurd (omega arith)
-agreed-label (answer f) v e = (f, refl, let z : volumeWith (givenBy f) ≡ v = cc in z)
-
 module _ (il is dl ds : List ℕ) where
   pub rescues : (r : Rescue) → rescued r ≡ rescueIn il is dl ds → Rescues il is dl ds r
-  rescues r e = record { answers = e; demand = demand }
-    where
-      demand : (i d : Tape) → Encodes il is i → Encodes dl ds d → (v : Volume) → labels i d ≡ some v → Demand3 labels v i d (cutOf r)
-      demand i d ei ed v a =
-          let x = agreed-label (labelsOf i d) v a in
-          let l : Labelled {A = Cut} (λ w i d. orNoCut (rescue w i d)) il is dl ds (x .0)
-          = record { index = i; other = d; indexRead = tape-read ei; otherRead = tape-read ed; says = x .1 } in
-          let q : rescued r ≡ orNoCut (rescue v i d)
-          = e ∙ ask-labelled (λ w i d. orNoCut (rescue w i d)) il is dl ds (x .0) l ∙ ap (λ (w : Volume). orNoCut (rescue w i d)) (x .2) in
-          subst (Demand3 labels v i d) (sym (cut-of r (rescue v i d) q)) (demand3 labels v i d (ap agreed (labels-front i d) ∙ a))
+  rescues r e =
+      record {
+        answers = e;
+        demand = λ i d v p. subst (λ (a : Answer Cut). Demand3 labels v i d (answered a)) (sym e) (rescue-owes il is dl ds i d v p);
+      }
+
+  pub judges : (r : Verdict) → judged r ≡ verdictIn il is dl ds → Judges il is dl ds r
+  judges r e = record { answers = e; demand = λ i d v p. verdict-owes il is dl ds i d v p (no-break r (verdictIn il is dl ds) e) }
 
 -- lists whose labels are read are well formed
 pub read-tape : (l s : List ℕ) (t : Tape) → Bytes l → tapeIn l s ≡ answer t → Encodes l s t
@@ -247,9 +233,10 @@ module _ (il is dl ds : List ℕ) (bi : Bytes il) (bd : Bytes dl) (f : Label) (e
       ∙ ap (λ (x : Given). orNoCut (rescue (volumeWith x) (l .index) (l .other))) same
       ∙ sym (ask-labelled (λ v i d. orNoCut (rescue v i d)) il is dl ds f l))
 
-  pub verdict-found : (r : Judgement) → Judges g il is dl ds r → (a : Verdict) → judged a ≡ answer (breakOf r) → judged a ≡ verdictIn il is dl ds
+  pub verdict-found : (r : Judgement) → Breaks g il is dl ds r → (a : Verdict) → judged a ≡ answer (breakOf r) → Judges il is dl ds a
   verdict-found r c a h =
       let l = labelled (λ v i d. answer (verdict v i d)) il is dl ds f e in
-      h ∙ ap answer (c (l .index) (l .other) (read-tape il is (l .index) bi (l .indexRead)) (read-tape dl ds (l .other) bd (l .otherRead)))
+      judges il is dl ds a
+      (h ∙ ap answer (c (l .index) (l .other) (read-tape il is (l .index) bi (l .indexRead)) (read-tape dl ds (l .other) bd (l .otherRead)))
       ∙ ap (λ (x : Given). answer (verdict (volumeWith x) (l .index) (l .other))) same
-      ∙ sym (ask-labelled (λ v i d. answer (verdict v i d)) il is dl ds f l)
+      ∙ sym (ask-labelled (λ v i d. answer (verdict v i d)) il is dl ds f l))

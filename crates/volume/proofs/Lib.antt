@@ -5,5 +5,6 @@ pub mod Extents
 pub mod Trying
 pub mod Partitions
 pub mod Verdicts
+pub mod Demands
 pub mod Answering
 pub mod Choosing

@@ -1,4 +1,4 @@
--- What the verdict and the rescue promise of the lists and stores handed in.
+-- What the verdict and the rescue promise of the lists and stores handed in: their answers, and demand 3.
 use mathlib.Core.Path.{_≡_}
 use mathlib.Core.List.{List}
 use mathlib.Core.Option.{Option, none, some}
@@ -7,8 +7,8 @@ use Rattle.refusals.specs.Refusals.{Answer, refused, answer}
 use Rattle.tape.specs.Tape.{Tape, Encodes}
 use Rattle.verdict.specs.Verdict.{Volume, Break}
 use Rattle.verdict.specs.Rescue.{Cut}
-use Rattle.verdict.specs.Demand.{Demand3}
-use Rattle.volume.specs.Volume.{labels, rescueIn}
+use Rattle.verdict.specs.Demand.{Demand3, Verdict3}
+use Rattle.volume.specs.Volume.{labels, verdictIn, rescueIn}
 use Rattle.volume.specs.Steps.{cutIs}
 use Rattle.volume.specs.declared.answers.Verdict.{Verdict}
 use Rattle.volume.specs.declared.answers.Verdict.the-variants as verdictIs
@@ -25,11 +25,29 @@ rescued (rescueIs.Cut k) = answer (cutIs k)
 rescued (rescueIs.Refused r) = refused r
 
 -- the cut that is answered, if one is
-abbrev pub cutOf : Rescue → Option Cut
-cutOf (rescueIs.Cut k) = some (cutIs k)
-cutOf (rescueIs.Refused r) = none
+abbrev pub answered : Answer Cut → Option Cut
+answered (refused r) = none
+answered (answer a) = some a
 
--- the rescue's answer; and where the lists are well formed and the labels are sound and agree, all that demand 3 asks of it
-pub record Rescues (il is dl ds : List ℕ) (r : Rescue) : Type 0 where
-  pub answers : rescued r ≡ rescueIn il is dl ds
-  pub demand : (i d : Tape) → Encodes il is i → Encodes dl ds d → (v : Volume) → labels i d ≡ some v → Demand3 labels v i d (cutOf r)
+module _ (il is dl ds : List ℕ) where
+  -- the premises of demand 3: the lists are well formed, and the labels are sound and agree
+  pub record Premises (i d : Tape) (v : Volume) : Type 0 where
+    pub indexTape : Encodes il is i
+    pub dataTape : Encodes dl ds d
+    pub agree : labels i d ≡ some v
+
+  -- what demand 3 asks of the cut that is told, if one is
+  abbrev pub RescueOwes : Option Cut → Type 0
+  RescueOwes told = (i d : Tape) (v : Volume) → Premises i d v → Demand3 labels v i d told
+
+  -- what it asks of the verdict, noBreak being that none is told
+  abbrev pub VerdictOwes : Type 0 → Type 0
+  VerdictOwes noBreak = (i d : Tape) (v : Volume) → Premises i d v → Verdict3 labels v i d noBreak (answered (rescueIn il is dl ds))
+
+  pub record Rescues (r : Rescue) : Type 0 where
+    pub answers : rescued r ≡ rescueIn il is dl ds
+    pub demand : RescueOwes (answered (rescued r))
+
+  pub record Judges (r : Verdict) : Type 0 where
+    pub answers : judged r ≡ verdictIn il is dl ds
+    pub demand : VerdictOwes (r ≡ verdictIs.Consistent)

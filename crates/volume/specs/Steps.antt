@@ -233,6 +233,6 @@ JudgesIndexes g is ds ti n ri td m rd r =
     (dl : List ℕ) (i d : Tape) → Encodes dl ds d → Held (g .size) is i ti n ri → Held (g .size) ds d td m rd
     → endsWith i (standing (g .size) i) ≡ true → endsWith d (standing (g .size) d) ≡ true → breakOf r ≡ verdict (volumeWith g) i d
 
--- the verdict on the volume with that UUID and those letters
-abbrev pub Judges : Given → List ℕ → List ℕ → List ℕ → List ℕ → Judgement → Type 0
-Judges g il is dl ds r = (i d : Tape) → Encodes il is i → Encodes dl ds d → breakOf r ≡ verdict (volumeWith g) i d
+-- the break of the volume with that UUID and those letters, or none
+abbrev pub Breaks : Given → List ℕ → List ℕ → List ℕ → List ℕ → Judgement → Type 0
+Breaks g il is dl ds r = (i d : Tape) → Encodes il is i → Encodes dl ds d → breakOf r ≡ verdict (volumeWith g) i d

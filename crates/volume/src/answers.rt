@@ -12,9 +12,8 @@ use label::Label;
 use refusals::Refusal;
 ghost use mathlib.Core.Path.{_≡_};
 ghost use Rattle.index_values.specs.Tests.{given};
-ghost use Rattle.volume.specs.Volume.{verdictIn};
 ghost use Rattle.volume.specs.Steps.{CutsBy, Cuts};
-ghost use Rattle.volume.specs.Answers.{Rescues, judged};
+ghost use Rattle.volume.specs.Answers.{Rescues, Judges};
 
 pub enum Verdict {
     Consistent,
@@ -149,7 +148,7 @@ pub fn find_break(
     data_list: &[u8],
     data_store: &[u8],
 ) -> Verdict
-    ensures { λ r. ⌜ judged r ≡ verdictIn (now («index_list» .entry)) (now («index_store» .entry)) (now («data_list» .entry)) (now («data_store» .entry)) ⌝ }
+    ensures { λ r. ⌜ Judges (now («index_list» .entry)) (now («index_store» .entry)) (now («data_list» .entry)) (now («data_store» .entry)) r ⌝ }
 {
     match labels::check(index_list, index_store, data_list, data_store) {
         Label::Refused(r) => Verdict::Refused(r),

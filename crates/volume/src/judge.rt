@@ -8,7 +8,7 @@ use index_values::Volume;
 use quantities::BlockNumber;
 use quantities::Generation;
 ghost use Rattle.index_values.specs.Tests.{given};
-ghost use Rattle.volume.specs.Steps.{JudgesLast, JudgesIndexes, Judges};
+ghost use Rattle.volume.specs.Steps.{JudgesLast, JudgesIndexes, Breaks};
 
 // No break, or which of the five, and its number.
 pub enum Judgement {
@@ -101,7 +101,7 @@ pub fn judge(
     uuid: &[u8],
     volume: Volume,
 ) -> Judgement
-    ensures { λ r. ⌜ Judges (given (now (uuid .entry)) volume) (now («index_list» .entry)) (now («index_store» .entry)) (now («data_list» .entry)) (now («data_store» .entry)) r ⌝ }
+    ensures { λ r. ⌜ Breaks (given (now (uuid .entry)) volume) (now («index_list» .entry)) (now («index_store» .entry)) (now («data_list» .entry)) (now («data_store» .entry)) r ⌝ }
 {
     let mut index_table = [0u32; 87380];
     let mut index_reach = [0u32; 65536];

@@ -64,7 +64,7 @@ same-length-2 c = search needs
 returns-2 : tie.Need-returns-2
 returns-2 c =
     let e : bounded (c .before .before .before .before .before .before .before .before .before .before .before .before .before .before .before .before .before .before .args .index-list .now) (c .before .before .before .before .before .before .before .before .before .before .before .before .before .before .before .before .before .before .args .index-store .now) (c .before .before .before .before .before .before .before .before .before .before .before .before .before .before .before .before .before .before .args .data-list .now) (c .before .before .before .before .before .before .before .before .before .before .before .before .before .before .before .before .before .before .args .data-store .now) ≡ true = sym (c .before .before .before .before .before .before .before .before .before .before .before .before .is-bounded .ensures) ∙ not-false _ (c .before .before .before .before .before .before .before .before .before .before .before .if1 .left) in
-    delivers (omega (arith, length-replicate {A = ℕ} 256 0)) (c .before .before .before .before .before .before .before .add-lines .ensures) (c .before .before .before .part2 .ensures) (ap₂ linesOf (c .before .before .before .before .before .before .before .before .before .before .find-break .ensures) (c .before .before .before .before .before .before .before .before .before .find-cut .ensures .answers) ∙ rw e) (c .before .before .put2 .ensures)
+    delivers (omega (arith, length-replicate {A = ℕ} 256 0)) (c .before .before .before .before .before .before .before .add-lines .ensures) (c .before .before .before .part2 .ensures) (ap₂ linesOf (c .before .before .before .before .before .before .before .before .before .before .find-break .ensures .answers) (c .before .before .before .before .before .before .before .before .before .find-cut .ensures .answers) ∙ rw e) (c .before .before .put2 .ensures)
 
 pub write-spec : {M : Type 1} → statement M
 write-spec =

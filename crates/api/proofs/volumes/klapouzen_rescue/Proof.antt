@@ -1,7 +1,8 @@
 -- `klapouzen_rescue` meets its contract: the cut in numbers, and demand 3 of them.
-use mathlib.Core.Path.{subst}
-use Rattle.volume.specs.Answers.{Rescues}
-use Rattle.api.proofs.Rescuing.{cut-shown, no-cut-shown}
+use mathlib.Core.Path.{sym, _∙_, ap}
+use Rattle.volume.specs.Answers.{rescued}
+use Rattle.api.proofs.Demands.{rescues-out}
+use Rattle.api.proofs.Showing.{shown, not-shown}
 use borrow.Author.Needs.{needs}
 use Rattle.api.proofs.volumes.klapouzen_rescue.Statement.{statement}
 use Rattle.api.proofs.volumes.klapouzen_rescue.Tie as tie
@@ -19,10 +20,10 @@ number-requires : tie.Need-number-requires
 number-requires c κs = search needs
 
 returns : tie.Need-returns
-returns c = cut-shown (c .before .before .before .before .before .before .before .before .before .args .index-list .now) (c .before .before .before .before .before .before .before .before .before .args .index-store .now) (c .before .before .before .before .before .before .before .before .before .args .data-list .now) (c .before .before .before .before .before .before .before .before .before .args .data-store .now) (c .before .before .k .given .0 .0) (subst (Rescues (c .before .before .before .before .before .before .before .before .before .args .index-list .now) (c .before .before .before .before .before .before .before .before .before .args .index-store .now) (c .before .before .before .before .before .before .before .before .before .args .data-list .now) (c .before .before .before .before .before .before .before .before .before .args .data-store .now)) (c .before .before .k .given .1) (c .before .before .before .before .find-cut .ensures))
+returns c = rescues-out (shown _ (ap rescued (sym (c .before .before .k .given .1)) ∙ c .before .before .before .before .find-cut .ensures .answers))
 
 returns-2 : tie.Need-returns-2
-returns-2 c = no-cut-shown (c .before .before .before .before .before .before .before .before .before .before .args .index-list .now) (c .before .before .before .before .before .before .before .before .before .before .args .index-store .now) (c .before .before .before .before .before .before .before .before .before .before .args .data-list .now) (c .before .before .before .before .before .before .before .before .before .before .args .data-store .now) (c .before .before .before .r .given .0 .0) (c .number .ensures) (subst (Rescues (c .before .before .before .before .before .before .before .before .before .before .args .index-list .now) (c .before .before .before .before .before .before .before .before .before .before .args .index-store .now) (c .before .before .before .before .before .before .before .before .before .before .args .data-list .now) (c .before .before .before .before .before .before .before .before .before .before .args .data-store .now)) (c .before .before .before .r .given .1) (c .before .before .before .before .before .find-cut .ensures))
+returns-2 c = rescues-out (not-shown (c .before .before .before .r .given .0 .0) (ap rescued (sym (c .before .before .before .r .given .1)) ∙ c .before .before .before .before .before .find-cut .ensures .answers) (c .number .ensures))
 
 pub klapouzen-rescue-spec : {M : Type 1} → statement M
 klapouzen-rescue-spec =

@@ -1,6 +1,7 @@
--- `klapouzen_verdict` meets its contract: the first break, or none.
+-- `klapouzen_verdict` meets its contract: the first break, or none, and demand 3 of that.
 use mathlib.Core.Path.{sym, _∙_, ap}
 use Rattle.volume.specs.Answers.{judged}
+use Rattle.api.proofs.Demands.{judges-out}
 use Rattle.api.proofs.Showing.{shown, not-shown}
 use borrow.Author.Needs.{needs}
 use Rattle.api.proofs.volumes.klapouzen_verdict.Statement.{statement}
@@ -22,13 +23,13 @@ number-requires : tie.Need-number-requires
 number-requires c κs = search needs
 
 returns : tie.Need-returns
-returns c = shown _ (ap judged (sym (c .before .enum-told .given .1)) ∙ c .before .before .before .find-break .ensures)
+returns c = judges-out (shown _ (ap judged (sym (c .before .enum-told .given .1)) ∙ c .before .before .before .find-break .ensures .answers))
 
 returns-2 : tie.Need-returns-2
-returns-2 c = shown _ (ap judged (sym (c .before .before .which .given .1)) ∙ c .before .before .before .before .find-break .ensures)
+returns-2 c = judges-out (shown _ (ap judged (sym (c .before .before .which .given .1)) ∙ c .before .before .before .before .find-break .ensures .answers))
 
 returns-3 : tie.Need-returns-3
-returns-3 c = not-shown (c .before .before .before .r .given .0 .0) (ap judged (sym (c .before .before .before .r .given .1)) ∙ c .before .before .before .before .before .find-break .ensures) (c .number .ensures)
+returns-3 c = judges-out (not-shown (c .before .before .before .r .given .0 .0) (ap judged (sym (c .before .before .before .r .given .1)) ∙ c .before .before .before .before .before .find-break .ensures .answers) (c .number .ensures))
 
 pub klapouzen-verdict-spec : {M : Type 1} → statement M
 klapouzen-verdict-spec =

@@ -1,6 +1,6 @@
 -- `find_break` meets its contract: what the labels are refused for, or the verdict on the volume that they give.
-use Rattle.volume.proofs.Answering.{ask-refused, verdict-found}
-use Rattle.volume.specs.declared.answers.Verdict.the-variants.{Consistent, Break}
+use Rattle.volume.proofs.Answering.{ask-refused, judges, verdict-found}
+use Rattle.volume.specs.declared.answers.Verdict.the-variants.{Consistent, Break, Refused}
 use Rattle.volume.specs.declared.judge.Judgement.{Judgement}
 use Rattle.volume.specs.Steps.{breakOf}
 use Rattle.verdict.specs.Verdict.{verdict}
@@ -40,7 +40,7 @@ enum-known-which : tie.Need-enum-known-which
 enum-known-which c = search needs
 
 returns : tie.Need-returns
-returns c = ask-refused (λ v i d. answer (verdict v i d)) (c .before .before .before .before .before .before .before .before .args .index-list .now) (c .before .before .before .before .before .before .before .before .args .index-store .now) (c .before .before .before .before .before .before .before .before .args .data-list .now) (c .before .before .before .before .before .before .before .before .args .data-store .now) (c .before .r .given .0 .0) (ap (means (c .before .before .before .before .before .before .before .before .args .index-store .now)) (sym (c .before .r .given .1)) ∙ c .before .before .before .check .ensures .says)
+returns c = judges (c .before .before .before .before .before .before .before .before .args .index-list .now) (c .before .before .before .before .before .before .before .before .args .index-store .now) (c .before .before .before .before .before .before .before .before .args .data-list .now) (c .before .before .before .before .before .before .before .before .args .data-store .now) (Refused (c .before .r .given .0 .0)) (ask-refused (λ v i d. answer (verdict v i d)) (c .before .before .before .before .before .before .before .before .args .index-list .now) (c .before .before .before .before .before .before .before .before .args .index-store .now) (c .before .before .before .before .before .before .before .before .args .data-list .now) (c .before .before .before .before .before .before .before .before .args .data-store .now) (c .before .r .given .0 .0) (ap (means (c .before .before .before .before .before .before .before .before .args .index-store .now)) (sym (c .before .r .given .1)) ∙ c .before .before .before .check .ensures .says))
 
 returns-2 : tie.Need-returns-2
 returns-2 c =
