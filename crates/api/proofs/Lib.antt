@@ -1,6 +1,7 @@
 pub mod Showing
 pub mod Saying
 pub mod Writing
+pub mod ReadBack
 pub mod Headers
 pub mod Demands
 pub mod Sizing

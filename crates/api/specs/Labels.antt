@@ -7,16 +7,28 @@ use lib.Dec.{leb, eqb}
 use lib.ListN.{getD}
 use Rattle.elements.specs.Reading.{Inside}
 use Rattle.texts.specs.Decoded.{decoded}
-use Rattle.vol1.specs.Vol1.{Fields, identifierAt, identifierLength, ownerAt, ownerLength}
-use Rattle.label.specs.Label.{Label}
-use Rattle.label_writer.specs.Text.{isGiven, labelOfGiven}
+use Rattle.vol1.specs.Vol1.{Fields, identifierAt, identifierLength, ownerAt, ownerLength, vol1Of, areFields, vol1}
+use Rattle.label.specs.Label.{Label, labelOf}
+use Rattle.label_writer.specs.Text.{isGiven, labelOfGiven, textOf}
 use Rattle.label.specs.declared.reader.Fields.{Fields as Read}
 use Rattle.index_files.specs.Filling.{partTold, TellsPart}
-use Rattle.api.specs.Outputs.{bit}
+use Rattle.api.specs.Outputs.{Shown, Told, Stores, bit}
 
 -- the places and lengths of VOL1's identifier and owner
 abbrev pub vol1Places : Fields → List ℕ
 vol1Places f = identifierAt ∷ identifierLength ∷ ownerAt ∷ ownerLength ∷ []
+
+-- what the reader of VOL1 answers of a block
+abbrev pub ReadsVol1 : List ℕ → ℕ → List ℕ → Type 0
+ReadsVol1 s = Shown 4 vol1Places (vol1Of s)
+
+-- it reads the block as those fields, and tells where they stand
+abbrev pub ReadAsVol1 : List ℕ → List ℕ → List ℕ → Type 0
+ReadAsVol1 identifier owner s = (r : ℕ) (out : List ℕ) → ReadsVol1 s r out → (r ≡ 0) × TellsPart s out 0 identifier × TellsPart s out 2 owner
+
+-- what the writer of VOL1 promises
+abbrev pub WritesVol1 : List ℕ → List ℕ → List ℕ → List ℕ → ℕ → ℕ → Type 0
+WritesVol1 identifier owner = Stores (areFields identifier owner) (vol1 identifier owner) (ReadAsVol1 identifier owner)
 
 -- a label that a reader read, in numbers: the R of its version; where its creator, its time and its UUID stand, each with its length; its
 -- location, the index letter, the data letter, the block size, and the compression
@@ -39,6 +51,14 @@ pub record SaysLabel (s : List ℕ) (f : Label) (out : List ℕ) : Type 0 where
   pub blockSize : getD out 10 0 ≡ f .blockSize
   pub compression : getD out 11 0 ≡ bit (f .compression)
 
+-- what the reader of a label answers of a text
+abbrev pub ReadsLabel : List ℕ → ℕ → List ℕ → Type 0
+ReadsLabel s = Told 12 (SaysLabel s) (labelOf s)
+
+-- it reads the text as that label
+abbrev pub ReadAsLabel : Label → List ℕ → Type 0
+ReadAsLabel f s = (r : ℕ) (out : List ℕ) → ReadsLabel s r out → (r ≡ 0) × SaysLabel s f out
+
 -- the label that a caller gives, its compression as a number
 abbrev pub givenLabel : List ℕ → List ℕ → List ℕ → ℕ → ℕ → ℕ → ℕ → ℕ → Label
 givenLabel creator time uuid location index other size compression =
@@ -48,3 +68,7 @@ givenLabel creator time uuid location index other size compression =
 -- 14: the compression is 0 or 1, and the label may be written
 abbrev pub isWritable : ℕ → Label → Bool
 isWritable compression f = leb compression 1 && isGiven f
+
+-- what the writer of a label promises
+abbrev pub WritesLabel : ℕ → Label → List ℕ → List ℕ → ℕ → ℕ → Type 0
+WritesLabel compression f = Stores (isWritable compression f) (textOf f) (ReadAsLabel f)

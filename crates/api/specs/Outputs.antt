@@ -4,7 +4,7 @@ use mathlib.Core.Bool.{Bool, true, false, cond}
 use mathlib.Core.List.{List, [], _∷_}
 use Prim.Native.Nat.{ℕ, _+_, _≤_}
 use lib.Dec.{leb}
-use lib.ListN.{length, replicate}
+use lib.ListN.{length, take, replicate}
 use Rattle.refusals.specs.declared.Refusal.the-variants.{Caller, Short}
 use Rattle.refusals.specs.Refusals.{Answer, refused, answer, require, shownNumber}
 use Rattle.slices.specs.Writers.{stored}
@@ -52,6 +52,12 @@ bufferAfter given w buffer = cond given (stored 0 w buffer) buffer
 pub record WritesOut (given : Bool) (w before after : List ℕ) (returned told : ℕ) : Type 0 where
   pub answers : Shown 1 one (writing given w before) returned (one told)
   pub holds : after ≡ bufferAfter given w before
+
+-- and of the bytes that it stored: what a reader makes of them, and that they are the same in any two buffers
+pub record Stores (given : Bool) (w : List ℕ) (reads : List ℕ → Type 0) (before after : List ℕ) (returned told : ℕ) : Type 0 where
+  pub writes : WritesOut given w before after returned told
+  pub readBack : returned ≡ 0 → reads (take told after)
+  pub same : returned ≡ 0 → (before′ after′ : List ℕ) (told′ : ℕ) → WritesOut given w before′ after′ 0 told′ → take told′ after′ ≡ take told after
 
 -- a place r that names the same part as w of any text that long, and lies in it
 pub record CutOff (end : ℕ) (w r : Span) : Type 0 where

@@ -8,12 +8,9 @@ use slices::Written;
 use vol1::Vol1;
 use vol1::Vol1Read;
 ghost use mathlib.Core.Path.{_≡_};
-ghost use Rattle.vol1.specs.Vol1.{vol1Of, areFields, vol1};
-ghost use Rattle.label.specs.Label.{labelOf};
-ghost use Rattle.label_writer.specs.Text.{textOf};
 ghost use Rattle.labels.specs.Labels.{labelsIn};
-ghost use Rattle.api.specs.Outputs.{Shown, Told, WritesOut};
-ghost use Rattle.api.specs.Labels.{vol1Places, labelNumbers, SaysLabel, givenLabel, isWritable};
+ghost use Rattle.api.specs.Outputs.{Told};
+ghost use Rattle.api.specs.Labels.{labelNumbers, SaysLabel, givenLabel, ReadsVol1, WritesVol1, ReadsLabel, WritesLabel};
 
 fn in_numbers(f: Fields) -> [u64; 12]
     ensures { λ r. ⌜ r ≡ labelNumbers f ⌝ }
@@ -37,7 +34,7 @@ fn in_numbers(f: Fields) -> [u64; 12]
 // Whether a block is a VOL1 label, and where its identifier and its owner stand.
 #[no_mangle]
 pub extern "C" fn klapouzen_read_vol1(block: &[u8], out: &mut [u64; 4]) -> u64
-    ensures { λ r. ⌜ Shown 4 vol1Places (vol1Of (now (block .entry))) r (now (out .exit)) ⌝ }
+    ensures { λ r. ⌜ ReadsVol1 (now (block .entry)) r (now (out .exit)) ⌝ }
 {
     match vol1::read_vol1(block) {
         Vol1Read::Good => {
@@ -64,7 +61,7 @@ pub extern "C" fn klapouzen_write_vol1(
     owner: &[u8],
     length: &mut u64,
 ) -> u64
-    ensures { λ r. ⌜ WritesOut (areFields (now (identifier .entry)) (now (owner .entry))) (vol1 (now (identifier .entry)) (now (owner .entry))) (now (out .entry)) (now (out .exit)) r (now (length .exit)) ⌝ }
+    ensures { λ r. ⌜ WritesVol1 (now (identifier .entry)) (now (owner .entry)) (now (out .entry)) (now (out .exit)) r (now (length .exit)) ⌝ }
 {
     match vol1::write_vol1(out, identifier, owner) {
         Written::To(n) => {
@@ -81,7 +78,7 @@ pub extern "C" fn klapouzen_write_vol1(
 // Reads an LTFS label.
 #[no_mangle]
 pub extern "C" fn klapouzen_read_label(text: &[u8], out: &mut [u64; 12]) -> u64
-    ensures { λ r. ⌜ Told 12 (SaysLabel (now (text .entry))) (labelOf (now (text .entry))) r (now (out .exit)) ⌝ }
+    ensures { λ r. ⌜ ReadsLabel (now (text .entry)) r (now (out .exit)) ⌝ }
 {
     match label::read(text) {
         Label::Says(f) => {
@@ -109,7 +106,7 @@ pub extern "C" fn klapouzen_write_label(
     compression: u64,
     length: &mut u64,
 ) -> u64
-    ensures { λ r. ⌜ WritesOut (isWritable compression (givenLabel (now (creator .entry)) (now (time .entry)) (now (uuid .entry)) location «index_letter» «data_letter» «block_size» compression)) (textOf (givenLabel (now (creator .entry)) (now (time .entry)) (now (uuid .entry)) location «index_letter» «data_letter» «block_size» compression)) (now (out .entry)) (now (out .exit)) r (now (length .exit)) ⌝ }
+    ensures { λ r. ⌜ WritesLabel compression (givenLabel (now (creator .entry)) (now (time .entry)) (now (uuid .entry)) location «index_letter» «data_letter» «block_size» compression) (now (out .entry)) (now (out .exit)) r (now (length .exit)) ⌝ }
 {
     if 1 < compression {
         *length = 0;

@@ -20,7 +20,6 @@ use Rattle.volume.specs.Volume.{volumeWith, givenBy, agreed, labels, onV
 use Rattle.volume.specs.Answers.{judged, answered, Premises}
 use Rattle.volume.specs.declared.answers.Verdict.{Verdict}
 use Rattle.volume.specs.declared.answers.Verdict.the-variants as verdictIs
-use Rattle.volume.proofs.Partitions.{tape-read}
 
 agreed-label : (a : Answer Label) (v : Volume) → agreed a ≡ some v → (f : Label) × (a ≡ answer f) × (volumeWith (givenBy f) ≡ v)
 agreed-label (refused r) v e = let z : _≡_ {A = ℕ} 0 1 = cc in absurd (omega arith)
@@ -33,7 +32,7 @@ answered-cut (some a) = refl
 module _ (il is dl ds : List ℕ) where
   module _ (i d : Tape) (v : Volume) (p : Premises il is dl ds i d v) where
     asked-with : {A : Type 0} (ask : Volume → Tape → Tape → Answer A) (f : Label) → labelsOf i d ≡ answer f → onVolume ask il is dl ds ≡ ask (volumeWith (givenBy f)) i d
-    asked-with ask f e = rw (tape-read (p .indexTape), tape-read (p .dataTape), e)
+    asked-with ask f e = rw (p .indexTape, p .dataTape, e)
 
     -- what is asked is asked of that volume
     asked-of : {A : Type 0} (ask : Volume → Tape → Tape → Answer A) → onVolume ask il is dl ds ≡ ask v i d

@@ -4,7 +4,8 @@ use mathlib.Core.List.{List}
 use mathlib.Core.Option.{Option, none, some}
 use Prim.Native.Nat.{ℕ}
 use Rattle.refusals.specs.Refusals.{Answer, refused, answer}
-use Rattle.tape.specs.Tape.{Tape, Encodes}
+use Rattle.tape.specs.Tape.{Tape}
+use Rattle.tape.specs.Answers.{tapeIn}
 use Rattle.verdict.specs.Verdict.{Volume, Break}
 use Rattle.verdict.specs.Rescue.{Cut}
 use Rattle.verdict.specs.Demand.{Demand3, Verdict3}
@@ -30,10 +31,10 @@ answered (refused r) = none
 answered (answer a) = some a
 
 module _ (il is dl ds : List ℕ) where
-  -- the premises of demand 3: the lists are well formed, and the labels are sound and agree
+  -- the premises of demand 3: the lists are not refused 1, and the labels are sound and agree
   pub record Premises (i d : Tape) (v : Volume) : Type 0 where
-    pub indexTape : Encodes il is i
-    pub dataTape : Encodes dl ds d
+    pub indexTape : tapeIn il is ≡ answer i
+    pub dataTape : tapeIn dl ds ≡ answer d
     pub agree : labels i d ≡ some v
 
   -- what demand 3 asks of the cut that is told, if one is

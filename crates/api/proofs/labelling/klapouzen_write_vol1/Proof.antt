@@ -1,7 +1,8 @@
--- `klapouzen_write_vol1` meets its contract: what the writer answers.
+-- `klapouzen_write_vol1` meets its contract: what the writer answers; what it stored reads as the fields given.
 use mathlib.Core.Path.{subst}
 use Rattle.writing.specs.Writing.{Writes}
 use Rattle.api.proofs.Writing.{wrote, unwritten}
+use Rattle.api.proofs.ReadBack.{vol1-stored}
 use borrow.Author.Needs.{needs}
 use Rattle.api.proofs.labelling.klapouzen_write_vol1.Statement.{statement}
 use Rattle.api.proofs.labelling.klapouzen_write_vol1.Tie as tie
@@ -22,13 +23,13 @@ same-length : tie.Need-same-length
 same-length c = search needs
 
 returns : tie.Need-returns
-returns c = wrote _ _ _ _ (c .before .n .given .0 .0) (subst (Writes _ _ _ _) (c .before .n .given .1) (c .before .before .before .before .before .write-vol1 .ensures))
+returns c = vol1-stored (wrote _ _ _ _ (c .before .n .given .0 .0) (subst (Writes _ _ _ _) (c .before .n .given .1) (c .before .before .before .before .before .write-vol1 .ensures)))
 
 same-length-2 : tie.Need-same-length-2
 same-length-2 c = search needs
 
 returns-2 : tie.Need-returns-2
-returns-2 c = unwritten _ _ _ _ (c .before .before .r .given .0 .0) (c .number .ensures) (subst (Writes _ _ _ _) (c .before .before .r .given .1) (c .before .before .before .before .before .before .write-vol1 .ensures))
+returns-2 c = vol1-stored (unwritten _ _ _ _ (c .before .before .r .given .0 .0) (c .number .ensures) (subst (Writes _ _ _ _) (c .before .before .r .given .1) (c .before .before .before .before .before .before .write-vol1 .ensures)))
 
 pub klapouzen-write-vol1-spec : {M : Type 1} → statement M
 klapouzen-write-vol1-spec =

@@ -1,0 +1,89 @@
+-- What a writer for C stored, a reader for C reads as the fields given; and it is the same in any two buffers.
+use mathlib.Core.Path.{_≡_, refl, ap, ap₂, _∙_, sym, subst}
+use mathlib.Core.Bool.{Bool, true, false, _&&_}
+use mathlib.Core.List.{List, [], _∷_}
+use Prim.Native.Nat.{ℕ, zero, suc, _≤_}
+use native.Mathlib.Omega.{arith}
+use borrow.Author.Tests.{leb-true}
+use lib.Dec.{leb}
+use lib.ListN.{length, take, drop, getD, length-drop}
+use Rattle.refusals.specs.Refusals.{Answer, answer}
+use Rattle.slices.specs.Slices.{written}
+use Rattle.slices.proofs.Booleans.{and-right}
+use Rattle.slices.proofs.Writers.{stored-whole}
+use Rattle.slices.proofs.Writing.{part-written}
+use Rattle.elements.specs.Reading.{Spans}
+use Rattle.vol1.specs.Vol1.{Fields, vol1Of, areFields, vol1}
+use Rattle.vol1.proofs.Blocks.{given-identifier, given-owner, identifier-vol1, owner-vol1, vol1-reads}
+use Rattle.label.specs.Label.{Label, labelOf}
+use Rattle.label_writer.specs.Text.{textOf, isGiven}
+use Rattle.label_writer.proofs.RoundTrip.{text-reads}
+use Rattle.api.specs.Outputs.{Shown, Told, WritesOut, Stores}
+use Rattle.api.specs.Labels.{vol1Places, SaysLabel, ReadAsVol1, ReadAsLabel, WritesVol1, WritesLabel, isWritable}
+
+module _ (w before after : List ℕ) (n : ℕ) where
+  room : WritesOut true w before after 0 n → leb (length w) (length before) ≡ true
+  room p = go (leb (length w) (length before)) refl
+    where
+      go : (t : Bool) → leb (length w) (length before) ≡ t → leb (length w) (length before) ≡ true
+      go true e = e
+      go false e = let z : _≡_ {A = ℕ} 0 10 = p .answers .refusal ∙ rw e in absurd (omega arith)
+
+  -- what is not refused was written whole
+  wrote-all : (given : Bool) → WritesOut given w before after 0 n → (given ≡ true) × (take n after ≡ w)
+  wrote-all true p =
+      let e = room p in
+      let h = leb-true (length w) (length before) e in
+      let l : n ∷ [] ≡ length w ∷ [] = p .answers .holds ∙ rw e in
+      let m : n ≡ length w = cc in
+      let part : take (length w) (drop 0 (written 0 w before)) ≡ w = part-written 0 w before (omega arith) in
+      (refl, ap₂ take m (p .holds ∙ stored-whole 0 w before (omega arith)) ∙ part)
+  wrote-all false p = let e = p .answers .refusal in absurd (omega arith)
+
+stores : (given : Bool) (w : List ℕ) (reads : List ℕ → Type 0) (before after : List ℕ) (r n : ℕ) → (given ≡ true → reads w) → WritesOut given w before after r n
+    → Stores given w reads before after r n
+stores given w reads before after r n back p =
+    record {
+      writes = p;
+      readBack = λ z. subst reads (sym (all z .1)) (back (all z .0));
+      same = λ z b a m q. wrote-all w b a m given q .1 ∙ sym (all z .1);
+    }
+  where
+    all : r ≡ 0 → (given ≡ true) × (take n after ≡ w)
+    all z = wrote-all w before after n given (subst (λ (k : ℕ). WritesOut given w before after k n) z p)
+
+long-enough : (n : ℕ) (l : List ℕ) → length (take n l) ≡ n → n ≤ length l
+long-enough zero l e = omega arith
+long-enough (suc n) [] e = absurd (omega arith)
+long-enough (suc n) (x ∷ l) e = let h = long-enough n l (omega arith) in omega arith
+
+-- a part that has its whole length lies in the text
+part-inside : (k n : ℕ) (s w : List ℕ) → 1 ≤ n → take n (drop k s) ≡ w → length w ≡ n → Spans s k n w
+part-inside k n s w one e q =
+    let h = long-enough n (drop k s) (ap length e ∙ q) in
+    record { part = e; inside = omega (arith, h, length-drop k s) }
+
+read-as-vol1 : (i o : List ℕ) → areFields i o ≡ true → ReadAsVol1 i o (vol1 i o)
+read-as-vol1 i o ok r out q =
+    let a = given-identifier i o ok in
+    let b = given-owner i o ok in
+    let t : Shown 4 vol1Places (answer (record { identifier = i; owner = o })) r out
+    = subst (λ (x : Answer Fields). Shown 4 vol1Places x r out) (vol1-reads i o ok) q in (
+      t .refusal,
+      subst (λ (x : List ℕ). Spans (vol1 i o) (getD x 0 0) (getD x 1 0) i) (sym (t .holds)) (part-inside 4 6 (vol1 i o) i (omega arith) (identifier-vol1 i o a b) a),
+      subst (λ (x : List ℕ). Spans (vol1 i o) (getD x 2 0) (getD x 3 0) o) (sym (t .holds)) (part-inside 37 14 (vol1 i o) o (omega arith) (owner-vol1 i o a b) b),
+    )
+
+pub vol1-stored : {i o before after : List ℕ} {r n : ℕ} → WritesOut (areFields i o) (vol1 i o) before after r n → WritesVol1 i o before after r n
+vol1-stored {i} {o} {before} {after} {r} {n} = stores (areFields i o) (vol1 i o) (ReadAsVol1 i o) before after r n (read-as-vol1 i o)
+
+read-as-label : (f : Label) → f .release ≡ 1 → isGiven f ≡ true → ReadAsLabel f (textOf f)
+read-as-label f e g r out q =
+    let t : Told 12 (SaysLabel (textOf f)) (answer f) r out
+    = subst (λ (a : Answer Label). Told 12 (SaysLabel (textOf f)) a r out) (text-reads f g e) q in
+    (t .refusal, t .tells)
+
+pub label-stored : (compression : ℕ) {f : Label} {before after : List ℕ} {r n : ℕ} → f .release ≡ 1 → WritesOut (isWritable compression f) (textOf f) before after r n
+    → WritesLabel compression f before after r n
+label-stored compression {f} {before} {after} {r} {n} e =
+    stores (isWritable compression f) (textOf f) (ReadAsLabel f) before after r n (λ ok. read-as-label f e (and-right (leb compression 1) (isGiven f) ok))
