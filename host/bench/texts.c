@@ -167,6 +167,10 @@ static void print_table(const char *what, struct contestant *contestants)
             print_row(indented ? "indented" : "flat", &text, contestants);
             buffer_free(&text);
         }
+    /* 30 directories and their contents: elements 60 deep, of 64 that the form has. */
+    struct buffer text = nested_index(1048576, 30);
+    print_row("nested", &text, contestants);
+    buffer_free(&text);
 }
 
 void bench_texts(void)

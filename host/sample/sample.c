@@ -209,6 +209,31 @@ struct buffer index_of_size(size_t size, bool indented)
     return index.text;
 }
 
+struct buffer nested_index(size_t size, int depth)
+{
+    struct index_head head = { .generation = 7, .letter = 'a', .block = 5 };
+    struct index_text index;
+    index_begin(&index, &head);
+    for (int i = 1; i < depth; i++)
+        put(&index.text, "<directory><contents>");
+    index.last_uid = (uint64_t)depth;
+    size_t before = 0;
+    while (index.text.length + (size_t)(depth + 1) * (index.text.length - before) + 256 < size) {
+        before = index.text.length;
+        put(&index.text, "<directory><contents/>");
+        entry(&index, 0, "innermost");
+        put(&index.text, "</directory>");
+    }
+    for (int i = depth; i > 1; i--) {
+        index.last_uid = (uint64_t)i - 1;
+        put(&index.text, "</contents>");
+        entry(&index, 0, "nested");
+        put(&index.text, "</directory>");
+    }
+    index_end(&index);
+    return index.text;
+}
+
 /* ---- Volumes ---- */
 
 void tape_mark(struct tape *tape)

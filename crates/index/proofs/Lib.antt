@@ -1,4 +1,3 @@
-pub mod Later
 pub mod Steps
 pub mod Gathering
 pub mod Counted

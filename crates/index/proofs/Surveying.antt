@@ -17,7 +17,7 @@ use Rattle.index.specs.Structure.{rightly}
 use Rattle.index_values.specs.Entries.{isEntry, many, uidsOf, uidOf, entriesOf}
 use Rattle.index_values.specs.Tests.{Given, few}
 use Rattle.index_values.specs.Different.{different}
-use Rattle.index.specs.Sweep.{All, gathered, fresh, sweep, entered, ended, endedSums}
+use Rattle.index.specs.Sweep.{All, gathered, fresh, sweep, begun, settled, endedSums}
 use Rattle.index.specs.Index.{Surveyed, structured, bounded, allValued, fileCount}
 use Rattle.index.specs.declared.walk.Sums.{Sums}
 use Rattle.index.proofs.Counted.{sat, sat-below, done-counts}
@@ -75,14 +75,14 @@ module _ (g : Given) (k : Forest) (table : List ℕ) (a : Sums) (u : List ℕ) (
   right = ap (λ (x : All). x .sums .structure) swept ∙ structure-law g index k fresh (gathered start table) ∙ ap (λ (b : Bool). b && every rightly l) (done-counts index k)
 
   counted : a .entries ≡ sat (entriesOf l)
-  unfolding entered ended endedSums
+  unfolding begun settled endedSums
   counted = ap (λ (x : All). x .sums .entries) swept
-      ∙ count-law (λ e. isEntry (e .sort)) g (λ x. x .sums .entries) (λ s h c x. refl) (λ k m x. refl) index k fresh (gathered start table) refl
+      ∙ count-law (λ e. isEntry (e .sort)) g (λ x. x .entries) (λ s h c x. refl) (λ p q x. refl) (λ k m x. refl) index k fresh (gathered start table) refl
 
   files-counted : a .files ≡ sat (fileCount l)
-  unfolding entered ended endedSums
+  unfolding begun settled endedSums
   files-counted = ap (λ (x : All). x .sums .files) swept
-      ∙ count-law (λ e. eqb (e .sort) file) g (λ x. x .sums .files) (λ s h c x. refl) (λ k m x. refl) index k fresh (gathered start table) refl
+      ∙ count-law (λ e. eqb (e .sort) file) g (λ x. x .files) (λ s h c x. refl) (λ p q x. refl) (λ k m x. refl) index k fresh (gathered start table) refl
 
   few-is : a .few ≡ every (λ e. few (e .sort) (e .kids)) l
   few-is = ap (λ (x : All). x .sums .few) swept ∙ few-law g index k fresh (gathered start table)

@@ -5,8 +5,8 @@ use mathlib.Core.List.{List, [], _∷_, _++_, foldl, foldl-append}
 use Prim.Native.Nat.{ℕ, suc, _+_, _<_}
 use native.Mathlib.Nat.{add-zero, zero-add}
 use native.Mathlib.Omega.{arith}
-use lib.ListN.{length, set}
-use lib.Seq.{sets}
+use lib.ListN.{length, set, length-append}
+use lib.Seq.{sets, set-comm}
 use Rattle.slices.specs.Slices.{every}
 use Rattle.slices.proofs.Every.{every-append}
 use Rattle.xml.specs.Tree.{Head, Forest, none, node}
@@ -15,12 +15,9 @@ use Rattle.index_values.specs.Elements.{Element, element, elements, numberOf, s
 use Rattle.index.specs.Structure.{fits, complete, rightly}
 use Rattle.index_values.specs.Entries.{isEntry, uidOf, uidsOf, many}
 use Rattle.index_values.specs.Tests.{Given, valued, own, few, lawful}
-use Rattle.index.specs.Sweep.{All, more, fresh, marked, done, ended, endedSums, entered, sweep}
+use Rattle.index.specs.Sweep.{All, gathered, more, fresh, marked, done, ended, endedSums, begun, settled, closed, sweep}
+use Rattle.index.specs.declared.walk.Sums.{Sums}
 use Rattle.index.proofs.Counted.{tally, done-counts, sat, more-sat, sat-below}
-
-and-assoc : (a b c : Bool) → ((a && b) && c) ≡ (a && (b && c))
-and-assoc true b c = refl
-and-assoc false b c = refl
 
 shuffle : (n p q r s t : Bool) → (((n && p) && (q && r)) && (s && t)) ≡ (n && (s && ((p && q) && (r && t))))
 shuffle false p q r s t = refl
@@ -32,72 +29,110 @@ shuffle true true true false false t = refl
 shuffle true true true false true t = refl
 shuffle true true true true s t = refl
 
+mix : (a p e q r : Bool) → ((((a && p) && e) && q) && r) ≡ (a && ((p && q) && (e && r)))
+mix false p e q r = refl
+mix true false e q r = refl
+mix true true false false r = refl
+mix true true false true r = refl
+mix true true true q r = refl
+
 module _ (g : Given) where
   -- what the start tags alone decide is a fold over the elements
-  module _ {B : Type 0} (view : All → B) (next : B → Element → B)
-      (one : (s : ℕ) (h : Head) (c : Forest) (a : All) → view (entered g s h c a) ≡ next (view a) (element s h c))
-      (end : (kind : ℕ) (m : List ℕ) (a : All) → view (ended kind m a) ≡ view a) where
-    pub fold-law : (kind : ℕ) (f : Forest) (m : List ℕ) (a : All) → view (sweep g kind m f a) ≡ foldl next (view a) (elements kind f)
-    unfolding sweep elements
-    fold-law kind none m a = end kind m a
+  module _ {B : Type 0} (view : Sums → B) (next : B → Element → B)
+      (one : (s : ℕ) (h : Head) (c : Forest) (a : Sums) → view (begun g s h c a) ≡ next (view a) (element s h c))
+      (other : (x y : Bool) (a : Sums) → view (settled x y a) ≡ view a)
+      (end : (kind : ℕ) (m : List ℕ) (a : Sums) → view (endedSums kind m a) ≡ view a) where
+    pub fold-law : (kind : ℕ) (f : Forest) (m : List ℕ) (a : All) → view (sweep g kind m f a .sums) ≡ foldl next (view (a .sums)) (elements kind f)
+    unfolding sweep elements ended closed
+    fold-law kind none m a = end kind m (a .sums)
     fold-law kind (node h c r) m a =
-        fold-law kind r (marked (numberOf kind h) m) (cond (holds s) (sweep g s fresh c b) b)
-        ∙ ap (λ (x : B). foldl next x (elements kind r)) (go (fold-law s c fresh b) (holds s))
-        ∙ sym (foldl-append next (next (view a) (element s h c)) (cond (holds s) (elements s c) []) (elements kind r))
+        fold-law kind r (marked (numberOf kind h) m) (closed g s c (a .sums .entries) (cond (holds s) (sweep g s fresh c b) b))
+        ∙ ap (λ (x : B). foldl next x (elements kind r)) (other (few s c) (lawful g s c) (cond (holds s) (sweep g s fresh c b) b .sums) ∙ go (fold-law s c fresh b) (holds s))
+        ∙ sym (foldl-append next (next (view (a .sums)) (element s h c)) (cond (holds s) (elements s c) []) (elements kind r))
       where
         s : ℕ
         s = sortOf kind h
 
         b : All
-        b = entered g s h c a
+        b = gathered (begun g s h c (a .sums)) (a .uids)
 
-        go : view (sweep g s fresh c b) ≡ foldl next (view b) (elements s c) → (o : Bool)
-            → view (cond o (sweep g s fresh c b) b) ≡ foldl next (next (view a) (element s h c)) (cond o (elements s c) [])
-        go w true = w ∙ ap (λ (x : B). foldl next x (elements s c)) (one s h c a)
-        go w false = one s h c a
+        go : view (sweep g s fresh c b .sums) ≡ foldl next (view (b .sums)) (elements s c) → (o : Bool)
+            → view (cond o (sweep g s fresh c b) b .sums) ≡ foldl next (next (view (a .sums)) (element s h c)) (cond o (elements s c) [])
+        go w true = w ∙ ap (λ (x : B). foldl next x (elements s c)) (one s h c (a .sums))
+        go w false = one s h c (a .sums)
 
-  -- a flag that every element keeps or takes down
-  module _ (view : All → Bool) (test : Element → Bool)
-      (one : (s : ℕ) (h : Head) (c : Forest) (a : All) → view (entered g s h c a) ≡ (view a && test (element s h c)))
-      (end : (kind : ℕ) (m : List ℕ) (a : All) → view (ended kind m a) ≡ view a) where
-    flags : (l : List Element) (b : Bool) → foldl (λ (b : Bool) (e : Element). b && test e) b l ≡ (b && every test l)
+  -- a flag that every element keeps or takes down, at its start tag or at its end
+  module _ (view : Sums → Bool) (first last : Element → Bool)
+      (one : (s : ℕ) (h : Head) (c : Forest) (a : Sums) → view (begun g s h c a) ≡ (view a && first (element s h c)))
+      (two : (s : ℕ) (h : Head) (c : Forest) (a : Sums) → view (settled (few s c) (lawful g s c) a) ≡ (view a && last (element s h c)))
+      (end : (kind : ℕ) (m : List ℕ) (a : Sums) → view (endedSums kind m a) ≡ view a) where
+    abbrev test : Element → Bool
+    test e = first e && last e
+
+    pub flag-law : (kind : ℕ) (f : Forest) (m : List ℕ) (a : All) → view (sweep g kind m f a .sums) ≡ (view (a .sums) && every test (elements kind f))
+    unfolding sweep elements ended closed every
+    flag-law kind none m a = end kind m (a .sums) ∙ sym (and-true (view (a .sums)))
+    flag-law kind (node h c r) m a =
+        flag-law kind r (marked (numberOf kind h) m) (closed g s c (a .sums .entries) (cond (holds s) (sweep g s fresh c b) b))
+        ∙ ap (λ (x : Bool). x && every test (elements kind r)) (two s h c (cond (holds s) (sweep g s fresh c b) b .sums) ∙ ap (λ (x : Bool). x && last e) (go (flag-law s c fresh b) (holds s)))
+        ∙ mix (view (a .sums)) (first e) (every test (cond (holds s) (elements s c) [])) (last e) (every test (elements kind r))
+        ∙ ap (λ (x : Bool). view (a .sums) && (test e && x)) (sym (every-append test (cond (holds s) (elements s c) []) (elements kind r)))
+      where
+        s : ℕ
+        s = sortOf kind h
+
+        e : Element
+        e = element s h c
+
+        b : All
+        b = gathered (begun g s h c (a .sums)) (a .uids)
+
+        go : view (sweep g s fresh c b .sums) ≡ (view (b .sums) && every test (elements s c)) → (o : Bool)
+            → view (cond o (sweep g s fresh c b) b .sums) ≡ ((view (a .sums) && first e) && every test (cond o (elements s c) []))
+        go w true = w ∙ ap (λ (x : Bool). x && every test (elements s c)) (one s h c (a .sums))
+        go w false = one s h c (a .sums) ∙ sym (and-true (view (a .sums) && first e))
+
+  -- where nothing is tested at the end
+  module _ (t : Element → Bool) where
+    at-start : (l : List Element) → every (λ e. t e && true) l ≡ every t l
     unfolding every
-    flags [] b = sym (and-true b)
-    flags (e ∷ l) b = flags l (b && test e) ∙ and-assoc b (test e) (every test l)
-
-    pub flag-law : (kind : ℕ) (f : Forest) (m : List ℕ) (a : All) → view (sweep g kind m f a) ≡ (view a && every test (elements kind f))
-    flag-law kind f m a = fold-law view (λ (b : Bool) (e : Element). b && test e) one end kind f m a ∙ flags (elements kind f) (view a)
+    at-start [] = refl
+    at-start (e ∷ l) = ap (λ (b : Bool). b && every (λ e. t e && true) l) (and-true (t e)) ∙ ap (λ (b : Bool). t e && b) (at-start l)
 
   module _ (kind : ℕ) (f : Forest) (m : List ℕ) (a : All) where
     pub few-law : sweep g kind m f a .sums .few ≡ (a .sums .few && every (λ e. few (e .sort) (e .kids)) (elements kind f))
-    unfolding entered ended endedSums
-    few-law = flag-law (λ x. x .sums .few) (λ e. few (e .sort) (e .kids)) (λ s h c a. refl) (λ k m a. refl) kind f m a
+    unfolding begun settled endedSums
+    few-law = flag-law (λ x. x .few) (λ e. true) (λ e. few (e .sort) (e .kids)) (λ s h c a. sym (and-true (a .few))) (λ s h c a. refl) (λ k m a. refl) kind f m a
 
     pub values-law : sweep g kind m f a .sums .values ≡ (a .sums .values && every (λ e. valued (e .sort) (e .head .text)) (elements kind f))
-    unfolding entered ended endedSums
-    values-law = flag-law (λ x. x .sums .values) (λ e. valued (e .sort) (e .head .text)) (λ s h c a. refl) (λ k m a. refl) kind f m a
+    unfolding begun settled endedSums
+    values-law =
+        flag-law (λ x. x .values) (λ e. valued (e .sort) (e .head .text)) (λ e. true) (λ s h c a. refl) (λ s h c a. sym (and-true (a .values))) (λ k m a. refl) kind f m a
+        ∙ ap (λ (b : Bool). a .sums .values && b) (at-start (λ e. valued (e .sort) (e .head .text)) (elements kind f))
 
     pub own-law : sweep g kind m f a .sums .own ≡ (a .sums .own && every (λ e. own g (e .sort) (e .head .text)) (elements kind f))
-    unfolding entered ended endedSums
-    own-law = flag-law (λ x. x .sums .own) (λ e. own g (e .sort) (e .head .text)) (λ s h c a. refl) (λ k m a. refl) kind f m a
+    unfolding begun settled endedSums
+    own-law =
+        flag-law (λ x. x .own) (λ e. own g (e .sort) (e .head .text)) (λ e. true) (λ s h c a. refl) (λ s h c a. sym (and-true (a .own))) (λ k m a. refl) kind f m a
+        ∙ ap (λ (b : Bool). a .sums .own && b) (at-start (λ e. own g (e .sort) (e .head .text)) (elements kind f))
 
     pub lawful-law : sweep g kind m f a .sums .lawful ≡ (a .sums .lawful && every (λ e. lawful g (e .sort) (e .kids)) (elements kind f))
-    unfolding entered ended endedSums
-    lawful-law = flag-law (λ x. x .sums .lawful) (λ e. lawful g (e .sort) (e .kids)) (λ s h c a. refl) (λ k m a. refl) kind f m a
+    unfolding begun settled endedSums
+    lawful-law = flag-law (λ x. x .lawful) (λ e. true) (λ e. lawful g (e .sort) (e .kids)) (λ s h c a. sym (and-true (a .lawful))) (λ s h c a. refl) (λ k m a. refl) kind f m a
 
   -- the structure: the row is complete, and every element in it and below is right
   pub structure-law : (kind : ℕ) (f : Forest) (m : List ℕ) (a : All)
       → sweep g kind m f a .sums .structure ≡ (a .sums .structure && (done kind (tally kind m f) && every rightly (elements kind f)))
-  unfolding sweep tally elements every ended endedSums rightly entered
+  unfolding sweep tally elements every ended endedSums rightly begun closed settled
   structure-law kind none m a = ap (λ (b : Bool). a .sums .structure && b) (sym (and-true (done kind m)))
   structure-law kind (node h c r) m a =
-      structure-law kind r (marked (numberOf kind h) m) (cond (holds s) (sweep g s fresh c b) b) ∙ go (structure-law s c fresh b) (holds s) refl
+      structure-law kind r (marked (numberOf kind h) m) (closed g s c (a .sums .entries) (cond (holds s) (sweep g s fresh c b) b)) ∙ go (structure-law s c fresh b) (holds s) refl
     where
       s : ℕ
       s = sortOf kind h
 
       b : All
-      b = entered g s h c a
+      b = gathered (begun g s h c (a .sums)) (a .uids)
 
       n : Bool
       n = a .sums .structure
@@ -141,57 +176,123 @@ module _ (test : Element → Bool) where
       go true q i j = ap (λ (x : ℕ). foldl tick x l) (simp q (more-sat n)) ∙ i ∙ ap sat (simp q (omega arith))
       go false q i j = ap (λ (x : ℕ). foldl tick x l) (simp q) ∙ j ∙ simp q
 
-  pub count-law : (g : Given) (view : All → ℕ)
-      → ((s : ℕ) (h : Head) (c : Forest) (a : All) → view (entered g s h c a) ≡ cond (test (element s h c)) (more (view a)) (view a))
-      → ((kind : ℕ) (m : List ℕ) (a : All) → view (ended kind m a) ≡ view a) → (kind : ℕ) (f : Forest) (m : List ℕ) (a : All) → view a ≡ 0
-      → view (sweep g kind m f a) ≡ sat (many test (elements kind f))
+  pub count-law : (g : Given) (view : Sums → ℕ)
+      → ((s : ℕ) (h : Head) (c : Forest) (a : Sums) → view (begun g s h c a) ≡ cond (test (element s h c)) (more (view a)) (view a))
+      → ((x y : Bool) (a : Sums) → view (settled x y a) ≡ view a)
+      → ((kind : ℕ) (m : List ℕ) (a : Sums) → view (endedSums kind m a) ≡ view a) → (kind : ℕ) (f : Forest) (m : List ℕ) (a : All) → view (a .sums) ≡ 0
+      → view (sweep g kind m f a .sums) ≡ sat (many test (elements kind f))
   unfolding tick sat
-  count-law g view one end kind f m a z =
-      fold-law g view tick one end kind f m a ∙ ap (λ (x : ℕ). foldl tick x (elements kind f)) z ∙ ticks (elements kind f) 0
+  count-law g view one other end kind f m a z =
+      fold-law g view tick one other end kind f m a ∙ ap (λ (x : ℕ). foldl tick x (elements kind f)) z ∙ ticks (elements kind f) 0
       ∙ ap sat (zero-add (many test (elements kind f)))
 
--- the table of fileuids
-note : ℕ × List ℕ → Element → ℕ × List ℕ
-note p e = cond (isEntry (e .sort)) (more (p .0), set (p .1) (p .0) (uidOf (e .kids))) p
+-- the table of fileuids: an entry's is put after those of the entries in it, which stand behind it
+sets-later : (u t : List ℕ) (k n v : ℕ) → k < n → set (sets t n u) k v ≡ sets (set t k v) n u
+sets-later [] t k n v h = refl
+sets-later (x ∷ u) t k n v h = sets-later u (set t n x) k (suc n) v (omega arith) ∙ ap (λ (l : List ℕ). sets l (suc n) u) (set-comm t n k x v (λ e. omega arith))
 
-notes : (l : List Element) (n : ℕ) (t : List ℕ) → n + length (uidsOf l) < 5000 → foldl note (n, t) l ≡ (n + length (uidsOf l), sets t n (uidsOf l))
-unfolding note uidsOf
-notes [] n t h = ap (λ (x : ℕ). (x, t)) (sym (add-zero n))
-notes (e ∷ l) n t h = go (isEntry (e .sort)) refl (notes l (suc n) (set t n (uidOf (e .kids)))) (notes l n t)
+sets-append : (u w t : List ℕ) (n : ℕ) → sets (sets t n u) (n + length u) w ≡ sets t n (u ++ w)
+sets-append [] w t n = ap (λ (k : ℕ). sets t k w) (add-zero n)
+sets-append (x ∷ u) w t n =
+    let e : n + suc (length u) ≡ suc n + length u = omega arith in
+    ap (λ (k : ℕ). sets (sets (set t n x) (suc n) u) k w) e ∙ sets-append u w (set t n x) (suc n)
+
+uids-append : (l k : List Element) → uidsOf (l ++ k) ≡ uidsOf l ++ uidsOf k
+unfolding uidsOf
+uids-append [] k = refl
+uids-append (e ∷ l) k = go (isEntry (e .sort)) (uids-append l k)
   where
-    u : List ℕ
-    u = uidsOf l
+    go : (b : Bool) → uidsOf (l ++ k) ≡ uidsOf l ++ uidsOf k
+        → cond b (uidOf (e .kids) ∷ uidsOf (l ++ k)) (uidsOf (l ++ k)) ≡ cond b (uidOf (e .kids) ∷ uidsOf l) (uidsOf l) ++ uidsOf k
+    go true i = ap (λ (x : List ℕ). uidOf (e .kids) ∷ x) i
+    go false i = i
 
-    v : ℕ
-    v = uidOf (e .kids)
+more-one : (n : ℕ) → n < 4999 → more n ≡ suc n
+more-one n h = ap more (sym (sat-below n (omega arith))) ∙ more-sat n ∙ sat-below (suc n) (omega arith)
 
-    go : (b : Bool) → isEntry (e .sort) ≡ b
-        → (suc n + length u < 5000 → foldl note (suc n, set t n v) l ≡ (suc n + length u, sets (set t n v) (suc n) u))
-        → (n + length u < 5000 → foldl note (n, t) l ≡ (n + length u, sets t n u))
-        → foldl note (note (n, t) e) l ≡ (n + length (uidsOf (e ∷ l)), sets t n (uidsOf (e ∷ l)))
-    go true q i j =
-        let w : suc n + length u ≡ n + suc (length u) = omega arith in
-        let k : n + suc (length u) < 5000 = simp q at h in
-        let m : more n ≡ suc n = ap more (sym (sat-below n (omega arith))) ∙ more-sat n ∙ sat-below (suc n) (omega arith) in
-        ap (λ (x : ℕ × List ℕ). foldl note x l) (ap (λ (b : Bool). cond b (more n, set t n v) (n, t)) q ∙ ap (λ (x : ℕ). (x, set t n v)) m)
-        ∙ i (omega arith) ∙ ap (λ (x : ℕ). (x, sets (set t n v) (suc n) u)) w
-        ∙ sym (ap (λ (b : Bool). (n + length (cond b (v ∷ u) u), sets t n (cond b (v ∷ u) u))) q)
-    go false q i j =
-        ap (λ (b : Bool). foldl note (cond b (more n, set t n v) (n, t)) l) q ∙ j (simp q at h)
-        ∙ sym (ap (λ (b : Bool). (n + length (cond b (v ∷ u) u), sets t n (cond b (v ∷ u) u))) q)
+-- to n entries with the table t those with the fileuids u have come
+record Filled (n : ℕ) (t u : List ℕ) (z : All) : Type 0 where
+  pub count : z .sums .entries ≡ n + length u
+  pub table : z .uids ≡ sets t n u
+
+module _ (g : Given) where
+  filled : (kind : ℕ) (f : Forest) (m : List ℕ) (a : All) (n : ℕ) → a .sums .entries ≡ n → n + length (uidsOf (elements kind f)) < 5000
+      → Filled n (a .uids) (uidsOf (elements kind f)) (sweep g kind m f a)
+  unfolding sweep elements uidsOf ended endedSums begun closed settled
+  filled kind none m a n z h = record { count = z ∙ sym (add-zero n); table = refl }
+  filled kind (node h c r) m a n z small =
+      go (isEntry s) refl small (inner (filled s c fresh b) (holds s)) (filled kind r (marked (numberOf kind h) m) y)
+    where
+      s : ℕ
+      s = sortOf kind h
+
+      b : All
+      b = gathered (begun g s h c (a .sums)) (a .uids)
+
+      x : All
+      x = cond (holds s) (sweep g s fresh c b) b
+
+      y : All
+      y = closed g s c (a .sums .entries) x
+
+      t : List ℕ
+      t = a .uids
+
+      v : ℕ
+      v = uidOf c
+
+      l : List Element
+      l = cond (holds s) (elements s c) []
+
+      u : List ℕ
+      u = uidsOf l
+
+      w : List ℕ
+      w = uidsOf (elements kind r)
+
+      uw : List ℕ
+      uw = uidsOf (l ++ elements kind r)
+
+      long : length uw ≡ length u + length w
+      long = ap length (uids-append l (elements kind r)) ∙ length-append u w
+
+      inner : ((k : ℕ) → b .sums .entries ≡ k → k + length (uidsOf (elements s c)) < 5000 → Filled k t (uidsOf (elements s c)) (sweep g s fresh c b)) → (o : Bool)
+          → (k : ℕ) → b .sums .entries ≡ k → k + length (uidsOf (cond o (elements s c) [])) < 5000
+          → Filled k t (uidsOf (cond o (elements s c) [])) (cond o (sweep g s fresh c b) b)
+      inner i true k e d = i k e d
+      inner i false k e d = record { count = e ∙ sym (add-zero k); table = refl }
+
+      go : (q : Bool) → isEntry s ≡ q → n + length (cond q (v ∷ uw) uw) < 5000 → ((k : ℕ) → b .sums .entries ≡ k → k + length u < 5000 → Filled k t u x)
+          → ((k : ℕ) → y .sums .entries ≡ k → k + length w < 5000 → Filled k (y .uids) w (sweep g kind (marked (numberOf kind h) m) r y))
+          → Filled n t (cond q (v ∷ uw) uw) (sweep g kind (marked (numberOf kind h) m) r y)
+      go true p d first rest =
+          let e : b .sums .entries ≡ suc n =
+          ap (λ (o : Bool). cond o (more (a .sums .entries)) (a .sums .entries)) p ∙ ap more z ∙ more-one n (omega (arith, long)) in
+          let i = first (suc n) e (omega (arith, long)) in
+          let put : y .uids ≡ sets (set t n v) (suc n) u =
+          ap (λ (o : Bool). cond o (set (x .uids) (a .sums .entries) v) (x .uids)) p ∙ ap (λ (k : ℕ). set (x .uids) k v) z ∙ ap (λ (l : List ℕ). set l n v) (i .table)
+          ∙ sets-later u t n (suc n) v (omega arith) in
+          let j = rest (suc n + length u) (i .count) (omega (arith, long)) in
+          let sum : (suc n + length u) + length w ≡ n + suc (length uw) = omega (arith, long) in
+          record {
+            count = j .count ∙ sum;
+            table = j .table ∙ ap (λ (l : List ℕ). sets l (suc n + length u) w) put ∙ sets-append u w (set t n v) (suc n)
+                ∙ ap (sets (set t n v) (suc n)) (sym (uids-append l (elements kind r)));
+          }
+      go false p d first rest =
+          let e : b .sums .entries ≡ n = ap (λ (o : Bool). cond o (more (a .sums .entries)) (a .sums .entries)) p ∙ z in
+          let i = first n e (omega (arith, long)) in
+          let put : y .uids ≡ sets t n u = ap (λ (o : Bool). cond o (set (x .uids) (a .sums .entries) v) (x .uids)) p ∙ i .table in
+          let j = rest (n + length u) (i .count) (omega (arith, long)) in
+          let sum : (n + length u) + length w ≡ n + length uw = omega (arith, long) in
+          record {
+            count = j .count ∙ sum;
+            table = j .table ∙ ap (λ (l : List ℕ). sets l (n + length u) w) put ∙ sets-append u w t n ∙ ap (sets t n) (sym (uids-append l (elements kind r)));
+          }
 
 pub uids-law : (g : Given) (kind : ℕ) (f : Forest) (m : List ℕ) (a : All) → a .sums .entries ≡ 0 → length (uidsOf (elements kind f)) < 5000
     → _≡_ {A = ℕ × List ℕ} (sweep g kind m f a .sums .entries, sweep g kind m f a .uids) (length (uidsOf (elements kind f)), sets (a .uids) 0 (uidsOf (elements kind f)))
-unfolding entered ended endedSums note
 uids-law g kind f m a z h =
-    fold-law g (λ x. (x .sums .entries, x .uids)) note
-    (λ s e c x. go (isEntry s) s c x) (λ k m x. refl) kind f m a
-    ∙ ap (λ (x : ℕ). foldl note (x, a .uids) (elements kind f)) z
-    ∙ notes (elements kind f) 0 (a .uids) (rw zero-add h)
-    ∙ ap (λ (x : ℕ). (x, sets (a .uids) 0 (uidsOf (elements kind f)))) (zero-add (length (uidsOf (elements kind f))))
-  where
-    go : (b : Bool) (s : ℕ) (c : Forest) (x : All)
-        → _≡_ {A = ℕ × List ℕ} (cond b (more (x .sums .entries)) (x .sums .entries), cond b (set (x .uids) (x .sums .entries) (uidOf c)) (x .uids))
-        (cond b (more (x .sums .entries), set (x .uids) (x .sums .entries) (uidOf c)) (x .sums .entries, x .uids))
-    go true s c x = refl
-    go false s c x = refl
+    let i = filled g kind f m a 0 z (rw zero-add h) in
+    ap (λ (n : ℕ). (n, sweep g kind m f a .uids)) (i .count ∙ zero-add (length (uidsOf (elements kind f))))
+    ∙ ap (λ (t : List ℕ). (length (uidsOf (elements kind f)), t)) (i .table)

@@ -1,5 +1,6 @@
 -- What one walk over the elements gathers, step by step as the code does it; proofs/ says what that means for the whole text.
-use mathlib.Core.Bool.{Bool, cond, _&&_, _||_}
+use mathlib.Core.Path.{_≡_}
+use mathlib.Core.Bool.{Bool, true, cond, _&&_, _||_}
 use mathlib.Core.List.{List}
 use Prim.Native.Nat.{ℕ, _+_}
 use lib.ListN.{getD, set, replicate}
@@ -10,7 +11,9 @@ use Rattle.index_values.specs.Elements.{numberOf, sortOf}
 use Rattle.children.specs.Children.{below}
 use Rattle.index.specs.Structure.{fits, once}
 use Rattle.index_values.specs.Entries.{isEntry, uidOf}
-use Rattle.index_values.specs.Tests.{Given, valued, own, few, lawful}
+use Rattle.index_values.specs.Tests.{Given, given, valued, own, few, lawful}
+use Rattle.index_rows.specs.Places.{Placed}
+use Rattle.index_values.specs.declared.tests.Volume.{Volume}
 use Rattle.index.specs.declared.walk.Sums.{Sums}
 
 -- numbers and flags, and the fileuids
@@ -52,39 +55,19 @@ unfoldable pub ended : ℕ → List ℕ → All → All
 ended kind m a = record { sums = endedSums kind m (a .sums); uids = a .uids }
 
 -- the start tag of an element of sort s
-unfoldable pub entered : Given → ℕ → Head → Forest → All → All
-entered g s h c a =
-    record {
-      sums =
-          record {
-            structure = a .sums .structure && fits s h c;
-            few = a .sums .few && few s c;
-            values = a .sums .values && valued s (h .text);
-            own = a .sums .own && own g s (h .text);
-            lawful = a .sums .lawful && lawful g s c;
-            entries = cond (isEntry s) (more (a .sums .entries)) (a .sums .entries);
-            files = cond (eqb s file) (more (a .sums .files)) (a .sums .files);
-          };
-      uids = cond (isEntry s) (set (a .uids) (a .sums .entries) (uidOf c)) (a .uids);
-    }
-
--- the same in two steps: its extents aside, and its extents
-unfoldable pub begun : Given → ℕ → Head → Forest → All → All
+unfoldable pub begun : Given → ℕ → Head → Forest → Sums → Sums
 begun g s h c a =
     record {
-      sums =
-          record {
-            structure = a .sums .structure && fits s h c;
-            few = a .sums .few;
-            values = a .sums .values && valued s (h .text);
-            own = a .sums .own && own g s (h .text);
-            lawful = a .sums .lawful;
-            entries = cond (isEntry s) (more (a .sums .entries)) (a .sums .entries);
-            files = cond (eqb s file) (more (a .sums .files)) (a .sums .files);
-          };
-      uids = cond (isEntry s) (set (a .uids) (a .sums .entries) (uidOf c)) (a .uids);
+      structure = a .structure && fits s h c;
+      few = a .few;
+      values = a .values && valued s (h .text);
+      own = a .own && own g s (h .text);
+      lawful = a .lawful;
+      entries = cond (isEntry s) (more (a .entries)) (a .entries);
+      files = cond (eqb s file) (more (a .files)) (a .files);
     }
 
+-- the tests of its extents
 unfoldable pub settled : Bool → Bool → Sums → Sums
 settled isFew isLawful a =
     record {
@@ -97,10 +80,22 @@ settled isFew isLawful a =
       files = a .files;
     }
 
+-- the end of an element of sort s with n entries before it: its extents are tested, and its fileuid is known
+unfoldable pub closed : Given → ℕ → Forest → ℕ → All → All
+closed g s c n a =
+    record {
+      sums = settled (few s c) (lawful g s c) (a .sums);
+      uids = cond (isEntry s) (set (a .uids) n (uidOf c)) (a .uids);
+    }
+
+-- the same of an element whose children stand at places t of the text x
+abbrev pub Closes : List ℕ → List ℕ → ℕ → Volume → ℕ → All → All → Type 0
+Closes x t s v n a b = (c : Forest) (u : List ℕ) → (isEntry s ≡ true → Placed x s c t) → b ≡ closed (given u v) s c n a
+
 -- the rest of a row in an element of that kind, of which m is seen
 unfoldable pub sweep : Given → ℕ → List ℕ → Forest → All → All
 sweep g kind m none a = ended kind m a
 sweep g kind m (node h c r) a =
     let s = sortOf kind h in
-    let b = entered g s h c a in
-    sweep g kind (marked (numberOf kind h) m) r (cond (holds s) (sweep g s fresh c b) b)
+    let b = gathered (begun g s h c (a .sums)) (a .uids) in
+    sweep g kind (marked (numberOf kind h) m) r (closed g s c (a .sums .entries) (cond (holds s) (sweep g s fresh c b) b))

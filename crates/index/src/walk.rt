@@ -21,9 +21,11 @@ ghost use Rattle.index_rows.specs.Places.{Placed};
 ghost use Rattle.index_names.specs.Sorts.{holds};
 ghost use Rattle.index_values.specs.Elements.{numberOf};
 ghost use Rattle.index.specs.Structure.{fits, once};
-ghost use Rattle.index_values.specs.Entries.{isEntry, uidOf};
+ghost use Rattle.children.specs.Children.{textOf};
+ghost use Rattle.children.specs.Rows.{seat};
+ghost use Rattle.index_values.specs.Entries.{isEntry, numberSaid};
 ghost use Rattle.index_values.specs.Tests.{given};
-ghost use Rattle.index.specs.Sweep.{gathered, more, fresh, marked, done, endedSums, begun, settled, sweep};
+ghost use Rattle.index.specs.Sweep.{gathered, more, fresh, marked, done, endedSums, begun, settled, Closes, sweep};
 
 // What the walk gathers besides the fileuids: whether the structure is right so far, how many directories and files there are, how many
 // of them files.
@@ -162,41 +164,11 @@ fn bump_if(one: bool, n: u64) -> u64
     n
 }
 
-// The fileuid of the entry whose children are the row at row goes into the table; no other element has one there.
-fn put_uid(text: &[u8], uids: &mut [u64; 4096], row: usize, entry: bool, at: u64)
-    ensures { λ r. ⌜ now (uids .exit) ≡ cond entry (set (now (uids .entry)) at (uidOf (rowAt (now (text .entry)) row))) (now (uids .entry)) ⌝ }
-{
-    if entry {
-        tables::put(
-            uids,
-            at as usize,
-            index_values::number_named(text, row, b"fileuid"),
-        );
-    }
-}
-
-// The start tag of an element of a sort, its extents aside.
-fn enter(
-    text: &[u8],
-    uuid: &[u8],
-    uids: &mut [u64; 4096],
-    h: Start,
-    sort: usize,
-    volume: Volume,
-    a: Sums,
-) -> Sums
+// The start tag of an element of a sort.
+fn enter(text: &[u8], uuid: &[u8], h: Start, sort: usize, volume: Volume, a: Sums) -> Sums
     requires { ⌜ Shape (now text) h ⌝ }
-    ensures { λ r. ⌜ gathered r (now (uids .exit)) ≡ begun (given (now (uuid .entry)) volume) sort (headAt (now (text .entry)) (h .at)) (childrenAt (now (text .entry)) (h .at)) (gathered a (now (uids .entry))) ⌝ }
+    ensures { λ r. ⌜ r ≡ begun (given (now (uuid .entry)) volume) sort (headAt (now (text .entry)) (h .at)) (childrenAt (now (text .entry)) (h .at)) a ⌝ }
 {
-    let entry = is_entry(sort);
-    let entries = a.entries;
-    put_uid(
-        text,
-        uids,
-        index_values::children_row(text, h),
-        entry,
-        entries,
-    );
     let good = fits_at(text, h, sort);
     let raw = elements::part(text, h.text);
     Sums {
@@ -205,7 +177,7 @@ fn enter(
         values: both(a.values, index_values::is_valued(sort, raw)),
         own: both(a.own, index_values::is_own(uuid, volume, sort, raw)),
         lawful: a.lawful,
-        entries: bump_if(entry, entries),
+        entries: bump_if(is_entry(sort), a.entries),
         files: bump_if(sort == FILE, a.files),
     }
 }
@@ -223,6 +195,33 @@ fn settle(v: Judged, a: Sums) -> Sums
         entries: a.entries,
         files: a.files,
     }
+}
+
+// The fileuid of an entry goes into the table, from the place of that element; no other element has one there.
+fn put_uid(text: &[u8], uids: &mut [u64; 4096], place: usize, entry: bool, at: u64)
+    ensures { λ r. ⌜ now (uids .exit) ≡ cond entry (set (now (uids .entry)) at (numberSaid (textOf (seat (now (text .entry)) place)))) (now (uids .entry)) ⌝ }
+{
+    if entry {
+        tables::put(uids, at as usize, index_values::number_placed(text, place));
+    }
+}
+
+// The end of an element of a sort, with the places of its children, and its number among the entries if it is one.
+fn close_element(
+    text: &[u8],
+    places: &[usize; 16],
+    uids: &mut [u64; 4096],
+    rows: &mut [u64; 5120],
+    sort: usize,
+    volume: Volume,
+    number: u64,
+    a: Sums,
+) -> Sums
+    ensures { λ r. ⌜ Closes (now (text .entry)) (now (places .entry)) sort volume number (gathered a (now (uids .entry))) (gathered r (now (uids .exit))) ⌝ }
+{
+    put_uid(text, uids, places[0], is_entry(sort), number);
+    let v = index_values::judge(text, places, rows, sort, volume);
+    settle(v, a)
 }
 
 // Both.
@@ -283,17 +282,17 @@ pub fn walk(
                 let sort = index_names::sort_in(kind, j);
                 mark(&mut seen, j);
                 index_rows::note(&mut places, j, h.at);
-                a = enter(text, uuid, uids, h, sort, volume, a);
+                let number = a.entries;
+                a = enter(text, uuid, h, sort, volume, a);
                 if is_open(sort) {
                     if h.empty {
-                        let v = index_values::judge(text, &[0usize; 16], rows, sort, volume);
-                        a = settle(v, finish(sort, &[0u64; 16], a));
+                        let b = finish(sort, &[0u64; 16], a);
+                        a = close_element(text, &[0usize; 16], uids, rows, sort, volume, number, b);
                         i = h.at;
                     } else {
                         let w = walk(text, uuid, uids, rows, h.at, sort, depth - 1, volume, a);
                         let held = w.places;
-                        let v = index_values::judge(text, &held, rows, sort, volume);
-                        a = settle(v, w.sums);
+                        a = close_element(text, &held, uids, rows, sort, volume, number, w.sums);
                         i = w.at;
                     }
                 } else {

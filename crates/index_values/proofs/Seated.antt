@@ -1,9 +1,10 @@
 -- What is found by name in a row is what is found by number, by the place of the first element of that number.
 use mathlib.Core.Path.{_≡_, refl, ap, sym, _∙_}
-use mathlib.Core.Bool.{Bool, true, false, cond}
+use mathlib.Core.Bool.{Bool, true, false, cond, _||_}
 use mathlib.Core.List.{List}
 use Prim.Native.Nat.{ℕ, _<_}
 use native.Mathlib.Omega.{arith}
+use borrow.Author.Tests.{eqb-true}
 use lib.Dec.{eqb}
 use lib.ListN.{length, getD}
 use Rattle.slices.specs.Slices.{same}
@@ -11,11 +12,12 @@ use Rattle.slices.specs.Words.{bytes}
 use Rattle.xml.specs.Tree.{Forest, none, node}
 use Rattle.children.specs.Children.{textOf, childrenOf}
 use Rattle.children.specs.Rows.{seat}
-use Rattle.index_names.specs.Sorts.{index, file, extent}
-use Rattle.index_names.specs.Names.{names, numberIn, indexNames, fileNames, extentNames}
+use Rattle.index_names.specs.Sorts.{index, root, directory, file, extent}
+use Rattle.index_names.specs.Names.{names, numberIn, indexNames, directoryNames, fileNames, extentNames}
 use Rattle.index_rows.specs.Places.{firstIn, Placed}
 use Rattle.index_rows.proofs.Named.{ruled, number-own}
 use Rattle.index_values.specs.Elements.{textIn, rowIn}
+use Rattle.index_values.specs.Entries.{isEntry, numberSaid, uidOf}
 
 module _ (kind j : ℕ) (name : List ℕ) (told : (n : List ℕ) → eqb (numberIn (names kind) n) j ≡ same n name) where
   text-first : (f : Forest) → textIn name f ≡ textOf (firstIn kind j f)
@@ -42,6 +44,23 @@ module _ (kind j : ℕ) (name : List ℕ) (told : (n : List ℕ) → eqb (number
 
     row-placed : rowIn name f ≡ childrenOf (seat s (getD t j 0))
     row-placed = row-first f ∙ ap childrenOf (placed j h)
+
+-- of a directory or a file: its fileuid
+fileuid-told : (kind : ℕ) → isEntry kind ≡ true → (n : List ℕ) → eqb (numberIn (names kind) n) 0 ≡ same n (bytes "fileuid")
+unfolding names directoryNames fileNames bytes ruled same
+fileuid-told kind e n = go (eqb kind root) (eqb kind directory) (eqb kind file) refl refl refl e
+  where
+    go : (x y z : Bool) → eqb kind root ≡ x → eqb kind directory ≡ y → eqb kind file ≡ z → (x || y || z) ≡ true
+        → eqb (numberIn (names kind) n) 0 ≡ same n (bytes "fileuid")
+    go true y z p q r o = ap (λ (k : ℕ). eqb (numberIn (names k) n) 0) (eqb-true kind root p) ∙ number-own directoryNames 0 n refl
+    go false true z p q r o = ap (λ (k : ℕ). eqb (numberIn (names k) n) 0) (eqb-true kind directory q) ∙ number-own directoryNames 0 n refl
+    go false false true p q r o = ap (λ (k : ℕ). eqb (numberIn (names k) n) 0) (eqb-true kind file r) ∙ number-own fileNames 0 n refl
+    go false false false p q r o = let y : _≡_ {A = ℕ} 0 1 = cc in absurd (omega arith)
+
+pub fileuid-placed : (kind : ℕ) → isEntry kind ≡ true → (s : List ℕ) (f : Forest) (t : List ℕ) → Placed s kind f t
+    → uidOf f ≡ numberSaid (textOf (seat s (getD t 0 0)))
+unfolding uidOf
+fileuid-placed kind e s f t placed = ap numberSaid (text-placed kind 0 (bytes "fileuid") (fileuid-told kind e) s f t placed (omega arith))
 
 -- of a file: its length and its extents
 module _ (s : List ℕ) (f : Forest) (t : List ℕ) (placed : Placed s file f t) where

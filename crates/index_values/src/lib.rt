@@ -3,7 +3,6 @@ mod rows;
 mod tests;
 mod uids;
 
-pub use rows::children_row;
 pub use rows::number_said;
 pub use rows::row_in;
 pub use rows::text_in;

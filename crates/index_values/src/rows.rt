@@ -37,7 +37,7 @@ pub fn text_in<'a>(text: &'a [u8], at: usize, name: &[u8]) -> &'a [u8]
 }
 
 // Where the row of an element's children begins.
-pub fn children_row(text: &[u8], h: Start) -> usize
+fn children_row(text: &[u8], h: Start) -> usize
     requires { ⌜ Shape (now text) h ⌝ }
     ensures { λ r. ⌜ rowAt (now (text .entry)) r ≡ childrenAt (now (text .entry)) (h .at) ⌝ }
 {

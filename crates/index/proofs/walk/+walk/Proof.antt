@@ -16,12 +16,10 @@ use Rattle.elements.proofs.Plain.{inner-first}
 use Rattle.elements.proofs.Rows.{row-end, row-close, around-end, around-close, first-open, first-empty, children-open, children-empty}
 use Rattle.elements.proofs.Roots.{height-open, height-rest}
 use Rattle.index_values.specs.Tests.{given}
-use Rattle.index.specs.Sweep.{gathered, fresh, ended, endedSums, sweep}
+use Rattle.index.specs.Sweep.{gathered, fresh, ended, endedSums, closed, sweep}
 use Rattle.index.specs.declared.walk.Sums.{Sums}
-use Rattle.index_names.specs.Sorts.{file}
 use Rattle.index_rows.specs.Places.{Placed}
 use Rattle.index_rows.proofs.Placing.{Noting, noting-none, noting-more, noting-all, placed-none}
-use Rattle.index.proofs.Later.{meet-told}
 use Rattle.index.proofs.Steps.{row-over, step-holds, step-other}
 use borrow.Author.Needs.{needs}
 use borrow.Fn.Kinds.{In}
@@ -31,13 +29,12 @@ use Rattle.index.proofs.walk.walk.Kinds as walk-kinds
 use Rattle.index.proofs.walk.+walk.Lts-walk as walk-lts
 use Rattle.elements.proofs.next_start.Reads as next-start-reads
 use Rattle.elements.proofs.leave.Reads as leave-reads
+use Rattle.index.proofs.walk.close_element.Reads as close-element-reads
 use Rattle.index.proofs.walk.enter.Reads as enter-reads
 use Rattle.index.proofs.walk.finish.Reads as finish-reads
 use Rattle.index.proofs.walk.is_open.Reads as is-open-reads
 use Rattle.index.proofs.walk.mark.Reads as mark-reads
 use Rattle.index.proofs.walk.number_at.Reads as number-at-reads
-use Rattle.index.proofs.walk.settle.Reads as settle-reads
-use Rattle.index_values.proofs.judge.Reads as judge-reads
 use Rattle.index_names.proofs.sort_in.Reads as sort-in-reads
 use Rattle.index_rows.proofs.note.Reads as note-reads
 use Rattle.index.proofs.walk.+walk.{statement}
@@ -70,10 +67,8 @@ claims t = (
   enter-reads.Learnt,
   is-open-reads.Asked,
   is-open-reads.Learnt,
-  judge-reads.Asked,
-  judge-reads.Learnt,
-  settle-reads.Asked,
-  settle-reads.Learnt,
+  close-element-reads.Asked,
+  close-element-reads.Learnt,
   walk-below t,
   walk.Post,
   leave-reads.Asked,
@@ -158,34 +153,31 @@ walk-note-requires t c κs = search needs
 
 walk-enter-requires : (t : ℕ) → walk-lts.Need-enter-requires (claims t) (walk-at t) walk.Post walk-Inv-loop walk-μ-loop
 walk-enter-requires t c κs =
-    let a = c .before .before .before .before .before .before .before .before .before .before .before .before .before .before .args in
+    let a = c .before .before .before .before .before .before .before .before .before .before .before .before .before .args in
     let s = a .text .now in
-    let l = c .before .before .before .before .before .before .before .before .before .before .before .loop in
+    let l = c .before .before .before .before .before .before .before .before .before .before .loop in
     let g = given (a .uuid .now) (a .volume) in
-    let x = c .before .before .before .before .before .before .before .before .h .given .0 .0 in
-    let o : NextStart s (l .i) (Opens x) = subst (NextStart s (l .i)) (c .before .before .before .before .before .before .before .before .h .given .1) (c .before .before .before .before .before .before .before .before .before .before .next-start .ensures) in
+    let x = c .before .before .before .before .before .before .before .h .given .0 .0 in
+    let o : NextStart s (l .i) (Opens x) = subst (NextStart s (l .i)) (c .before .before .before .before .before .before .before .h .given .1) (c .before .before .before .before .before .before .before .before .before .next-start .ensures) in
     o .shape
 
 walk-is-open-requires : (t : ℕ) → walk-lts.Need-is-open-requires (claims t) (walk-at t) walk.Post walk-Inv-loop walk-μ-loop
 walk-is-open-requires t c κs = search needs
 
-walk-judge-requires : (t : ℕ) → walk-lts.Need-judge-requires (claims t) (walk-at t) walk.Post walk-Inv-loop walk-μ-loop
-walk-judge-requires t c κs = search needs
-
 walk-finish-requires-3 : (t : ℕ) → walk-lts.Need-finish-requires-3 (claims t) (walk-at t) walk.Post walk-Inv-loop walk-μ-loop
 walk-finish-requires-3 t c κs = search needs
 
-walk-settle-requires : (t : ℕ) → walk-lts.Need-settle-requires (claims t) (walk-at t) walk.Post walk-Inv-loop walk-μ-loop
-walk-settle-requires t c κs = search needs
+walk-close-element-requires : (t : ℕ) → walk-lts.Need-close-element-requires (claims t) (walk-at t) walk.Post walk-Inv-loop walk-μ-loop
+walk-close-element-requires t c κs = search needs
 
 walk-loop-less : (t : ℕ) → walk-lts.Need-loop-less (claims t) (walk-at t) walk.Post walk-Inv-loop walk-μ-loop
 walk-loop-less t c =
-    let a = c .before .before .before .before .before .before .before .before .before .before .before .before .before .before .before .before .before .before .before .before .before .before .before .before .args in
+    let a = c .before .before .before .before .before .before .before .before .before .before .before .before .before .before .before .before .before .before .before .before .before .before .before .args in
     let s = a .text .now in
-    let l = c .before .before .before .before .before .before .before .before .before .before .before .before .before .before .before .before .before .before .before .before .before .loop in
+    let l = c .before .before .before .before .before .before .before .before .before .before .before .before .before .before .before .before .before .before .before .before .loop in
     let g = given (a .uuid .now) (a .volume) in
-    let x = c .before .before .before .before .before .before .before .before .before .before .before .before .before .before .before .before .before .before .h .given .0 .0 in
-    let o : NextStart s (l .i) (Opens x) = subst (NextStart s (l .i)) (c .before .before .before .before .before .before .before .before .before .before .before .before .before .before .before .before .before .before .h .given .1) (c .before .before .before .before .before .before .before .before .before .before .before .before .before .before .before .before .before .before .before .before .next-start .ensures) in
+    let x = c .before .before .before .before .before .before .before .before .before .before .before .before .before .before .before .before .before .h .given .0 .0 in
+    let o : NextStart s (l .i) (Opens x) = subst (NextStart s (l .i)) (c .before .before .before .before .before .before .before .before .before .before .before .before .before .before .before .before .before .h .given .1) (c .before .before .before .before .before .before .before .before .before .before .before .before .before .before .before .before .before .before .before .next-start .ensures) in
     let tag : NextTag s (l .i) (Empty (x .at)) = rw (c .before .before .before .before .before .before .if2 .taken) at (o .tag) in
     let first : FirstOf s (l .i) (x .at) (x .at) = first-empty tag in
     omega (arith, first .place, first .after)
@@ -193,131 +185,126 @@ walk-loop-less t c =
 walk-loop-again : (t : ℕ) → walk-lts.Need-loop-again (claims t) (walk-at t) walk.Post walk-Inv-loop walk-μ-loop
 unfolding ended
 walk-loop-again t c =
-    let a = c .before .before .before .before .before .before .before .before .before .before .before .before .before .before .before .before .before .before .before .before .before .before .before .before .args in
+    let a = c .before .before .before .before .before .before .before .before .before .before .before .before .before .before .before .before .before .before .before .before .before .before .before .args in
     let s = a .text .now in
-    let l = c .before .before .before .before .before .before .before .before .before .before .before .before .before .before .before .before .before .before .before .before .before .loop in
+    let l = c .before .before .before .before .before .before .before .before .before .before .before .before .before .before .before .before .before .before .before .before .loop in
     let g = given (a .uuid .now) (a .volume) in
-    let x = c .before .before .before .before .before .before .before .before .before .before .before .before .before .before .before .before .before .before .h .given .0 .0 in
-    let o : NextStart s (l .i) (Opens x) = subst (NextStart s (l .i)) (c .before .before .before .before .before .before .before .before .before .before .before .before .before .before .before .before .before .before .h .given .1) (c .before .before .before .before .before .before .before .before .before .before .before .before .before .before .before .before .before .before .before .before .next-start .ensures) in
+    let x = c .before .before .before .before .before .before .before .before .before .before .before .before .before .before .before .before .before .h .given .0 .0 in
+    let o : NextStart s (l .i) (Opens x) = subst (NextStart s (l .i)) (c .before .before .before .before .before .before .before .before .before .before .before .before .before .before .before .before .before .h .given .1) (c .before .before .before .before .before .before .before .before .before .before .before .before .before .before .before .before .before .before .before .next-start .ensures) in
     let tag : NextTag s (l .i) (Empty (x .at)) = rw (c .before .before .before .before .before .before .if2 .taken) at (o .tag) in
     let k = childrenAt s (x .at) in
-    let v = c .before .before .before .judge .ensures k (λ q. placed-none s file k _ (children-empty tag) (l .inv .5)) in
-    let u = c .before .before .before .before .before .before .before .before .before .enter .last .1 .1 .0 in
+    let v = c .close-element .ensures k (a .uuid .now) (λ q. placed-none s _ k _ (children-empty tag) (l .inv .6)) in
     let first : FirstOf s (l .i) (x .at) (x .at) = first-empty tag in
     let low : height (rowAt s (x .at)) ≤ height (rowAt s (l .i)) = height-rest first in (
       omega (arith, first .place, first .after),
       first .after .1,
       omega arith,
       l .inv .3 ∙ first .around,
-      l .inv .4 ∙ step-holds g (a .kind) (l .seen) (gathered (l .a) (l .uids)) first (c .before .before .before .before .before .before .before .before .before .before .before .before .before .before .before .before .number-at .result) (c .before .before .before .before .before .before .before .before .before .before .before .before .before .before .before .sort-in .result) (c .before .before .before .before .before .before .before .before .before .before .before .before .before .mark .last .0) (gathered (c .before .before .before .before .before .before .before .before .before .enter .result) (c .before .before .before .before .before .before .before .before .before .enter .last .1 .1 .0)) (c .before .before .before .before .before .before .before .before .before .before .before .before .before .before .before .before .number-at .ensures) (c .before .before .before .before .before .before .before .before .before .before .before .before .before .before .before .sort-in .ensures) (c .before .before .before .before .before .before .before .before .before .before .before .before .before .mark .ensures) (c .before .before .before .before .before .before .before .before .before .enter .ensures) (gathered (c .settle .result) u) (sym (c .before .before .before .before .before .before .before .before .is-open .ensures) ∙ c .before .before .before .before .before .before .before .if1 .taken)
-          (ap (λ (x : Sums). gathered x u) (c .settle .ensures)
-          ∙ meet-told (v .0) (v .1 (a .uuid .now)) (c .before .finish3 .result) u _ (ap (λ (x : Sums). gathered x u) (c .before .finish3 .ensures ∙ ap (λ (m : List ℕ). endedSums (c .before .before .before .before .before .before .before .before .before .before .before .before .before .before .before .sort-in .result) m (c .before .before .before .before .before .before .before .before .before .enter .result)) (l .inv .6))
-          ∙ sym (row-over g (c .before .before .before .before .before .before .before .before .before .before .before .before .before .before .before .sort-in .result) fresh (gathered (c .before .before .before .before .before .before .before .before .before .enter .result) u) k (children-empty tag)))),
+      l .inv .4 ∙ step-holds g (a .kind) (l .seen) (gathered (l .a) (l .uids)) first (c .before .before .before .before .before .before .before .before .before .before .before .before .before .before .before .number-at .result) (c .before .before .before .before .before .before .before .before .before .before .before .before .before .before .sort-in .result) (c .before .before .before .before .before .before .before .before .before .before .before .before .mark .last .0) (c .before .before .before .before .before .before .before .before .before .enter .result) (c .before .before .before .before .before .before .before .before .before .before .before .before .before .before .before .number-at .ensures) (c .before .before .before .before .before .before .before .before .before .before .before .before .before .before .sort-in .ensures) (c .before .before .before .before .before .before .before .before .before .before .before .before .mark .ensures) (c .before .before .before .before .before .before .before .before .before .enter .ensures) (gathered (c .close-element .result) (c .close-element .last .1 .1 .0)) (sym (c .before .before .before .before .before .before .before .before .is-open .ensures) ∙ c .before .before .before .before .before .before .before .if1 .taken)
+          (v ∙ ap (closed g (c .before .before .before .before .before .before .before .before .before .before .before .before .before .before .sort-in .result) k (l .a .entries))
+          (ap (λ (x : Sums). gathered x (l .uids)) (c .before .before .before .before .finish3 .ensures ∙ ap (λ (m : List ℕ). endedSums (c .before .before .before .before .before .before .before .before .before .before .before .before .before .before .sort-in .result) m (c .before .before .before .before .before .before .before .before .before .enter .result)) (l .inv .5))
+          ∙ sym (row-over g (c .before .before .before .before .before .before .before .before .before .before .before .before .before .before .sort-in .result) fresh (gathered (c .before .before .before .before .before .before .before .before .before .enter .result) (l .uids)) k (children-empty tag)))),
       l .inv .5,
       l .inv .6,
-      noting-more s (a .kind) (c .before .before .before .before .before .before .before .before .before .before .before .before .before .before .before .before .number-at .result) (l .places) (c .before .before .before .before .before .before .before .before .before .before .before .note .last .0) first (c .before .before .before .before .before .before .before .before .before .before .before .before .before .before .before .before .number-at .ensures) (c .before .before .before .before .before .before .before .before .before .before .before .note .ensures) (rowAt s (a .at)) (l .inv .7),
+      noting-more s (a .kind) (c .before .before .before .before .before .before .before .before .before .before .before .before .before .before .before .number-at .result) (l .places) (c .before .before .before .before .before .before .before .before .before .before .note .last .0) first (c .before .before .before .before .before .before .before .before .before .before .before .before .before .before .before .number-at .ensures) (c .before .before .before .before .before .before .before .before .before .before .note .ensures) (rowAt s (a .at)) (l .inv .7),
     )
 
 walk-sub-walk : (t : ℕ) → walk-lts.Need-sub-walk (claims t) (walk-at t) walk.Post walk-Inv-loop walk-μ-loop
 walk-sub-walk t c =
-    let a = c .before .before .before .before .before .before .before .before .before .before .before .before .before .before .before .before .before .before .before .before .args in
+    let a = c .before .before .before .before .before .before .before .before .before .before .before .before .before .before .before .before .before .before .before .args in
     let s = a .text .now in
-    let l = c .before .before .before .before .before .before .before .before .before .before .before .before .before .before .before .before .before .loop in
+    let l = c .before .before .before .before .before .before .before .before .before .before .before .before .before .before .before .before .loop in
     let g = given (a .uuid .now) (a .volume) in
-    let x = c .before .before .before .before .before .before .before .before .before .before .before .before .before .before .h .given .0 .0 in
-    let o : NextStart s (l .i) (Opens x) = subst (NextStart s (l .i)) (c .before .before .before .before .before .before .before .before .before .before .before .before .before .before .h .given .1) (c .before .before .before .before .before .before .before .before .before .before .before .before .before .before .before .before .next-start .ensures) in
+    let x = c .before .before .before .before .before .before .before .before .before .before .before .before .before .h .given .0 .0 in
+    let o : NextStart s (l .i) (Opens x) = subst (NextStart s (l .i)) (c .before .before .before .before .before .before .before .before .before .before .before .before .before .h .given .1) (c .before .before .before .before .before .before .before .before .before .before .before .before .before .before .before .next-start .ensures) in
     let tag : NextTag s (l .i) (Open (x .at)) = rw (c .before .before .if2 .left) at (o .tag) in
     let low = height-open tag in
     omega (arith, l .inv .2)
 
 walk-walk-requires : (t : ℕ) → walk-lts.Need-walk-requires (claims t) (walk-at t) walk.Post walk-Inv-loop walk-μ-loop
 walk-walk-requires t c κs =
-    let a = c .before .before .before .before .before .before .before .before .before .before .before .before .before .before .before .before .before .before .before .before .args in
+    let a = c .before .before .before .before .before .before .before .before .before .before .before .before .before .before .before .before .before .before .before .args in
     let s = a .text .now in
-    let l = c .before .before .before .before .before .before .before .before .before .before .before .before .before .before .before .before .before .loop in
+    let l = c .before .before .before .before .before .before .before .before .before .before .before .before .before .before .before .before .loop in
     let g = given (a .uuid .now) (a .volume) in
-    let x = c .before .before .before .before .before .before .before .before .before .before .before .before .before .before .h .given .0 .0 in
-    let o : NextStart s (l .i) (Opens x) = subst (NextStart s (l .i)) (c .before .before .before .before .before .before .before .before .before .before .before .before .before .before .h .given .1) (c .before .before .before .before .before .before .before .before .before .before .before .before .before .before .before .before .next-start .ensures) in
+    let x = c .before .before .before .before .before .before .before .before .before .before .before .before .before .h .given .0 .0 in
+    let o : NextStart s (l .i) (Opens x) = subst (NextStart s (l .i)) (c .before .before .before .before .before .before .before .before .before .before .before .before .before .h .given .1) (c .before .before .before .before .before .before .before .before .before .before .before .before .before .before .before .next-start .ensures) in
     let tag : NextTag s (l .i) (Open (x .at)) = rw (c .before .before .if2 .left) at (o .tag) in
     let low = height-open tag in
-    let e : a .depth ≡ t = c .before .before .before .before .before .before .before .before .before .before .before .before .before .before .before .before .before .before .before .before .pre .0 in
+    let e : a .depth ≡ t = c .before .before .before .before .before .before .before .before .before .before .before .before .before .before .before .before .before .before .before .pre .0 in
     let y : a .depth - 1 < t = omega arith in
     (y, (tag .place .1, omega arith))
 
-walk-judge-requires-2 : (t : ℕ) → walk-lts.Need-judge-requires-2 (claims t) (walk-at t) walk.Post walk-Inv-loop walk-μ-loop
-walk-judge-requires-2 t c κs = search needs
-
-walk-settle-requires-2 : (t : ℕ) → walk-lts.Need-settle-requires-2 (claims t) (walk-at t) walk.Post walk-Inv-loop walk-μ-loop
-walk-settle-requires-2 t c κs = search needs
+walk-close-element-requires-2 : (t : ℕ) → walk-lts.Need-close-element-requires-2 (claims t) (walk-at t) walk.Post walk-Inv-loop walk-μ-loop
+walk-close-element-requires-2 t c κs = search needs
 
 walk-loop-less-2 : (t : ℕ) → walk-lts.Need-loop-less-2 (claims t) (walk-at t) walk.Post walk-Inv-loop walk-μ-loop
 walk-loop-less-2 t c =
-    let a = c .before .before .before .before .before .before .before .before .before .before .before .before .before .before .before .before .before .before .before .before .before .before .before .before .before .before .args in
+    let a = c .before .before .before .before .before .before .before .before .before .before .before .before .before .before .before .before .before .before .before .before .before .before .before .before .before .args in
     let s = a .text .now in
-    let l = c .before .before .before .before .before .before .before .before .before .before .before .before .before .before .before .before .before .before .before .before .before .before .before .loop in
+    let l = c .before .before .before .before .before .before .before .before .before .before .before .before .before .before .before .before .before .before .before .before .before .before .loop in
     let g = given (a .uuid .now) (a .volume) in
-    let x = c .before .before .before .before .before .before .before .before .before .before .before .before .before .before .before .before .before .before .before .before .h .given .0 .0 in
-    let o : NextStart s (l .i) (Opens x) = subst (NextStart s (l .i)) (c .before .before .before .before .before .before .before .before .before .before .before .before .before .before .before .before .before .before .before .before .h .given .1) (c .before .before .before .before .before .before .before .before .before .before .before .before .before .before .before .before .before .before .before .before .before .before .next-start .ensures) in
+    let x = c .before .before .before .before .before .before .before .before .before .before .before .before .before .before .before .before .before .before .before .h .given .0 .0 in
+    let o : NextStart s (l .i) (Opens x) = subst (NextStart s (l .i)) (c .before .before .before .before .before .before .before .before .before .before .before .before .before .before .before .before .before .before .before .h .given .1) (c .before .before .before .before .before .before .before .before .before .before .before .before .before .before .before .before .before .before .before .before .before .next-start .ensures) in
     let tag : NextTag s (l .i) (Open (x .at)) = rw (c .before .before .before .before .before .before .before .before .if2 .left) at (o .tag) in
     let first : FirstOf s (l .i) (x .at) (c .before .before .before .before .before .walk .result .at) = first-open tag (c .before .before .before .before .before .walk .ensures .1) in
     omega (arith, first .place, first .after)
 
 walk-loop-again-2 : (t : ℕ) → walk-lts.Need-loop-again-2 (claims t) (walk-at t) walk.Post walk-Inv-loop walk-μ-loop
 walk-loop-again-2 t c =
-    let a = c .before .before .before .before .before .before .before .before .before .before .before .before .before .before .before .before .before .before .before .before .before .before .before .before .before .before .args in
+    let a = c .before .before .before .before .before .before .before .before .before .before .before .before .before .before .before .before .before .before .before .before .before .before .before .before .before .args in
     let s = a .text .now in
-    let l = c .before .before .before .before .before .before .before .before .before .before .before .before .before .before .before .before .before .before .before .before .before .before .before .loop in
+    let l = c .before .before .before .before .before .before .before .before .before .before .before .before .before .before .before .before .before .before .before .before .before .before .loop in
     let g = given (a .uuid .now) (a .volume) in
-    let x = c .before .before .before .before .before .before .before .before .before .before .before .before .before .before .before .before .before .before .before .before .h .given .0 .0 in
-    let o : NextStart s (l .i) (Opens x) = subst (NextStart s (l .i)) (c .before .before .before .before .before .before .before .before .before .before .before .before .before .before .before .before .before .before .before .before .h .given .1) (c .before .before .before .before .before .before .before .before .before .before .before .before .before .before .before .before .before .before .before .before .before .before .next-start .ensures) in
+    let x = c .before .before .before .before .before .before .before .before .before .before .before .before .before .before .before .before .before .before .before .h .given .0 .0 in
+    let o : NextStart s (l .i) (Opens x) = subst (NextStart s (l .i)) (c .before .before .before .before .before .before .before .before .before .before .before .before .before .before .before .before .before .before .before .h .given .1) (c .before .before .before .before .before .before .before .before .before .before .before .before .before .before .before .before .before .before .before .before .before .next-start .ensures) in
     let tag : NextTag s (l .i) (Open (x .at)) = rw (c .before .before .before .before .before .before .before .before .if2 .left) at (o .tag) in
     let k = childrenAt s (x .at) in
-    let held : Placed s (c .before .before .before .before .before .before .before .before .before .before .before .before .before .before .before .before .before .sort-in .result) k (c .before .before .before .before .before .walk .result .places) = subst (λ (f : Forest). Placed s (c .before .before .before .before .before .before .before .before .before .before .before .before .before .before .before .before .before .sort-in .result) f (c .before .before .before .before .before .walk .result .places)) (sym (children-open tag)) (c .before .before .before .before .before .walk .ensures .2) in
-    let v = c .before .judge2 .ensures k (λ q. subst (λ (n : ℕ). Placed s n k (c .before .before .before .before .before .walk .result .places)) q held) in
-    let u = c .before .before .before .before .before .walk .last .1 .1 .0 in
+    let held : Placed s (c .before .before .before .before .before .before .before .before .before .before .before .before .before .before .before .before .sort-in .result) k (c .before .before .before .before .before .walk .result .places) = subst (λ (f : Forest). Placed s (c .before .before .before .before .before .before .before .before .before .before .before .before .before .before .before .before .sort-in .result) f (c .before .before .before .before .before .walk .result .places)) (sym (children-open tag)) (c .before .before .before .before .before .walk .ensures .2) in
+    let v = c .close-element2 .ensures k (a .uuid .now) (λ q. held) in
     let first : FirstOf s (l .i) (x .at) (c .before .before .before .before .before .walk .result .at) = first-open tag (c .before .before .before .before .before .walk .ensures .1) in
     let low : height (rowAt s (c .before .before .before .before .before .walk .result .at)) ≤ height (rowAt s (l .i)) = height-rest first in (
       omega (arith, first .place, first .after),
       first .after .1,
       omega arith,
       l .inv .3 ∙ first .around,
-      l .inv .4 ∙ step-holds g (a .kind) (l .seen) (gathered (l .a) (l .uids)) first (c .before .before .before .before .before .before .before .before .before .before .before .before .before .before .before .before .before .before .number-at .result) (c .before .before .before .before .before .before .before .before .before .before .before .before .before .before .before .before .before .sort-in .result) (c .before .before .before .before .before .before .before .before .before .before .before .before .before .before .before .mark .last .0) (gathered (c .before .before .before .before .before .before .before .before .before .before .before .enter .result) (c .before .before .before .before .before .before .before .before .before .before .before .enter .last .1 .1 .0)) (c .before .before .before .before .before .before .before .before .before .before .before .before .before .before .before .before .before .before .number-at .ensures) (c .before .before .before .before .before .before .before .before .before .before .before .before .before .before .before .before .before .sort-in .ensures) (c .before .before .before .before .before .before .before .before .before .before .before .before .before .before .before .mark .ensures) (c .before .before .before .before .before .before .before .before .before .before .before .enter .ensures) (gathered (c .settle2 .result) u) (sym (c .before .before .before .before .before .before .before .before .before .before .is-open .ensures) ∙ c .before .before .before .before .before .before .before .before .before .if1 .taken)
-          (ap (λ (x : Sums). gathered x u) (c .settle2 .ensures)
-          ∙ meet-told (v .0) (v .1 (a .uuid .now)) (c .before .before .before .before .before .walk .result .sums) u _ (c .before .before .before .before .before .walk .ensures .0 ∙ ap (λ (f : Forest). sweep g (c .before .before .before .before .before .before .before .before .before .before .before .before .before .before .before .before .before .sort-in .result) fresh f (gathered (c .before .before .before .before .before .before .before .before .before .before .before .enter .result) (c .before .before .before .before .before .before .before .before .before .before .before .enter .last .1 .1 .0))) (sym (children-open tag)))),
+      l .inv .4 ∙ step-holds g (a .kind) (l .seen) (gathered (l .a) (l .uids)) first (c .before .before .before .before .before .before .before .before .before .before .before .before .before .before .before .before .before .number-at .result) (c .before .before .before .before .before .before .before .before .before .before .before .before .before .before .before .before .sort-in .result) (c .before .before .before .before .before .before .before .before .before .before .before .before .before .before .mark .last .0) (c .before .before .before .before .before .before .before .before .before .before .before .enter .result) (c .before .before .before .before .before .before .before .before .before .before .before .before .before .before .before .before .before .number-at .ensures) (c .before .before .before .before .before .before .before .before .before .before .before .before .before .before .before .before .sort-in .ensures) (c .before .before .before .before .before .before .before .before .before .before .before .before .before .before .mark .ensures) (c .before .before .before .before .before .before .before .before .before .before .before .enter .ensures) (gathered (c .close-element2 .result) (c .close-element2 .last .1 .1 .0)) (sym (c .before .before .before .before .before .before .before .before .before .before .is-open .ensures) ∙ c .before .before .before .before .before .before .before .before .before .if1 .taken)
+          (v ∙ ap (closed g (c .before .before .before .before .before .before .before .before .before .before .before .before .before .before .before .before .sort-in .result) k (l .a .entries))
+          (c .before .before .before .before .before .walk .ensures .0 ∙ ap (λ (f : Forest). sweep g (c .before .before .before .before .before .before .before .before .before .before .before .before .before .before .before .before .sort-in .result) fresh f (gathered (c .before .before .before .before .before .before .before .before .before .before .before .enter .result) (l .uids))) (sym (children-open tag)))),
       l .inv .5,
       l .inv .6,
-      noting-more s (a .kind) (c .before .before .before .before .before .before .before .before .before .before .before .before .before .before .before .before .before .before .number-at .result) (l .places) (c .before .before .before .before .before .before .before .before .before .before .before .before .before .note .last .0) first (c .before .before .before .before .before .before .before .before .before .before .before .before .before .before .before .before .before .before .number-at .ensures) (c .before .before .before .before .before .before .before .before .before .before .before .before .before .note .ensures) (rowAt s (a .at)) (l .inv .7),
+      noting-more s (a .kind) (c .before .before .before .before .before .before .before .before .before .before .before .before .before .before .before .before .before .number-at .result) (l .places) (c .before .before .before .before .before .before .before .before .before .before .before .before .note .last .0) first (c .before .before .before .before .before .before .before .before .before .before .before .before .before .before .before .before .before .number-at .ensures) (c .before .before .before .before .before .before .before .before .before .before .before .before .note .ensures) (rowAt s (a .at)) (l .inv .7),
     )
 
 walk-loop-less-3 : (t : ℕ) → walk-lts.Need-loop-less-3 (claims t) (walk-at t) walk.Post walk-Inv-loop walk-μ-loop
 walk-loop-less-3 t c =
-    let a = c .before .before .before .before .before .before .before .before .before .before .before .before .before .before .before .before .before .before .args in
+    let a = c .before .before .before .before .before .before .before .before .before .before .before .before .before .before .before .before .before .args in
     let s = a .text .now in
-    let l = c .before .before .before .before .before .before .before .before .before .before .before .before .before .before .before .loop in
+    let l = c .before .before .before .before .before .before .before .before .before .before .before .before .before .before .loop in
     let g = given (a .uuid .now) (a .volume) in
-    let x = c .before .before .before .before .before .before .before .before .before .before .before .before .h .given .0 .0 in
-    let o : NextStart s (l .i) (Opens x) = subst (NextStart s (l .i)) (c .before .before .before .before .before .before .before .before .before .before .before .before .h .given .1) (c .before .before .before .before .before .before .before .before .before .before .before .before .before .before .next-start .ensures) in
+    let x = c .before .before .before .before .before .before .before .before .before .before .before .h .given .0 .0 in
+    let o : NextStart s (l .i) (Opens x) = subst (NextStart s (l .i)) (c .before .before .before .before .before .before .before .before .before .before .before .h .given .1) (c .before .before .before .before .before .before .before .before .before .before .before .before .before .next-start .ensures) in
     let first : FirstOf s (l .i) (x .at) (x .next) = o .next (c .if3 .taken) in
     omega (arith, first .place, first .after)
 
 walk-loop-again-3 : (t : ℕ) → walk-lts.Need-loop-again-3 (claims t) (walk-at t) walk.Post walk-Inv-loop walk-μ-loop
 walk-loop-again-3 t c =
-    let a = c .before .before .before .before .before .before .before .before .before .before .before .before .before .before .before .before .before .before .args in
+    let a = c .before .before .before .before .before .before .before .before .before .before .before .before .before .before .before .before .before .args in
     let s = a .text .now in
-    let l = c .before .before .before .before .before .before .before .before .before .before .before .before .before .before .before .loop in
+    let l = c .before .before .before .before .before .before .before .before .before .before .before .before .before .before .loop in
     let g = given (a .uuid .now) (a .volume) in
-    let x = c .before .before .before .before .before .before .before .before .before .before .before .before .h .given .0 .0 in
-    let o : NextStart s (l .i) (Opens x) = subst (NextStart s (l .i)) (c .before .before .before .before .before .before .before .before .before .before .before .before .h .given .1) (c .before .before .before .before .before .before .before .before .before .before .before .before .before .before .next-start .ensures) in
+    let x = c .before .before .before .before .before .before .before .before .before .before .before .h .given .0 .0 in
+    let o : NextStart s (l .i) (Opens x) = subst (NextStart s (l .i)) (c .before .before .before .before .before .before .before .before .before .before .before .h .given .1) (c .before .before .before .before .before .before .before .before .before .before .before .before .before .next-start .ensures) in
     let first : FirstOf s (l .i) (x .at) (x .next) = o .next (c .if3 .taken) in
     let low : height (rowAt s (x .next)) ≤ height (rowAt s (l .i)) = height-rest first in (
       omega (arith, first .place, first .after),
       first .after .1,
       omega arith,
       l .inv .3 ∙ first .around,
-      l .inv .4 ∙ step-other g (a .kind) (l .seen) (gathered (l .a) (l .uids)) first (c .before .before .before .before .before .before .before .before .before .before .number-at .result) (c .before .before .before .before .before .before .before .before .before .sort-in .result) (c .before .before .before .before .before .before .before .mark .last .0) (gathered (c .before .before .before .enter .result) (c .before .before .before .enter .last .1 .1 .0)) (c .before .before .before .before .before .before .before .before .before .before .number-at .ensures) (c .before .before .before .before .before .before .before .before .before .sort-in .ensures) (c .before .before .before .before .before .before .before .mark .ensures) (c .before .before .before .enter .ensures) (sym (c .before .before .is-open .ensures) ∙ c .before .if1 .left),
+      l .inv .4 ∙ step-other g (a .kind) (l .seen) (gathered (l .a) (l .uids)) first (c .before .before .before .before .before .before .before .before .before .number-at .result) (c .before .before .before .before .before .before .before .before .sort-in .result) (c .before .before .before .before .before .before .mark .last .0) (c .before .before .before .enter .result) (c .before .before .before .before .before .before .before .before .before .number-at .ensures) (c .before .before .before .before .before .before .before .before .sort-in .ensures) (c .before .before .before .before .before .before .mark .ensures) (c .before .before .before .enter .ensures) (sym (c .before .before .is-open .ensures) ∙ c .before .if1 .left),
       l .inv .5,
       l .inv .6,
-      noting-more s (a .kind) (c .before .before .before .before .before .before .before .before .before .before .number-at .result) (l .places) (c .before .before .before .before .before .note .last .0) first (c .before .before .before .before .before .before .before .before .before .before .number-at .ensures) (c .before .before .before .before .before .note .ensures) (rowAt s (a .at)) (l .inv .7),
+      noting-more s (a .kind) (c .before .before .before .before .before .before .before .before .before .number-at .result) (l .places) (c .before .before .before .before .note .last .0) first (c .before .before .before .before .before .before .before .before .before .number-at .ensures) (c .before .before .before .before .note .ensures) (rowAt s (a .at)) (l .inv .7),
     )
 
 walk-leave-requires : (t : ℕ) → walk-lts.Need-leave-requires (claims t) (walk-at t) walk.Post walk-Inv-loop walk-μ-loop
@@ -325,33 +312,33 @@ walk-leave-requires t c κs = search needs
 
 walk-loop-less-4 : (t : ℕ) → walk-lts.Need-loop-less-4 (claims t) (walk-at t) walk.Post walk-Inv-loop walk-μ-loop
 walk-loop-less-4 t c =
-    let a = c .before .before .before .before .before .before .before .before .before .before .before .before .before .before .before .before .before .before .before .args in
+    let a = c .before .before .before .before .before .before .before .before .before .before .before .before .before .before .before .before .before .before .args in
     let s = a .text .now in
-    let l = c .before .before .before .before .before .before .before .before .before .before .before .before .before .before .before .before .loop in
+    let l = c .before .before .before .before .before .before .before .before .before .before .before .before .before .before .before .loop in
     let g = given (a .uuid .now) (a .volume) in
-    let x = c .before .before .before .before .before .before .before .before .before .before .before .before .before .h .given .0 .0 in
-    let o : NextStart s (l .i) (Opens x) = subst (NextStart s (l .i)) (c .before .before .before .before .before .before .before .before .before .before .before .before .before .h .given .1) (c .before .before .before .before .before .before .before .before .before .before .before .before .before .before .before .next-start .ensures) in
+    let x = c .before .before .before .before .before .before .before .before .before .before .before .before .h .given .0 .0 in
+    let o : NextStart s (l .i) (Opens x) = subst (NextStart s (l .i)) (c .before .before .before .before .before .before .before .before .before .before .before .before .h .given .1) (c .before .before .before .before .before .before .before .before .before .before .before .before .before .before .next-start .ensures) in
     let first : FirstOf s (l .i) (x .at) (c .leave .result) = inner-first o (c .before .if3 .left) (c .leave .ensures) in
     omega (arith, first .place, first .after)
 
 walk-loop-again-4 : (t : ℕ) → walk-lts.Need-loop-again-4 (claims t) (walk-at t) walk.Post walk-Inv-loop walk-μ-loop
 walk-loop-again-4 t c =
-    let a = c .before .before .before .before .before .before .before .before .before .before .before .before .before .before .before .before .before .before .before .args in
+    let a = c .before .before .before .before .before .before .before .before .before .before .before .before .before .before .before .before .before .before .args in
     let s = a .text .now in
-    let l = c .before .before .before .before .before .before .before .before .before .before .before .before .before .before .before .before .loop in
+    let l = c .before .before .before .before .before .before .before .before .before .before .before .before .before .before .before .loop in
     let g = given (a .uuid .now) (a .volume) in
-    let x = c .before .before .before .before .before .before .before .before .before .before .before .before .before .h .given .0 .0 in
-    let o : NextStart s (l .i) (Opens x) = subst (NextStart s (l .i)) (c .before .before .before .before .before .before .before .before .before .before .before .before .before .h .given .1) (c .before .before .before .before .before .before .before .before .before .before .before .before .before .before .before .next-start .ensures) in
+    let x = c .before .before .before .before .before .before .before .before .before .before .before .before .h .given .0 .0 in
+    let o : NextStart s (l .i) (Opens x) = subst (NextStart s (l .i)) (c .before .before .before .before .before .before .before .before .before .before .before .before .h .given .1) (c .before .before .before .before .before .before .before .before .before .before .before .before .before .before .next-start .ensures) in
     let first : FirstOf s (l .i) (x .at) (c .leave .result) = inner-first o (c .before .if3 .left) (c .leave .ensures) in
     let low : height (rowAt s (c .leave .result)) ≤ height (rowAt s (l .i)) = height-rest first in (
       omega (arith, first .place, first .after),
       first .after .1,
       omega arith,
       l .inv .3 ∙ first .around,
-      l .inv .4 ∙ step-other g (a .kind) (l .seen) (gathered (l .a) (l .uids)) first (c .before .before .before .before .before .before .before .before .before .before .before .number-at .result) (c .before .before .before .before .before .before .before .before .before .before .sort-in .result) (c .before .before .before .before .before .before .before .before .mark .last .0) (gathered (c .before .before .before .before .enter .result) (c .before .before .before .before .enter .last .1 .1 .0)) (c .before .before .before .before .before .before .before .before .before .before .before .number-at .ensures) (c .before .before .before .before .before .before .before .before .before .before .sort-in .ensures) (c .before .before .before .before .before .before .before .before .mark .ensures) (c .before .before .before .before .enter .ensures) (sym (c .before .before .before .is-open .ensures) ∙ c .before .before .if1 .left),
+      l .inv .4 ∙ step-other g (a .kind) (l .seen) (gathered (l .a) (l .uids)) first (c .before .before .before .before .before .before .before .before .before .before .number-at .result) (c .before .before .before .before .before .before .before .before .before .sort-in .result) (c .before .before .before .before .before .before .before .mark .last .0) (c .before .before .before .before .enter .result) (c .before .before .before .before .before .before .before .before .before .before .number-at .ensures) (c .before .before .before .before .before .before .before .before .before .sort-in .ensures) (c .before .before .before .before .before .before .before .mark .ensures) (c .before .before .before .before .enter .ensures) (sym (c .before .before .before .is-open .ensures) ∙ c .before .before .if1 .left),
       l .inv .5,
       l .inv .6,
-      noting-more s (a .kind) (c .before .before .before .before .before .before .before .before .before .before .before .number-at .result) (l .places) (c .before .before .before .before .before .before .note .last .0) first (c .before .before .before .before .before .before .before .before .before .before .before .number-at .ensures) (c .before .before .before .before .before .before .note .ensures) (rowAt s (a .at)) (l .inv .7),
+      noting-more s (a .kind) (c .before .before .before .before .before .before .before .before .before .before .number-at .result) (l .places) (c .before .before .before .before .before .note .last .0) first (c .before .before .before .before .before .before .before .before .before .before .number-at .ensures) (c .before .before .before .before .before .note .ensures) (rowAt s (a .at)) (l .inv .7),
     )
 
 pub +walk-spec : {M : Type 1} → statement M
@@ -375,15 +362,13 @@ pub +walk-spec : {M : Type 1} → statement M
     (walk-note-requires t)
     (walk-enter-requires t)
     (walk-is-open-requires t)
-    (walk-judge-requires t)
     (walk-finish-requires-3 t)
-    (walk-settle-requires t)
+    (walk-close-element-requires t)
     (walk-loop-less t)
     (walk-loop-again t)
     (walk-sub-walk t)
     (walk-walk-requires t)
-    (walk-judge-requires-2 t)
-    (walk-settle-requires-2 t)
+    (walk-close-element-requires-2 t)
     (walk-loop-less-2 t)
     (walk-loop-again-2 t)
     (walk-loop-less-3 t)

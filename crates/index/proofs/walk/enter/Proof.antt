@@ -1,28 +1,16 @@
 -- `enter` meets its contract: part by part.
 use mathlib.Core.Path.{refl, ap, _∙_}
 use mathlib.Core.Bool.{Bool, _&&_, cond}
-use lib.ListN.{set}
 use Rattle.index.specs.Sweep.{more}
 use Rattle.index_values.specs.Tests.{given, valued, own}
-use Rattle.index_values.specs.Entries.{uidOf}
-use Rattle.xml.specs.Tree.{Forest}
 use Rattle.elements.specs.Reading.{headAt, childrenAt}
 use Rattle.index.proofs.Gathering.{begun-parts}
 use borrow.Author.Needs.{needs}
 use Rattle.index.proofs.walk.enter.Statement.{statement}
 use Rattle.index.proofs.walk.enter.Tie as tie
 
-is-entry-requires : tie.Need-is-entry-requires
-is-entry-requires c κs = search needs
-
-children-row-requires : tie.Need-children-row-requires
-children-row-requires c κs = c .before .before .before .before .pre
-
-put-uid-requires : tie.Need-put-uid-requires
-put-uid-requires c κs = search needs
-
 fits-at-requires : tie.Need-fits-at-requires
-fits-at-requires c κs = c .before .before .before .before .before .before .pre
+fits-at-requires c κs = c .before .before .pre
 
 part-requires : tie.Need-part-requires
 part-requires c κs = search needs
@@ -42,6 +30,9 @@ is-own-requires c κs = search needs
 both-requires-3 : tie.Need-both-requires-3
 both-requires-3 c κs = search needs
 
+is-entry-requires : tie.Need-is-entry-requires
+is-entry-requires c κs = search needs
+
 bump-if-requires : tie.Need-bump-if-requires
 bump-if-requires c κs = search needs
 
@@ -50,30 +41,25 @@ bump-if-requires-2 c κs = search needs
 
 returns : tie.Need-returns
 returns c =
-    let a = c .before .before .before .before .before .before .before .before .before .before .before .before .before .before .before .args .a in
-    let s = c .before .before .before .before .before .before .before .before .before .before .before .before .before .before .before .args .text .now in
-    let n = c .before .before .before .before .before .before .before .before .before .before .before .before .before .before .before .args .h .at in
-    let q = c .before .before .before .before .before .before .before .before .before .before .before .before .before .before .before .args .sort in
-    let g = given (c .before .before .before .before .before .before .before .before .before .before .before .before .before .before .before .args .uuid .now) (c .before .before .before .before .before .before .before .before .before .before .before .before .before .before .before .args .volume) in
-    let u = c .before .before .before .before .before .before .before .before .before .before .before .before .before .before .before .args .uids .now in
-    let raw = c .before .before .before .before .before .before .before .part .ensures ∙ c .before .before .before .before .before .before .before .before .before .before .before .before .before .before .before .pre .text .part in
-    begun-parts g q (headAt s n) (childrenAt s n) a _ u _
-    (c .before .before .before .before .before .before .both .ensures ∙ ap (λ (b : Bool). a .structure && b) (c .before .before .before .before .before .before .before .before .fits-at .ensures))
+    let a = c .before .before .before .before .before .before .before .before .before .before .before .before .args .a in
+    let s = c .before .before .before .before .before .before .before .before .before .before .before .before .args .text .now in
+    let n = c .before .before .before .before .before .before .before .before .before .before .before .before .args .h .at in
+    let q = c .before .before .before .before .before .before .before .before .before .before .before .before .args .sort in
+    let g = given (c .before .before .before .before .before .before .before .before .before .before .before .before .args .uuid .now) (c .before .before .before .before .before .before .before .before .before .before .before .before .args .volume) in
+    let raw = c .before .before .before .before .before .before .before .before .part .ensures ∙ c .before .before .before .before .before .before .before .before .before .before .before .before .pre .text .part in
+    begun-parts g q (headAt s n) (childrenAt s n) a _
+    (c .before .before .before .before .before .before .before .both .ensures ∙ ap (λ (b : Bool). a .structure && b) (c .before .before .before .before .before .before .before .before .before .fits-at .ensures))
     refl
-    (c .before .before .before .before .both2 .ensures ∙ ap (λ (b : Bool). a .values && b) (c .before .before .before .before .before .is-valued .ensures ∙ ap (valued q) raw))
-    (c .before .before .both3 .ensures ∙ ap (λ (b : Bool). a .own && b) (c .before .before .before .is-own .ensures ∙ ap (own g q) raw))
+    (c .before .before .before .before .before .both2 .ensures ∙ ap (λ (b : Bool). a .values && b) (c .before .before .before .before .before .before .is-valued .ensures ∙ ap (valued q) raw))
+    (c .before .before .before .both3 .ensures ∙ ap (λ (b : Bool). a .own && b) (c .before .before .before .before .is-own .ensures ∙ ap (own g q) raw))
     refl
-    (c .before .bump-if .ensures ∙ ap (λ (b : Bool). cond b (more (a .entries)) (a .entries)) (c .before .before .before .before .before .before .before .before .before .before .before .before .is-entry .ensures))
+    (c .before .bump-if .ensures ∙ ap (λ (b : Bool). cond b (more (a .entries)) (a .entries)) (c .before .before .is-entry .ensures))
     (c .bump-if2 .ensures)
-    (c .before .before .before .before .before .before .before .before .before .put-uid .ensures ∙ ap (λ (f : Forest). cond (c .before .before .before .before .before .before .before .before .before .before .before .before .is-entry .result) (set u (a .entries) (uidOf f)) u) (c .before .before .before .before .before .before .before .before .before .before .children-row .ensures) ∙ ap (λ (b : Bool). cond b (set u (a .entries) (uidOf (childrenAt s n))) u) (c .before .before .before .before .before .before .before .before .before .before .before .before .is-entry .ensures))
 
 pub enter-spec : {M : Type 1} → statement M
 enter-spec =
     tie.close
     (tie.spec
-    is-entry-requires
-    children-row-requires
-    put-uid-requires
     fits-at-requires
     part-requires
     both-requires
@@ -81,6 +67,7 @@ enter-spec =
     both-requires-2
     is-own-requires
     both-requires-3
+    is-entry-requires
     bump-if-requires
     bump-if-requires-2
     returns)

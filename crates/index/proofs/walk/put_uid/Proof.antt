@@ -2,24 +2,18 @@
 use mathlib.Core.Path.{ap, sym, _∙_}
 use Prim.Native.Nat.{ℕ}
 use lib.ListN.{set}
-use Rattle.slices.specs.Words.{bytes}
-use Rattle.index_values.specs.Entries.{uidOf}
 use borrow.Author.Needs.{needs}
 use Rattle.index.proofs.walk.put_uid.Statement.{statement}
 use Rattle.index.proofs.walk.put_uid.Tie as tie
 
-slice-aggregate-number-named : tie.Need-slice-aggregate-number-named
-slice-aggregate-number-named c = search needs
-
-number-named-requires : tie.Need-number-named-requires
-number-named-requires c κs = search needs
+number-placed-requires : tie.Need-number-placed-requires
+number-placed-requires c κs = search needs
 
 put-requires : tie.Need-put-requires
 put-requires c κs = search needs
 
 returns : tie.Need-returns
-unfolding uidOf bytes
-returns c = c .put .ensures ∙ ap (λ (v : ℕ). set (c .before .before .before .before .before .before .args .uids .now) (c .before .before .before .before .before .before .args .at) v) (c .before .number-named .ensures) ∙ sym (simp (c .before .before .before .before .if1 .taken))
+returns c = c .put .ensures ∙ ap (λ (v : ℕ). set (c .before .before .before .before .before .args .uids .now) (c .before .before .before .before .before .args .at) v) (c .before .number-placed .ensures) ∙ sym (simp (c .before .before .before .if1 .taken))
 
 returns-2 : tie.Need-returns-2
 returns-2 c = sym (simp (c .if1 .left))
@@ -27,4 +21,4 @@ returns-2 c = sym (simp (c .if1 .left))
 pub put-uid-spec : {M : Type 1} → statement M
 put-uid-spec =
     tie.close
-    (tie.spec slice-aggregate-number-named number-named-requires put-requires returns returns-2)
+    (tie.spec number-placed-requires put-requires returns returns-2)
