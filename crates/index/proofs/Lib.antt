@@ -5,3 +5,4 @@ pub mod Swept
 pub mod Surveying
 pub mod Answers
 pub mod Lawful
+pub mod Derivation

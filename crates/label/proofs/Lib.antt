@@ -2,3 +2,4 @@ pub mod Shape
 pub mod Places
 pub mod Values
 pub mod Tests
+pub mod Derivation

@@ -51,7 +51,7 @@ module _ (labels : Tape → Tape → Option Volume) (v : Volume) (i d : Tape) wh
     -- the uncut volume is consistent exactly when the pair drops nothing
     pub uncut : Consistent labels i d ↔ DropsNothing answered
 
-  -- what the verdict owes, if noBreak is that it tells of none, and the rescue's answer is that
+  -- what the verdict owes, noBreak being that it tells of no break, and answered what the rescue answers
   pub record Verdict3 (noBreak : Type 0) (answered : Option Cut) : Type 0 where
     pub consistent : noBreak ↔ Consistent labels i d
     pub uncut : noBreak ↔ DropsNothing answered
