@@ -1,9 +1,12 @@
--- Every case of the table holds, by computation but for those over every label.
-use mathlib.Core.Path.{_≡_}
-use mathlib.Core.Bool.{true}
+-- Every case of the table holds, by computation but for those over every label and over every index block.
+use mathlib.Core.Path.{_≡_, refl}
+use mathlib.Core.Bool.{Bool, true, false, _||_}
 use mathlib.Core.List.{List}
 use Prim.Native.Nat.{ℕ}
+use lib.Dec.{ltb}
+use lib.ListN.{length}
 use Rattle.slices.specs.Slices.{every}
+use Rattle.slices.proofs.Booleans.{split}
 use Rattle.digits.specs.Runs.{value}
 use Rattle.digits.specs.Decimal as decimal
 use Rattle.digits.specs.Decimal.{isNumber, plain}
@@ -15,9 +18,17 @@ use Rattle.extents.specs.Rows.{rowsOf}
 use Rattle.extents.specs.Lawful.{lawful, rowLawful, apart}
 use Rattle.extents.specs.Map.{byteMap, placeOf}
 use Rattle.label.specs.Label.{Label}
-use Rattle.worked.specs.Cases.{cases}
+use Rattle.worked.specs.Cases.{fresh, standsAt, indexAt, cases}
 use Rattle.worked.proofs.Labels.{one, lengths, shorts}
 
-pub worked : (f : Label) (b : List ℕ) → every (λ b. b) (cases f b) ≡ true
-unfolding every cases bytes standing scan step runAfter closedBy pastLabel number decimal.number isNumber plain value list entry byteMap placeOf rowsOf lawful rowLawful apart
-worked f b = rw (one, lengths f, shorts f b)
+module _ (B : ℕ) (x y z : List ℕ) where
+  fits : ltb B (length z) ≡ false → standsAt 5 (standing B (fresh x y z)) ≡ true
+  unfolding standing scan step runAfter closedBy pastLabel
+  fits e = rw e
+
+  at-5 : indexAt 5 B x y z ≡ true
+  at-5 = split (λ (t : Bool). (t || standsAt 5 (standing B (fresh x y z))) ≡ true) (ltb B (length z)) (λ e. refl) fits
+
+pub worked : (f : Label) (b : List ℕ) (B : ℕ) (x y z : List ℕ) → every (λ b. b) (cases f b B x y z) ≡ true
+unfolding every cases bytes number decimal.number isNumber plain value list entry byteMap placeOf rowsOf lawful rowLawful apart
+worked f b B x y z = rw (at-5 B x y z, one, lengths f, shorts f b)

@@ -3,8 +3,8 @@ use mathlib.Core.Bool.{Bool, true, false, not, _&&_, _||_}
 use mathlib.Core.List.{List, [], _∷_}
 use Prim.Native.Nat.{ℕ}
 use Prim.Native.String.{String}
-use lib.Dec.{eqb}
-use lib.ListN.{length, replicate}
+use lib.Dec.{eqb, ltb}
+use lib.ListN.{length}
 use Rattle.refusals.specs.declared.Refusal.the-variants.{Value}
 use Rattle.refusals.specs.Refusals.{Answer, refused, answer, numberOf, shownNumber}
 use Rattle.slices.specs.Slices.{same}
@@ -12,6 +12,8 @@ use Rattle.slices.specs.Words.{bytes}
 use Rattle.slices.specs.declared.Written.{Written}
 use Rattle.slices.specs.declared.Written.the-variants.{To, Refused}
 use Rattle.values.specs.Values.{number}
+use Rattle.extents.specs.Rows.{rowsOf}
+use Rattle.extents.specs.Lawful.{lawful}
 use Rattle.extents.specs.Map.{Place, stored, unstored, byteMap}
 use Rattle.tape.specs.Tape.{Tape, mark, block, list}
 use Rattle.constructs.specs.Constructs.{Construct, standing}
@@ -19,15 +21,19 @@ use Rattle.label.specs.Label.{Label, told}
 use Rattle.label_writer.specs.Text.{escaped, textOf, isGiven}
 use Rattle.writing.specs.Writing.{answered}
 
--- VOL1, mark, label, mark, mark, one index block, mark; the blocks' bytes don't matter here
-abbrev pub fresh : Tape
-fresh = block (replicate 80 0) ∷ mark ∷ block (replicate 378 0) ∷ mark ∷ mark ∷ block (replicate 900 0) ∷ mark ∷ []
+-- VOL1, mark, label, mark, mark, one index block, mark: of any three blocks
+abbrev pub fresh : List ℕ → List ℕ → List ℕ → Tape
+fresh vol1 label index = block vol1 ∷ mark ∷ block label ∷ mark ∷ mark ∷ block index ∷ mark ∷ []
 
 -- one construct stands, with its first block at n
 abbrev pub standsAt : ℕ → List Construct → Bool
 standsAt n [] = false
 standsAt n (c ∷ []) = eqb (c .first) n
 standsAt n (c ∷ d ∷ cs) = false
+
+-- the index of a fresh partition is at n, if its block is no longer than the block size
+abbrev pub indexAt : ℕ → ℕ → List ℕ → List ℕ → List ℕ → Bool
+indexAt n B vol1 label index = ltb B (length index) || standsAt n (standing B (fresh vol1 label index))
 
 -- a number's text as a reader takes it, 6 for none
 abbrev pub numberIn : String → Answer ℕ
@@ -89,15 +95,15 @@ benchLength f = not (isBench f) || eqb (length (textOf f)) 378
 abbrev pub benchShort : Label → List ℕ → Bool
 benchShort f b = not (isBench f && eqb (length b) 377) || refuses 10 (answered (isGiven f) (textOf f) b)
 
--- f is any label, b any buffer
-unfoldable pub cases : Label → List ℕ → List Bool
-cases f b =
+-- f is any label, b any buffer, B any block size; x, y and z are any blocks
+unfoldable pub cases : Label → List ℕ → ℕ → List ℕ → List ℕ → List ℕ → List Bool
+cases f b B x y z =
     -- a fresh partition has 7 elements
-    eqb (length fresh) 7
+    eqb (length (fresh x y z)) 7
     -- its list has 19 bytes
-    ∷ eqb (length (list fresh)) 19
+    ∷ eqb (length (list (fresh x y z))) 19
     -- its index is at 5
-    ∷ standsAt 5 (standing 4096 fresh)
+    ∷ indexAt 5 B x y z
     -- 18446744073709551615 reads
     ∷ says 18446744073709551615 (numberIn "18446744073709551615")
     -- 18446744073709551616 and 007 are 6
@@ -114,6 +120,6 @@ cases f b =
     ∷ isUnstored (bytesAt 8000)
     ∷ isRefused 2 (bytesAt 9000)
     -- rows of positions 0 to 9 and 10 to 19 are lawful, 0 to 9 and 9 to 18 are 11
-    ∷ isStored 10 0 (byteMap (rowOf 0 10 (rowOf 10 10 [])) 20 4096 0)
+    ∷ lawful 20 4096 (rowsOf (rowOf 0 10 (rowOf 10 10 [])))
     ∷ isRefused 11 (byteMap (rowOf 0 10 (rowOf 9 10 [])) 20 4096 0)
     ∷ []
