@@ -1,5 +1,5 @@
 -- The byte map's answers: what each failed test gives, and the place along the rows.
-use mathlib.Core.Path.{_≡_, refl, ap}
+use mathlib.Core.Path.{_≡_, refl, ap, _∙_}
 use mathlib.Core.Bool.{Bool, true, false, cond, _&&_, and-false}
 use mathlib.Core.List.{List, [], _∷_}
 use Prim.Native.Nat.{ℕ, zero, suc, _+_, _-_, _*_, _/_, _%_, _<_, _≤_}
@@ -11,10 +11,10 @@ use lib.ListN.{length, drop, getD}
 use Rattle.refusals.specs.Refusals.{refused, answer, require}
 use Rattle.refusals.specs.declared.Refusal.the-variants.{Caller, TooMany, Extents, Missing}
 use Rattle.quantities.specs.Sizes.{isBlockSize}
-use Rattle.extents.specs.Rows.{Row, rowsOf, rowAt}
+use Rattle.extents.specs.Rows.{Row, rowsOf, numbersOf, rowAt}
 use Rattle.extents.specs.Lawful.{inRow, lawful, holders}
 use Rattle.extents.specs.Map.{stored, unstored, placeIn, placeOf, lettered, byteMap}
-use Rattle.extents.proofs.Rows.{rows-on, rows-end, rows-count}
+use Rattle.extents.proofs.Rows.{rows-on, rows-end, rows-count, rows-numbers, length-numbers}
 
 module _ (s : List ℕ) (L B p : ℕ) where
   caller-wrong : (isBlockSize B && lettered (rowsOf s) && eqb (length s % 5) 0) ≡ false → byteMap s L B p ≡ refused Caller
@@ -50,6 +50,13 @@ module _ (s : List ℕ) (L B p : ℕ) where
       pub mapped : lawful L B (rowsOf s) ≡ true → byteMap s L B p ≡ require (ltb p L) Missing (answer (placeOf B p (rowsOf s)))
       unfolding byteMap
       mapped e = rw (caller-right, few-rows, e)
+
+-- rows by their numbers, where each test passes
+pub numbers-mapped : (rows : List Row) (L B p : ℕ) → isBlockSize B ≡ true → lettered rows ≡ true → length rows ≤ 1024 → lawful L B rows ≡ true
+    → byteMap (numbersOf rows) L B p ≡ require (ltb p L) Missing (answer (placeOf B p rows))
+numbers-mapped rows L B p size letters few law =
+    mapped (numbersOf rows) L B p size (rw (rows-numbers rows) letters) (omega (arith, length-numbers rows)) (omega (arith, length-numbers rows)) (rw (rows-numbers rows) law)
+    ∙ ap (λ (l : List Row). require (ltb p L) Missing (answer (placeOf B p l))) (rows-numbers rows)
 
 -- along the rows, of which i were passed
 module _ (s : List ℕ) (B p i : ℕ) where

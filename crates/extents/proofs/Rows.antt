@@ -1,4 +1,4 @@
--- The rows of numbers in fives: how many they are, and which numbers each has.
+-- The rows of numbers in fives: how many they are, and which numbers each has; rows whose numbers are written are the rows that are read.
 use mathlib.Core.Path.{_≡_, refl, ap, sym, _∙_}
 use mathlib.Core.Bool.{Bool, true, false}
 use mathlib.Core.List.{List, [], _∷_}
@@ -10,7 +10,7 @@ use lib.ListN.{length, drop, getD, drop-of-length-le}
 use lib.Seq.{getD-drop, drop-cons}
 use Rattle.slices.specs.Slices.{every}
 use Rattle.slices.proofs.Every.{every-at}
-use Rattle.extents.specs.Rows.{Row, rowsOf, rowAt}
+use Rattle.extents.specs.Rows.{Row, rowsOf, numbersOf, rowAt}
 
 pub rows-count : (s : List ℕ) → length (rowsOf s) ≡ length s / 5
 unfolding rowsOf
@@ -20,6 +20,16 @@ rows-count (a ∷ b ∷ []) = refl
 rows-count (a ∷ b ∷ c ∷ []) = refl
 rows-count (a ∷ b ∷ c ∷ d ∷ []) = refl
 rows-count (a ∷ b ∷ c ∷ d ∷ e ∷ s) = let n = rows-count s in omega arith
+
+pub rows-numbers : (rows : List Row) → rowsOf (numbersOf rows) ≡ rows
+unfolding rowsOf numbersOf
+rows-numbers [] = refl
+rows-numbers (r ∷ rows) = ap (λ (l : List Row). r ∷ l) (rows-numbers rows)
+
+pub length-numbers : (rows : List Row) → length (numbersOf rows) ≡ length rows * 5
+unfolding numbersOf
+length-numbers [] = refl
+length-numbers (r ∷ rows) = omega (arith, length-numbers rows)
 
 -- a row of what follows the first five numbers
 row-past : (s : List ℕ) (k : ℕ) → rowAt s (5 + k) ≡ rowAt (drop 5 s) k

@@ -1,5 +1,5 @@
 -- Rows of extents (01, Extents): five numbers each, in a list of numbers one after the other.
-use mathlib.Core.List.{List, [], _∷_}
+use mathlib.Core.List.{List, [], _∷_, _++_}
 use Prim.Native.Nat.{ℕ, _+_}
 use lib.ListN.{getD}
 
@@ -19,6 +19,15 @@ rowsOf (a ∷ b ∷ []) = []
 rowsOf (a ∷ b ∷ c ∷ []) = []
 rowsOf (a ∷ b ∷ c ∷ d ∷ []) = []
 rowsOf (a ∷ b ∷ c ∷ d ∷ e ∷ rest) = record { letter = a; startblock = b; byteoffset = c; bytecount = d; fileoffset = e } ∷ rowsOf rest
+
+-- the numbers of a row
+abbrev pub five : Row → List ℕ
+five r = r .letter ∷ r .startblock ∷ r .byteoffset ∷ r .bytecount ∷ r .fileoffset ∷ []
+
+-- the numbers of rows, one row after the other
+unfoldable pub numbersOf : List Row → List ℕ
+numbersOf [] = []
+numbersOf (r ∷ rows) = five r ++ numbersOf rows
 
 -- the row whose numbers begin at a place
 abbrev pub rowAt : List ℕ → ℕ → Row

@@ -100,7 +100,7 @@ all-tabled : below 9 tabled ≡ true
 unfolding below agree names indexNames placeNames directoryNames contentsNames fileNames extentinfoNames extentNames sort entrySort fileSort directorySort rootSort contentsSort extentinfoSort extentSort placeSort indexSort must
 all-tabled = refl
 
-below-at : (f : ℕ → Bool) (n j : ℕ) → below n f ≡ true → j < n → f j ≡ true
+pub below-at : (f : ℕ → Bool) (n j : ℕ) → below n f ≡ true → j < n → f j ≡ true
 below-at f n j e h = split (λ (t : Bool). f j ≡ t → t ≡ true) (f j) (λ q z. refl) (λ q z. absurd (false≢true (sym (below-false f n j h q) ∙ e))) refl
 
 agree-same : (a b : Bool) → agree a b ≡ true → a ≡ b

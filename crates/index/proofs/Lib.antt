@@ -6,3 +6,4 @@ pub mod Surveying
 pub mod Answers
 pub mod Lawful
 pub mod Derivation
+pub mod EachFile

@@ -1,5 +1,5 @@
--- What holds of a text that is read as an index without refusal: it is in the XML form, its root and its structure are right, its
--- extents are lawful, and what it says is what its children say.
+-- What holds of a text that is read as an index without refusal: it is in the XML form, its root, its structure and its values are right,
+-- its extents are lawful, and what it says is what its children say.
 use mathlib.Core.Path.{_≡_, refl, ap, sym, _∙_}
 use mathlib.Core.Bool.{Bool, true, false, _&&_, false≢true}
 use mathlib.Core.List.{List}
@@ -35,6 +35,7 @@ pub record Accepted (g : Given) (letter : ℕ) (text : List ℕ) (x : Index) : T
   pub reads : Reads text head kids
   pub name : same (head .name) (bytes "ltfsindex") ≡ true
   pub right : every rightly (elements index kids) ≡ true
+  pub valued : allValued (elements index kids) ≡ true
   pub lawful : allLawful g (elements index kids) ≡ true
   pub says : x ≡ said release kids
 
@@ -49,7 +50,7 @@ is-good good e = refl
 is-good (broken u) e = absurd (false≢true e)
 
 module _ (g : Given) (letter block : ℕ) (x : Index) where
-  children-accepted : (release : ℕ) (k : Forest) → childrenRead g letter block release k ≡ answer x → (structured k ≡ true) × (allLawful g (elements index k) ≡ true) × (x ≡ said release k)
+  children-accepted : (release : ℕ) (k : Forest) → childrenRead g letter block release k ≡ answer x → (structured k ≡ true) × (allValued (elements index k) ≡ true) × (allLawful g (elements index k) ≡ true) × (x ≡ said release k)
   unfolding childrenRead
   children-accepted release k e =
       let l = elements index k in
@@ -66,7 +67,7 @@ module _ (g : Given) (letter block : ℕ) (x : Index) where
       let p4 = passed Extents a5 x (allLawful g l) (p3 .1) in
       let p5 = passed Location a6 x (standsAt letter block (locationIn k)) (p4 .1) in
       let z : answer (said release k) ≡ answer x = p5 .1 in
-      (p0 .0, p4 .0, same-answer z)
+      (p0 .0, p2 .0, p4 .0, same-answer z)
     where
       same-answer : {y : Index} → answer y ≡ answer x → x ≡ y
       same-answer e = cc
@@ -86,8 +87,9 @@ module _ (g : Given) (letter block : ℕ) (x : Index) where
         reads = form;
         name = and-left (same (h .name) (bytes "ltfsindex")) (same (h .key) (bytes "version")) (p0 .0);
         right = and-right (complete index k) (every rightly (elements index k)) (p2 .0);
-        lawful = p2 .1;
-        says = p2 .2;
+        valued = p2 .1;
+        lawful = p2 .2;
+        says = p2 .3;
       }
 
 pub accepted : (g : Given) (letter block : ℕ) (text : List ℕ) (x : Index) → indexOf g letter block text ≡ answer x → Accepted g letter text x

@@ -8,11 +8,11 @@ use lib.Seq.{drop-drop}
 use Rattle.slices.specs.Slices.{written}
 use Rattle.slices.proofs.Writing.{written-set, written-snoc, written-then, written-nil, length-written, front-written, drop-written}
 use Rattle.xml.specs.Tree.{Forest}
-use Rattle.extents.specs.Rows.{Row}
-use Rattle.index_values.specs.Tests.{five}
+use Rattle.extents.specs.Rows.{Row, five, numbersOf}
+use Rattle.extents.proofs.Rows.{length-numbers}
 use Rattle.index.specs.Index.{File, fileOf}
 use Rattle.index_files.specs.Asked.{HeadOf}
-use Rattle.index_files.specs.Filling.{numbersOf, WritesRows, SaysFiles, HoldsFiles, headNumbers}
+use Rattle.index_files.specs.Filling.{WritesRows, SaysFiles, HoldsFiles, headNumbers}
 use Rattle.index_files.specs.declared.asked.FileHead.{FileHead}
 
 -- four and five numbers, one after the other
@@ -31,11 +31,6 @@ five-written at x o0 o1 o2 o3 o4 o5 h e1 e2 e3 e4 e5 =
     e5
     ∙ ap (λ (o : List ℕ). set o (at + 4) (x .fileoffset)) (four-written at (x .letter) (x .startblock) (x .byteoffset) (x .bytecount) o0 o1 o2 o3 o4 (omega arith) e1 e2 e3 e4)
     ∙ written-snoc at (x .fileoffset) (x .letter ∷ x .startblock ∷ x .byteoffset ∷ x .bytecount ∷ []) o0 (omega arith)
-
-length-numbers : (l : List Row) → length (numbersOf l) ≡ length l * 5
-unfolding numbersOf
-length-numbers [] = refl
-length-numbers (x ∷ l) = omega (arith, length-numbers l)
 
 numbers-append : (a b : List Row) → numbersOf (a ++ b) ≡ numbersOf a ++ numbersOf b
 unfolding numbersOf

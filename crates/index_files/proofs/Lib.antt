@@ -8,3 +8,4 @@ pub mod Asking
 pub mod Buffers
 pub mod Putting
 pub mod AllRows
+pub mod ByteMap

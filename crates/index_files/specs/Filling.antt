@@ -9,8 +9,7 @@ use Rattle.refusals.specs.Refusals.{Answer, refused, answer, require, andThen}
 use Rattle.refusals.specs.declared.Refusal.the-variants.{Short}
 use Rattle.slices.specs.Slices.{written}
 use Rattle.elements.specs.Reading.{Spans}
-use Rattle.extents.specs.Rows.{Row}
-use Rattle.index_values.specs.Tests.{five}
+use Rattle.extents.specs.Rows.{Row, numbersOf}
 use Rattle.index.specs.Index.{Index, File}
 use Rattle.index_files.specs.declared.asked.FileHead.{FileHead}
 use Rattle.index_files.specs.declared.filling.Filled.{Filled}
@@ -38,11 +37,6 @@ module _ {A : Type 0} where
   pub record Puts (holds : List A → List ℕ → List ℕ → Type 0) (a : Answer (List A)) (before after : List ℕ) (r : Filled) : Type 0 where
     pub says : countSaid r ≡ counted a
     pub stored : Stored holds a before after
-
--- the numbers of rows, one row after the other
-unfoldable pub numbersOf : List Row → List ℕ
-numbersOf [] = []
-numbersOf (r ∷ l) = five r ++ numbersOf l
 
 -- rows written from k on, up to end
 pub record WritesRows (k : ℕ) (l : List Row) (before after : List ℕ) (end : ℕ) : Type 0 where

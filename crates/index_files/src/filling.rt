@@ -8,7 +8,8 @@ ghost use Prim.Native.Nat.{_+_, _*_, _≤_, _<_};
 ghost use lib.ListN.{length, set};
 ghost use Rattle.slices.specs.Slices.{written};
 ghost use Rattle.elements.specs.Reading.{rowAt};
-ghost use Rattle.index_values.specs.Tests.{five, rowsIn};
+ghost use Rattle.extents.specs.Rows.{five};
+ghost use Rattle.index_values.specs.Tests.{rowsIn};
 ghost use Rattle.index_files.specs.Rows.{rowIs};
 ghost use Rattle.index_files.specs.Filling.{WritesRows};
 

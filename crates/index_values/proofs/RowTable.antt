@@ -7,9 +7,9 @@ use lib.ListN.{length, take, drop, set, length-append}
 use lib.Seq.{sets, sets-eq, take-at, length-take-le}
 use Rattle.xml.specs.Tree.{Forest, none, node}
 use Rattle.elements.specs.Reading.{rowAt, headAt, childrenAt}
-use Rattle.extents.specs.Rows.{Row, rowsOf}
+use Rattle.extents.specs.Rows.{Row, rowsOf, five}
 use Rattle.extents.proofs.Rows.{rows-count}
-use Rattle.index_values.specs.Tests.{five, rowOf, rowsIn, RowsRead}
+use Rattle.index_values.specs.Tests.{rowOf, rowsIn, RowsRead}
 
 pub put-five : (at : ℕ) (x : Row) (o0 o1 o2 o3 o4 o5 : List ℕ) → o1 ≡ set o0 at (x .letter) → o2 ≡ set o1 (at + 1) (x .startblock)
     → o3 ≡ set o2 (at + 2) (x .byteoffset) → o4 ≡ set o3 (at + 3) (x .bytecount) → o5 ≡ set o4 (at + 4) (x .fileoffset)

@@ -94,10 +94,6 @@ few s c = not (eqb s file) || leb (length (rowsOf c)) most
 unfoldable pub lawful : Given → ℕ → Forest → Bool
 lawful g s c = not (eqb s file) || (few s c && extents.lawful (lengthOf c) (g .size) (rowsOf c))
 
--- the numbers of a row, and of rows one after the other
-abbrev pub five : Row → List ℕ
-five r = r .letter ∷ r .startblock ∷ r .byteoffset ∷ r .bytecount ∷ r .fileoffset ∷ []
-
 -- n rows stand in the front of out, if there are not too many
 pub record RowsRead (rows : List Row) (out : List ℕ) (n : ℕ) : Type 0 where
   pub all : n ≤ most → (numbers.rowsOf (take (n * 5) out) ≡ rows) × (length rows ≡ n)

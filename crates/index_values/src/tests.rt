@@ -22,6 +22,7 @@ ghost use mathlib.Core.Bool.{_||_};
 ghost use Prim.Native.Nat.{_+_, _*_, _≤_};
 ghost use lib.ListN.{length, take};
 ghost use Rattle.extents.specs.Rows as numbers;
+ghost use Rattle.extents.specs.Rows.{five};
 ghost use Rattle.extents.specs.Lawful as extents;
 ghost use lib.Dec.{eqb};
 ghost use lib.Seq.{sets};
@@ -31,7 +32,7 @@ ghost use Rattle.children.specs.Children.{textOf};
 ghost use Rattle.children.specs.Rows.{seat};
 ghost use Rattle.index_values.specs.Elements.{textIn};
 ghost use Rattle.index_values.specs.Entries.{numberSaid};
-ghost use Rattle.index_values.specs.Tests.{isSome, valued, own, letterSaid, five, rowOf, rowsIn, RowsRead, Judges, given};
+ghost use Rattle.index_values.specs.Tests.{isSome, valued, own, letterSaid, rowOf, rowsIn, RowsRead, Judges, given};
 
 // The label's letters, and the block size.
 pub struct Volume {

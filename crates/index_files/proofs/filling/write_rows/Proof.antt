@@ -5,10 +5,10 @@ use native.Mathlib.Omega.{arith}
 use lib.ListN.{length}
 use Rattle.slices.specs.Slices.{written}
 use Rattle.elements.specs.Reading.{rowAt}
+use Rattle.extents.specs.Rows.{numbersOf}
 use Rattle.index_values.specs.Tests.{rowsIn}
 use Rattle.index_files.specs.declared.extent_rows.NextRow.the-variants.{Done, Found}
 use Rattle.index_files.specs.Rows.{rowIs, RowAhead}
-use Rattle.index_files.specs.Filling.{numbersOf}
 use Rattle.index_files.proofs.Buffers.{Writing, writing-first, writing-done, row-fits, row-on}
 use borrow.Author.Needs.{needs}
 use Rattle.index_files.proofs.filling.write_rows.Statement.{statement}

@@ -5,10 +5,11 @@ use native.Mathlib.Omega.{arith}
 use lib.ListN.{length}
 use Rattle.slices.specs.Slices.{written}
 use Rattle.elements.specs.Reading.{rowAt}
+use Rattle.extents.specs.Rows.{numbersOf}
 use Rattle.index_values.specs.Tests.{rowsIn}
 use Rattle.index_files.specs.declared.files.NextFile.the-variants.{Done, File}
 use Rattle.index_files.specs.Files.{filesFrom, FileFrom}
-use Rattle.index_files.specs.Filling.{numbersOf, allRows}
+use Rattle.index_files.specs.Filling.{allRows}
 use Rattle.index_files.proofs.Buffers.{Writing, writing-first, writing-done, writing-fits, writing-on}
 use Rattle.index_files.proofs.AllRows.{rows-none, rows-file}
 use borrow.Author.Needs.{needs}

@@ -10,8 +10,8 @@ use Rattle.elements.specs.declared.starts.Next.the-variants.{End, Close, Opens}
 use Rattle.elements.specs.Reading.{rowAt, NextTag, FirstOf}
 use Rattle.elements.specs.Starts.{NextStart}
 use Rattle.elements.proofs.Rows.{row-end, row-close, row-past, first-open, first-empty, children-open, children-empty}
-use Rattle.extents.specs.Rows.{rowsOf}
-use Rattle.index_values.specs.Tests.{rowsIn, rowOf, five}
+use Rattle.extents.specs.Rows.{rowsOf, five}
+use Rattle.index_values.specs.Tests.{rowsIn, rowOf}
 use Rattle.index_values.proofs.Shapes.{start-node}
 use Rattle.index_values.proofs.RowTable.{rows-read, rows-too-many, rows-none, rows-go}
 use borrow.Author.Needs.{needs}
