@@ -1,6 +1,6 @@
 -- What a writer for C stored, a reader for C reads as the fields given; and it is the same in any two buffers.
 use mathlib.Core.Path.{_≡_, refl, ap, ap₂, _∙_, sym, subst}
-use mathlib.Core.Bool.{Bool, true, false, _&&_}
+use mathlib.Core.Bool.{Bool, true, false}
 use mathlib.Core.List.{List, [], _∷_}
 use Prim.Native.Nat.{ℕ, zero, suc, _≤_}
 use native.Mathlib.Omega.{arith}
@@ -13,9 +13,9 @@ use Rattle.slices.proofs.Booleans.{and-right}
 use Rattle.slices.proofs.Writers.{stored-whole}
 use Rattle.slices.proofs.Writing.{part-written}
 use Rattle.elements.specs.Reading.{Spans}
-use Rattle.vol1.specs.Vol1.{Fields, vol1Of, areFields, vol1}
+use Rattle.vol1.specs.Vol1.{Fields, areFields, vol1}
 use Rattle.vol1.proofs.Blocks.{given-identifier, given-owner, identifier-vol1, owner-vol1, vol1-reads}
-use Rattle.label.specs.Label.{Label, labelOf}
+use Rattle.label.specs.Label.{Label}
 use Rattle.label_writer.specs.Text.{textOf, isGiven}
 use Rattle.label_writer.proofs.RoundTrip.{text-reads}
 use Rattle.api.specs.Outputs.{Shown, Told, WritesOut, Stores}

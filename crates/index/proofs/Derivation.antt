@@ -1,5 +1,5 @@
 -- The index of a text is that of the tree that the grammar derives of it.
-use mathlib.Core.Path.{_≡_, refl, ap}
+use mathlib.Core.Path.{_≡_, ap}
 use mathlib.Core.Bool.{true}
 use mathlib.Core.List.{List}
 use Prim.Native.Nat.{ℕ, _≤_}
@@ -12,7 +12,7 @@ use Rattle.xml.proofs.Form.{same-form}
 use Rattle.xml.proofs.Trees.{tree-read}
 use Rattle.elements.specs.Reading.{rowAt}
 use Rattle.index_values.specs.Tests.{Given}
-use Rattle.index.specs.Index.{tagRead, rootRead, callerRight, isGood, indexOf}
+use Rattle.index.specs.Index.{tagRead, rootRead, callerRight, indexOf}
 
 pub index-of-tree : (g : Given) (letter block : ℕ) {h : Head} {k : Forest} {s : List ℕ} → Document (node h k none) s
     → callerRight g letter ≡ true → length s ≤ 1048576 → indexOf g letter block s ≡ tagRead g letter block h k

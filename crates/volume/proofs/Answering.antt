@@ -30,7 +30,7 @@ use Rattle.verdict.specs.Demand.{Demand3}
 use Rattle.verdict.proofs.Orders.{firsts, firsts-suffix, firsts-all}
 use Rattle.verdict.proofs.Partners.{begins-at, length-beginnings}
 use Rattle.volume.specs.Volume.{volumeWith, givenBy, labels, onVolume, orNoCut, rescueIn, verdictIn}
-use Rattle.volume.specs.Steps.{Located, Listed, Held, FillsOf, JudgesLast, JudgesIndexes, Breaks, breakOf, lastBreak, Chains, ChainsOf, Ready, BeginsOf, Searches, triedCut, cutIs, CutsBy, Cuts}
+use Rattle.volume.specs.Steps.{Located, Listed, Held, FillsOf, JudgesLast, JudgesIndexes, Breaks, breakOf, lastBreak, Chains, ChainsOf, Ready, BeginsOf, Searches, triedCut, CutsBy, Cuts}
 use Rattle.volume.specs.Answers.{judged, rescued, answered, Rescues, Judges}
 use Rattle.volume.specs.declared.filling.Filled.{Filled}
 use Rattle.volume.specs.declared.search.Tried.{Tried}
