@@ -47,7 +47,7 @@ header_alone() { # compiler words..
 installed() {
     local at=$PWD/$T/test/installed
     rm -rf "$at"
-    make -s install PREFIX="$at" > /dev/null || return 1
+    env -u MAKEFLAGS make -s install PREFIX="$at" > /dev/null || return 1
     local flags
     flags=$(sed -n "s|\${prefix}|$at|g; s|\${libdir}|$at/lib|; s|\${includedir}|$at/include|; s|^Cflags: ||p; s|^Libs: ||p" \
         "$at/lib/pkgconfig/klapouzen.pc" | sort | tr '\n' ' ')
