@@ -15,7 +15,7 @@ use Rattle.verdict.specs.Verdict.{Break}
 use Rattle.verdict.specs.Rescue.{Cut}
 use Rattle.verdict.specs.Demand.{Demand3}
 use Rattle.volume.specs.Volume.{labels, verdictIn, rescueIn}
-use Rattle.volume.specs.Answers.{answered}
+use Rattle.volume.specs.Answers.{cutOf}
 use Rattle.volume.proofs.Demands.{rescue-owes, verdict-owes, breaks-named}
 use Rattle.api.specs.Outputs.{Shown}
 use Rattle.api.specs.Volumes.{breakNumbers, cutNumbers, cutTold, NoBreak, JudgesOut, RescuesOut}
@@ -39,7 +39,7 @@ not-zero is.Caller = refl
 not-zero is.TooMany = refl
 
 -- the numbers tell the cut that is answered
-cut-told : (a : Answer Cut) {n : ℕ} {out : List ℕ} → Shown 5 cutNumbers a n out → cutTold n out ≡ answered a
+cut-told : (a : Answer Cut) {n : ℕ} {out : List ℕ} → Shown 5 cutNumbers a n out → cutTold n out ≡ cutOf a
 cut-told (refused r) s = rw (ap (λ (m : ℕ). eqb m 0) (s .refusal) ∙ not-zero r)
 cut-told (answer a) s = ap₂ cutTold (s .refusal) (s .holds)
 

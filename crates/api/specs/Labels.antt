@@ -19,12 +19,12 @@ abbrev pub vol1Places : Fields → List ℕ
 vol1Places f = identifierAt ∷ identifierLength ∷ ownerAt ∷ ownerLength ∷ []
 
 -- what the reader of VOL1 answers of a block
-abbrev pub ReadsVol1 : List ℕ → ℕ → List ℕ → Type 0
-ReadsVol1 s = Shown 4 vol1Places (vol1Of s)
+abbrev pub ReadsVol1Out : List ℕ → ℕ → List ℕ → Type 0
+ReadsVol1Out s = Shown 4 vol1Places (vol1Of s)
 
 -- it reads the block as those fields, and tells where they stand
 abbrev pub ReadAsVol1 : List ℕ → List ℕ → List ℕ → Type 0
-ReadAsVol1 identifier owner s = (r : ℕ) (out : List ℕ) → ReadsVol1 s r out → (r ≡ 0) × TellsPart s out 0 identifier × TellsPart s out 2 owner
+ReadAsVol1 identifier owner s = (r : ℕ) (out : List ℕ) → ReadsVol1Out s r out → (r ≡ 0) × TellsPart s out 0 identifier × TellsPart s out 2 owner
 
 -- what the writer of VOL1 promises
 abbrev pub WritesVol1 : List ℕ → List ℕ → List ℕ → List ℕ → ℕ → ℕ → Type 0
@@ -52,12 +52,12 @@ pub record SaysLabel (s : List ℕ) (f : Label) (out : List ℕ) : Type 0 where
   pub compression : getD out 11 0 ≡ bit (f .compression)
 
 -- what the reader of a label answers of a text
-abbrev pub ReadsLabel : List ℕ → ℕ → List ℕ → Type 0
-ReadsLabel s = Told 12 (SaysLabel s) (labelOf s)
+abbrev pub ReadsLabelOut : List ℕ → ℕ → List ℕ → Type 0
+ReadsLabelOut s = Told 12 (SaysLabel s) (labelOf s)
 
 -- it reads the text as that label
 abbrev pub ReadAsLabel : Label → List ℕ → Type 0
-ReadAsLabel f s = (r : ℕ) (out : List ℕ) → ReadsLabel s r out → (r ≡ 0) × SaysLabel s f out
+ReadAsLabel f s = (r : ℕ) (out : List ℕ) → ReadsLabelOut s r out → (r ≡ 0) × SaysLabel s f out
 
 -- the label that a caller gives, its compression as a number
 abbrev pub givenLabel : List ℕ → List ℕ → List ℕ → ℕ → ℕ → ℕ → ℕ → ℕ → Label

@@ -10,7 +10,7 @@ use vol1::Vol1Read;
 ghost use mathlib.Core.Path.{_≡_};
 ghost use Rattle.labels.specs.Labels.{labelsIn};
 ghost use Rattle.api.specs.Outputs.{Told};
-ghost use Rattle.api.specs.Labels.{labelNumbers, SaysLabel, givenLabel, ReadsVol1, WritesVol1, ReadsLabel, WritesLabel};
+ghost use Rattle.api.specs.Labels.{labelNumbers, SaysLabel, givenLabel, ReadsVol1Out, WritesVol1, ReadsLabelOut, WritesLabel};
 
 fn in_numbers(f: Fields) -> [u64; 12]
     ensures { λ r. ⌜ r ≡ labelNumbers f ⌝ }
@@ -34,7 +34,7 @@ fn in_numbers(f: Fields) -> [u64; 12]
 // Whether a block is a VOL1 label, and where its identifier and its owner stand.
 #[no_mangle]
 pub extern "C" fn klapouzen_read_vol1(block: &[u8], out: &mut [u64; 4]) -> u64
-    ensures { λ r. ⌜ ReadsVol1 (now (block .entry)) r (now (out .exit)) ⌝ }
+    ensures { λ r. ⌜ ReadsVol1Out (now (block .entry)) r (now (out .exit)) ⌝ }
 {
     match vol1::read_vol1(block) {
         Vol1Read::Good => {
@@ -78,7 +78,7 @@ pub extern "C" fn klapouzen_write_vol1(
 // Reads an LTFS label.
 #[no_mangle]
 pub extern "C" fn klapouzen_read_label(text: &[u8], out: &mut [u64; 12]) -> u64
-    ensures { λ r. ⌜ ReadsLabel (now (text .entry)) r (now (out .exit)) ⌝ }
+    ensures { λ r. ⌜ ReadsLabelOut (now (text .entry)) r (now (out .exit)) ⌝ }
 {
     match label::read(text) {
         Label::Says(f) => {

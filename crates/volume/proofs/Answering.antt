@@ -31,7 +31,7 @@ use Rattle.verdict.proofs.Orders.{firsts, firsts-suffix, firsts-all}
 use Rattle.verdict.proofs.Partners.{begins-at, length-beginnings}
 use Rattle.volume.specs.Volume.{volumeWith, givenBy, labels, onVolume, orNoCut, rescueIn, verdictIn}
 use Rattle.volume.specs.Steps.{Located, Listed, Held, FillsOf, JudgesLast, JudgesIndexes, Breaks, breakOf, lastBreak, Chains, ChainsOf, Ready, BeginsOf, Searches, triedCut, CutsBy, Cuts}
-use Rattle.volume.specs.Answers.{judged, rescued, answered, Rescues, Judges}
+use Rattle.volume.specs.Answers.{judged, rescued, cutOf, Rescues, Judges}
 use Rattle.volume.specs.declared.filling.Filled.{Filled}
 use Rattle.volume.specs.declared.search.Tried.{Tried}
 use Rattle.volume.specs.declared.answers.Rescue.{Rescue}
@@ -210,7 +210,7 @@ module _ (il is dl ds : List ℕ) where
   rescues r e =
       record {
         answers = e;
-        demand = λ i d v p. subst (λ (a : Answer Cut). Demand3 labels v i d (answered a)) (sym e) (rescue-owes il is dl ds i d v p);
+        demand = λ i d v p. subst (λ (a : Answer Cut). Demand3 labels v i d (cutOf a)) (sym e) (rescue-owes il is dl ds i d v p);
       }
 
   pub judges : (r : Verdict) → judged r ≡ verdictIn il is dl ds → Judges il is dl ds r

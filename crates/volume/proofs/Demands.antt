@@ -17,7 +17,7 @@ use Rattle.verdict.specs.Demand.{Demand3, Verdict3}
 use Rattle.verdict.proofs.Demand.{demand3}
 use Rattle.verdict.proofs.Judged.{judged as judged-sound, named}
 use Rattle.volume.specs.Volume.{volumeWith, givenBy, agreed, labels, onVolume, orNoCut, rescueIn, verdictIn}
-use Rattle.volume.specs.Answers.{judged, answered, Premises}
+use Rattle.volume.specs.Answers.{judged, cutOf, Premises}
 use Rattle.volume.specs.declared.answers.Verdict.{Verdict}
 use Rattle.volume.specs.declared.answers.Verdict.the-variants as verdictIs
 
@@ -25,9 +25,9 @@ agreed-label : (a : Answer Label) (v : Volume) → agreed a ≡ some v → (f : 
 agreed-label (refused r) v e = let z : _≡_ {A = ℕ} 0 1 = cc in absurd (omega arith)
 agreed-label (answer f) v e = (f, refl, let z : volumeWith (givenBy f) ≡ v = cc in z)
 
-answered-cut : (o : Option Cut) → answered (orNoCut o) ≡ o
-answered-cut none = refl
-answered-cut (some a) = refl
+cut-of : (o : Option Cut) → cutOf (orNoCut o) ≡ o
+cut-of none = refl
+cut-of (some a) = refl
 
 module _ (il is dl ds : List ℕ) where
   module _ (i d : Tape) (v : Volume) (p : Premises il is dl ds i d v) where
@@ -38,12 +38,12 @@ module _ (il is dl ds : List ℕ) where
     asked-of : {A : Type 0} (ask : Volume → Tape → Tape → Answer A) → onVolume ask il is dl ds ≡ ask v i d
     asked-of ask = let x = agreed-label (labelsOf i d) v (p .agree) in asked-with ask (x .0) (x .1) ∙ ap (λ (w : Volume). ask w i d) (x .2)
 
-    pub rescue-owes : Demand3 labels v i d (answered (rescueIn il is dl ds))
+    pub rescue-owes : Demand3 labels v i d (cutOf (rescueIn il is dl ds))
     rescue-owes =
-        let q = ap answered (asked-of (λ w t u. orNoCut (rescue w t u))) ∙ answered-cut (rescue v i d) in
+        let q = ap cutOf (asked-of (λ w t u. orNoCut (rescue w t u))) ∙ cut-of (rescue v i d) in
         subst (Demand3 labels v i d) (sym q) (demand3 labels v i d (ap agreed (labels-front i d) ∙ p .agree))
 
-    pub verdict-owes : {noBreak : Type 0} → (noBreak ↔ (verdictIn il is dl ds ≡ answer none)) → Verdict3 labels v i d noBreak (answered (rescueIn il is dl ds))
+    pub verdict-owes : {noBreak : Type 0} → (noBreak ↔ (verdictIn il is dl ds ≡ answer none)) → Verdict3 labels v i d noBreak (cutOf (rescueIn il is dl ds))
     verdict-owes {noBreak} (to, from) = record { consistent = sound; uncut = ((λ n. rescue-owes .uncut .0 (sound .0 n)), (λ w. sound .1 (rescue-owes .uncut .1 w))) }
       where
         told : verdictIn il is dl ds ≡ answer (verdict v i d)

@@ -26,9 +26,9 @@ rescued (rescueIs.Cut k) = answer (cutIs k)
 rescued (rescueIs.Refused r) = refused r
 
 -- the cut that is answered, if one is
-abbrev pub answered : Answer Cut → Option Cut
-answered (refused r) = none
-answered (answer a) = some a
+abbrev pub cutOf : Answer Cut → Option Cut
+cutOf (refused r) = none
+cutOf (answer a) = some a
 
 module _ (il is dl ds : List ℕ) where
   -- the premises of demand 3: the lists are not refused 1, and the labels are sound and agree
@@ -43,11 +43,11 @@ module _ (il is dl ds : List ℕ) where
 
   -- what it asks of the verdict, noBreak being that none is told
   abbrev pub VerdictOwes : Type 0 → Type 0
-  VerdictOwes noBreak = (i d : Tape) (v : Volume) → Premises i d v → Verdict3 labels v i d noBreak (answered (rescueIn il is dl ds))
+  VerdictOwes noBreak = (i d : Tape) (v : Volume) → Premises i d v → Verdict3 labels v i d noBreak (cutOf (rescueIn il is dl ds))
 
   pub record Rescues (r : Rescue) : Type 0 where
     pub answers : rescued r ≡ rescueIn il is dl ds
-    pub demand : RescueOwes (answered (rescued r))
+    pub demand : RescueOwes (cutOf (rescued r))
 
   pub record Judges (r : Verdict) : Type 0 where
     pub answers : judged r ≡ verdictIn il is dl ds
