@@ -37,6 +37,9 @@ not-zero is.Location = refl
 not-zero is.NoCut = refl
 not-zero is.Caller = refl
 not-zero is.TooMany = refl
+not-zero is.Labels = refl
+not-zero is.EndOfVolume = refl
+not-zero is.BlockCount = refl
 
 -- the numbers tell the cut that is answered
 cut-told : (a : Answer Cut) {n : ℕ} {out : List ℕ} → Shown 5 cutNumbers a n out → cutTold n out ≡ cutOf a

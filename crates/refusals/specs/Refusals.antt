@@ -6,7 +6,7 @@ use Prim.Native.Nat.{ℕ}
 use Rattle.refusals.specs.declared.Refusal.{Refusal}
 use Rattle.refusals.specs.declared.Refusal.the-variants as is
 
--- the number in document 01's table
+-- the number in document 01's table; from 16 on in 02: Item 1 has 16 to 18
 abbrev pub numberOf : Refusal → ℕ
 numberOf is.List = 1
 numberOf is.Missing = 2
@@ -23,6 +23,9 @@ numberOf is.Location = 12
 numberOf is.NoCut = 13
 numberOf is.Caller = 14
 numberOf is.TooMany = 15
+numberOf is.Labels = 16
+numberOf is.EndOfVolume = 17
+numberOf is.BlockCount = 18
 
 -- a refusal, or what was asked for
 pub data Answer (A : Type 0) : Type 0 where

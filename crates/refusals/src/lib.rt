@@ -1,4 +1,4 @@
-// The refusals of document 01, each under the name of what is wrong.
+// The refusals of document 01 and of 02's requests, each under the name of what is wrong.
 ghost use mathlib.Core.Path.{_≡_};
 ghost use Rattle.refusals.specs.Refusals.{numberOf};
 
@@ -33,9 +33,15 @@ pub enum Refusal {
     Caller,
     // A text that is too long, or too many entries or extents.
     TooMany,
+    // The layout or a label of an ANSI labelled tape.
+    Labels,
+    // A label EOV1 in the place of EOF1: the file goes on on another tape.
+    EndOfVolume,
+    // A label EOF1 whose block count is not that of the data blocks present.
+    BlockCount,
 }
 
-// The number of a refusal in document 01's table.
+// The number of a refusal in document 01's table, and from 16 on in 02.
 pub fn number(refusal: Refusal) -> u64
     ensures { λ r. ⌜ r ≡ numberOf refusal ⌝ }
 {
@@ -55,5 +61,8 @@ pub fn number(refusal: Refusal) -> u64
         Refusal::NoCut => 13,
         Refusal::Caller => 14,
         Refusal::TooMany => 15,
+        Refusal::Labels => 16,
+        Refusal::EndOfVolume => 17,
+        Refusal::BlockCount => 18,
     }
 }
