@@ -11,7 +11,8 @@ use Rattle.tape.specs.Tape.{mark, block, Tape, list, store, content, Encodes}
 use Rattle.tape.proofs.Elements.{MarkAt, BlockAt}
 use Rattle.tape.proofs.Encoding.{one-tape}
 use Rattle.tape.proofs.Keeping.{Present, absent}
-use Rattle.tape.specs.Answers.{elementCount}
+use Rattle.tape.proofs.Passing.{drop-next, bytes-next, bytes-within}
+use Rattle.tape.specs.Answers.{elementCount, Encoded, bytesBefore}
 use Rattle.refusals.specs.declared.Refusal.{Refusal}
 use Rattle.refusals.specs.Refusals.{refused, answer}
 use Rattle.constructs.specs.declared.Scanned.the-variants as Scanned·is
@@ -19,9 +20,8 @@ use Rattle.constructs.specs.declared.Phase.{Phase}
 use Rattle.constructs.specs.declared.Phase.the-variants.{Labels}
 use Rattle.constructs.specs.Constructs.{Construct, Scan, step, scan, start, standing}
 use Rattle.constructs.specs.Phases.{afterMark, afterBlock, closedCount, closedTable, Roomy}
-use Rattle.constructs.specs.Tables.{bytesBefore, entries, Held, Finds, Scans}
-use Rattle.constructs.proofs.Sequences.{drop-next}
-use Rattle.constructs.proofs.Scanning.{bytes-within, scanned, scanned-next, scanned-at, bytes-next, phaseOf, phase-mark, phase-block, count-mark, done-block, table-mark, room-here}
+use Rattle.constructs.specs.Tables.{entries, Finds, Scans}
+use Rattle.constructs.proofs.Scanning.{scanned, scanned-next, scanned-at, phaseOf, phase-mark, phase-block, count-mark, done-block, table-mark, room-here}
 
 -- the walk is at element at, which stands at a place of the list
 pub record Matched (B : ℕ) (l s : List ℕ) (count : ℕ) (T table : List ℕ) (place at off n : ℕ) (phase : Phase) : Type 0 where
@@ -35,7 +35,7 @@ pub record Matched (B : ℕ) (l s : List ℕ) (count : ℕ) (T table : List ℕ)
   pub number : n ≡ length (scanned B tape at .done)
   pub holds : table ≡ sets T 0 (entries tape (scanned B tape at .done))
 
-pub matched-start : (B : ℕ) (l s : List ℕ) (count : ℕ) (T : List ℕ) → Held l s count → Matched B l s count T T 0 0 0 0 (Labels 3)
+pub matched-start : (B : ℕ) (l s : List ℕ) (count : ℕ) (T : List ℕ) → Encoded l s count → Matched B l s count T T 0 0 0 0 (Labels 3)
 unfolding scan store entries
 matched-start B l s count T w =
     record {
@@ -66,7 +66,7 @@ module _ {B : ℕ} {l s : List ℕ} {count : ℕ} {T table : List ℕ} {place at
       let u = scanned B t at in
       let a : u .at ≡ at = scanned-at B t at mark (k .rest) (k .is) in
       let e : scanned B t (suc at) ≡ step B u mark = scanned-next B t at mark (k .rest) (k .is) in
-      let b : off ≡ bytesBefore t (suc at) = m .bytes ∙ sym (bytes-next B t at mark (k .rest) (k .is) ∙ add-zero (bytesBefore t at)) in
+      let b : off ≡ bytesBefore t (suc at) = m .bytes ∙ sym (bytes-next t at mark (k .rest) (k .is) ∙ add-zero (bytesBefore t at)) in
       record {
         tape = t;
         encodes = m .encodes;
@@ -97,7 +97,7 @@ module _ {B : ℕ} {l s : List ℕ} {count : ℕ} {T table : List ℕ} {place at
         counted = m .counted;
         inside = omega arith;
         left = w .left ∙ ap list (sym (rw (add-one at) (drop-next t at (block x) (w .rest) (w .is))));
-        bytes = rw (add-one at, m .bytes, w .size) (sym (bytes-next B t at (block x) (w .rest) (w .is)));
+        bytes = rw (add-one at, m .bytes, w .size) (sym (bytes-next t at (block x) (w .rest) (w .is)));
         phaseIs = rw (m .phaseIs, w .size, add-one at, e, a) (phase-block B t at (u .run) x);
         number = m .number ∙ ap length (sym c) ∙ rw (add-one at);
         holds = m .holds ∙ ap (λ (d : List Construct). sets T 0 (entries t d)) (sym c) ∙ rw (add-one at);
@@ -122,9 +122,6 @@ bytes-bound {at} m =
     let small = m .encodes .bytes in
     let b = m .bytes in
     omega (arith, ap length (m .encodes .stores), bytes-within (m .tape) at)
-
-pub held : (l s : List ℕ) (count : ℕ) → Present l s count → Held l s count
-held l s count p = record { tape = p .tape; encodes = p .encodes; counted = p .count }
 
 -- what a scan answers of a tape that is there, or is not
 pub scans-found : (B n : ℕ) (l s before after : List ℕ) (count : ℕ) (p : Present l s count) → Finds B l s before after n → Scans B l s before after (Scanned·is.Constructs n)

@@ -13,10 +13,11 @@ use Rattle.slices.proofs.Booleans.{split}
 use Rattle.tape.specs.Tape.{Element, mark, block, Tape, list, Encodes}
 use Rattle.tape.proofs.Encoding.{one-tape}
 use Rattle.tape.proofs.Elements.{MarkAt, BlockAt}
+use Rattle.tape.proofs.Passing.{drop-next}
+use Rattle.tape.specs.Answers.{Encoded}
 use Rattle.constructs.specs.Constructs.{dataLengths, dataLengthsFrom}
 use Rattle.constructs.specs.Reach.{labelsAfter, evenAfter, dataLength, PutsLengths}
-use Rattle.constructs.specs.Tables.{Held}
-use Rattle.constructs.proofs.Sequences.{drop-next, set-next}
+use Rattle.constructs.proofs.Sequences.{set-next}
 
 lengths-mark : (k : ℕ) (even : Bool) (t : Tape) → dataLengthsFrom k even (mark ∷ t) ≡ 0 ∷ dataLengthsFrom (labelsAfter k) (evenAfter k even) t
 unfolding dataLengthsFrom
@@ -41,7 +42,7 @@ pub record LengthsAt (l s : List ℕ) (count : ℕ) (T table : List ℕ) (place 
   pub rest : drop at (dataLengths tape) ≡ dataLengthsFrom k even (drop at tape)
   pub holds : table ≡ sets T 0 (take at (dataLengths tape))
 
-pub lengths-start : (l s : List ℕ) (count : ℕ) (T : List ℕ) → Held l s count → count ≤ length T → LengthsAt l s count T T 0 0 4 true
+pub lengths-start : (l s : List ℕ) (count : ℕ) (T : List ℕ) → Encoded l s count → count ≤ length T → LengthsAt l s count T T 0 0 4 true
 lengths-start l s count T w room =
     record { tape = w .tape; encodes = w .encodes; counted = w .counted; room = room; inside = omega arith; left = w .encodes .lists; rest = refl; holds = refl }
 

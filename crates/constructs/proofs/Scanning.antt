@@ -2,8 +2,8 @@
 -- the constructs closed so far.
 use mathlib.Core.Path.{_≡_, refl, sym, _∙_, ap, subst}
 use mathlib.Core.Bool.{Bool, true, false, cond}
-use mathlib.Core.List.{List, [], _∷_, _++_, append-assoc, append-nil}
-use Prim.Native.Nat.{ℕ, zero, suc, _+_, _-_, _*_, _≤_, _<_, min}
+use mathlib.Core.List.{List, [], _∷_, _++_}
+use Prim.Native.Nat.{ℕ, zero, suc, _+_, _-_, _*_, _≤_, _<_}
 use native.Mathlib.Nat.{add-zero, zero-add}
 use native.Mathlib.Numerals.{add-one}
 use native.Mathlib.Omega.{arith}
@@ -12,14 +12,15 @@ use lib.ListN.{length, take, drop, length-append, length-take}
 use lib.Seq.{sets}
 use borrow.Author.Tests.{eqb-false, ne-eqb}
 use Rattle.slices.proofs.Booleans.{split}
-use Rattle.tape.proofs.Keeping.{store-front}
-use Rattle.tape.specs.Tape.{Element, mark, block, Tape, store, content}
-use Rattle.constructs.proofs.Sequences.{take-next, length-taken, sets-append}
+use Rattle.tape.proofs.Passing.{take-next, length-taken, bytes-within}
+use Rattle.tape.specs.Tape.{Element, mark, block, Tape, store}
+use Rattle.tape.specs.Answers.{bytesBefore}
+use Rattle.constructs.proofs.Sequences.{sets-append}
 use Rattle.constructs.specs.declared.Phase.{Phase}
 use Rattle.constructs.specs.declared.Phase.the-variants.{Labels, Data, Index, Defect}
 use Rattle.constructs.specs.Constructs.{Construct, Run, labels, dataRun, indexRun, defect, pastLabel, runAfter, closedBy, Scan, step, scan, start, standing}
 use Rattle.constructs.specs.Phases.{pastLabels, afterMark, afterBlock, closedCount, closedTable, Roomy}
-use Rattle.constructs.specs.Tables.{bytesBefore, entry, entries}
+use Rattle.constructs.specs.Tables.{entry, entries}
 
 -- the scan of the first n elements
 abbrev pub scanned : ℕ → Tape → ℕ → Scan
@@ -35,20 +36,12 @@ unfolding scan step
 scan-at B s [] = sym (add-zero (s .at))
 scan-at B s (e ∷ t) = scan-at B (step B s e) t ∙ omega arith
 
-store-snoc : (t : Tape) (e : Element) → store (t ++ e ∷ []) ≡ store t ++ content e
-unfolding store
-store-snoc [] e = append-nil (content e)
-store-snoc (f ∷ t) e = rw (store-snoc t e, append-assoc (content f) (store t) (content e))
-
 module _ (B : ℕ) (t : Tape) (n : ℕ) (e : Element) (rest : Tape) (d : drop n t ≡ e ∷ rest) where
   pub scanned-next : scanned B t (suc n) ≡ step B (scanned B t n) e
   scanned-next = ap (scan B start) (take-next t n e rest d) ∙ scan-snoc B start (take n t) e
 
   pub scanned-at : scanned B t n .at ≡ n
   scanned-at = scan-at B start (take n t) ∙ omega (arith, length-taken t n e rest d)
-
-  pub bytes-next : bytesBefore t (suc n) ≡ bytesBefore t n + length (content e)
-  bytes-next = ap (λ (u : Tape). length (store u)) (take-next t n e rest d) ∙ ap length (store-snoc (take n t) e) ∙ length-append (store (take n t)) (content e)
 
 -- the run in numbers
 abbrev pub phaseOf : Tape → Run → Phase
@@ -166,11 +159,6 @@ standing-few B t = go (scan B start t .run) (room-scan B start t (refl, refl))
     go dataRun w = omega (arith, scan-at B start t)
     go (indexRun f x short) w = omega (arith, scan-at B start t)
     go defect w = omega (arith, scan-at B start t)
-
-pub bytes-within : (t : Tape) (n : ℕ) → bytesBefore t n ≤ length (store t)
-bytes-within t n =
-    let e : min (bytesBefore t n) (length (store t)) ≡ bytesBefore t n = sym (length-take (bytesBefore t n) (store t)) ∙ ap length (store-front n t) in
-    omega arith
 
 -- there is room for a construct that closes
 roomy : (t : Tape) (n off : ℕ) (r : Run) (cs : List Construct) → n < 65536 → length (store t) ≤ 16777216 → off ≤ length (store t)

@@ -6,13 +6,15 @@ use Prim.Native.Nat.{ℕ, zero, suc, _+_, _-_, _*_, _≤_, _<_}
 use native.Mathlib.Omega.{arith}
 use lib.Dec.{ltb, eqb}
 use lib.ListN.{length, getD, take, drop, length-append, List·getD-append}
-use lib.Seq.{take-add, drop-drop, take-append-seam, drop-append-add, take-length, getD-append-add, sets, sets-eq}
+use lib.Seq.{take-add, drop-drop, take-append-seam, take-length, getD-append-add, sets, sets-eq}
 use Rattle.slices.proofs.Booleans.{split}
 use Rattle.tape.specs.Tape.{Element, mark, block, Tape, store, content}
+use Rattle.tape.specs.Answers.{bytesBefore}
+use Rattle.tape.proofs.Passing.{bytes-next, drop-store}
 use Rattle.constructs.specs.Constructs.{Construct, Run, labels, dataRun, indexRun, defect, pastLabel, runAfter, closedBy, step, scan, standing}
-use Rattle.constructs.specs.Tables.{bytesBefore, entry, entries}
+use Rattle.constructs.specs.Tables.{entry, entries}
 use Rattle.constructs.proofs.Suffixes.{Suffix, here, there, nil-suffix, suffix-length}
-use Rattle.constructs.proofs.Scanning.{scanned, scanned-next, scanned-at, bytes-next, length-entries}
+use Rattle.constructs.proofs.Scanning.{scanned, scanned-next, scanned-at, length-entries}
 
 -- the bytes of the blocks from element a to element b, b not included
 abbrev pub part : Tape → ℕ → ℕ → List ℕ
@@ -20,13 +22,6 @@ part t a b = take (bytesBefore t b - bytesBefore t a) (drop (bytesBefore t a) (s
 
 part-none : (t : Tape) (a : ℕ) → part t a a ≡ []
 part-none t a = let e : bytesBefore t a - bytesBefore t a ≡ 0 = omega arith in rw e
-
--- the store from element n on
-drop-store : (t : Tape) (n : ℕ) → drop (bytesBefore t n) (store t) ≡ store (drop n t)
-unfolding store
-drop-store t zero = refl
-drop-store [] (suc n) = refl
-drop-store (e ∷ t) (suc n) = rw (length-append (content e) (store (take n t)), drop-append-add (content e) (store t) (bytesBefore t n)) (drop-store t n)
 
 grows : (t : Tape) (a b : ℕ) → a ≤ b → bytesBefore t a ≤ bytesBefore t b
 unfolding store
@@ -43,7 +38,7 @@ part-next t a n e rest h d =
     let A : ℕ = bytesBefore t a in
     let N : ℕ = bytesBefore t n in
     let g : bytesBefore t a ≤ bytesBefore t n = grows t a n h in
-    let b : bytesBefore t (suc n) ≡ bytesBefore t n + length (content e) = bytes-next 0 t n e rest d in
+    let b : bytesBefore t (suc n) ≡ bytesBefore t n + length (content e) = bytes-next t n e rest d in
     let m : bytesBefore t (suc n) - bytesBefore t a ≡ (bytesBefore t n - bytesBefore t a) + length (content e) = omega arith in
     let s : bytesBefore t a + (bytesBefore t n - bytesBefore t a) ≡ bytesBefore t n = omega arith in
     rw (m, take-add (bytesBefore t n - bytesBefore t a) (length (content e)) (drop (bytesBefore t a) (store t)))

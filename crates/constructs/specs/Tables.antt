@@ -4,19 +4,15 @@ use mathlib.Core.Bool.{cond}
 use mathlib.Core.List.{List, [], _∷_, _++_}
 use Prim.Native.Nat.{ℕ, _+_, _-_, _*_}
 use lib.Dec.{leb}
-use lib.ListN.{length, getD, take}
+use lib.ListN.{length, getD}
 use lib.Seq.{sets}
-use Rattle.tape.specs.Tape.{Tape, store, Encodes}
-use Rattle.tape.specs.Answers.{tapeIn}
+use Rattle.tape.specs.Tape.{Tape, Encodes}
+use Rattle.tape.specs.Answers.{tapeIn, bytesBefore}
 use Rattle.refusals.specs.Refusals.{Answer, refused, answer, andThen}
 use Rattle.constructs.specs.declared.Place.{Place}
 use Rattle.constructs.specs.declared.Scanned.{Scanned}
 use Rattle.constructs.specs.declared.Scanned.the-variants as scannedIs
 use Rattle.constructs.specs.Constructs.{Construct, standing}
-
--- the bytes of the blocks before element n
-abbrev pub bytesBefore : Tape → ℕ → ℕ
-bytesBefore t n = length (store (take n t))
 
 -- a construct: its first block's number, the number of elements through its closing mark, and where its text begins and ends in the store
 abbrev pub entry : Tape → Construct → List ℕ
@@ -26,12 +22,6 @@ entry t c = c .first ∷ c .upTo ∷ bytesBefore t (c .first) ∷ bytesBefore t 
 unfoldable pub entries : Tape → List Construct → List ℕ
 entries t [] = []
 entries t (c ∷ cs) = entries t cs ++ entry t c
-
--- a list and a store of a tape with so many elements
-pub record Held (l s : List ℕ) (count : ℕ) : Type 0 where
-  pub tape : Tape
-  pub encodes : Encodes l s tape
-  pub counted : length tape ≡ count
 
 -- the number of standing constructs, and the table with them at its front
 pub record Found (B : ℕ) (t : Tape) (before after : List ℕ) (n : ℕ) : Type 0 where

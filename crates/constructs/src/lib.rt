@@ -10,7 +10,8 @@ pub mod reach;
 use refusals::Refusal;
 use tape::Checked;
 use tape::Entry;
-ghost use Rattle.constructs.specs.Tables.{Held, Finds, Scans, placeIn};
+ghost use Rattle.tape.specs.Answers.{Encoded};
+ghost use Rattle.constructs.specs.Tables.{Finds, Scans, placeIn};
 ghost use Rattle.constructs.specs.Phases.{pastLabels, afterMark, afterBlock, closedCount, closedTable, Roomy, Fitting};
 
 // Where the next element stands: among the four of the labels, so many after it there; in a data run; in an index run, with its first
@@ -123,7 +124,7 @@ fn close(table: &mut [u32; 87380], n: usize, phase: Phase, at: usize, off: usize
 
 // Puts the standing constructs of a list of so many elements into the table; their number.
 fn fill(list: &[u8], store: &[u8], count: usize, size: usize, table: &mut [u32; 87380]) -> usize
-    requires { ⌜ Held (now list) (now store) count ⌝ }
+    requires { ⌜ Encoded (now list) (now store) count ⌝ }
     ensures { λ r. ⌜ Finds size (now (list .entry)) (now (store .entry)) (now (table .entry)) (now (table .exit)) r ⌝ }
 {
     let mut place: usize = 0;

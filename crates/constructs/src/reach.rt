@@ -7,7 +7,7 @@ ghost use Prim.Native.Nat.{_+_, _≤_, _<_, _/_, _-_};
 ghost use mathlib.Core.List.{_++_};
 ghost use lib.ListN.{take, drop, length, getD};
 ghost use Rattle.constructs.specs.Reach.{reachOne, labelsAfter, evenAfter, dataLength, PutsLengths, reaches, sumOf, Reaches, liesBy};
-ghost use Rattle.constructs.specs.Tables.{Held};
+ghost use Rattle.tape.specs.Answers.{Encoded};
 
 fn labels_after(k: usize) -> usize
     ensures { λ r. ⌜ r ≡ labelsAfter k ⌝ }
@@ -54,7 +54,7 @@ fn reach_one(size: usize, x: usize, next: usize) -> usize
 
 // Puts the lengths of a partition's data blocks into the table, 0 for any other element.
 fn put_lengths(list: &[u8], store: &[u8], count: usize, table: &mut [u32])
-    requires { ⌜ Held (now list) (now store) count × (count ≤ length (now table)) ⌝ }
+    requires { ⌜ Encoded (now list) (now store) count × (count ≤ length (now table)) ⌝ }
     ensures { λ r. ⌜ PutsLengths (now (list .entry)) (now (store .entry)) (now (table .entry)) (now (table .exit)) ⌝ }
 {
     let mut place: usize = 0;

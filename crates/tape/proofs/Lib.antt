@@ -4,4 +4,5 @@ pub mod Encoding
 pub mod Walking
 pub mod Elements
 pub mod Keeping
+pub mod Passing
 pub mod Blocks

@@ -1,4 +1,5 @@
 -- What this crate's functions answer: the check, keeping n elements, a block by letter and number (01, The block list).
+use mathlib.Core.Path.{_≡_}
 use mathlib.Core.Bool.{Bool, true, false, cond, not, _&&_, _||_}
 use mathlib.Core.Option.{Option, none, some}
 use mathlib.Core.List.{List}
@@ -15,7 +16,7 @@ use Rattle.tape.specs.declared.Kept.{Kept}
 use Rattle.tape.specs.declared.Kept.the-variants as keptIs
 use Rattle.tape.specs.declared.Located.{Located}
 use Rattle.tape.specs.declared.Located.the-variants as locatedIs
-use Rattle.tape.specs.Tape.{Tape, Element, mark, block, list, store}
+use Rattle.tape.specs.Tape.{Tape, Element, mark, block, list, store, Encodes}
 use Rattle.tape.specs.Reading.{tapeOf}
 
 abbrev pub orRefused : Option Tape → Answer Tape
@@ -25,6 +26,16 @@ orRefused (some t) = answer t
 -- the tape of a list and a store, or refusal 1
 abbrev pub tapeIn : List ℕ → List ℕ → Answer Tape
 tapeIn l s = orRefused (tapeOf l s)
+
+-- a list and a store of a tape with so many elements
+pub record Encoded (l s : List ℕ) (count : ℕ) : Type 0 where
+  pub tape : Tape
+  pub encodes : Encodes l s tape
+  pub counted : length tape ≡ count
+
+-- the bytes of the blocks before element n
+abbrev pub bytesBefore : Tape → ℕ → ℕ
+bytesBefore t n = length (store (take n t))
 
 -- the number of elements
 abbrev pub elementCount : List ℕ → List ℕ → Answer ℕ
@@ -91,7 +102,7 @@ pub record Place : Type 0 where
   pub size : ℕ
 
 abbrev pub placeOn : Bool → Tape → ℕ → Answer Place
-placeOn side t n = andThen (blockOn t n) (λ x. answer (record { onIndex = side; from = length (store (take n t)); size = length x }))
+placeOn side t n = andThen (blockOn t n) (λ x. answer (record { onIndex = side; from = bytesBefore t n; size = length x }))
 
 unfoldable pub placeOf : ℕ → ℕ → ℕ → ℕ → Answer Tape → Answer Tape → Answer Place
 placeOf i d letter n indexTape dataTape =

@@ -11,11 +11,11 @@ use Rattle.refusals.specs.declared.Refusal.{Refusal}
 use Rattle.refusals.specs.declared.Refusal.the-variants.{Short}
 use Rattle.refusals.specs.Refusals.{Answer, refused, answer, require, andThen}
 use Rattle.tape.specs.Tape.{Tape, Encodes, store}
-use Rattle.tape.specs.Answers.{tapeIn, orRefused, counted}
+use Rattle.tape.specs.Answers.{tapeIn, bytesBefore, orRefused, counted}
 use Rattle.tape.specs.declared.Checked.{Checked}
 use Rattle.tape.proofs.Encoding.{read-encoded}
 use Rattle.constructs.specs.Constructs.{Construct, standing, dataLengths}
-use Rattle.constructs.specs.Tables.{bytesBefore, placeIn, Scans, scannedCount, tableAfter}
+use Rattle.constructs.specs.Tables.{placeIn, Scans, scannedCount, tableAfter}
 use Rattle.constructs.specs.Reach.{reaches, Reaches, reachAfter}
 use Rattle.constructs.specs.declared.Place.{Place as Spot}
 use Rattle.constructs.specs.declared.Scanned.{Scanned}

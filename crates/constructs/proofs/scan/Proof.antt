@@ -2,7 +2,8 @@
 use mathlib.Core.Path.{sym, _∙_, ap}
 use Rattle.tape.specs.Answers.{counted}
 use Rattle.tape.proofs.Keeping.{present}
-use Rattle.constructs.proofs.Filling.{held, scans-found, scans-refused}
+use Rattle.tape.proofs.Passing.{encoded}
+use Rattle.constructs.proofs.Filling.{scans-found, scans-refused}
 use borrow.Author.Needs.{needs}
 use Rattle.constructs.proofs.scan.Statement.{statement}
 use Rattle.constructs.proofs.scan.Tie as tie
@@ -14,7 +15,7 @@ enum-known-count : tie.Need-enum-known-count
 enum-known-count c = search needs
 
 fill-requires : tie.Need-fill-requires
-fill-requires c κs = held (c .before .before .before .before .before .before .before .args .list .now) (c .before .before .before .before .before .before .before .args .store .now) (c .before .before .count .given .0 .0) (present (c .before .before .before .before .before .before .before .args .list .now) (c .before .before .before .before .before .before .before .args .store .now) (c .before .before .count .given .0 .0) (λ i. c .before .before .before .before .before .before .shared-slice-known .given i .fits) (ap counted (sym (c .before .before .count .given .1)) ∙ c .before .before .before .before .check .ensures))
+fill-requires c κs = encoded (c .before .before .before .before .before .before .before .args .list .now) (c .before .before .before .before .before .before .before .args .store .now) (c .before .before .count .given .0 .0) (present (c .before .before .before .before .before .before .before .args .list .now) (c .before .before .before .before .before .before .before .args .store .now) (c .before .before .count .given .0 .0) (λ i. c .before .before .before .before .before .before .shared-slice-known .given i .fits) (ap counted (sym (c .before .before .count .given .1)) ∙ c .before .before .before .before .check .ensures))
 
 enum-known-r : tie.Need-enum-known-r
 enum-known-r c = search needs

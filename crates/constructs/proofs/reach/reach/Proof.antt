@@ -2,7 +2,7 @@
 use mathlib.Core.Path.{sym, _∙_, ap}
 use Rattle.tape.specs.Answers.{counted}
 use Rattle.tape.proofs.Keeping.{present}
-use Rattle.constructs.proofs.Filling.{held}
+use Rattle.tape.proofs.Passing.{encoded}
 use Rattle.constructs.proofs.Reaching.{small-lengths, reaches-found, reaches-short, reaches-refused}
 use native.Mathlib.Omega.{arith}
 use borrow.Author.Needs.{needs}
@@ -19,7 +19,7 @@ returns : tie.Need-returns
 returns c = reaches-short (c .before .before .before .before .before .before .before .before .args .block-size) (c .before .before .before .before .before .before .before .before .args .table .now) (c .before .before .before .before .before .before .before .before .args .list .now) (c .before .before .before .before .before .before .before .before .args .store .now) (c .before .before .count .given .0 .0) (present (c .before .before .before .before .before .before .before .before .args .list .now) (c .before .before .before .before .before .before .before .before .args .store .now) (c .before .before .count .given .0 .0) (λ i. c .before .before .before .before .before .before .before .shared-slice-known .given i .fits) (ap counted (sym (c .before .before .count .given .1)) ∙ c .before .before .before .before .check .ensures)) (c .if1 .taken)
 
 put-lengths-requires : tie.Need-put-lengths-requires
-put-lengths-requires c κs = (held (c .before .before .before .before .before .before .before .before .before .args .list .now) (c .before .before .before .before .before .before .before .before .before .args .store .now) (c .before .before .before .count .given .0 .0) (present (c .before .before .before .before .before .before .before .before .before .args .list .now) (c .before .before .before .before .before .before .before .before .before .args .store .now) (c .before .before .before .count .given .0 .0) (λ i. c .before .before .before .before .before .before .before .before .shared-slice-known .given i .fits) (ap counted (sym (c .before .before .before .count .given .1)) ∙ c .before .before .before .before .before .check .ensures)), c .before .if1 .left)
+put-lengths-requires c κs = (encoded (c .before .before .before .before .before .before .before .before .before .args .list .now) (c .before .before .before .before .before .before .before .before .before .args .store .now) (c .before .before .before .count .given .0 .0) (present (c .before .before .before .before .before .before .before .before .before .args .list .now) (c .before .before .before .before .before .before .before .before .before .args .store .now) (c .before .before .before .count .given .0 .0) (λ i. c .before .before .before .before .before .before .before .before .shared-slice-known .given i .fits) (ap counted (sym (c .before .before .before .count .given .1)) ∙ c .before .before .before .before .before .check .ensures)), c .before .if1 .left)
 
 extend-requires : tie.Need-extend-requires
 extend-requires c κs =
