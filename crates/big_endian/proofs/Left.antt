@@ -1,14 +1,22 @@
 -- The bytes of a number that are left to write, while the last ones are stored one by one.
-use mathlib.Core.Path.{_≡_, ap, ap₂, sym, _∙_}
+use mathlib.Core.Path.{_≡_, refl, ap, ap₂, sym, _∙_}
 use mathlib.Core.List.{List, [], _∷_, _++_, append-assoc}
 use Prim.Native.Nat.{ℕ, zero, suc, _+_, _-_, _/_, _%_, _<_, _≤_}
+use native.Mathlib.Numerals.{add-one}
 use native.Mathlib.Omega.{arith}
 use lib.ListN.{length, take, drop, set, length-append, length-set}
 use lib.Seq.{take-set-le, drop-cons, drop-set-lt, getD-set-same, append-snoc}
 use Rattle.slices.specs.Slices.{written}
 use Rattle.slices.proofs.Writing.{written-nil}
+use Rattle.digits.specs.Runs.{digits}
 use Rattle.big_endian.specs.BigEndian.{bigEndian}
-use Rattle.big_endian.proofs.Spelling.{length-big-endian}
+
+-- so many bytes
+pub length-big-endian : (w n : ℕ) → length (bigEndian w n) ≡ w
+unfolding digits
+length-big-endian zero n = refl
+length-big-endian (suc w) n =
+    length-append (bigEndian w (n / 256)) (n % 256 ∷ []) ∙ add-one (length (bigEndian w (n / 256))) ∙ ap suc (length-big-endian w (n / 256))
 
 -- a run's last byte may be stored before the others are written
 last-first : (at x : ℕ) (w b : List ℕ) → at + length w < length b → written at w (set b (at + length w) x) ≡ written at (w ++ (x ∷ [])) b
@@ -29,7 +37,7 @@ module _ (at : ℕ) (b : List ℕ) where
   pub left-less :
       (i n : ℕ) → 0 < i → at + i ≤ length b
       → written at (bigEndian (i - 1) (n / 256)) (set b (at + (i - 1)) (n % 256)) ≡ written at (bigEndian i n) b
-  unfolding bigEndian
+  unfolding digits
   left-less zero n p h = absurd (omega arith)
   left-less (suc i) n p h =
       let e : suc i - 1 ≡ i = omega arith in
@@ -40,5 +48,5 @@ module _ (at : ℕ) (b : List ℕ) where
       ∙ last-first at (n % 256) (bigEndian i (n / 256)) b (omega arith)
 
   pub left-none : (i n : ℕ) → i ≡ 0 → written at (bigEndian i n) b ≡ b
-  unfolding bigEndian
+  unfolding digits
   left-none i n e = ap (λ (j : ℕ). written at (bigEndian j n) b) e ∙ written-nil at b

@@ -6,8 +6,7 @@ use lib.ListN.{length, length-set}
 use Rattle.slices.specs.Slices.{written}
 use Rattle.slices.proofs.Writers.{puts-short, puts-whole}
 use Rattle.big_endian.specs.BigEndian.{bigEndian}
-use Rattle.big_endian.proofs.Spelling.{length-big-endian}
-use Rattle.big_endian.proofs.Left.{left-less, left-none}
+use Rattle.big_endian.proofs.Left.{length-big-endian, left-less, left-none}
 use borrow.Author.Needs.{needs}
 use Rattle.big_endian.proofs.put.Statement.{statement}
 use Rattle.big_endian.proofs.put.Tie as tie

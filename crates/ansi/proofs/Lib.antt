@@ -1,0 +1,14 @@
+pub mod Tests
+pub mod Rests
+pub mod Sound
+pub mod Complete
+pub mod Form
+pub mod Counts
+pub mod Live
+pub mod Fronts
+pub mod Stops
+pub mod Refused
+pub mod Walks
+pub mod FileBytes
+pub mod Matching
+pub mod Answering

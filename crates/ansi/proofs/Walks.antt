@@ -1,0 +1,63 @@
+-- The steps of the reading in numbers against its steps in labels.
+use mathlib.Core.Path.{_≡_, refl, sym, ap, _∙_}
+use mathlib.Core.Bool.{Bool, true, false, cond, _&&_}
+use mathlib.Core.List.{List}
+use Prim.Native.Nat.{ℕ, suc, _≤_}
+use native.Mathlib.Omega.{arith}
+use lib.Dec.{leb}
+use lib.ListN.{length, take, drop, length-take}
+use lib.Seq.{take-all}
+use borrow.Author.Tests.{leb-true, leb-false}
+use Rattle.slices.specs.Words.{bytes}
+use Rattle.slices.proofs.Booleans.{and-left}
+use Rattle.ansi.specs.Labels.{byte, isLabel, isNumbered, number, isFormat, isHeader2, isTrailer}
+use Rattle.ansi.specs.Reading.{State, header, headers, Step, go, wrong, passing, opened}
+use Rattle.ansi.specs.Phases.{labelAt, passedTo}
+use Rattle.ansi.proofs.Tests.{label-length}
+use Rattle.ansi.proofs.Refused.{trailer-parts}
+
+-- 80 bytes from a place on are the label there
+pub label-there : (s : List ℕ) (at len : ℕ) → length (take len (drop at s)) ≡ 80 → labelAt s at ≡ take len (drop at s)
+label-there s at len e = by (leb (length (drop at s)) 80) refl
+  where
+    by : (b : Bool) → leb (length (drop at s)) 80 ≡ b → labelAt s at ≡ take len (drop at s)
+    by true q =
+        let l : length (drop at s) ≤ 80 = leb-true (length (drop at s)) 80 q in
+        let k : length (drop at s) ≤ len = omega (arith, length-take len (drop at s)) in
+        take-all 80 (drop at s) l ∙ sym (take-all len (drop at s) k)
+    by false q = let k : 80 ≡ len = omega (arith, length-take len (drop at s), leb-false (length (drop at s)) 80 q) in ap (λ (n : ℕ). take n (drop at s)) k
+
+pub header2-length : (x : List ℕ) → isHeader2 x ≡ true → length x ≡ 80
+unfolding isHeader2
+header2-length x e = label-length (bytes "HDR2") x (and-left (isLabel (bytes "HDR2") x) _ (and-left (isLabel (bytes "HDR2") x && isFormat (byte 5 x)) _ e))
+
+module _ (s : List ℕ) (at len : ℕ) where
+  pub opens-at : isLabel (bytes "HDR1") (take len (drop at s)) ≡ true → go (header (labelAt s at)) ≡ opened (take len (drop at s))
+  unfolding opened
+  opens-at e = rw e (ap (λ (x : List ℕ). go (header x)) (label-there s at len (label-length (bytes "HDR1") (take len (drop at s)) e)))
+
+  pub header-at : (h : List ℕ) → isHeader2 (take len (drop at s)) ≡ true
+      → go (headers h (labelAt s at) 3) ≡ cond (isHeader2 (take len (drop at s))) (go (headers h (take len (drop at s)) 3)) wrong
+  header-at h e = rw e (ap (λ (x : List ℕ). go (headers h x 3)) (label-there s at len (header2-length (take len (drop at s)) e)))
+
+module _ (w u : List ℕ) (k : ℕ) (x : List ℕ) (next : ℕ → State) (other : Step) where
+  pub passing-none : passedTo w u k x ≡ 0 → other ≡ passing w u k x next other
+  unfolding passedTo passing
+  passing-none e = by (isNumbered w k x) (isLabel u x) e
+    where
+      by : (a b : Bool) → cond a (suc (number x)) (cond b 10 0) ≡ 0 → other ≡ cond a (go (next (suc (number x)))) (cond b (go (next 10)) other)
+      by true b z = absurd (omega arith)
+      by false true z = absurd (omega arith)
+      by false false z = refl
+
+  pub passing-some : (n : ℕ) → passedTo w u k x ≡ n → (n ≡ 0 → ⊥) → go (next n) ≡ passing w u k x next other
+  unfolding passedTo passing
+  passing-some n e h = by (isNumbered w k x) (isLabel u x) e
+    where
+      by : (a b : Bool) → cond a (suc (number x)) (cond b 10 0) ≡ n → go (next n) ≡ cond a (go (next (suc (number x)))) (cond b (go (next 10)) other)
+      by true b z = rw z
+      by false true z = rw z
+      by false false z = absurd (h (sym z))
+
+pub trailer-length : (h x : List ℕ) → isTrailer h x ≡ true → length x ≡ 80
+trailer-length h x e = label-length (bytes "EOF1") x (trailer-parts h x e .0)

@@ -1,0 +1,28 @@
+use borrow.Author.Tests.{not-true, not-false}
+use mathlib.Core.Path.{sym, ap, _∙_}
+use Rattle.ansi.specs.Labels.{isVolume}
+use Rattle.ansi.specs.Reading.{step}
+use borrow.Author.Needs.{needs}
+use Rattle.ansi.proofs.phases.in_start.Statement.{statement}
+use Rattle.ansi.proofs.phases.in_start.Tie as tie
+use Rattle.ansi.proofs.phases.in_start.Reads as reads
+use Rattle.ansi.proofs.phases.in_start.Lts as lts
+use Rattle.ansi.proofs.labels.is_volume.Reads as is-volume-reads
+use Rattle.slices.proofs.part.Reads as part-reads
+
+part-requires : tie.Need-part-requires
+part-requires c κs = search needs
+
+is-volume-requires : tie.Need-is-volume-requires
+is-volume-requires c κs = search needs
+
+returns : tie.Need-returns
+unfolding step
+returns c = rw (ap (isVolume) (sym (c .before .before .part .ensures)) ∙ sym (c .before .is-volume .ensures) ∙ not-true _ (c .if1 .taken))
+
+returns-2 : tie.Need-returns-2
+unfolding step
+returns-2 c = rw (ap (isVolume) (sym (c .before .before .part .ensures)) ∙ sym (c .before .is-volume .ensures) ∙ not-false _ (c .if1 .left))
+
+pub in-start-spec : {M : Type 1} → statement M
+in-start-spec = tie.close (tie.spec part-requires is-volume-requires returns returns-2)

@@ -1,0 +1,111 @@
+-- An old labelled tape read element by element, from left to right: its files, or the refusal at the first element that can't stand.
+use mathlib.Core.Bool.{cond}
+use mathlib.Core.List.{List, [], _∷_}
+use Prim.Native.Nat.{ℕ, suc}
+use lib.Dec.{eqb}
+use Rattle.refusals.specs.declared.Refusal.{Refusal}
+use Rattle.refusals.specs.declared.Refusal.the-variants.{Labels, EndOfVolume, BlockCount}
+use Rattle.refusals.specs.Refusals.{Answer, refused, answer, andThen}
+use Rattle.slices.specs.Words.{bytes}
+use Rattle.tape.specs.Tape.{Element, Tape, mark, block}
+use Rattle.ansi.specs.Labels.{isLabel, number, isNumbered, isVolume, isHeader2, isTrailer, count, isData}
+use Rattle.ansi.specs.Layout.{File, fileOf}
+
+-- what was read last: nothing; the volume's labels, VOL numbers from n on may follow; HDR1 h; the header labels, HDR1 h and HDR2 g among them,
+-- HDR numbers from n on may follow; n data blocks behind the labels; the mark behind n data blocks; EOF1; the trailer labels, EOF numbers from
+-- n on may follow; the mark behind a trailer; the further mark
+pub data State : Type 0 where
+  start : State
+  volume : ℕ → State
+  header : List ℕ → State
+  headers : List ℕ → List ℕ → ℕ → State
+  blocks : List ℕ → ℕ → State
+  trailer : List ℕ → ℕ → State
+  second : State
+  trailers : ℕ → State
+  between : State
+  done : State
+
+-- what an element does: it is passed over, it makes a file known, or it can't stand
+pub data Step : Type 0 where
+  go : State → Step
+  found : File → State → Step
+  stop : Refusal → Step
+
+-- an optional label of the words w and u is passed over; behind a user label no number may follow
+unfoldable pub passing : List ℕ → List ℕ → ℕ → List ℕ → (ℕ → State) → Step → Step
+passing w u n x next other = cond (isNumbered w n x) (go (next (suc (number x)))) (cond (isLabel u x) (go (next 10)) other)
+
+abbrev pub wrong : Step
+wrong = stop Labels
+
+-- a label HDR1, or what can't stand
+unfoldable pub opened : List ℕ → Step
+opened x = cond (isLabel (bytes "HDR1") x) (go (header x)) wrong
+
+-- the label behind n data blocks
+unfoldable pub closed : List ℕ → ℕ → List ℕ → Step
+closed h n x =
+    cond (isTrailer h x) (cond (eqb (count x) n) (go second) (stop BlockCount)) (cond (isLabel (bytes "EOV1") x) (stop EndOfVolume) wrong)
+
+-- element n
+unfoldable pub step : ℕ → State → Element → Step
+step n start mark = wrong
+step n start (block x) = cond (isVolume x) (go (volume 2)) wrong
+step n (volume k) mark = wrong
+step n (volume k) (block x) = passing (bytes "VOL") (bytes "UVL") k x volume (opened x)
+step n (header h) mark = wrong
+step n (header h) (block x) = cond (isHeader2 x) (go (headers h x 3)) wrong
+step n (headers h g k) mark = found (fileOf h g (suc n)) (blocks h 0)
+step n (headers h g k) (block x) = passing (bytes "HDR") (bytes "UHL") k x (headers h g) wrong
+step n (blocks h m) mark = go (trailer h m)
+step n (blocks h m) (block x) = cond (isData x) (go (blocks h (suc m))) wrong
+step n (trailer h m) mark = wrong
+step n (trailer h m) (block x) = closed h m x
+step n second mark = wrong
+step n second (block x) = cond (isLabel (bytes "EOF2") x) (go (trailers 3)) wrong
+step n (trailers k) mark = go between
+step n (trailers k) (block x) = passing (bytes "EOF") (bytes "UTL") k x trailers wrong
+step n between mark = go done
+step n between (block x) = opened x
+step n done e = wrong
+
+-- where the tape ends
+unfoldable pub ended : State → Answer (List File)
+ended start = refused Labels
+ended (volume k) = refused Labels
+ended (header h) = refused Labels
+ended (headers h g k) = refused Labels
+ended (blocks h m) = refused Labels
+ended (trailer h m) = refused Labels
+ended second = refused Labels
+ended (trailers k) = refused Labels
+ended between = refused Labels
+ended done = answer []
+
+unfoldable pub follow : (State → Answer (List File)) → Step → Answer (List File)
+follow next (go σ) = next σ
+follow next (found f σ) = andThen (next σ) (λ fs. answer (f ∷ fs))
+follow next (stop r) = refused r
+
+-- the files from element n on
+unfoldable pub run : Tape → ℕ → State → Answer (List File)
+run [] n σ = ended σ
+run (e ∷ t) n σ = follow (run t (suc n)) (step n σ e)
+
+-- the files of a tape
+unfoldable pub ansiOf : Tape → Answer (List File)
+ansiOf t = run t 0 start
+
+-- how many elements are passed before one can't stand
+unfoldable pub passedOn : ℕ → (State → ℕ) → Step → ℕ
+passedOn n next (go σ) = next σ
+passedOn n next (found f σ) = next σ
+passedOn n next (stop r) = n
+
+unfoldable pub passedFrom : Tape → ℕ → State → ℕ
+passedFrom [] n σ = n
+passedFrom (e ∷ t) n σ = passedOn n (passedFrom t (suc n)) (step n σ e)
+
+unfoldable pub placeOf : Tape → ℕ
+placeOf t = passedFrom t 0 start

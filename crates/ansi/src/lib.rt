@@ -1,0 +1,161 @@
+// Old labelled tapes (02, Item 1): the files of a tape, and where a tape leaves the layout.
+mod labels;
+mod phases;
+mod rows;
+
+use phases::Next;
+use phases::Phase;
+use refusals::Refusal;
+use slices::Written;
+use tape::Checked;
+use tape::Entry;
+ghost use mathlib.Core.Path.{_≡_};
+ghost use Prim.Native.Nat.{_<_};
+ghost use lib.ListN.{length, take};
+ghost use Rattle.tape.specs.Answers.{Encoded, counted};
+ghost use Rattle.writing.specs.Writing.{AddsAtMost};
+ghost use Rattle.ansi.specs.Phases.{knownAt};
+ghost use Rattle.ansi.specs.Answers.{allBytes, Reads, placeIn, Walks, rowsLength, atEnd, HandsOut};
+
+// Adds the file that a mark, element at, makes known, and answers where the rows end then.
+fn note(out: &mut [u8], end: usize, phase: Phase, store: &[u8], at: usize) -> usize
+    requires { ⌜ at < 65536 ⌝ }
+    ensures { λ r. ⌜ AddsAtMost 36 (now (out .entry)) end (allBytes (knownAt (now (store .entry)) at phase)) (now (out .exit)) r ⌝ }
+{
+    match phase {
+        Phase::Start => end,
+        Phase::Volume(_) => end,
+        Phase::Header(_) => end,
+        Phase::Headers(h, g, _) => rows::add_file(
+            out,
+            end,
+            slices::part(store, h, 80),
+            slices::part(store, g, 80),
+            at + 1,
+        ),
+        Phase::Blocks(_, _) => end,
+        Phase::Trailer(_, _) => end,
+        Phase::Second => end,
+        Phase::Trailers(_) => end,
+        Phase::Between => end,
+        Phase::Done => end,
+    }
+}
+
+// How a tape is judged: the bytes of its files' rows, or a refusal and the element where it is given.
+enum Judged {
+    Files(usize),
+    Refused(Refusal, usize),
+}
+
+// The answer where the tape ends, behind so many elements.
+fn at_end(phase: Phase, end: usize, count: usize) -> Judged
+    ensures { λ r. ⌜ r ≡ atEnd phase end count ⌝ }
+{
+    match phase {
+        Phase::Start => Judged::Refused(Refusal::Labels, count),
+        Phase::Volume(_) => Judged::Refused(Refusal::Labels, count),
+        Phase::Header(_) => Judged::Refused(Refusal::Labels, count),
+        Phase::Headers(_, _, _) => Judged::Refused(Refusal::Labels, count),
+        Phase::Blocks(_, _) => Judged::Refused(Refusal::Labels, count),
+        Phase::Trailer(_, _) => Judged::Refused(Refusal::Labels, count),
+        Phase::Second => Judged::Refused(Refusal::Labels, count),
+        Phase::Trailers(_) => Judged::Refused(Refusal::Labels, count),
+        Phase::Between => Judged::Refused(Refusal::Labels, count),
+        Phase::Done => Judged::Files(end),
+    }
+}
+
+// Reads a list of so many elements, its files' rows to the front of out.
+fn walk(list: &[u8], store: &[u8], count: usize, out: &mut [u8]) -> Judged
+    requires { ⌜ Encoded (now list) (now store) count × (length (now out) ≡ rowsLength) ⌝ }
+    ensures { λ r. ⌜ Walks (now (list .entry)) (now (store .entry)) (now (out .entry)) (now (out .exit)) r ⌝ }
+{
+    let mut place: usize = 0;
+    let mut at: usize = 0;
+    let mut off: usize = 0;
+    let mut end: usize = 0;
+    let mut phase = Phase::Start;
+    while at < count {
+        match tape::entry_at(list, place) {
+            Entry::Mark(next) => {
+                end = note(out, end, phase, store, at);
+                match phases::after_mark(phase, store) {
+                    Next::Go(p) => {
+                        phase = p;
+                        place = next;
+                        at += 1;
+                    }
+                    Next::Stop(r) => {
+                        return Judged::Refused(r, at);
+                    }
+                }
+            }
+            Entry::Block(k, next) => {
+                match phases::after_block(phase, store, off, k) {
+                    Next::Go(p) => {
+                        phase = p;
+                        off += k;
+                        place = next;
+                        at += 1;
+                    }
+                    Next::Stop(r) => {
+                        return Judged::Refused(r, at);
+                    }
+                }
+            }
+            Entry::End => {
+                return Judged::Refused(Refusal::List, at);
+            }
+            Entry::Bad => {
+                return Judged::Refused(Refusal::List, at);
+            }
+        }
+    }
+    at_end(phase, end, count)
+}
+
+// What is read of a tape: so many files, or a refusal.
+pub enum Read {
+    Files(usize),
+    Refused(Refusal),
+}
+
+// Puts the rows that stand in so many bytes of a text to the front of out.
+fn hand_out(text: &[u8], end: usize, out: &mut [u8]) -> Read
+    ensures { λ r. ⌜ HandsOut (take end (now (text .entry))) (now (out .entry)) (now (out .exit)) r ⌝ }
+{
+    let rows = slices::part(text, 0, end);
+    match slices::put(out, 0, rows) {
+        Written::To(_) => Read::Files(rows.len() / 36),
+        Written::Refused(r) => Read::Refused(r),
+    }
+}
+
+// Reads the files of an old labelled tape to the front of out, 36 bytes each.
+pub fn files(list: &[u8], store: &[u8], out: &mut [u8]) -> Read
+    ensures { λ r. ⌜ Reads (now (list .entry)) (now (store .entry)) (now (out .entry)) (now (out .exit)) r ⌝ }
+{
+    let Checked::Elements(count) = tape::check(list, store) else {
+        return Read::Refused(Refusal::List);
+    };
+    let mut text = [0u8; 337068];
+    match walk(list, store, count, &mut text) {
+        Judged::Files(end) => hand_out(&text, end, out),
+        Judged::Refused(r, _) => Read::Refused(r),
+    }
+}
+
+// How many elements at the front of a tape some tape in the layout begins with.
+pub fn place(list: &[u8], store: &[u8]) -> Checked
+    ensures { λ r. ⌜ counted r ≡ placeIn (now (list .entry)) (now (store .entry)) ⌝ }
+{
+    let Checked::Elements(count) = tape::check(list, store) else {
+        return Checked::Refused(Refusal::List);
+    };
+    let mut text = [0u8; 337068];
+    match walk(list, store, count, &mut text) {
+        Judged::Files(_) => Checked::Elements(count),
+        Judged::Refused(_, at) => Checked::Elements(at),
+    }
+}

@@ -1,0 +1,188 @@
+// How far an old labelled tape is read, and what an element does then.
+use super::labels;
+use refusals::Refusal;
+ghost use mathlib.Core.Path.{_≡_};
+ghost use Prim.Native.Nat.{_+_, _<_, _≤_};
+ghost use lib.ListN.{length, take, drop};
+ghost use Rattle.tape.specs.Tape.{mark, block};
+ghost use Rattle.ansi.specs.Reading.{step, start, volume, header, headers, blocks, trailer, second, trailers, opened};
+ghost use Rattle.ansi.specs.Phases.{stateOf, stepOf, unfiled, passedTo, labelAt, Small};
+
+// What was read last; a label is told by its place in the store.
+pub enum Phase {
+    Start,
+    Volume(usize),
+    Header(usize),
+    Headers(usize, usize, usize),
+    Blocks(usize, usize),
+    Trailer(usize, usize),
+    Second,
+    Trailers(usize),
+    Between,
+    Done,
+}
+
+// What an element does: another phase, or it can't stand.
+pub enum Next {
+    Go(Phase),
+    Stop(Refusal),
+}
+
+// The phase behind a mark.
+pub fn after_mark(phase: Phase, store: &[u8]) -> Next
+    ensures { λ r. ⌜ stepOf (now (store .entry)) r ≡ unfiled (step 0 (stateOf (now (store .entry)) phase) mark) ⌝ }
+{
+    match phase {
+        Phase::Start => Next::Stop(Refusal::Labels),
+        Phase::Volume(_) => Next::Stop(Refusal::Labels),
+        Phase::Header(_) => Next::Stop(Refusal::Labels),
+        Phase::Headers(h, _, _) => Next::Go(Phase::Blocks(h, 0)),
+        Phase::Blocks(h, m) => Next::Go(Phase::Trailer(h, m)),
+        Phase::Trailer(_, _) => Next::Stop(Refusal::Labels),
+        Phase::Second => Next::Stop(Refusal::Labels),
+        Phase::Trailers(_) => Next::Go(Phase::Between),
+        Phase::Between => Next::Go(Phase::Done),
+        Phase::Done => Next::Stop(Refusal::Labels),
+    }
+}
+
+// The number from which on optional labels may follow behind one of the words w and u, or 0.
+fn passed(x: &[u8], w: &[u8], u: &[u8], k: usize) -> usize
+    ensures { λ r. ⌜ r ≡ passedTo (now (w .entry)) (now (u .entry)) k (now (x .entry)) ⌝ }
+{
+    if labels::is_numbered(x, w, k) {
+        return labels::number(x) + 1;
+    }
+    if labels::is_label(x, u) {
+        return 10;
+    }
+    0
+}
+
+// A block at the tape's start.
+fn in_start(store: &[u8], from: usize, len: usize) -> Next
+    ensures { λ r. ⌜ stepOf (now (store .entry)) r ≡ step 0 (start) (block (take len (drop from (now (store .entry))))) ⌝ }
+{
+    let x = slices::part(store, from, len);
+    if !labels::is_volume(x) {
+        return Next::Stop(Refusal::Labels);
+    }
+    Next::Go(Phase::Volume(2))
+}
+
+// A block where a file may begin.
+fn begin_file(store: &[u8], from: usize, len: usize) -> Next
+    ensures { λ r. ⌜ stepOf (now (store .entry)) r ≡ opened (take len (drop from (now (store .entry)))) ⌝ }
+{
+    let x = slices::part(store, from, len);
+    if !labels::is_label(x, b"HDR1") {
+        return Next::Stop(Refusal::Labels);
+    }
+    Next::Go(Phase::Header(from))
+}
+
+// A block among the volume's labels.
+fn in_volume(store: &[u8], from: usize, len: usize, k: usize) -> Next
+    ensures { λ r. ⌜ stepOf (now (store .entry)) r ≡ step 0 (volume k) (block (take len (drop from (now (store .entry))))) ⌝ }
+{
+    let x = slices::part(store, from, len);
+    let next = passed(x, b"VOL", b"UVL", k);
+    if next == 0 {
+        return begin_file(store, from, len);
+    }
+    Next::Go(Phase::Volume(next))
+}
+
+// A block behind HDR1.
+fn in_header(store: &[u8], from: usize, len: usize, h: usize) -> Next
+    ensures { λ r. ⌜ stepOf (now (store .entry)) r ≡ step 0 (header (labelAt (now (store .entry)) h)) (block (take len (drop from (now (store .entry))))) ⌝ }
+{
+    let x = slices::part(store, from, len);
+    if !labels::is_header2(x) {
+        return Next::Stop(Refusal::Labels);
+    }
+    Next::Go(Phase::Headers(h, from, 3))
+}
+
+// A block among the header labels.
+fn in_headers(store: &[u8], from: usize, len: usize, h: usize, g: usize, k: usize) -> Next
+    ensures { λ r. ⌜ stepOf (now (store .entry)) r ≡ step 0 (headers (labelAt (now (store .entry)) h) (labelAt (now (store .entry)) g) k) (block (take len (drop from (now (store .entry))))) ⌝ }
+{
+    let x = slices::part(store, from, len);
+    let next = passed(x, b"HDR", b"UHL", k);
+    if next == 0 {
+        return Next::Stop(Refusal::Labels);
+    }
+    Next::Go(Phase::Headers(h, g, next))
+}
+
+// A block among the data blocks.
+fn in_blocks(store: &[u8], from: usize, len: usize, h: usize, m: usize) -> Next
+    requires { ⌜ m < 65536 ⌝ }
+    ensures { λ r. ⌜ stepOf (now (store .entry)) r ≡ step 0 (blocks (labelAt (now (store .entry)) h) m) (block (take len (drop from (now (store .entry))))) ⌝ }
+{
+    let x = slices::part(store, from, len);
+    if !labels::is_data(x.len()) {
+        return Next::Stop(Refusal::Labels);
+    }
+    Next::Go(Phase::Blocks(h, m + 1))
+}
+
+// A block behind the data blocks.
+fn in_trailer(store: &[u8], from: usize, len: usize, h: usize, m: usize) -> Next
+    ensures { λ r. ⌜ stepOf (now (store .entry)) r ≡ step 0 (trailer (labelAt (now (store .entry)) h) m) (block (take len (drop from (now (store .entry))))) ⌝ }
+{
+    let x = slices::part(store, from, len);
+    if labels::is_trailer(x, slices::part(store, h, 80)) {
+        if labels::count(x) == m {
+            return Next::Go(Phase::Second);
+        }
+        return Next::Stop(Refusal::BlockCount);
+    }
+    if labels::is_label(x, b"EOV1") {
+        return Next::Stop(Refusal::EndOfVolume);
+    }
+    Next::Stop(Refusal::Labels)
+}
+
+// A block behind EOF1.
+fn in_second(store: &[u8], from: usize, len: usize) -> Next
+    ensures { λ r. ⌜ stepOf (now (store .entry)) r ≡ step 0 (second) (block (take len (drop from (now (store .entry))))) ⌝ }
+{
+    let x = slices::part(store, from, len);
+    if !labels::is_label(x, b"EOF2") {
+        return Next::Stop(Refusal::Labels);
+    }
+    Next::Go(Phase::Trailers(3))
+}
+
+// A block among the trailer labels.
+fn in_trailers(store: &[u8], from: usize, len: usize, k: usize) -> Next
+    ensures { λ r. ⌜ stepOf (now (store .entry)) r ≡ step 0 (trailers k) (block (take len (drop from (now (store .entry))))) ⌝ }
+{
+    let x = slices::part(store, from, len);
+    let next = passed(x, b"EOF", b"UTL", k);
+    if next == 0 {
+        return Next::Stop(Refusal::Labels);
+    }
+    Next::Go(Phase::Trailers(next))
+}
+
+// The phase behind the block of so many bytes that begins at a place of the store.
+pub fn after_block(phase: Phase, store: &[u8], from: usize, len: usize) -> Next
+    requires { ⌜ Small phase ⌝ }
+    ensures { λ r. ⌜ stepOf (now (store .entry)) r ≡ step 0 (stateOf (now (store .entry)) phase) (block (take len (drop from (now (store .entry))))) ⌝ }
+{
+    match phase {
+        Phase::Start => in_start(store, from, len),
+        Phase::Volume(k) => in_volume(store, from, len, k),
+        Phase::Header(h) => in_header(store, from, len, h),
+        Phase::Headers(h, g, k) => in_headers(store, from, len, h, g, k),
+        Phase::Blocks(h, m) => in_blocks(store, from, len, h, m),
+        Phase::Trailer(h, m) => in_trailer(store, from, len, h, m),
+        Phase::Second => in_second(store, from, len),
+        Phase::Trailers(k) => in_trailers(store, from, len, k),
+        Phase::Between => begin_file(store, from, len),
+        Phase::Done => Next::Stop(Refusal::Labels),
+    }
+}
