@@ -1,8 +1,9 @@
 -- From the walk's answer to what is promised of a list and a store.
 use mathlib.Core.Path.{_≡_, refl, sym, ap, _∙_, subst}
 use mathlib.Core.Bool.{Bool, true, false, cond}
-use mathlib.Core.List.{List, [], _++_}
-use Prim.Native.Nat.{ℕ, _+_, _*_, _/_}
+use mathlib.Core.List.{List}
+use mathlib.Core.Option.{Option, none, some}
+use Prim.Native.Nat.{ℕ, _+_, _*_, _/_, _≤_}
 use native.Mathlib.Nat.{zero-add}
 use native.Mathlib.Omega.{arith}
 use lib.Dec.{leb}
@@ -13,13 +14,18 @@ use Rattle.refusals.specs.Refusals.{Answer, refused, answer, require, andThen}
 use Rattle.slices.specs.Slices.{written}
 use Rattle.slices.specs.Writers.{stored, room}
 use Rattle.slices.proofs.Writing.{front-written}
-use Rattle.tape.specs.Answers.{elementCount}
+use Rattle.tape.specs.Tape.{Tape, maxElements}
+use Rattle.tape.specs.Reading.{tapeOf}
+use Rattle.tape.specs.Answers.{orRefused, tapeIn, elementCount}
+use Rattle.tape.proofs.Encoding.{Bytes, encodes-read}
 use Rattle.tape.proofs.Keeping.{Present, absent-list}
 use Rattle.ansi.specs.declared.Read.{Read}
 use Rattle.ansi.specs.declared.Read.the-variants as readIs
 use Rattle.ansi.specs.Layout.{File}
-use Rattle.ansi.specs.Reading.{ansiOf}
-use Rattle.ansi.specs.Answers.{allBytes, fitting, filesIn, filesAfter, readCount, Reads, placeIn, Found, Stopped, HandsOut}
+use Rattle.ansi.specs.Places.{LongestFront}
+use Rattle.ansi.specs.Reading.{ansiOf, placeOf}
+use Rattle.ansi.specs.Answers.{allBytes, fitting, filesIn, filesAfter, readCount, Reads, placeIn, ByLayout, Found, Stopped, HandsOut}
+use Rattle.ansi.proofs.Refused.{means, one-meaning, longest-front}
 
 counted-fitting : (b : Bool) (k : ℕ) (fs : List File) → k ≡ length fs
     → require b Short (answer k) ≡ andThen (require b Short (answer fs)) (λ gs. answer (length gs))
@@ -71,3 +77,19 @@ reads-refused l s before r e = let a = absent-list l s r e in record { answers =
 
 pub place-refused : (l s : List ℕ) (r : Refusal) → refused r ≡ elementCount l s → refused BadList ≡ placeIn l s
 place-refused l s r e = rw (absent-list l s r e)
+
+-- a tape that was read from a list is within the bounds
+tape-small : (l s : List ℕ) (t : Tape) → Bytes l → tapeIn l s ≡ answer t → length t ≤ maxElements
+tape-small l s t w e = by (tapeOf l s) refl e
+  where
+    by : (o : Option Tape) → tapeOf l s ≡ o → orRefused o ≡ answer t → length t ≤ maxElements
+    by none q f = let z : _≡_ {A = ℕ} 0 1 = cc in absurd (omega arith)
+    by (some u) q f = let z : u ≡ t = cc in encodes-read l s t w (q ∙ ap some z) .elements
+
+pub by-layout : (room : ℕ) (l s : List ℕ) → Bytes l → ByLayout room l s
+by-layout room l s w t e =
+    let b = tape-small l s t w e in
+    record { meaning = ansiOf t; means = means t b; one = λ a m. sym (one-meaning t a b m); holds = rw e }
+
+pub by-longest : (l s : List ℕ) → Bytes l → (t : Tape) → tapeIn l s ≡ answer t → LongestFront t (placeOf t)
+by-longest l s w t e = longest-front t (tape-small l s t w e)

@@ -20,6 +20,7 @@ use Rattle.ansi.specs.declared.phases.Phase.the-variants as phase
 use Rattle.ansi.specs.declared.Read.{Read}
 use Rattle.ansi.specs.declared.Read.the-variants as readIs
 use Rattle.ansi.specs.Layout.{File}
+use Rattle.ansi.specs.Places.{Means}
 use Rattle.ansi.specs.Reading.{ansiOf, placeOf}
 
 -- the 36 bytes of a file: ID, record format, block length, record length, and the element's number in 8 bytes, high byte first
@@ -55,6 +56,17 @@ pub record Reads (l s before after : List ℕ) (r : Read) : Type 0 where
 -- how many elements of a list are passed before one can't stand
 abbrev pub placeIn : List ℕ → List ℕ → Answer ℕ
 placeIn l s = andThen (tapeIn l s) (λ t. answer (placeOf t))
+
+-- what holds of the one meaning of a tape
+pub record OneMeaning (t : Tape) (P : Answer (List File) → Type 0) : Type 0 where
+  pub meaning : Answer (List File)
+  pub means : Means t meaning
+  pub one : (a : Answer (List File)) → Means t a → a ≡ meaning
+  pub holds : P meaning
+
+-- the files are those of the tape's layout, and a refusal is the layout's: what is said of a list and a store without the reader
+abbrev pub ByLayout : ℕ → List ℕ → List ℕ → Type 0
+ByLayout room l s = (t : Tape) → tapeIn l s ≡ answer t → OneMeaning t (λ a. filesIn room l s ≡ andThen a (fitting room))
 
 -- the walk over a list: the bytes of all files at the front of the rows, and where they end
 pub record Found (t : Tape) (before after : List ℕ) (end : ℕ) : Type 0 where

@@ -115,6 +115,13 @@ fn walk(list: &[u8], store: &[u8], count: usize, out: &mut [u8]) -> Judged
     at_end(phase, end, count)
 }
 
+// Rows without a file.
+fn empty() -> [u8; 337068]
+    ensures { λ r. ⌜ length r ≡ rowsLength ⌝ }
+{
+    [0; 337068]
+}
+
 // What is read of a tape: so many files, or a refusal.
 pub enum Read {
     Files(usize),
@@ -139,7 +146,7 @@ pub fn files(list: &[u8], store: &[u8], out: &mut [u8]) -> Read
     let Checked::Elements(count) = tape::check(list, store) else {
         return Read::Refused(Refusal::List);
     };
-    let mut text = [0u8; 337068];
+    let mut text = empty();
     match walk(list, store, count, &mut text) {
         Judged::Files(end) => hand_out(&text, end, out),
         Judged::Refused(r, _) => Read::Refused(r),
@@ -153,7 +160,7 @@ pub fn place(list: &[u8], store: &[u8]) -> Checked
     let Checked::Elements(count) = tape::check(list, store) else {
         return Checked::Refused(Refusal::List);
     };
-    let mut text = [0u8; 337068];
+    let mut text = empty();
     match walk(list, store, count, &mut text) {
         Judged::Files(_) => Checked::Elements(count),
         Judged::Refused(_, at) => Checked::Elements(at),

@@ -1,7 +1,5 @@
 -- `files` meets its contract: the list is checked, and then walked.
 use mathlib.Core.Path.{sym, _∙_, ap}
-use Prim.Native.Nat.{ℕ}
-use lib.ListN.{length-replicate}
 use Rattle.tape.specs.Answers.{counted}
 use Rattle.tape.proofs.Keeping.{present}
 use Rattle.tape.proofs.Passing.{encoded}
@@ -23,14 +21,17 @@ returns : tie.Need-returns
 returns c =
     reads-refused (c .before .before .before .before .before .before .args .list .now) (c .before .before .before .before .before .before .args .store .now) (c .before .before .before .before .before .before .args .out .now) (c .enum-told .given .0 .0) (ap counted (sym (c .enum-told .given .1)) ∙ c .before .before .check .ensures)
 
+empty-requires : tie.Need-empty-requires
+empty-requires c κs = search needs
+
 slice-aggregate-walk : tie.Need-slice-aggregate-walk
 slice-aggregate-walk c = search needs
 
 walk-requires : tie.Need-walk-requires
 walk-requires c κs =
-    let a = c .before .before .before .before .before .before .before .before .args in
-    let q = present (a .list .now) (a .store .now) (c .before .before .count .given .0 .0) (λ i. c .before .before .before .before .before .before .before .shared-slice-known .given i .fits) (ap counted (sym (c .before .before .count .given .1)) ∙ c .before .before .before .before .check .ensures) in
-    (encoded (a .list .now) (a .store .now) (c .before .before .count .given .0 .0) q, length-replicate {A = ℕ} 337068 0)
+    let a = c .before .before .before .before .before .before .before .before .before .args in
+    let q = present (a .list .now) (a .store .now) (c .before .before .before .count .given .0 .0) (λ i. c .before .before .before .before .before .before .before .before .shared-slice-known .given i .fits) (ap counted (sym (c .before .before .before .count .given .1)) ∙ c .before .before .before .before .before .check .ensures) in
+    (encoded (a .list .now) (a .store .now) (c .before .before .before .count .given .0 .0) q, c .before .empty .ensures)
 
 enum-known-end : tie.Need-enum-known-end
 enum-known-end c = search needs
@@ -49,15 +50,15 @@ same-length c = search needs
 
 returns-2 : tie.Need-returns-2
 returns-2 c =
-    let a = c .before .before .before .before .before .before .before .before .before .before .before .before .before .before .before .before .before .before .args in
-    let q = present (a .list .now) (a .store .now) (c .before .before .before .before .before .before .before .before .before .before .before .before .count .given .0 .0) (λ i. c .before .before .before .before .before .before .before .before .before .before .before .before .before .before .before .before .before .shared-slice-known .given i .fits) (ap counted (sym (c .before .before .before .before .before .before .before .before .before .before .before .before .count .given .1)) ∙ c .before .before .before .before .before .before .before .before .before .before .before .before .before .before .check .ensures) in
-    reads-found (a .list .now) (a .store .now) (c .before .before .before .before .before .before .before .before .before .before .before .before .count .given .0 .0) q (a .out .now) _ (c .before .before .hand-out .result) (rw (c .before .before .before .before .before .before .end .given .1) at (c .before .before .before .before .before .before .before .before .before .walk .ensures (q .tape) (q .encodes))) (c .before .before .hand-out .ensures)
+    let a = c .before .before .before .before .before .before .before .before .before .before .before .before .before .before .before .before .before .before .before .args in
+    let q = present (a .list .now) (a .store .now) (c .before .before .before .before .before .before .before .before .before .before .before .before .before .count .given .0 .0) (λ i. c .before .before .before .before .before .before .before .before .before .before .before .before .before .before .before .before .before .before .shared-slice-known .given i .fits) (ap counted (sym (c .before .before .before .before .before .before .before .before .before .before .before .before .before .count .given .1)) ∙ c .before .before .before .before .before .before .before .before .before .before .before .before .before .before .before .check .ensures) in
+    reads-found (a .list .now) (a .store .now) (c .before .before .before .before .before .before .before .before .before .before .before .before .before .count .given .0 .0) q (a .out .now) _ (c .before .before .hand-out .result) (rw (c .before .before .before .before .before .before .end .given .1) at (c .before .before .before .before .before .before .before .before .before .walk .ensures (q .tape) (q .encodes))) (c .before .before .hand-out .ensures)
 
 returns-3 : tie.Need-returns-3
 returns-3 c =
-    let a = c .before .before .before .before .before .before .before .before .before .before .before .before .before .args in
-    let q = present (a .list .now) (a .store .now) (c .before .before .before .before .before .before .before .count .given .0 .0) (λ i. c .before .before .before .before .before .before .before .before .before .before .before .before .shared-slice-known .given i .fits) (ap counted (sym (c .before .before .before .before .before .before .before .count .given .1)) ∙ c .before .before .before .before .before .before .before .before .before .check .ensures) in
-    reads-stopped (a .list .now) (a .store .now) (c .before .before .before .before .before .before .before .count .given .0 .0) q (a .out .now) (c .before .r .given .0 .0) (rw (c .before .r .given .1) at (c .before .before .before .before .walk .ensures (q .tape) (q .encodes)))
+    let a = c .before .before .before .before .before .before .before .before .before .before .before .before .before .before .args in
+    let q = present (a .list .now) (a .store .now) (c .before .before .before .before .before .before .before .before .count .given .0 .0) (λ i. c .before .before .before .before .before .before .before .before .before .before .before .before .before .shared-slice-known .given i .fits) (ap counted (sym (c .before .before .before .before .before .before .before .before .count .given .1)) ∙ c .before .before .before .before .before .before .before .before .before .before .check .ensures) in
+    reads-stopped (a .list .now) (a .store .now) (c .before .before .before .before .before .before .before .before .count .given .0 .0) q (a .out .now) (c .before .r .given .0 .0) (rw (c .before .r .given .1) at (c .before .before .before .before .walk .ensures (q .tape) (q .encodes)))
 
 pub files-spec : {M : Type 1} → statement M
 files-spec =
@@ -67,6 +68,7 @@ files-spec =
     enum-known-count
     enum-told
     returns
+    empty-requires
     slice-aggregate-walk
     walk-requires
     enum-known-end

@@ -1,0 +1,43 @@
+// Old labelled tapes: their files, and where a tape leaves the layout.
+use ansi::Read;
+use tape::Checked;
+ghost use Rattle.api.specs.Labelled.{ReadsAnsi, PlacesAnsi};
+
+// The files of an old labelled tape, 36 bytes each, at the front of buffer.
+#[no_mangle]
+pub extern "C" fn klapouzen_ansi(
+    list: &[u8],
+    store: &[u8],
+    buffer: &mut [u8],
+    count: &mut u64,
+) -> u64
+    ensures { λ r. ⌜ ReadsAnsi (now (list .entry)) (now (store .entry)) (now (buffer .entry)) (now (buffer .exit)) r (now (count .exit)) ⌝ }
+{
+    match ansi::files(list, store, buffer) {
+        Read::Files(n) => {
+            *count = n as u64;
+            0
+        }
+        Read::Refused(r) => {
+            *count = 0;
+            refusals::number(r)
+        }
+    }
+}
+
+// How many elements at the front of a tape some tape in the layout begins with.
+#[no_mangle]
+pub extern "C" fn klapouzen_ansi_place(list: &[u8], store: &[u8], place: &mut u64) -> u64
+    ensures { λ r. ⌜ PlacesAnsi (now (list .entry)) (now (store .entry)) r (now (place .exit)) ⌝ }
+{
+    match ansi::place(list, store) {
+        Checked::Elements(n) => {
+            *place = n as u64;
+            0
+        }
+        Checked::Refused(r) => {
+            *place = 0;
+            refusals::number(r)
+        }
+    }
+}
