@@ -91,5 +91,17 @@ by-layout room l s w t e =
     let b = tape-small l s t w e in
     record { meaning = ansiOf t; means = means t b; one = λ a m. sym (one-meaning t a b m); holds = rw e }
 
-pub by-longest : (l s : List ℕ) → Bytes l → (t : Tape) → tapeIn l s ≡ answer t → LongestFront t (placeOf t)
-by-longest l s w t e = longest-front t (tape-small l s t w e)
+same-answer : {A : Type 0} {x y : A} → answer x ≡ answer y → x ≡ y
+same-answer e = cc
+
+-- the place that is answered is behind the longest front that begins a layout
+pub place-longest : (l s : List ℕ) (n : ℕ) → Bytes l → answer n ≡ placeIn l s → (t : Tape) → tapeIn l s ≡ answer t → LongestFront t n
+place-longest l s n w q t e =
+    let z : answer n ≡ answer (placeOf t) = q ∙ ap (λ (a : Answer Tape). andThen a (λ u. answer (placeOf u))) e in
+    subst (LongestFront t) (sym (same-answer z)) (longest-front t (tape-small l s t w e))
+
+pub place-none : (l s : List ℕ) (r : Refusal) → refused r ≡ placeIn l s → (t : Tape) → tapeIn l s ≡ answer t → (n : ℕ) → LongestFront t n
+place-none l s r q t e n =
+    let z : refused r ≡ answer (placeOf t) = q ∙ ap (λ (a : Answer Tape). andThen a (λ u. answer (placeOf u))) e in
+    let y : _≡_ {A = ℕ} 0 1 = cc in
+    absurd (omega arith)

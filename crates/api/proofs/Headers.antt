@@ -94,7 +94,7 @@ says-file s a h e i =
 
 -- a buffer filled, and the number of what was written
 module _ {A : Type 0} where
-  shown-counted : (a : Answer (List A)) {returned : ℕ} {out : List ℕ} → Shown 1 one (counted a) returned out → Shown 1 howMany a returned out
+  pub shown-counted : (a : Answer (List A)) {returned : ℕ} {out : List ℕ} → Shown 1 one (counted a) returned out → Shown 1 howMany a returned out
   shown-counted (refused r) s = record { refusal = s .refusal; holds = s .holds }
   shown-counted (answer l) s = record { refusal = s .refusal; holds = s .holds }
 
