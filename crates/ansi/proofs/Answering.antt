@@ -3,7 +3,7 @@ use mathlib.Core.Path.{_≡_, refl, sym, ap, _∙_, subst}
 use mathlib.Core.Bool.{Bool, true, false, cond}
 use mathlib.Core.List.{List}
 use mathlib.Core.Option.{Option, none, some}
-use Prim.Native.Nat.{ℕ, _+_, _*_, _/_, _≤_}
+use Prim.Native.Nat.{ℕ, _*_, _/_, _≤_}
 use native.Mathlib.Nat.{zero-add}
 use native.Mathlib.Omega.{arith}
 use lib.Dec.{leb}
@@ -24,7 +24,7 @@ use Rattle.ansi.specs.declared.Read.the-variants as readIs
 use Rattle.ansi.specs.Layout.{File}
 use Rattle.ansi.specs.Places.{LongestFront}
 use Rattle.ansi.specs.Reading.{ansiOf, placeOf}
-use Rattle.ansi.specs.Answers.{allBytes, fitting, filesIn, filesAfter, readCount, Reads, placeIn, ByLayout, Found, Stopped, HandsOut}
+use Rattle.ansi.specs.Answers.{allBytes, fitting, filesIn, filesAfter, Reads, placeIn, ByLayout, Found, Stopped, HandsOut}
 use Rattle.ansi.proofs.Refused.{means, one-meaning, longest-front}
 
 counted-fitting : (b : Bool) (k : ℕ) (fs : List File) → k ≡ length fs

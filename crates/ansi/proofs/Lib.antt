@@ -1,4 +1,3 @@
-pub mod Tests
 pub mod Rests
 pub mod Sound
 pub mod Complete

@@ -14,10 +14,10 @@ use Rattle.slices.specs.Slices.{within, every, same}
 use Rattle.slices.specs.Words.{bytes}
 use Rattle.slices.proofs.Booleans.{and-left, and-right}
 use Rattle.tape.specs.Tape.{Tape, Element, mark, block}
-use Rattle.ansi.specs.Labels.{isLabel, isNumbered, number, isVolume, isHeader2, isTrailer, count, isData}
+use Rattle.ansi_labels.specs.Labels.{isLabel, isNumbered, number, isVolume, isHeader2, isTrailer, count, isData}
 use Rattle.ansi.specs.Layout.{File}
 use Rattle.ansi.specs.Reading.{State, start, volume, header, headers, blocks, trailer, second, trailers, between, done, Step, go, found, stop, passing, opened, closed, step, ended, follow, run}
-use Rattle.ansi.proofs.Tests.{label-length}
+use Rattle.ansi_labels.proofs.Tests.{label-length}
 use Rattle.ansi.proofs.Counts.{counted, counted-trailer, counted-count, trailerOf, trailer-label, trailer-5-54, trailer-61-80}
 
 -- what holds of a state before element n

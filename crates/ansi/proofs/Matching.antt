@@ -7,11 +7,11 @@ use native.Mathlib.Nat.{add-zero}
 use native.Mathlib.Numerals.{add-one}
 use native.Mathlib.Omega.{arith}
 use lib.Dec.{eqb}
-use lib.ListN.{length, take, drop, length-append, drop-of-length-le, take-append-drop}
+use lib.ListN.{length, take, drop, length-append, take-append-drop}
 use lib.Seq.{take-all, take-append-seam}
 use Rattle.refusals.specs.declared.Refusal.{Refusal}
 use Rattle.refusals.specs.declared.Refusal.the-variants.{Labels}
-use Rattle.refusals.specs.Refusals.{Answer, refused, answer}
+use Rattle.refusals.specs.Refusals.{refused, answer}
 use Rattle.slices.specs.Slices.{written}
 use Rattle.slices.specs.Words.{bytes}
 use Rattle.slices.proofs.Writing.{length-written, written-nil}
@@ -26,16 +26,16 @@ use Rattle.tape.proofs.Passing.{take-next, drop-next, bytes-next, bytes-within,
 use Rattle.ansi.specs.declared.Judged.{Judged}
 use Rattle.ansi.specs.declared.phases.Phase.{Phase}
 use Rattle.ansi.specs.declared.phases.Phase.the-variants as phase
-use Rattle.ansi.specs.Labels.{isLabel, isNumbered, number, isVolume, isHeader2, isTrailer, count, isData}
+use Rattle.ansi_labels.specs.Labels.{isLabel, isNumbered, number, isVolume, isHeader2, isTrailer, count, isData}
 use Rattle.ansi.specs.Layout.{File}
 use Rattle.ansi.specs.Reading.{State, start, volume, header, headers, blocks, trailer, second, trailers, between, done, Step, go, found, stop, passing, opened, closed, step, ended, run, ansiOf, passedOn, passedFrom, placeOf}
 use Rattle.ansi.specs.Phases.{stateOf, unfiled, known, knownAt, Small}
 use Rattle.ansi.specs.Answers.{fileBytes, allBytes, Found, Stopped, Judges, Walks, rowsLength, atEnd}
-use Rattle.ansi.proofs.Tests.{label-length}
+use Rattle.ansi_labels.proofs.Tests.{label-length}
 use Rattle.ansi.proofs.Walks.{header2-length}
 use Rattle.ansi.proofs.Live.{Live, LiveAt, step-live}
 use Rattle.ansi.proofs.Fronts.{Reach, reach-next, behind, reach-run, reach-passed, follow-stop}
-use Rattle.ansi.proofs.FileBytes.{all-append, one-file, file-length}
+use Rattle.ansi.proofs.FileBytes.{all-append, file-length}
 
 -- how many of a file's seven elements, from its header mark on, a state has behind it
 abbrev spent : State → ℕ

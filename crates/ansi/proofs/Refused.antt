@@ -19,11 +19,11 @@ use Rattle.slices.proofs.Booleans.{and-left, and-right, and-both}
 use Rattle.slices.proofs.Equal.{same-eq, eq-same}
 use Rattle.tape.specs.Tape.{Tape, Element, block, maxElements}
 use Rattle.digits.specs.Decimal.{isDigit}
-use Rattle.ansi.specs.Labels.{part, isLabel, isTrailer, count, isData}
+use Rattle.ansi_labels.specs.Labels.{part, isLabel, isTrailer, count, isData}
 use Rattle.ansi.specs.Layout.{File, Layout}
 use Rattle.ansi.specs.Places.{Begins, CouldStand, LongestFront, IsEndOfVolume, IsOtherCount, RefusalAt, Refuses, Means}
 use Rattle.ansi.specs.Reading.{State, start, blocks, trailer, second, Step, go, found, stop, wrong, closed, step, follow, run, ansiOf, passedOn, passedFrom, placeOf}
-use Rattle.ansi.proofs.Tests.{label-length, label-word, other-word}
+use Rattle.ansi_labels.proofs.Tests.{label-length, label-word, other-word}
 use Rattle.ansi.proofs.Counts.{same-5-54, same-word, counted, counted-front, counted-back, counted-trailer, counted-count}
 use Rattle.ansi.proofs.Live.{Live, ends, ends-second, closes, eof1, eof1-trailer, eof1-closes}
 use Rattle.ansi.proofs.Form.{same-layout}

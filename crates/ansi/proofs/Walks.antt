@@ -4,16 +4,16 @@ use mathlib.Core.Bool.{Bool, true, false, cond, _&&_}
 use mathlib.Core.List.{List}
 use Prim.Native.Nat.{ℕ, suc, _≤_}
 use native.Mathlib.Omega.{arith}
-use lib.Dec.{leb}
+use lib.Dec.{leb, eqb}
 use lib.ListN.{length, take, drop, length-take}
 use lib.Seq.{take-all}
-use borrow.Author.Tests.{leb-true, leb-false}
+use borrow.Author.Tests.{leb-true, leb-false, eq-eqb}
 use Rattle.slices.specs.Words.{bytes}
 use Rattle.slices.proofs.Booleans.{and-left}
-use Rattle.ansi.specs.Labels.{byte, isLabel, isNumbered, number, isFormat, isHeader2, isTrailer}
+use Rattle.ansi_labels.specs.Labels.{byte, isLabel, isNumbered, number, isFormat, isHeader2, isTrailer, count}
 use Rattle.ansi.specs.Reading.{State, header, headers, Step, go, wrong, passing, opened}
 use Rattle.ansi.specs.Phases.{labelAt, passedTo}
-use Rattle.ansi.proofs.Tests.{label-length}
+use Rattle.ansi_labels.proofs.Tests.{label-length}
 use Rattle.ansi.proofs.Refused.{trailer-parts}
 
 -- 80 bytes from a place on are the label there
@@ -59,5 +59,9 @@ module _ (w u : List ℕ) (k : ℕ) (x : List ℕ) (next : ℕ → State) (other
       by false true z = rw z
       by false false z = absurd (h (sym z))
 
-pub trailer-length : (h x : List ℕ) → isTrailer h x ≡ true → length x ≡ 80
+trailer-length : (h x : List ℕ) → isTrailer h x ≡ true → length x ≡ 80
 trailer-length h x e = label-length (bytes "EOF1") x (trailer-parts h x e .0)
+
+-- a label EOF1 has 80 bytes, so that its count is all that is compared
+pub trailer-count : (h x : List ℕ) (m : ℕ) (b : Bool) → isTrailer h x ≡ true → b ≡ (eqb (length x) 80 && eqb (count x) m) → eqb (count x) m ≡ b
+trailer-count h x m b e q = sym (q ∙ ap (λ (t : Bool). t && eqb (count x) m) (eq-eqb (length x) 80 (trailer-length h x e)))

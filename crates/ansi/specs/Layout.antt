@@ -7,7 +7,7 @@ use Prim.Native.Nat.{ℕ, zero, suc, _+_}
 use lib.ListN.{length}
 use Rattle.slices.specs.Words.{bytes}
 use Rattle.tape.specs.Tape.{Tape, mark, block}
-use Rattle.ansi.specs.Labels.{part, isLabel, number, isNumbered, isVolume, isHeader2, isTrailer, count, isData}
+use Rattle.ansi_labels.specs.Labels.{part, isLabel, number, isNumbered, isVolume, isHeader2, isTrailer, count, isData}
 
 -- what is handed out of a file: its ID, record format, block and record length, and the number of the element after its header mark
 pub record File : Type 0 where

@@ -8,7 +8,7 @@ use Rattle.ansi.specs.declared.phases.Phase.{Phase}
 use Rattle.ansi.specs.declared.phases.Phase.the-variants as phase
 use Rattle.ansi.specs.declared.phases.Next.{Next}
 use Rattle.ansi.specs.declared.phases.Next.the-variants as nextIs
-use Rattle.ansi.specs.Labels.{isLabel, isNumbered, number}
+use Rattle.ansi_labels.specs.Labels.{isLabel, isNumbered, number}
 use Rattle.ansi.specs.Layout.{File}
 use Rattle.ansi.specs.Reading.{State, start, volume, header, headers, blocks, trailer, second, trailers, between, done, Step, go, found, stop, step}
 

@@ -12,7 +12,7 @@ use Rattle.slices.specs.Slices.{every}
 use Rattle.slices.specs.Words.{bytes}
 use Rattle.digits.specs.Decimal.{isDigit}
 use Rattle.tape.specs.Tape.{Tape, block}
-use Rattle.ansi.specs.Labels.{part, isLabel}
+use Rattle.ansi_labels.specs.Labels.{part, isLabel}
 use Rattle.ansi.specs.Layout.{File, Layout}
 
 -- some tape in the layout begins with these elements

@@ -8,7 +8,7 @@ use Rattle.refusals.specs.declared.Refusal.the-variants.{Labels, EndOfVolume, B
 use Rattle.refusals.specs.Refusals.{Answer, refused, answer, andThen}
 use Rattle.slices.specs.Words.{bytes}
 use Rattle.tape.specs.Tape.{Element, Tape, mark, block}
-use Rattle.ansi.specs.Labels.{isLabel, number, isNumbered, isVolume, isHeader2, isTrailer, count, isData}
+use Rattle.ansi_labels.specs.Labels.{isLabel, number, isNumbered, isVolume, isHeader2, isTrailer, count, isData}
 use Rattle.ansi.specs.Layout.{File, fileOf}
 
 -- what was read last: nothing; the volume's labels, VOL numbers from n on may follow; HDR1 h; the header labels, HDR1 h and HDR2 g among them,

@@ -1,5 +1,4 @@
 // Old labelled tapes (02, Item 1): the files of a tape, and where a tape leaves the layout.
-mod labels;
 mod phases;
 mod rows;
 

@@ -1,9 +1,8 @@
 // How far an old labelled tape is read, and what an element does then.
-use super::labels;
 use refusals::Refusal;
 ghost use mathlib.Core.Path.{_≡_};
-ghost use Prim.Native.Nat.{_+_, _<_, _≤_};
-ghost use lib.ListN.{length, take, drop};
+ghost use Prim.Native.Nat.{_+_, _<_};
+ghost use lib.ListN.{take, drop};
 ghost use Rattle.tape.specs.Tape.{mark, block};
 ghost use Rattle.ansi.specs.Reading.{step, start, volume, header, headers, blocks, trailer, second, trailers, opened};
 ghost use Rattle.ansi.specs.Phases.{stateOf, stepOf, unfiled, passedTo, labelAt, Small};
@@ -50,10 +49,10 @@ pub fn after_mark(phase: Phase, store: &[u8]) -> Next
 fn passed(x: &[u8], w: &[u8], u: &[u8], k: usize) -> usize
     ensures { λ r. ⌜ r ≡ passedTo (now (w .entry)) (now (u .entry)) k (now (x .entry)) ⌝ }
 {
-    if labels::is_numbered(x, w, k) {
-        return labels::number(x) + 1;
+    if ansi_labels::is_numbered(x, w, k) {
+        return ansi_labels::number(x) + 1;
     }
-    if labels::is_label(x, u) {
+    if ansi_labels::is_label(x, u) {
         return 10;
     }
     0
@@ -64,7 +63,7 @@ fn in_start(store: &[u8], from: usize, len: usize) -> Next
     ensures { λ r. ⌜ stepOf (now (store .entry)) r ≡ step 0 (start) (block (take len (drop from (now (store .entry))))) ⌝ }
 {
     let x = slices::part(store, from, len);
-    if !labels::is_volume(x) {
+    if !ansi_labels::is_volume(x) {
         return Next::Stop(Refusal::Labels);
     }
     Next::Go(Phase::Volume(2))
@@ -75,7 +74,7 @@ fn begin_file(store: &[u8], from: usize, len: usize) -> Next
     ensures { λ r. ⌜ stepOf (now (store .entry)) r ≡ opened (take len (drop from (now (store .entry)))) ⌝ }
 {
     let x = slices::part(store, from, len);
-    if !labels::is_label(x, b"HDR1") {
+    if !ansi_labels::is_label(x, b"HDR1") {
         return Next::Stop(Refusal::Labels);
     }
     Next::Go(Phase::Header(from))
@@ -98,7 +97,7 @@ fn in_header(store: &[u8], from: usize, len: usize, h: usize) -> Next
     ensures { λ r. ⌜ stepOf (now (store .entry)) r ≡ step 0 (header (labelAt (now (store .entry)) h)) (block (take len (drop from (now (store .entry))))) ⌝ }
 {
     let x = slices::part(store, from, len);
-    if !labels::is_header2(x) {
+    if !ansi_labels::is_header2(x) {
         return Next::Stop(Refusal::Labels);
     }
     Next::Go(Phase::Headers(h, from, 3))
@@ -122,7 +121,7 @@ fn in_blocks(store: &[u8], from: usize, len: usize, h: usize, m: usize) -> Next
     ensures { λ r. ⌜ stepOf (now (store .entry)) r ≡ step 0 (blocks (labelAt (now (store .entry)) h) m) (block (take len (drop from (now (store .entry))))) ⌝ }
 {
     let x = slices::part(store, from, len);
-    if !labels::is_data(x.len()) {
+    if !ansi_labels::is_data(x) {
         return Next::Stop(Refusal::Labels);
     }
     Next::Go(Phase::Blocks(h, m + 1))
@@ -133,13 +132,13 @@ fn in_trailer(store: &[u8], from: usize, len: usize, h: usize, m: usize) -> Next
     ensures { λ r. ⌜ stepOf (now (store .entry)) r ≡ step 0 (trailer (labelAt (now (store .entry)) h) m) (block (take len (drop from (now (store .entry))))) ⌝ }
 {
     let x = slices::part(store, from, len);
-    if labels::is_trailer(x, slices::part(store, h, 80)) {
-        if labels::count(x) == m {
+    if ansi_labels::is_trailer(x, slices::part(store, h, 80)) {
+        if ansi_labels::has_count(x, m) {
             return Next::Go(Phase::Second);
         }
         return Next::Stop(Refusal::BlockCount);
     }
-    if labels::is_label(x, b"EOV1") {
+    if ansi_labels::is_label(x, b"EOV1") {
         return Next::Stop(Refusal::EndOfVolume);
     }
     Next::Stop(Refusal::Labels)
@@ -150,7 +149,7 @@ fn in_second(store: &[u8], from: usize, len: usize) -> Next
     ensures { λ r. ⌜ stepOf (now (store .entry)) r ≡ step 0 (second) (block (take len (drop from (now (store .entry))))) ⌝ }
 {
     let x = slices::part(store, from, len);
-    if !labels::is_label(x, b"EOF2") {
+    if !ansi_labels::is_label(x, b"EOF2") {
         return Next::Stop(Refusal::Labels);
     }
     Next::Go(Phase::Trailers(3))

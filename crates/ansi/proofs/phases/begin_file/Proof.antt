@@ -1,16 +1,13 @@
+-- `begin_file` meets its contract.
 use borrow.Author.Tests.{not-true, not-false}
 use mathlib.Core.Path.{sym, ap, _∙_}
 use Rattle.slices.specs.Words.{bytes}
-use Rattle.ansi.specs.Labels.{isLabel}
+use Rattle.ansi_labels.specs.Labels.{isLabel}
 use Rattle.ansi.specs.Reading.{opened}
 use Rattle.ansi.proofs.Walks.{opens-at}
 use borrow.Author.Needs.{needs}
 use Rattle.ansi.proofs.phases.begin_file.Statement.{statement}
 use Rattle.ansi.proofs.phases.begin_file.Tie as tie
-use Rattle.ansi.proofs.phases.begin_file.Reads as reads
-use Rattle.ansi.proofs.phases.begin_file.Lts as lts
-use Rattle.ansi.proofs.labels.is_label.Reads as is-label-reads
-use Rattle.slices.proofs.part.Reads as part-reads
 
 part-requires : tie.Need-part-requires
 part-requires c κs = search needs

@@ -1,14 +1,11 @@
+-- `in_start` meets its contract.
 use borrow.Author.Tests.{not-true, not-false}
 use mathlib.Core.Path.{sym, ap, _∙_}
-use Rattle.ansi.specs.Labels.{isVolume}
+use Rattle.ansi_labels.specs.Labels.{isVolume}
 use Rattle.ansi.specs.Reading.{step}
 use borrow.Author.Needs.{needs}
 use Rattle.ansi.proofs.phases.in_start.Statement.{statement}
 use Rattle.ansi.proofs.phases.in_start.Tie as tie
-use Rattle.ansi.proofs.phases.in_start.Reads as reads
-use Rattle.ansi.proofs.phases.in_start.Lts as lts
-use Rattle.ansi.proofs.labels.is_volume.Reads as is-volume-reads
-use Rattle.slices.proofs.part.Reads as part-reads
 
 part-requires : tie.Need-part-requires
 part-requires c κs = search needs
