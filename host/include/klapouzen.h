@@ -33,8 +33,8 @@
  *     comments name the numbers that a function can answer in the order in
  *     which it looks for them: the first that applies is answered;
  *   - fills all of `out`, *count, *length and *place: with its answer, or on a
- *     refusal with zeros. On a refusal `buffer`, `rows`, `files` and `table` keep every
- *     byte;
+ *     refusal with zeros. On a refusal `buffer`, `rows`, `files` and `table`
+ *     keep every byte;
  *   - takes NULL for a slice of length 0, and takes any bytes in a slice: there
  *     is nothing that a caller must check before;
  *   - writes only to the memory named in its comment, keeps no pointer,
@@ -44,10 +44,10 @@
  * `files`) in numbers. Slices that are only read may overlap each other. What a
  * function writes (`out`, *count, *length, *place, `table`, and where they are
  * not const `buffer`, `rows` and `files`) must not overlap anything else that it
- * is given. `out`, `table` and the pointers to single numbers must not be NULL, and
- * must have room for as many numbers as the declaration says. The names of the
- * numbers in `out` and in a row are an enum above the function; its last name is
- * how many they are.
+ * is given. `out`, `table` and the pointers to single numbers must not be NULL,
+ * and must have room for as many numbers as the declaration says. The names of
+ * the numbers in `out` and in a row are an enum above the function; its last name
+ * is how many they are.
  *
  * Stack: a call needs less than KLAPOUZEN_STACK bytes.
  */
@@ -519,35 +519,36 @@ uint64_t klapouzen_rescue(const uint8_t *index_list, size_t index_list_length,
 /* ---- ANSI labelled tapes ---- */
 
 /*
- * The files of an ANSI labelled tape. *count: how many. Each has KLAPOUZEN_ANSI_FILE
- * bytes at the front of the buffer, in tape order; the bytes after them keep their
- * values.
+ * The files of an ANSI labelled tape. *count: how many. Each has
+ * KLAPOUZEN_ANSI_FILE bytes at the front of the buffer, in tape order; the bytes
+ * after them keep their values.
  *
- * The layout, a label being a block of 80 bytes that begins with the four that are
- * named here, a user label (UVL, UHL, UTL) with three:
+ * The layout, a label being a block of 80 bytes that begins with the four named
+ * here, and a user label (UVL, UHL, UTL) with three:
  *   VOL1, VOL2 to VOL9, user labels UVL
- *   of each file, one or more
+ *   for each file, one or more:
  *     HDR1, HDR2, HDR3 to HDR9, user labels UHL, a mark
- *     the data blocks, if any, each of 18 to 20,480 bytes, a mark
+ *     data blocks, or none, each of 18 to 20,480 bytes, and a mark
  *     EOF1, EOF2, EOF3 to EOF9, user labels UTL, a mark
  *   a mark, the last element
  * VOL1, HDR1, HDR2, EOF1 and EOF2 must be there. Of the other numbered labels any
- * may be missing, but their numbers rise; user labels are as many as there are.
+ * may be missing, and the numbers rise; there may be any number of user labels.
  * Counted from 1, byte 80 of VOL1 is 3 or 4; byte 5 of HDR2 is F, D or S, bytes 6
- * to 15 are digits; bytes 5 to 54 and 61 to 80 of EOF1 are as in HDR1, and bytes
- * 55 to 60 are digits: how many data blocks there are. All else is passed over.
+ * to 15 are digits; bytes 5 to 54 and 61 to 80 of EOF1 are as in HDR1, bytes 55
+ * to 60 are digits, the number of the file's data blocks. All else may be any
+ * bytes.
  *
  * Refusals: 1; then the one of the first element that can't stand where it does,
- * or of an early end: 17 (an EOV1 label where EOF1 is due), 18 (an EOF1 label that
- * is right but for the number in its six digits), 16 (all else); then 10
- * (buffer_length is below KLAPOUZEN_ANSI_FILE times the files).
+ * or of a tape that ends too early: 17 (an EOV1 label in the place of EOF1), 18
+ * (an EOF1 label with all right but the number in its six digits), 16 (any other
+ * cause); then 10 (buffer_length is below KLAPOUZEN_ANSI_FILE times the files).
  */
 enum klapouzen_ansi_file {
     KLAPOUZEN_ANSI_ID = 0,             /* the file ID, 17 bytes, any */
     KLAPOUZEN_ANSI_FORMAT = 17,        /* the record format: F, D or S */
     KLAPOUZEN_ANSI_BLOCK_LENGTH = 18,  /* 5 digits */
     KLAPOUZEN_ANSI_RECORD_LENGTH = 23, /* 5 digits */
-    KLAPOUZEN_ANSI_ELEMENT = 28,       /* element number behind the header mark: 8 bytes, high byte first */
+    KLAPOUZEN_ANSI_ELEMENT = 28,       /* number of the element after the header mark: 8 bytes, high byte first */
     KLAPOUZEN_ANSI_FILE = 36           /* bytes of a file */
 };
 
