@@ -10,6 +10,7 @@ pub mod index;
 pub mod label;
 pub mod program;
 pub mod random;
+pub mod random_ansi;
 pub mod structure;
 pub mod tape;
 pub mod values;
