@@ -70,7 +70,7 @@ fn begins(front: &[Element]) -> bool {
 
 /// The refusal of the element behind a front, from the layout alone.
 fn refusal_behind(front: &[Element], element: Option<&Element>) -> Refusal {
-    let could_stand = |other: &Element| begins(&[front, &[other.clone()]].concat());
+    let could_stand = |other: &Element| begins(&[front, std::slice::from_ref(other)].concat());
     let Some(element) = element else {
         return Refusal::AnsiLabels;
     };
