@@ -1,6 +1,6 @@
 /*
- * The benchmarks: everything in one run, ratios with the absolute figures beside them. bench once: a single call, which
- * make instructions counts.
+ * The benchmarks: everything in one run, ratios with the absolute figures beside them. bench once: a single call, whose
+ * instructions make counts counts.
  */
 #include <stdio.h>
 #include <string.h>

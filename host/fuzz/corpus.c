@@ -132,6 +132,7 @@ static void write_vectors(void)
     each_vector(TEXTS, write_form);
     each_vector(ROW_LISTS, write_rows);
     each_vector(ANSI_TAPES, write_ansi);
+    each_vector(ANSI_PLACES, write_ansi);
 }
 
 int main(int count, char **words)

@@ -404,12 +404,29 @@ static void ansi_vector(const struct random_case *vector)
         guarded_free(parts[i].start, parts[i].length);
 }
 
+static void ansi_place_vector(const struct random_case *vector)
+{
+    struct slice parts[4];
+    uint8_t before[LENT] = { 0 };
+    guard_case(vector, parts);
+    compare_ansi(parts[0], parts[1], before, LENT);
+    if (answers[0].refusal != vector->numbers[1])
+        differ("a vector's refusal");
+    BOTH("ansi_place", f->ansi_place(SIDE(parts[0], parts[1]), a->out));
+    if (answers[0].out[0] != vector->numbers[2])
+        differ("a vector's place");
+    vectors++;
+    for (int i = 0; i < 4; i++)
+        guarded_free(parts[i].start, parts[i].length);
+}
+
 int main(int count, char **words)
 {
     uint64_t cases = count > 1 ? strtoull(words[1], NULL, 10) : 10000;
     uint64_t first = count > 2 ? strtoull(words[2], NULL, 10) : 0;
     memset(tables, 0xc3, sizeof tables);
     each_vector(ANSI_TAPES, ansi_vector);
+    each_vector(ANSI_PLACES, ansi_place_vector);
     for (seed = first; seed < first + cases && differences < 20; seed++) {
         volume_case();
         index_case();

@@ -57,6 +57,16 @@ static bool read_ansi(struct case_file *file, struct random_case *vector)
     return true;
 }
 
+/* List and store; refusal and place expected. */
+static bool read_ansi_place(struct case_file *file, struct random_case *vector)
+{
+    read_parts(file, vector, 2);
+    vector->numbers[0] = (uint64_t)KLAPOUZEN_ANSI_FILE * vector->lengths[0];
+    vector->numbers[1] = next_number(file);
+    vector->numbers[2] = next_number(file);
+    return true;
+}
+
 /* ---- Indexes ---- */
 
 static void read_given(struct case_file *file, struct random_case *vector)
@@ -245,6 +255,7 @@ static const struct vector_file {
     { TEXTS, LINES, "../crates/xml_cases/data/cases", read_text_line },
     { TEXTS, LINES, "../crates/xml_cases/data/vectors", read_text_line },
     { ANSI_TAPES, CASES, "../crates/ansi_cases/data/vectors", read_ansi },
+    { ANSI_PLACES, CASES, "../crates/ansi_cases/data/places", read_ansi_place },
 };
 
 static void each_of_file(const struct vector_file *from, void (*use)(const struct random_case *vector))

@@ -221,13 +221,40 @@ impl CaseFile<'_> {
     }
 }
 
+/// One of the files in crates/ansi_cases.
+fn data(name: &str) -> Vec<u8> {
+    let folder = concat!(env!("CARGO_MANIFEST_DIR"), "/../../crates/ansi_cases/data/");
+    std::fs::read(format!("{folder}{name}")).expect("the cases")
+}
+
+/// List and store; the refusal where there is room enough, and the place.
+#[test]
+fn places_are_answered() {
+    let whole = data("places");
+    let mut file = CaseFile(&whole);
+    for case in 0..file.number() {
+        let (list, store) = (file.bytes(), file.bytes());
+        let (refusal, place) = (file.number(), file.number());
+        let side = Side {
+            list: &list,
+            store: &store,
+        };
+        let mut buffer = vec![9; FILE * list.len()];
+        let read = ansi::read(side, &mut buffer);
+        assert_eq!(
+            read.err().map_or(0, Refusal::number),
+            refusal,
+            "case {case}"
+        );
+        assert_eq!(ansi::place(side).unwrap_or(0) as u64, place, "case {case}");
+    }
+    assert!(file.0.is_empty());
+}
+
+/// List, store and lent buffer; the refusal, the files and the buffer after.
 #[test]
 fn vectors_are_answered() {
-    let path = concat!(
-        env!("CARGO_MANIFEST_DIR"),
-        "/../../crates/ansi_cases/data/vectors"
-    );
-    let whole = std::fs::read(path).expect("the vectors");
+    let whole = data("vectors");
     let mut file = CaseFile(&whole);
     let cases = file.number();
     assert_eq!(cases, 110);
