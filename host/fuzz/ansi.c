@@ -116,6 +116,7 @@ static void try_place(const struct tape *tape, uint64_t elements, uint64_t refus
 {
     uint64_t place = place_of(tape);
     struct tape front = front_of(tape, place);
+    saw((unsigned)refusal, place);
     must(place <= elements);
     must(refusal != 0 || place == elements);
     must(place < elements || refusal == 0 || refusal == KLAPOUZEN_BAD_ANSI_LABELS);

@@ -1,6 +1,9 @@
 //! Random ANSI labelled tapes from a seed: in the layout, and with one thing or
 //! two wrong that are near to it.
 
+// What `Tape::change` calls may change a block's length, and not all do.
+#![allow(clippy::ptr_arg)]
+
 use crate::ansi;
 use crate::random::{damage_bytes, Random, TapeSide};
 
@@ -225,7 +228,7 @@ const LABELS: [Role; 7] = [
 
 /// Something that is wrong, or nearly.
 pub fn damage(random: &mut Random, tape: &mut Tape) {
-    match random.below(17) {
+    match random.below(20) {
         0 | 1 => damage_trailer(random, tape),
         2 | 3 => tape.change(random, &[Role::FirstTrailer], other_count),
         4 => drop_or_add_data(random, tape),
@@ -233,11 +236,12 @@ pub fn damage(random: &mut Random, tape: &mut Tape) {
         8 => tape.change(random, &LABELS, other_word),
         9 => tape.change(random, &LABELS, other_length),
         10 => tape.change(random, &[Role::Data], other_data_length),
-        11 => damage_numbering(random, tape),
-        12 => damage_end(random, tape),
-        13 => tape.change(random, &[Role::Volume, Role::SecondHeader], other_value),
-        14 => damage_elements(random, tape),
-        15 => few_elements(random, tape),
+        11 | 12 => damage_numbering(random, tape),
+        13 => damage_end(random, tape),
+        14 => tape.change(random, &[Role::Volume, Role::SecondHeader], other_value),
+        15 => damage_elements(random, tape),
+        16 => few_elements(random, tape),
+        17 | 18 => stray_label(random, tape),
         _ => tape.change(random, &LABELS, |random, bytes| {
             bytes[random.below(80)] = random.draw() as u8;
         }),
@@ -338,7 +342,10 @@ fn other_value(random: &mut Random, label: &mut Vec<u8>) {
 
 /// Numbers that are equal or fall, or a user label before a numbered one.
 fn damage_numbering(random: &mut Random, tape: &mut Tape) {
-    let Some(at) = tape.place(random, &[Role::Numbered, Role::User]) else {
+    const OPTIONAL: [Role; 2] = [Role::Numbered, Role::User];
+    const BEFORE: [Role; 3] = [Role::Volume, Role::SecondHeader, Role::SecondTrailer];
+    let roles = *random.pick(&[&&OPTIONAL[..], &&OPTIONAL[..], &&BEFORE[..]]);
+    let Some(at) = tape.place(random, roles) else {
         return;
     };
     match random.below(4) {
@@ -351,9 +358,26 @@ fn damage_numbering(random: &mut Random, tape: &mut Tape) {
             tape.elements.swap(at, next);
         }
         2 => tape.elements.swap(at.saturating_sub(1), at),
-        _ => tape.change(random, &[Role::Numbered, Role::User], |random, label| {
+        _ => tape.change(random, &OPTIONAL, |random, label| {
             label[3] = b'0' + random.below(11) as u8;
         }),
+    }
+}
+
+/// An optional label where it may be none.
+fn stray_label(random: &mut Random, tape: &mut Tape) {
+    const PLACES: [Role; 5] = [
+        Role::FirstHeader,
+        Role::SecondHeader,
+        Role::FirstTrailer,
+        Role::SecondTrailer,
+        Role::Mark,
+    ];
+    let place = PLACES[random.below(PLACES.len())];
+    if let Some(at) = tape.place(random, &[place]) {
+        let word = random.pick(&["VOL9", "UVL1", "HDR9", "UHL1", "EOF9", "UTL1"]);
+        let bytes = label(random, word);
+        tape.elements.insert(at, (Role::Numbered, Some(bytes)));
     }
 }
 
