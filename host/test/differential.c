@@ -349,7 +349,7 @@ static void many_rows_case(void)
 /* What the library left in the buffer that it was lent. */
 static uint8_t after[LENT];
 
-/* Into buffers with these bytes, which border a page; after a refusal they have all of them, else those past the files. */
+/* Into buffers with these bytes, at the border of a page; a refusal changes none, an answer none past the files. */
 static void compare_ansi(struct slice list, struct slice store, const uint8_t *before, size_t room)
 {
     uint8_t *lent[2] = { guarded_room(room), guarded_room(room) };
@@ -436,8 +436,8 @@ int main(int count, char **words)
         many_rows_case();
         ansi_case();
     }
-    printf("%" PRIu64 " cases, %" PRIu64 " vectors, %" PRIu64 " calls, %" PRIu64 " differences; answers by refusal:", cases,
-           vectors, calls, differences);
+    printf("%" PRIu64 " cases, %" PRIu64 " vectors, %" PRIu64 " calls, %" PRIu64 " differences; answers by refusal:",
+           cases, vectors, calls, differences);
     for (int i = 0; i < REFUSALS; i++)
         printf(" %d:%" PRIu64, i, refusals[i]);
     putchar('\n');

@@ -1,7 +1,7 @@
 /*
  * What a caller gives outside its rule: 14, once for each cause that klapouzen.h
- * names, and once with nothing wrong. Every output is zero then, and no byte of a
- * buffer is changed.
+ * names, and once with nothing wrong. After every refusal all outputs are zero, and
+ * no byte of a buffer is changed.
  */
 #include <inttypes.h>
 #include <stdio.h>
