@@ -65,6 +65,16 @@ static void drop(struct slice slice)
     guarded_free(slice.start, slice.length);
 }
 
+/* ---- Refusals ---- */
+
+static void refusal_texts(void)
+{
+    for (uint64_t number = 0; number <= KLAPOUZEN_WRONG_BLOCK_COUNT; number++)
+        expect("a refusal without a text", strlen(klapouzen_refusal_text(number)) > 0, true);
+    expect("no refusal", strlen(klapouzen_refusal_text(KLAPOUZEN_WRONG_BLOCK_COUNT + 1)), 0);
+    expect("no refusal", strlen(klapouzen_refusal_text(UINT64_MAX)), 0);
+}
+
 /* ---- The smallest ---- */
 
 static void smallest_lists(void)
@@ -486,11 +496,23 @@ static void largest_volume(void)
 
 /* ---- ANSI labelled tapes ---- */
 
-/* What is answered into exactly the room of so many files, after a byte less was refused; both leave what they must. */
-static void expect_files(const char *what, struct slice list, struct slice store, uint64_t count, uint64_t last)
+/* As ansi_file writes it, behind files of seven elements each. */
+static void expect_file(const uint8_t *file, uint64_t number)
+{
+    char labels[KLAPOUZEN_ANSI_ELEMENT + 1];
+    uint64_t element = 0;
+    snprintf(labels, sizeof labels, "FILE%06u.DAT   F2048000080", (unsigned)(number + 1) % 1000000);
+    expect("a file's labels", memcmp(file, labels, KLAPOUZEN_ANSI_ELEMENT) != 0, 0);
+    for (int i = KLAPOUZEN_ANSI_ELEMENT; i < KLAPOUZEN_ANSI_FILE; i++)
+        element = element << 8 | file[i];
+    expect("its element", element, 7 * number + 4);
+}
+
+/* Into exactly their room, after a byte less of it was refused and nothing changed. */
+static void expect_files(const char *what, struct slice list, struct slice store, uint64_t count)
 {
     size_t size = KLAPOUZEN_ANSI_FILE * count;
-    uint8_t *room = guarded_room(size), number[8];
+    uint8_t *room = guarded_room(size);
     memset(room, 0xa5, size);
     expect(what, klapouzen_ansi(SLICE(list), SLICE(store), NONE, filled()), 10);
     expect(what, klapouzen_ansi(SLICE(list), SLICE(store), room, size - 1, filled()), 10);
@@ -499,21 +521,19 @@ static void expect_files(const char *what, struct slice list, struct slice store
         expect("an unchanged byte", room[i], 0xa5);
     expect(what, klapouzen_ansi(SLICE(list), SLICE(store), room, size, filled()), 0);
     expect(what, out[0], count);
-    for (int i = 0; i < 8; i++)
-        number[i] = (uint8_t)(last >> (56 - 8 * i));
-    expect("the last element", (uint64_t)memcmp(room + size - 8, number, 8), 0);
+    for (uint64_t i = 0; i < count; i++)
+        expect_file(room + KLAPOUZEN_ANSI_FILE * i, i);
     guarded_free(room, size);
 }
 
-/* The tape's files, or its refusal, and its place; it is gone afterwards. */
-static void expect_ansi(const char *what, struct tape *tape, uint64_t refusal, uint64_t place, uint64_t files,
-                        uint64_t last)
+/* The tape's place, and its files or its refusal; it is gone afterwards. */
+static void expect_ansi(const char *what, struct tape *tape, uint64_t refusal, uint64_t place, uint64_t files)
 {
     struct slice list = guarded(&tape->list), store = guarded(&tape->store);
     expect(what, klapouzen_ansi_place(SLICE(list), SLICE(store), filled()), refusal == 1 ? 1 : 0);
     expect(what, out[0], place);
     if (refusal == 0) {
-        expect_files(what, list, store, files, last);
+        expect_files(what, list, store, files);
     } else {
         expect(what, klapouzen_ansi(SLICE(list), SLICE(store), NONE, filled()), refusal);
         expect_zeros(what, 1);
@@ -527,23 +547,23 @@ static void most_ansi_files(void)
     struct tape tape;
     ansi_most_files(&tape);
     expect("their elements", tape.elements, KLAPOUZEN_MAX_ELEMENTS);
-    expect_ansi("9,362 files", &tape, 0, 65536, 9362, 65531);
+    expect_ansi("9,362 files", &tape, 0, 65536, 9362);
     ansi_most_files(&tape);
     tape_mark(&tape);
-    expect_ansi("an element more", &tape, 1, 0, 0, 0);
+    expect_ansi("an element more", &tape, 1, 0, 0);
     ansi_most_files(&tape);
     tape.list.length--;
-    expect_ansi("an element less", &tape, 16, 65535, 0, 0);
+    expect_ansi("an element less", &tape, 16, 65535, 0);
 }
 
-/* One file; its first data block, or the mark where there is none, is element 4. */
+/* One file. */
 static void ansi_blocks(const char *what, size_t blocks, size_t length, uint64_t refusal, uint64_t place)
 {
     struct tape tape;
     ansi_begin(&tape);
     ansi_file(&tape, 1, blocks, length);
     ansi_end(&tape);
-    expect_ansi(what, &tape, refusal, place, 1, 4);
+    expect_ansi(what, &tape, refusal, place, 1);
 }
 
 /* The most data blocks, and one told that is not there. */
@@ -557,7 +577,7 @@ static void most_ansi_blocks(void)
     ansi_file(&tape, 1, BLOCKS, 18);
     ansi_end(&tape);
     tape.store.bytes[COUNT_END - 1]++;
-    expect_ansi("another count", &tape, 18, 65532, 0, 0);
+    expect_ansi("another count", &tape, 18, 65532, 0);
 }
 
 static void largest_ansi(void)
@@ -575,6 +595,7 @@ static void largest_ansi(void)
 
 int main(void)
 {
+    refusal_texts();
     smallest_lists();
     smallest_texts();
     smallest_indexes();
