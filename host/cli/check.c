@@ -112,23 +112,10 @@ static void print_json_cut(const struct assessment *found)
     printf(",\"generation\":%" PRIu64 "}", cut[KLAPOUZEN_CUT_GENERATION]);
 }
 
-/* The name as text, and where it is no UTF-8 its bytes too, in hex: a text alone would lose it. */
-static void print_json_folder(const char *folder)
-{
-    struct bytes name = bytes_of(folder);
-    fputs("{\"folder\":", stdout);
-    print_json(stdout, name, false);
-    if (is_utf8(name))
-        return;
-    fputs(",\"folder_bytes\":\"", stdout);
-    for (size_t i = 0; i < name.length; i++)
-        printf("%02x", name.start[i]);
-    putchar('"');
-}
-
 static void print_object(const struct volume *volume, const struct assessment *found)
 {
-    print_json_folder(volume->folder);
+    putchar('{');
+    print_json_name(stdout, "folder", bytes_of(volume->folder));
     if (found->refusal != 0) {
         print_json_refusal(volume, found->refusal);
         print_json_elements(found);
@@ -143,7 +130,8 @@ static void print_object(const struct volume *volume, const struct assessment *f
 
 static void print_unreadable(const char *folder)
 {
-    print_json_folder(folder);
+    putchar('{');
+    print_json_name(stdout, "folder", bytes_of(folder));
     fputs(",\"verdict\":\"unreadable\"}\n", stdout);
 }
 
