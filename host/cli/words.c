@@ -91,8 +91,9 @@ bool is_ansi(const struct volume *volume, uint64_t refusal, struct ansi_tape *ta
 /* "an ANSI labelled tape, volume BENCH1, with 5 files: see klapouzen ansi DIR" */
 static void print_ansi(FILE *out, const struct volume *volume, const struct ansi_tape *tape)
 {
-    fputs("an ANSI labelled tape, volume ", out);
-    print_bytes(out, ansi_volume(tape).identifier);
+    struct bytes identifier = ansi_volume(tape).identifier;
+    fputs(identifier.length > 0 ? "an ANSI labelled tape, volume " : "an ANSI labelled tape", out);
+    print_bytes(out, identifier);
     if (tape->refusal == 0) {
         fputs(", with ", out);
         print_counted(out, tape->files, "file", "files");
