@@ -39,7 +39,9 @@ static void put_label1(struct tape *tape, const char *name, const struct ansi_fi
 static size_t path_labels(const struct ansi_file *file)
 {
     size_t length = strlen(file->path);
-    return length == 0 ? 0 : length <= PATH_IN_HDR3 ? 1 : 1 + (length - PATH_IN_HDR3 + PATH_IN_HDR4 - 1) / PATH_IN_HDR4;
+    if (length <= PATH_IN_HDR3)
+        return length > 0;
+    return 1 + (length - PATH_IN_HDR3 + PATH_IN_HDR4 - 1) / PATH_IN_HDR4;
 }
 
 static void put_label2(struct tape *tape, const char *name, const struct ansi_file *file)
@@ -93,7 +95,7 @@ void ansi_file(struct tape *tape, const struct ansi_file *file)
     tape_mark(tape);
     size_t blocks = put_data(tape, file);
     tape_mark(tape);
-    put_label1(tape, "EOF", file, blocks);
+    put_label1(tape, "EOF", file, blocks + file->lost);
     put_label2(tape, "EOF", file);
     if (file->has_user_labels)
         ansi_label(tape, "UTL1 of the application");

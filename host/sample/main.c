@@ -221,15 +221,16 @@ static void full(struct sample *sample)
 }
 
 /* A tape of ULTRIX: record formats, paths, an ID that stands twice, a file without data, one without a path. */
-static void ansi(struct sample *sample)
+static void put_ansi(struct sample *sample, size_t lost)
 {
-    static const struct ansi_file files[] = {
-        { "HOSTS", "/etc/hosts", 'D', 2048, 512, 1, 4000, false },
-        { "PAYROLL.DAT", "/usr/staff/payroll.dat", 'F', 4000, 80, 2, 12000, false },
-        { "PAYROLL.DAT", "/usr/staff/1990/payroll.dat", 'F', 4000, 80, 3, 9600, false },
-        { "QUARTERLY.REPORT.", "/usr/staff/letters/board/1991/quarterly.report.with.figures", 'S', 2048, 0, 4, 5000, false },
-        { "LOCK", "/usr/spool/lock", 'F', 2048, 80, 5, 0, false },
-        { "TAPE.LOG", "", 'D', 2048, 132, 6, 300, true },
+    const struct ansi_file files[] = {
+        { "HOSTS", "/etc/hosts", 'D', 2048, 512, 1, 4000, false, 0 },
+        { "PAYROLL.DAT", "/usr/staff/payroll.dat", 'F', 4000, 80, 2, 12000, false, 0 },
+        { "PAYROLL.DAT", "/usr/staff/1990/payroll.dat", 'F', 4000, 80, 3, 9600, false, lost },
+        { "QUARTERLY.REPORT.", "/usr/staff/letters/board/1991/quarterly.report.with.figures", 'S', 2048, 0, 4, 5000,
+          false, 0 },
+        { "LOCK", "/usr/spool/lock", 'F', 2048, 80, 5, 0, false, 0 },
+        { "TAPE.LOG", "", 'D', 2048, 132, 6, 300, true, 0 },
     };
     struct tape *tape = &sample->sides[0];
     sample_free(sample);
@@ -239,6 +240,17 @@ static void ansi(struct sample *sample)
     for (size_t i = 0; i < sizeof files / sizeof files[0]; i++)
         ansi_file(tape, &files[i]);
     ansi_end(tape);
+}
+
+static void ansi(struct sample *sample)
+{
+    put_ansi(sample, 0);
+}
+
+/* The same where a block of the third file was lost in reading. */
+static void ansi_worn(struct sample *sample)
+{
+    put_ansi(sample, 1);
 }
 
 /* As many files as a list has room for. */
@@ -251,7 +263,7 @@ static void ansi_many(struct sample *sample)
     for (unsigned i = 0; i < KLAPOUZEN_MAX_ANSI_FILES; i++) {
         char id[16];
         snprintf(id, sizeof id, "FILE%05u.DAT", i);
-        ansi_file(tape, &(struct ansi_file){ id, "", 'F', 2048, 80, i + 1, 0, false });
+        ansi_file(tape, &(struct ansi_file){ id, "", 'F', 2048, 80, i + 1, 0, false, 0 });
     }
     ansi_end(tape);
 }
@@ -288,7 +300,8 @@ int main(int count, char **words)
         { "extents", extents },
         { "fresh", fresh }, { "torn", torn }, { "nights", nights }, { "defect", defect },
         { "sparse", sparse }, { "long", long_one }, { "many", many }, { "odd", odd },
-        { "full", full }, { "ansi", ansi }, { "ansi_many", ansi_many },
+        { "full", full }, { "ansi", ansi }, { "ansi_worn", ansi_worn },
+        { "ansi_many", ansi_many },
     };
     struct sample sample;
     for (size_t i = 0; count == 3 && i < sizeof kinds / sizeof kinds[0]; i++) {
@@ -300,6 +313,7 @@ int main(int count, char **words)
         sample_free(&sample);
         return 0;
     }
-    fputs("usage: make_sample fresh|torn|nights|defect|sparse|long|many|extents|odd|full|ansi|ansi_many DIR\n", stderr);
+    fputs("usage: make_sample fresh|torn|nights|defect|sparse|long|many|extents|odd|full|ansi|ansi_worn|ansi_many"
+          " DIR\n", stderr);
     return 2;
 }

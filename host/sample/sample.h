@@ -111,6 +111,7 @@ struct ansi_file {
     unsigned block_length, record_length, sequence;
     size_t length; /* of the data, in blocks of the block length */
     bool has_user_labels;
+    size_t lost; /* blocks that EOF1 counts and that are not there */
 };
 
 /* A label: the text, filled up with spaces. */
