@@ -115,7 +115,8 @@ static void print_list(const char *folder, const struct ansi_tape *tape)
     if (tape->files == 0)
         return;
     print_counted(stdout, tape->files, "file", "files");
-    puts(tape->refusal == 0 ? ":" : tape->files == 1 ? " stands whole before it:" : " stand whole before it:");
+    puts(tape->refusal == 0 ? ":" : tape->files == 1 ? " stands whole before it:"
+                                                     : " stand whole before it:");
     printf("  file  ID                 format   block  record  blocks       bytes  element%s\n",
            has_paths(tape) ? "  path" : "");
     for (uint64_t number = 0; number < tape->files; number++)
@@ -231,7 +232,8 @@ static uint64_t find_named(const struct ansi_tape *tape, const char *word, uint6
     return found;
 }
 
-static void complain_choices(const char *folder, const char *word, const uint64_t numbers[CHOICES], uint64_t found)
+static void complain_choices(const char *folder, const char *word, const uint64_t numbers[CHOICES],
+                             uint64_t found)
 {
     char text[CHOICES * 24] = "", *end = text;
     for (uint64_t i = 0; i < found && i < CHOICES; i++)
@@ -241,7 +243,8 @@ static void complain_choices(const char *folder, const char *word, const uint64_
 }
 
 /* The file that was asked for; false where there is none, which was said. */
-static bool find_wished(const char *folder, const struct ansi_tape *tape, const struct wish *wish, uint64_t *number)
+static bool find_wished(const char *folder, const struct ansi_tape *tape, const struct wish *wish,
+                        uint64_t *number)
 {
     const char *word = wish->number != NULL ? wish->number : wish->file, *before = "";
     uint64_t numbers[CHOICES] = { 0 }, found = wish->number != NULL ? 0 : find_named(tape, word, numbers);

@@ -20,7 +20,7 @@ static void read_elements(struct ansi_tape *tape, const struct side *side)
     }
 }
 
-/* The elements at the front that hold whole files: before the place each has three marks, the last behind its trailer. */
+/* The elements at the front that hold whole files: each has three marks, the last behind its trailer. */
 static uint64_t whole_files_end(const struct ansi_tape *tape)
 {
     uint64_t marks = 0, end = 0;

@@ -26,7 +26,7 @@ struct ansi_tape {
 void ansi_open(struct ansi_tape *tape, const struct side *side);
 void ansi_close(struct ansi_tape *tape);
 
-/* Whether labels of this kind are on the tape, also where it is refused: all labels before an EOV1 or a wrong count were right. */
+/* Whether it is plainly such a tape: before an EOV1 or a wrong count all labels are right. */
 bool is_labelled(const struct ansi_tape *tape);
 
 /* ---- Labels ---- */

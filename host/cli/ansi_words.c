@@ -12,24 +12,27 @@
 
 /* What was read last. */
 enum state {
-    NOTHING, VOLUME_LABELS, HDR1, HEADER_LABELS, DATA_BLOCKS, DATA_MARK, EOF1, TRAILER_LABELS, TRAILER_MARK, LAST_MARK
+    NOTHING, VOLUME_LABELS, HDR1, HEADER_LABELS, DATA_BLOCKS, DATA_MARK, EOF1, TRAILER_LABELS,
+    TRAILER_MARK, LAST_MARK
 };
 
-/* What can follow, what is missing where the tape ends there, and the words that a label there can begin with. */
+/* What can follow; what is missing where the tape ends; the words that a label there can begin with. */
 static const struct follower {
     const char *expected, *missing, *words[3];
 } followers[] = {
     [NOTHING] = { "VOL1", "VOL1", { "VOL1" } },
-    [VOLUME_LABELS] = { "a volume label (VOL2 to VOL9, UVL) or HDR1", "HDR1", { "VOL", "UVL", "HDR1" } },
+    [VOLUME_LABELS] = { "a volume label (VOL2 to VOL9, UVL) or HDR1", "HDR1",
+                        { "VOL", "UVL", "HDR1" } },
     [HDR1] = { "HDR2", "HDR2", { "HDR2" } },
-    [HEADER_LABELS] = { "a header label (HDR3 to HDR9, UHL) or a mark", "the mark behind the header labels",
-                        { "HDR", "UHL" } },
+    [HEADER_LABELS] = { "a header label (HDR3 to HDR9, UHL) or a mark",
+                        "the mark behind the header labels", { "HDR", "UHL" } },
     [DATA_BLOCKS] = { "a data block or a mark", "the mark behind the data blocks", { NULL } },
     [DATA_MARK] = { "EOF1", "EOF1", { "EOF1", "EOV1" } },
     [EOF1] = { "EOF2", "EOF2", { "EOF2" } },
-    [TRAILER_LABELS] = { "a trailer label (EOF3 to EOF9, UTL) or a mark", "the mark behind the trailer labels",
-                         { "EOF", "UTL" } },
-    [TRAILER_MARK] = { "HDR1 or the mark that ends the tape", "the further mark that ends the tape", { "HDR1" } },
+    [TRAILER_LABELS] = { "a trailer label (EOF3 to EOF9, UTL) or a mark",
+                         "the mark behind the trailer labels", { "EOF", "UTL" } },
+    [TRAILER_MARK] = { "HDR1 or the mark that ends the tape", "the further mark that ends the tape",
+                       { "HDR1" } },
     [LAST_MARK] = { "nothing", "nothing", { NULL } },
 };
 
@@ -93,9 +96,12 @@ static struct bytes name_of(struct bytes block)
     return part_of(block, 0, block.length < 4 ? block.length : 4);
 }
 
+/* Without quotes where that is plain. */
 static void put_name(FILE *out, struct bytes label)
 {
-    print_bytes(out, name_of(label));
+    struct bytes name = name_of(label);
+    bool is_plain = name.length == 4 && name.start[3] > ' ' && name.start[3] < 0x7f;
+    (is_plain ? print_bytes : put_quoted)(out, name);
 }
 
 static bool is_known(struct bytes block)
@@ -193,13 +199,21 @@ static bool put_hdr2(FILE *out, struct bytes hdr2)
 
 /* The fields in which EOF1 is to repeat HDR1. */
 static const struct field repeated[] = {
-    { "file ID", 5, 21 },          { "file set ID", 22, 27 },      { "file section number", 28, 31 },
-    { "file sequence number", 32, 35 }, { "generation number", 36, 39 }, { "generation version number", 40, 41 },
-    { "creation date", 42, 47 },   { "expiration date", 48, 53 },  { "file security", 54, 54 },
-    { "implementation ID", 61, 73 }, { "reserved part", 74, 80 },
+    { "file ID", 5, 21 },
+    { "file set ID", 22, 27 },
+    { "file section number", 28, 31 },
+    { "file sequence number", 32, 35 },
+    { "generation number", 36, 39 },
+    { "generation version number", 40, 41 },
+    { "creation date", 42, 47 },
+    { "expiration date", 48, 53 },
+    { "file security", 54, 54 },
+    { "implementation ID", 61, 73 },
+    { "reserved part", 74, 80 },
 };
 
-static bool put_unrepeated(FILE *out, const struct ansi_tape *tape, const struct walk *walk, struct bytes eof1)
+static bool put_unrepeated(FILE *out, const struct ansi_tape *tape, const struct walk *walk,
+                           struct bytes eof1)
 {
     struct bytes hdr1 = tape->elements[walk->hdr1].block;
     bool said = false;
@@ -227,7 +241,8 @@ static void put_counts(FILE *out, const char *label, uint64_t said, uint64_t pre
         fprintf(out, ", %s %s there", grouped(present), present == 1 ? "stands" : "stand");
 }
 
-static bool put_eof1(FILE *out, const struct ansi_tape *tape, const struct walk *walk, struct bytes eof1)
+static bool put_eof1(FILE *out, const struct ansi_tape *tape, const struct walk *walk,
+                     struct bytes eof1)
 {
     static const struct field count = { "block count", 55, 60 };
     struct bytes digits = label_bytes(eof1, count.first, count.last);
@@ -278,7 +293,8 @@ static bool put_numbered(FILE *out, const struct walk *walk, const struct ansi_e
     put_name(out, label);
     fputs(" stands behind ", out);
     put_name(out, before);
-    fputs(before.start[0] == 'U' ? ": numbered labels stand before user labels" : ": the numbers have to rise", out);
+    fputs(before.start[0] == 'U' ? ": numbered labels stand before user labels"
+                                 : ": the numbers have to rise", out);
     return true;
 }
 
@@ -303,7 +319,8 @@ static bool put_label(FILE *out, const struct ansi_tape *tape, const struct walk
     case HDR1:
         return put_hdr2(out, label);
     case DATA_MARK:
-        return begins_with(label, "EOV1") ? put_eov1(out, walk, label) : put_eof1(out, tape, walk, label);
+        return begins_with(label, "EOV1") ? put_eov1(out, walk, label)
+                                          : put_eof1(out, tape, walk, label);
     case VOLUME_LABELS:
     case HEADER_LABELS:
     case TRAILER_LABELS:
@@ -320,7 +337,8 @@ static bool put_data_block(FILE *out, uint64_t length)
         return false;
     fputs("a data block of ", out);
     print_counted(out, length, "byte", "bytes");
-    fprintf(out, ", %s are the %s", grouped(length < LEAST ? LEAST : MOST), length < LEAST ? "least" : "most");
+    fprintf(out, ", %s are the %s", grouped(length < LEAST ? LEAST : MOST),
+            length < LEAST ? "least" : "most");
     return true;
 }
 

@@ -48,7 +48,7 @@ static void print_line(const struct volume *volume, const struct assessment *fou
     print_bytes(stdout, bytes_of(volume->folder));
     if (found->refusal != 0) {
         fprintf(stdout, "  %s", colour_code(stdout, RED));
-        print_refusal(stdout, volume, found->refusal);
+        print_refusal(stdout, TO_TERMINAL, volume, found->refusal);
         fputs(colour_code(stdout, PLAIN), stdout);
     } else {
         printf("  %s", colour_code(stdout, BOLD));

@@ -10,13 +10,13 @@ struct output {
     FILE *file;
     const char *path; /* in messages */
     bool is_regular;
-    bool skips_gaps; /* a regular file with nothing behind the place of writing: a gap can be left out */
+    bool skips_gaps; /* regular, with nothing behind the place of writing: a gap can be left out */
 };
 
-/* Whether the file system has so many bytes free, where the output is a regular file; says where it hasn't. */
+/* Whether so many bytes are free, where the output is a regular file; says where they aren't. */
 bool has_room(const struct output *output, uint64_t wanted);
 
-/* Says why writing failed, unless a signal ended it or, of standard output, the program's end says it. */
+/* Says why writing failed; not where a signal ended it, nor what the program's end says of standard output. */
 void complain_output(const struct output *output);
 
 /*

@@ -32,7 +32,7 @@ void print_json(FILE *out, struct bytes text, bool spelled);
 
 bool is_utf8(struct bytes text);
 
-/* `"key":"text"`, and where the text is no UTF-8 `,"key_bytes":` and all its bytes in hex: the text alone would lose them. */
+/* `"key":"text"`, and where that would lose bytes, being no UTF-8, `,"key_bytes":"hex"`. */
 void print_json_name(FILE *out, const char *key, struct bytes text);
 
 /* To a terminal, filled up with spaces to so many columns. */

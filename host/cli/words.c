@@ -89,11 +89,12 @@ bool is_ansi(const struct volume *volume, uint64_t refusal, struct ansi_tape *ta
 }
 
 /* "an ANSI labelled tape, volume BENCH1, with 5 files: see klapouzen ansi DIR" */
-static void print_ansi(FILE *out, const struct volume *volume, const struct ansi_tape *tape)
+static void print_ansi(FILE *out, enum form form, const struct volume *volume,
+                       const struct ansi_tape *tape)
 {
     struct bytes identifier = ansi_volume(tape).identifier;
     fputs(identifier.length > 0 ? "an ANSI labelled tape, volume " : "an ANSI labelled tape", out);
-    print_bytes(out, identifier);
+    print_text(out, form, identifier, false);
     if (tape->refusal == 0) {
         fputs(", with ", out);
         print_counted(out, tape->files, "file", "files");
@@ -102,14 +103,14 @@ static void print_ansi(FILE *out, const struct volume *volume, const struct ansi
         print_counted(out, tape->files, "whole file", "whole files");
     }
     fputs(": see klapouzen ansi ", out);
-    print_bytes(out, bytes_of(volume->folder));
+    print_text(out, form, bytes_of(volume->folder), false);
 }
 
-void print_refusal(FILE *out, const struct volume *volume, uint64_t refusal)
+void print_refusal(FILE *out, enum form form, const struct volume *volume, uint64_t refusal)
 {
     struct ansi_tape tape;
     if (is_ansi(volume, refusal, &tape)) {
-        print_ansi(out, volume, &tape);
+        print_ansi(out, form, volume, &tape);
         ansi_close(&tape);
         return;
     }
@@ -124,7 +125,7 @@ void complain_refusal(const struct volume *volume, uint64_t refusal)
     fputs("klapouzen: ", stderr);
     print_bytes(stderr, bytes_of(volume->folder));
     fputs(": ", stderr);
-    print_refusal(stderr, volume, refusal);
+    print_refusal(stderr, TO_TERMINAL, volume, refusal);
     fputc('\n', stderr);
 }
 

@@ -1,6 +1,7 @@
 # Tapes with ANSI labels.
-"$SAMPLE" ansi ansi || exit 2
-"$SAMPLE" ansi_many ansi_many || exit 2
+for kind in ansi ansi_worn ansi_many; do
+    "$SAMPLE" $kind $kind || exit 2
+done
 
 # edited EDIT..: the sample with these edits (elements.py), in the folder `edited`.
 edited() {
@@ -160,6 +161,7 @@ wrong 'element 7: a data block of 20,481 bytes, 20,480 are the most (file 0, HOS
 wrong 'element 9: EOF1 is expected, EOF2 stands there (file 0, HOSTS)' drop,9
 wrong 'element 9: EOF1 is expected, a mark stands there (file 0, HOSTS)' mark,9
 wrong 'element 9: EOF1 has 70 bytes, a label has 80 (file 0, HOSTS)' size,9,70
+wrong 'element 9: EOF1 is expected, "HDR " stands there (file 0, HOSTS)' label,9,HDR
 wrong 'element 10: EOF2 is expected, EOF3 stands there (file 0, HOSTS)' put,10,1,EOF3
 wrong 'element 11: a trailer label (EOF3 to EOF9, UTL) or a mark is expected, HDR1 stands there (file 0, HOSTS)' drop,11
 wrong 'element 12: EOF3 stands behind EOF4: the numbers have to rise (file 0, HOSTS)' label,11,EOF4 label,12,EOF3
@@ -220,19 +222,22 @@ for line, text in zip(lines, objects):
 END
 
 # The files that stand whole before the wrong label; of others there is none.
-edited put,31,55,000001
-is 1 "$K" ansi edited
-sed -n '1p; 3,5p' wanted > front
-{ sed -n '1p' wanted; echo "refused 18: EOF1's block count is not that of the data blocks present"
-  echo 'element 31: EOF1 says 1 block, 3 stand there (file 2, PAYROLL.DAT)'; echo '2 files stand whole before it:'; sed -n '3,5p' wanted; } > refused
+is 1 "$K" ansi ansi_worn
+{
+    sed -n 1p wanted
+    echo "refused 18: EOF1's block count is not that of the data blocks present"
+    echo 'element 31: EOF1 says 4 blocks, 3 stand there (file 2, PAYROLL.DAT)'
+    echo '2 files stand whole before it:'
+    sed -n 3,5p wanted
+} > refused
 same out refused
-is 0 "$K" ansi edited --extract PAYROLL.DAT
+is 0 "$K" ansi ansi_worn --extract PAYROLL.DAT
 blocks_of ansi 16 19
 same out blocks
-is 1 "$K" ansi edited --extract LOCK
-says err "edited: LOCK: no file has this name among those that stand whole before the wrong label"
-is 1 "$K" ansi edited --number 2
-says err "edited: 2: no file has this number among those that stand whole before the wrong label"
+is 1 "$K" ansi ansi_worn --extract LOCK
+says err "ansi_worn: LOCK: no file has this name among those that stand whole before the wrong label"
+is 1 "$K" ansi ansi_worn --number 2
+says err "ansi_worn: 2: no file has this number among those that stand whole before the wrong label"
 edited drop,11
 is 1 "$K" ansi edited
 says_not out "whole"
@@ -371,23 +376,27 @@ wrong 'element 2: a volume label (VOL2 to VOL9, UVL) or HDR1 is expected, a bloc
 edited put,2,5,'\x1b\xff\x7f'
 is 1 "$K" ansi edited --extract HOSTS
 is_visible err
-cp -r ansi $'ansi \033[31m'
-is 1 "$K" check $'ansi \033[31m'
+rm -rf 'ansi <&>'*
+python3 -I -S "$PARTS/../elements.py" ansi $'ansi <&> \033[31m' put,0,5,'<&>"\x1b '
+is 1 "$K" check $'ansi <&> \033[31m'
 is_visible out
-says out 'see klapouzen ansi ansi \x1b[31m'
+says out 'an ANSI labelled tape, volume <&>"\x1b, with 6 files: see klapouzen ansi ansi <&> \x1b[31m'
+is 1 "$K" show $'ansi <&> \033[31m' --svg ansi.svg
+is_visible ansi.svg
+is_xml ansi.svg
+says ansi.svg 'volume &#60;&#38;&#62;&#34;\x1b, with 6 files: see klapouzen ansi ansi &#60;&#38;&#62; \x1b[31m'
 
 # ---- The other commands ----
 
-edited put,31,55,000001
-is 1 "$K" check ansi fresh edited
+is 1 "$K" check ansi fresh ansi_worn
 says out "ansi  an ANSI labelled tape, volume BENCH1, with 6 files: see klapouzen ansi ansi"
-says out "edited  an ANSI labelled tape, volume BENCH1, refused 18 at element 31 behind 2 whole files: see klapouzen ansi edited"
+says out "ansi_worn  an ANSI labelled tape, volume BENCH1, refused 18 at element 31 behind 2 whole files: see klapouzen ansi ansi_worn"
 says out "3 cartridges: 1 consistent, 0 to cut, 0 without a cut, 2 refused, 0 unreadable; 2 of the refused are ANSI labelled tapes"
 is 1 "$K" check ansi empty
 says out "0 consistent, 0 to cut, 0 without a cut, 2 refused, 0 unreadable; 1 of the refused is an ANSI labelled tape"
 is 1 "$K" check ansi --json
 is_so 'tape["verdict"] == "refused" and tape["refusal"]["number"] == 9 and tape["ansi"] == {"identifier": "BENCH1", "files": 6, "refusal": None}'
-is 1 "$K" check edited --json
+is 1 "$K" check ansi_worn --json
 is_so 'tape["ansi"]["files"] == 2 and tape["ansi"]["refusal"] == {"number": 18, "text": "EOF1'"'"'s block count is not that of the data blocks present", "place": 31}'
 edited put,20,1,EOV1
 is 1 "$K" check edited
