@@ -1,6 +1,7 @@
-"""A tape with other elements: elements.py FROM TO EDIT.., folders with index.list and index.store.
+"""Tapes with other elements: elements.py FROM, a folder with index.list and index.store.
 
-An edit is words with commas between, done one after another; N is an element's number:
+Each line of standard input makes a new folder: its name and the edits, with tabs between. An edit is words with commas
+between, done one after another; N is an element's number:
   drop,N            without it
   keep,N            the first N alone
   mark,N            a mark before it
@@ -64,7 +65,10 @@ def edit(elements, kind, number, *words):
         sys.exit(f"no such edit: {kind}")
 
 
-tape = read(sys.argv[1])
-for words in sys.argv[3:]:
-    edit(tape, *words.split(",", 3))
-write(sys.argv[2], tape)
+whole = read(sys.argv[1])
+for line in sys.stdin:
+    folder, *edits = line.rstrip("\n").split("\t")
+    tape = list(whole)
+    for words in edits:
+        edit(tape, *words.split(",", 3))
+    write(folder, tape)

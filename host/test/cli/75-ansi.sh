@@ -3,10 +3,20 @@ for kind in ansi ansi_worn ansi_many; do
     "$SAMPLE" $kind $kind || exit 2
 done
 
-# edited EDIT..: the sample with these edits (elements.py), in the folder `edited`.
+# edit FROM: a tape for each line of standard input, as line_of writes it.
+edit() {
+    python3 -I -S "$PARTS/../elements.py" "$1" || fail "no such tape"
+}
+
+line_of() { # FOLDER EDIT..
+    local IFS=$'\t'
+    printf '%s\n' "$*"
+}
+
+# edited EDIT..: the sample with these edits, in the folder `edited`.
 edited() {
     rm -rf edited
-    python3 -I -S "$PARTS/../elements.py" ansi edited "$@" || fail "no such tape: $*"
+    line_of edited "$@" | edit ansi
 }
 
 # is_so CONDITION: of the JSON text in out, which has the name `tape`.
@@ -75,14 +85,11 @@ done
 
 # ---- Paths ----
 
-# path NUMBER PATH EDIT..: the file's path, or in parentheses why it has none.
+# path NUMBER PATH EDIT..: the file's path, or in parentheses why it has none. Looked at below, as the tapes are made at once.
+paths=()
 path() {
-    local number=$1 wanted=$2
-    shift 2
-    edited "$@"
-    is 0 "$K" ansi edited
-    checks=$((checks + 1))
-    [ "$(sed -n "s/^ *$number  .\{70\} *//p" out)" = "$wanted" ] || fail "file $number has not the path \"$wanted\": $*" "$(cat out)"
+    line_of "path_${#paths[@]}" "${@:3}" >> path_edits
+    paths+=("$1 $2")
 }
 
 LONG=/usr/staff/letters/board/1991/quarterly.report.with.figures
@@ -103,6 +110,7 @@ path 0 /etc/hosts label,11,EOF3/more
 path 0 /etc/hosts put,3,49,x label,11,EOF3/more
 path 0 '(no path: EOF4 is missing)' put,3,49,4 label,11,EOF3/more
 path 0 "/etc/hosts                          /more" put,3,49,3 label,11,EOF3/more
+# shellcheck disable=SC2046
 edited put,4,45,"/$(printf '%035d' 0)" put,3,48,9 put,3,49,9 $(for i in 4 5 6 7 8 9; do printf 'label,%d,HDR%d%076d ' $((i + 1)) $i $i; done) \
     $(for i in 3 4 5 6 7 8 9; do printf 'label,%d,EOF%d%076d ' $((i + 14)) $i $i; done)
 is 0 "$K" ansi edited --json
@@ -113,23 +121,24 @@ path 0 '' put,0,25,'             '
 path 0 /etc/hosts put,0,25,'             ' put,0,80,3
 path 0 '' put,0,25,'             ' put,0,80,3 put,2,61,OTHER put,9,61,OTHER
 path 0 /etc/hosts put,0,34,9999
+edit ansi < path_edits
+for i in "${!paths[@]}"; do
+    number=${paths[$i]%% *}
+    is 0 "$K" ansi "path_$i"
+    checks=$((checks + 1))
+    [ "$(sed -n "s/^ *$number  .\{70\} *//p" out)" = "${paths[$i]#* }" ] || fail "not the path of file ${paths[$i]}: line $((i + 1)) of path_edits" "$(cat out)"
+done
 edited put,35,48,5
 is 0 "$K" ansi edited --json
 is_so '"path" not in tape["files"][3] and tape["files"][3]["path_missing"] == "HDR5"'
 
 # ---- Wrong labels ----
 
-# wrong LINE EDIT..: what is said of the tape. All JSON is looked at below, at once.
+# wrong LINE EDIT..: what is said of the tape. Looked at below, as the tapes are made at once.
+wrong_lines=()
 wrong() {
-    local line=$1
-    shift
-    edited "$@"
-    is 1 "$K" ansi edited
-    says out "$line"
-    is_visible out
-    is 1 "$K" ansi edited --json
-    printf '%s\n' "$line" >> wrong_lines
-    cat out >> wrong_objects
+    line_of "wrong_${#wrong_lines[@]}" "${@:2}" >> wrong_edits
+    wrong_lines+=("$1")
 }
 
 wrong 'element 0: VOL1 is expected, a block of 80 bytes that begins with "XXXX" stands there' put,0,1,XXXX
@@ -175,7 +184,6 @@ for field in 'file ID:5:21' 'file set ID:22:27' 'file section number:28:31' 'fil
     'generation version number:40:41' 'creation date:42:47' 'expiration date:48:53' 'implementation ID:61:73' 'reserved part:74:80'; do
     IFS=: read -r name first last <<< "$field"
     wrong "element 9: EOF1's $name (bytes $first-$last) is \"" put,9,"$first",~
-    says_not out ";"
     wrong "element 9: EOF1's $name (bytes $first-$last) is \"" put,9,"$last",~
 done
 wrong "element 9: EOF1's file security (byte 54) is \"x\", HDR1's in element 2 \" \"; EOF1's block count (bytes 55-60) is \"     2\", not six digits (file 0, HOSTS)" \
@@ -185,12 +193,10 @@ HDR1's in element 12 \"       \" (file 1, PAYROLL.DAT)" put,20,32,0009 put,20,74
 
 # The count, and a file that goes on on another tape.
 wrong 'element 20: EOF1 says 2 blocks, 3 stand there (file 1, PAYROLL.DAT)' put,20,55,000002
-is_so 'tape["refusal"]["number"] == 18 and tape["place"] == 20'
 wrong 'element 20: EOF1 says 1 block, 3 stand there' put,20,55,000001
 wrong 'element 51: EOF1 says 999,999 blocks, none stands there (file 4, LOCK)' put,51,55,999999
 wrong 'element 60: EOF1 says 0 blocks, 1 stands there (file 5, TAPE.LOG)' put,60,55,000000
 wrong 'element 20: EOV1 stands in the place of EOF1: the file goes on on another tape; EOV1 says 3 blocks, 3 stand there (file 1, PAYROLL.DAT)' put,20,1,EOV1
-is_so 'tape["refusal"]["number"] == 17'
 wrong 'element 20: EOV1 stands in the place of EOF1: the file goes on on another tape (file 1, PAYROLL.DAT)' put,20,1,EOV1 put,20,55,xxx
 wrong 'element 20: EOF1 is expected, EOV2 stands there (file 1, PAYROLL.DAT)' put,20,1,EOV2
 
@@ -204,21 +210,35 @@ wrong 'behind element 8, the last: the tape ends too early, EOF1 is missing (fil
 wrong 'behind element 9, the last: the tape ends too early, EOF2 is missing (file 0, HOSTS)' keep,10
 wrong 'behind element 10, the last: the tape ends too early, the mark behind the trailer labels is missing (file 0, HOSTS)' keep,11
 wrong 'behind element 63, the last: the tape ends too early, the further mark that ends the tape is missing' keep,64
-is_so 'tape["place"] == 64 and len(tape["files"]) == 6'
 
-# JSON has the same words, and the place.
+# With bytes that a terminal would obey.
+wrong 'element 9: EOF1'"'"'s file ID (bytes 5-21) is "HOSTS            ", HDR1'"'"'s in element 2 "\x1b\xff\x7fTS            " (file 0, \x1b\xff\x7fTS)' put,2,5,'\x1b\xff\x7f'
+wrong 'element 2: a volume label (VOL2 to VOL9, UVL) or HDR1 is expected, a block of 80 bytes that begins with "H\x1b[7" stands there' put,2,2,'\x1b[7'
+
+edit ansi < wrong_edits
+for i in "${!wrong_lines[@]}"; do
+    is 1 "$K" ansi "wrong_$i"
+    says out "${wrong_lines[$i]}"
+    is_visible out
+    is 1 "$K" ansi "wrong_$i" --json
+    cat out >> wrong_objects
+done
+
+# JSON has the same words, the place and the number.
+printf '%s\n' "${wrong_lines[@]}" > wrong_lines
 checks=$((checks + 1))
 python3 -I -S - 2> json_error <<'END' || fail "JSON says something else" "$(tail -1 json_error)"
 import json
 import re
 lines, objects = open("wrong_lines").read().splitlines(), open("wrong_objects").read().splitlines()
-assert len(lines) == len(objects) > 70, len(objects)
+assert len(lines) == len(objects), len(objects)
 for line, text in zip(lines, objects):
     tape = json.loads(text)
-    _, behind, number, words = re.fullmatch(r"((behind )?element (\d+)[^:]*: )?(.*)", line).groups()
-    place = 0 if number is None else int(number) + (behind is not None)
-    assert tape["words"].startswith(words), (words, tape["words"])
-    assert tape["place"] == place and tape["refusal"]["number"] in (16, 17, 18), line
+    _, behind, element, words = re.fullmatch(r"((behind )?element (\d+)[^:]*: )?(.*)", line).groups()
+    place = 0 if element is None else int(element) + (behind is not None)
+    number = 17 if words.startswith("EOV1 stands") else 18 if words.startswith("EOF1 says") else 16
+    assert tape["words"].startswith(words) and tape["words"].count(";") == words.count(";"), (words, tape["words"])
+    assert tape["place"] == place and tape["refusal"]["number"] == number, line
 END
 
 # The files that stand whole before the wrong label; of others there is none.
@@ -238,6 +258,9 @@ is 1 "$K" ansi ansi_worn --extract LOCK
 says err "ansi_worn: LOCK: no file has this name among those that stand whole before the wrong label"
 is 1 "$K" ansi ansi_worn --number 2
 says err "ansi_worn: 2: no file has this number among those that stand whole before the wrong label"
+edited keep,64
+is 1 "$K" ansi edited
+says out "6 files stand whole before it:"
 edited drop,11
 is 1 "$K" ansi edited
 says_not out "whole"
@@ -301,8 +324,8 @@ same out hosts
 edited put,12,5,'/etc/hosts ' put,20,5,'/etc/hosts '
 is 1 "$K" ansi edited --extract /etc/hosts
 says err "edited: /etc/hosts: 2 files have this name: 0, 1; give --number"
-rm -rf same_id
-python3 -I -S "$PARTS/../elements.py" ansi_many same_id $(for i in 0 1 2 3 4 5 6 7 8; do printf 'put,%d,5,SAME_________ put,%d,5,SAME_________ ' $((7 * i + 1)) $((7 * i + 5)); done)
+# shellcheck disable=SC2046
+line_of same_id $(for i in 0 1 2 3 4 5 6 7 8; do printf 'put,%d,5,SAME_________ put,%d,5,SAME_________ ' $((7 * i + 1)) $((7 * i + 5)); done) | edit ansi_many
 is 1 "$K" ansi same_id --extract SAME_________
 says err "9 files have this name: 0, 1, 2, 3, 4, 5, 6, 7 ..; give --number"
 
@@ -371,13 +394,10 @@ is_so 'bytes.fromhex(tape["volume"]["owner_bytes"]) == b"\x9b\"\xffpouzen"'
 is_so 'bytes.fromhex(tape["files"][0]["path_bytes"]).startswith(b"/\x07\x7f\\\"\xff")'
 is 0 "$K" ansi edited --extract $'H\033]0;\302\233'
 same out hosts
-wrong 'element 9: EOF1'"'"'s file ID (bytes 5-21) is "HOSTS            ", HDR1'"'"'s in element 2 "\x1b\xff\x7fTS            " (file 0, \x1b\xff\x7fTS)' put,2,5,'\x1b\xff\x7f'
-wrong 'element 2: a volume label (VOL2 to VOL9, UVL) or HDR1 is expected, a block of 80 bytes that begins with "H\x1b[7" stands there' put,2,2,'\x1b[7'
 edited put,2,5,'\x1b\xff\x7f'
 is 1 "$K" ansi edited --extract HOSTS
 is_visible err
-rm -rf 'ansi <&>'*
-python3 -I -S "$PARTS/../elements.py" ansi $'ansi <&> \033[31m' put,0,5,'<&>"\x1b '
+line_of $'ansi <&> \033[31m' put,0,5,'<&>"\x1b ' | edit ansi
 is 1 "$K" check $'ansi <&> \033[31m'
 is_visible out
 says out 'an ANSI labelled tape, volume <&>"\x1b, with 6 files: see klapouzen ansi ansi <&> \x1b[31m'
