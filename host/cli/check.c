@@ -13,6 +13,8 @@ static const char help[] =
     "Judges each cartridge: its volume identifier and UUID, whether it is consistent,\n"
     "and after which elements its partitions can be cut. A cartridge is a folder with\n"
     "index.list, index.store, data.list and data.store; a missing file counts as empty.\n"
+    "An ANSI labelled tape on the index side is refused as no LTFS volume, but named: see\n"
+    "klapouzen ansi.\n"
     "\n"
     "  --json  one object a line, and no summary\n"
     "  --help  this text\n"
