@@ -6,6 +6,7 @@
 
 #include "klapouzen.h"
 #include "sample.h"
+#include "ultrix.h"
 
 enum { BLOCK_SIZE = 4096 };
 
@@ -223,7 +224,7 @@ static void full(struct sample *sample)
 /* A tape of ULTRIX: record formats, paths, an ID that stands twice, a file without data, one without a path. */
 static void put_ansi(struct sample *sample, size_t lost)
 {
-    const struct ansi_file files[] = {
+    const struct ultrix_file files[] = {
         { "HOSTS", "/etc/hosts", 'D', 2048, 512, 1, 4000, false, 0 },
         { "PAYROLL.DAT", "/usr/staff/payroll.dat", 'F', 4000, 80, 2, 12000, false, 0 },
         { "PAYROLL.DAT", "/usr/staff/1990/payroll.dat", 'F', 4000, 80, 3, 9600, false, lost },
@@ -235,11 +236,11 @@ static void put_ansi(struct sample *sample, size_t lost)
     struct tape *tape = &sample->sides[0];
     sample_free(sample);
     *sample = (struct sample){ .block_size = BLOCK_SIZE };
-    ansi_begin(tape, "BENCH1", "Klapouzen");
-    ansi_label(tape, "UVL1 of the application");
+    ultrix_begin(tape, "BENCH1", "Klapouzen");
+    ultrix_label(tape, "UVL1 of the application");
     for (size_t i = 0; i < sizeof files / sizeof files[0]; i++)
-        ansi_file(tape, &files[i]);
-    ansi_end(tape);
+        ultrix_file(tape, &files[i]);
+    ultrix_end(tape);
 }
 
 static void ansi(struct sample *sample)
@@ -259,13 +260,13 @@ static void ansi_many(struct sample *sample)
     struct tape *tape = &sample->sides[0];
     sample_free(sample);
     *sample = (struct sample){ .block_size = BLOCK_SIZE };
-    ansi_begin(tape, "FULL", "");
+    ultrix_begin(tape, "FULL", "");
     for (unsigned i = 0; i < KLAPOUZEN_MAX_ANSI_FILES; i++) {
         char id[16];
         snprintf(id, sizeof id, "FILE%05u.DAT", i);
-        ansi_file(tape, &(struct ansi_file){ id, "", 'F', 2048, 80, i + 1, 0, false, 0 });
+        ultrix_file(tape, &(struct ultrix_file){ id, "", 'F', 2048, 80, i + 1, 0, false, 0 });
     }
-    ansi_end(tape);
+    ultrix_end(tape);
 }
 
 /* ---- Writing ---- */

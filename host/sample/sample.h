@@ -102,26 +102,6 @@ void sample_empty_index(struct sample *sample, int side);
 /* The next index construct on both sides, with no files: what unmounting writes. */
 void sample_unmount(struct sample *sample);
 
-/* ---- ANSI labelled tapes ---- */
-
-/* A file as ULTRIX writes it; the path, where there is one, goes to HDR3 and the labels behind it. */
-struct ansi_file {
-    const char *id, *path;
-    char format;
-    unsigned block_length, record_length, sequence;
-    size_t length; /* of the data, in blocks of the block length */
-    bool has_user_labels;
-    size_t lost; /* blocks that EOF1 counts and that are not there */
-};
-
-/* A label: the text, filled up with spaces. */
-void ansi_label(struct tape *tape, const char *text);
-
-/* VOL1, of version 4; a file with its labels and marks; the further mark behind the last. */
-void ansi_begin(struct tape *tape, const char *identifier, const char *owner);
-void ansi_file(struct tape *tape, const struct ansi_file *file);
-void ansi_end(struct tape *tape);
-
 /* The four slices, as the library's functions take them. */
 #define TAPE(tape) (tape).list.bytes, (tape).list.length, (tape).store.bytes, (tape).store.length
 #define SAMPLE(sample) TAPE((sample)->sides[0]), TAPE((sample)->sides[1])
