@@ -13,6 +13,8 @@ static const char help[] =
     "Judges each cartridge: its volume identifier and UUID, whether it is consistent,\n"
     "and after which elements its partitions can be cut. A cartridge is a folder with\n"
     "index.list, index.store, data.list and data.store; a missing file counts as empty.\n"
+    "An ANSI labelled tape on the index side is refused as no LTFS volume, but named: see\n"
+    "klapouzen ansi.\n"
     "\n"
     "  --json  one object a line, and no summary\n"
     "  --help  this text\n"
@@ -20,12 +22,22 @@ static const char help[] =
     "Exit status: 0 all are consistent, 1 some are not, 2 bad use or a file that\n"
     "can't be read.\n";
 
-enum outcome { CONSISTENT, CUTTABLE, NO_CUT, REFUSED, UNREADABLE, OUTCOMES };
+/* An ANSI labelled tape is refused too, as no LTFS volume. */
+enum outcome { CONSISTENT, CUTTABLE, NO_CUT, REFUSED, LABELLED, UNREADABLE, OUTCOMES };
 
-static enum outcome outcome_of(const struct assessment *found)
+static enum outcome refused_outcome(const struct volume *volume, uint64_t refusal)
+{
+    struct ansi_tape tape;
+    if (!is_ansi(volume, refusal, &tape))
+        return REFUSED;
+    ansi_close(&tape);
+    return LABELLED;
+}
+
+static enum outcome outcome_of(const struct volume *volume, const struct assessment *found)
 {
     if (found->refusal != 0)
-        return REFUSED;
+        return refused_outcome(volume, found->refusal);
     if (is_consistent(found))
         return CONSISTENT;
     return found->has_cut ? CUTTABLE : NO_CUT;
@@ -38,7 +50,7 @@ static void print_line(const struct volume *volume, const struct assessment *fou
     print_bytes(stdout, bytes_of(volume->folder));
     if (found->refusal != 0) {
         fprintf(stdout, "  %s", colour_code(stdout, RED));
-        print_refusal(stdout, volume, found->refusal);
+        print_refusal(stdout, TO_TERMINAL, volume, found->refusal);
         fputs(colour_code(stdout, PLAIN), stdout);
     } else {
         printf("  %s", colour_code(stdout, BOLD));
@@ -59,6 +71,23 @@ static void print_json_refusal(const struct volume *volume, uint64_t refusal)
     printf(",\"verdict\":\"refused\",\"refusal\":{\"number\":%" PRIu64 ",\"text\":\"%s\","
            "\"side\":\"%s\",\"file\":\"%s\"}",
            refusal, klapouzen_refusal_text(refusal), origin.side, origin.file);
+}
+
+/* Of an ANSI labelled tape: its identifier, its files, and where it is refused as such. */
+static void print_json_ansi(const struct volume *volume, uint64_t refusal)
+{
+    struct ansi_tape tape;
+    if (!is_ansi(volume, refusal, &tape))
+        return;
+    fputs(",\"ansi\":{", stdout);
+    print_json_name(stdout, "identifier", ansi_volume(&tape).identifier);
+    printf(",\"files\":%" PRIu64 ",\"refusal\":", tape.files);
+    if (tape.refusal == 0)
+        fputs("null}", stdout);
+    else
+        printf("{\"number\":%" PRIu64 ",\"text\":\"%s\",\"place\":%" PRIu64 "}}", tape.refusal,
+               klapouzen_refusal_text(tape.refusal), tape.place);
+    ansi_close(&tape);
 }
 
 static void print_json_labels(const struct label *label)
@@ -112,25 +141,13 @@ static void print_json_cut(const struct assessment *found)
     printf(",\"generation\":%" PRIu64 "}", cut[KLAPOUZEN_CUT_GENERATION]);
 }
 
-/* The name as text, and where it is no UTF-8 its bytes too, in hex: a text alone would lose it. */
-static void print_json_folder(const char *folder)
-{
-    struct bytes name = bytes_of(folder);
-    fputs("{\"folder\":", stdout);
-    print_json(stdout, name, false);
-    if (is_utf8(name))
-        return;
-    fputs(",\"folder_bytes\":\"", stdout);
-    for (size_t i = 0; i < name.length; i++)
-        printf("%02x", name.start[i]);
-    putchar('"');
-}
-
 static void print_object(const struct volume *volume, const struct assessment *found)
 {
-    print_json_folder(volume->folder);
+    putchar('{');
+    print_json_name(stdout, "folder", bytes_of(volume->folder));
     if (found->refusal != 0) {
         print_json_refusal(volume, found->refusal);
+        print_json_ansi(volume, found->refusal);
         print_json_elements(found);
     } else {
         print_json_labels(&found->label);
@@ -143,7 +160,8 @@ static void print_object(const struct volume *volume, const struct assessment *f
 
 static void print_unreadable(const char *folder)
 {
-    print_json_folder(folder);
+    putchar('{');
+    print_json_name(stdout, "folder", bytes_of(folder));
     fputs(",\"verdict\":\"unreadable\"}\n", stdout);
 }
 
@@ -161,15 +179,21 @@ static enum outcome check_one(const char *folder, bool json)
     assess(&volume, &found);
     clear_progress();
     (json ? print_object : print_line)(&volume, &found);
+    enum outcome outcome = outcome_of(&volume, &found);
     volume_close(&volume);
-    return outcome_of(&found);
+    return outcome;
 }
 
 static void print_summary(const int counts[OUTCOMES], int all)
 {
-    printf("%d cartridge%s: %d consistent, %d to cut, %d without a cut, %d refused, %d unreadable\n",
+    int labelled = counts[LABELLED];
+    printf("%d cartridge%s: %d consistent, %d to cut, %d without a cut, %d refused, %d unreadable",
            all, all == 1 ? "" : "s", counts[CONSISTENT], counts[CUTTABLE], counts[NO_CUT],
-           counts[REFUSED], counts[UNREADABLE]);
+           counts[REFUSED] + labelled, counts[UNREADABLE]);
+    if (labelled > 0)
+        printf("; %d of the refused %s", labelled,
+               labelled == 1 ? "is an ANSI labelled tape" : "are ANSI labelled tapes");
+    putchar('\n');
 }
 
 int run_check(struct words *words)

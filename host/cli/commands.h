@@ -10,5 +10,6 @@ int run_cut(struct words *words);
 int run_files(struct words *words);
 int run_extract(struct words *words);
 int run_label(struct words *words);
+int run_ansi(struct words *words);
 
 #endif

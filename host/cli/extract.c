@@ -1,17 +1,14 @@
 /* klapouzen extract: a file's bytes through the byte map. */
 #include <errno.h>
-#include <fcntl.h>
 #include <inttypes.h>
 #include <stdlib.h>
 #include <string.h>
-#include <sys/stat.h>
-#include <sys/statvfs.h>
 #include <unistd.h>
 
 #include "chosen.h"
 #include "commands.h"
 #include "common.h"
-#include "draft.h"
+#include "output.h"
 #include "signals.h"
 #include "words.h"
 
@@ -39,9 +36,7 @@ struct extraction {
     const struct chosen *chosen;
     uint64_t length; /* of the file */
     const struct rows *rows;
-    FILE *out;
-    const char *path; /* of the output, in messages */
-    bool is_regular, skips_gaps;
+    const struct output *output;
 };
 
 /* ---- Which file ---- */
@@ -89,8 +84,8 @@ static bool write_zeros(FILE *out, uint64_t count)
 static int write_gap(const struct extraction *this, uint64_t count)
 {
     bool done = count == 0
-        || (this->skips_gaps ? fseeko(this->out, (off_t)count, SEEK_CUR) == 0
-                             : write_zeros(this->out, count));
+        || (this->output->skips_gaps ? fseeko(this->output->file, (off_t)count, SEEK_CUR) == 0
+                                     : write_zeros(this->output->file, count));
     return done ? GO_ON : FAILED;
 }
 
@@ -144,7 +139,7 @@ static int write_piece(const struct extraction *this, const uint64_t *row, uint6
     if (stored.length > left)
         stored.length = left;
     *position += stored.length;
-    bool written = fwrite(stored.start, 1, stored.length, this->out) == stored.length;
+    bool written = fwrite(stored.start, 1, stored.length, this->output->file) == stored.length;
     return written && !is_stopped() ? GO_ON : FAILED;
 }
 
@@ -162,9 +157,10 @@ static int write_row(const struct extraction *this, const uint64_t *row, uint64_
 /* The file ends where the last gap does. */
 static bool end_file(const struct extraction *this)
 {
-    if (fflush(this->out) != 0)
+    FILE *file = this->output->file;
+    if (fflush(file) != 0)
         return false;
-    return !this->skips_gaps || ftruncate(fileno(this->out), ftello(this->out)) == 0;
+    return !this->output->skips_gaps || ftruncate(fileno(file), ftello(file)) == 0;
 }
 
 static int write_file(const struct extraction *this)
@@ -177,25 +173,12 @@ static int write_file(const struct extraction *this)
         status = write_gap(this, this->length - position);
     if (status == GO_ON && !end_file(this))
         status = FAILED;
-    /* An error of standard output is said at the program's end; of a signal nothing is. */
-    bool is_said = (this->out == stdout && ferror(stdout)) || is_stopped();
-    if (status == FAILED && !is_said)
-        complain("%s: %s", this->path, strerror(errno));
+    if (status == FAILED)
+        complain_output(this->output);
     return status == GO_ON ? DONE : status;
 }
 
 /* ---- Where it goes ---- */
-
-/* In a regular file a gap can be left out where nothing is behind the place of writing. */
-static void look_at_output(struct extraction *this)
-{
-    struct stat status;
-    int descriptor = fileno(this->out);
-    off_t at = lseek(descriptor, 0, SEEK_CUR);
-    this->is_regular = fstat(descriptor, &status) == 0 && S_ISREG(status.st_mode);
-    this->skips_gaps = this->is_regular && at == status.st_size
-        && (fcntl(descriptor, F_GETFL) & O_APPEND) == 0;
-}
 
 /* How many bytes the output takes of its file system. */
 static uint64_t bytes_to_store(const struct extraction *this)
@@ -203,54 +186,23 @@ static uint64_t bytes_to_store(const struct extraction *this)
     uint64_t stored = 0;
     for (uint64_t i = 0; i < this->rows->count; i++)
         stored += this->rows->numbers[KLAPOUZEN_ROW * i + KLAPOUZEN_ROW_BYTECOUNT];
-    return this->skips_gaps ? stored : this->length;
-}
-
-/* A file system that doesn't say its size is not asked for room. */
-static bool has_room(const struct extraction *this)
-{
-    struct statvfs space;
-    uint64_t wanted = bytes_to_store(this), room = UINT64_MAX;
-    if (fstatvfs(fileno(this->out), &space) == 0 && space.f_blocks > 0)
-        room = (uint64_t)space.f_bavail * space.f_frsize;
-    if (wanted > room)
-        complain("%s: %s bytes have to be stored, %s are free", this->path, grouped(wanted),
-                 grouped(room));
-    return wanted <= room;
+    return this->output->skips_gaps ? stored : this->length;
 }
 
 static bool fits(const struct extraction *this)
 {
-    if (!this->is_regular)
-        return true;
-    if (this->length > INT64_MAX) {
-        complain("%s: %s", this->path, strerror(EFBIG));
+    if (this->output->is_regular && this->length > INT64_MAX) {
+        complain("%s: %s", this->output->path, strerror(EFBIG));
         return false;
     }
-    return has_room(this);
+    return has_room(this->output, bytes_to_store(this));
 }
 
-static int write_out(struct extraction *this, FILE *out, const char *path)
+static int write_to(const struct output *output, const void *data)
 {
-    this->out = out;
-    this->path = path;
-    look_at_output(this);
-    return fits(this) ? write_file(this) : FAILED;
-}
-
-static int write_to(struct extraction *this, const char *output)
-{
-    struct draft draft;
-    if (output == NULL)
-        return write_out(this, stdout, "standard output");
-    if (!draft_begin(&draft, output))
-        return FAILED;
-    int status = write_out(this, draft.file, output);
-    if (status != DONE)
-        draft_drop(&draft);
-    else if (!draft_finish(&draft))
-        status = FAILED;
-    return status;
+    struct extraction this = *(const struct extraction *)data;
+    this.output = output;
+    return fits(&this) ? write_file(&this) : FAILED;
 }
 
 /* ---- The command ---- */
@@ -297,7 +249,7 @@ static int extract(const struct volume *volume, const void *data)
     struct extraction extraction = {
         .volume = volume, .chosen = &chosen, .length = file[KLAPOUZEN_FILE_LENGTH], .rows = &rows,
     };
-    return write_to(&extraction, wish->output);
+    return write_output(wish->output, write_to, &extraction);
 }
 
 int run_extract(struct words *words)

@@ -4,24 +4,6 @@
 
 #include "common.h"
 
-/* ---- Walking a list that the library took ---- */
-
-struct element {
-    bool is_mark;
-    uint64_t length;
-};
-
-static struct element take_element(struct bytes *list)
-{
-    const uint8_t *at = list->start;
-    bool is_mark = at[0] == 1;
-    size_t size = is_mark ? 1 : 5;
-    uint64_t length = is_mark ? 0
-        : (uint64_t)at[1] << 24 | (uint64_t)at[2] << 16 | (uint64_t)at[3] << 8 | at[4];
-    *list = part_of(*list, size, list->length - size);
-    return (struct element){ is_mark, length };
-}
-
 /* ---- Segments ---- */
 
 static struct segment *add_segment(struct layout *layout, enum kind kind, uint64_t first)

@@ -20,6 +20,7 @@ static const struct command {
     { "files", run_files, "list the files of an index" },
     { "extract", run_extract, "write a file's bytes" },
     { "label", run_label, "write the labels of a volume" },
+    { "ansi", run_ansi, "list or extract the files of a tape with ANSI labels" },
 };
 
 enum { COMMANDS = sizeof commands / sizeof commands[0] };

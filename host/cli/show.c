@@ -236,7 +236,7 @@ static void print_head(const struct volume *volume, const struct assessment *fou
     print_bytes(stdout, bytes_of(volume->folder));
     putchar('\n');
     if (found->refusal != 0) {
-        print_refusal(stdout, volume, found->refusal);
+        print_refusal(stdout, TO_TERMINAL, volume, found->refusal);
         putchar('\n');
         return;
     }

@@ -74,7 +74,7 @@ static void put_head(const struct picture *picture)
     put_folder(picture);
     if (found->refusal != 0) {
         begin_text(out, MARGIN, 64, "text");
-        print_refusal(out, picture->volume, found->refusal);
+        print_refusal(out, TO_XML, picture->volume, found->refusal);
         end_text(out);
         return;
     }

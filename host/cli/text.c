@@ -154,6 +154,18 @@ void print_json(FILE *out, struct bytes text, bool spelled)
     fputc('"', out);
 }
 
+void print_json_name(FILE *out, const char *key, struct bytes text)
+{
+    fprintf(out, "\"%s\":", key);
+    print_json(out, text, false);
+    if (is_utf8(text))
+        return;
+    fprintf(out, ",\"%s_bytes\":\"", key);
+    for (size_t i = 0; i < text.length; i++)
+        fprintf(out, "%02x", text.start[i]);
+    fputc('"', out);
+}
+
 /* ---- Columns ---- */
 
 /* As most fonts draw it: letters from East Asia and pictures are twice as wide. */
@@ -164,14 +176,27 @@ static size_t columns_of(struct character character)
     return character.code == '\\' || character.code >= 0x1100 ? 2 : 1;
 }
 
-struct bytes last_columns(struct bytes text, size_t columns)
+static size_t all_columns(struct bytes text)
 {
     size_t all = 0;
-    for (struct bytes rest = text; rest.length > 0;) {
-        struct character next = next_character(rest);
+    while (text.length > 0) {
+        struct character next = next_character(text);
         all += columns_of(next);
-        rest = rest_of(rest, next.taken);
+        text = rest_of(text, next.taken);
     }
+    return all;
+}
+
+void print_padded(FILE *out, struct bytes text, size_t columns)
+{
+    print_bytes(out, text);
+    for (size_t i = all_columns(text); i < columns; i++)
+        fputc(' ', out);
+}
+
+struct bytes last_columns(struct bytes text, size_t columns)
+{
+    size_t all = all_columns(text);
     while (all > columns) {
         struct character next = next_character(text);
         all -= columns_of(next);

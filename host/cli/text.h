@@ -32,6 +32,12 @@ void print_json(FILE *out, struct bytes text, bool spelled);
 
 bool is_utf8(struct bytes text);
 
+/* `"key":"text"`, and where that would lose bytes, being no UTF-8, `,"key_bytes":"hex"`. */
+void print_json_name(FILE *out, const char *key, struct bytes text);
+
+/* To a terminal, filled up with spaces to so many columns. */
+void print_padded(FILE *out, struct bytes text, size_t columns);
+
 /* The end of a text that takes at most so many columns where it is printed. */
 struct bytes last_columns(struct bytes text, size_t columns);
 

@@ -94,23 +94,31 @@ static bool is_folder(const char *path)
     return true;
 }
 
-bool volume_open(struct volume *volume, const char *folder)
+/* The sides from the index side on to the last one wanted. */
+static bool open_sides(struct volume *volume, const char *folder, int last)
 {
     *volume = (struct volume){
         .folder = folder,
         .sides = { { .name = "index" }, { .name = "data" } },
     };
-    struct side *index = &volume->sides[INDEX], *data = &volume->sides[DATA];
-    if (!is_folder(folder) || !read_side(folder, index) || !read_side(folder, data)) {
-        volume_close(volume);
-        return false;
+    bool readable = is_folder(folder), there = false;
+    for (int side = INDEX; readable && side <= last; side++) {
+        readable = read_side(folder, &volume->sides[side]);
+        there = there || is_there(&volume->sides[side]);
     }
-    if (!is_there(index) && !is_there(data)) {
-        complain("%s: no cartridge here: no index.list, index.store, data.list or data.store",
-                 folder);
-        return false;
-    }
-    return true;
+    if (readable && !there)
+        complain("%s: no cartridge here: no %s", folder,
+                 last == INDEX ? "index.list or index.store"
+                               : "index.list, index.store, data.list or data.store");
+    if (readable && there)
+        return true;
+    volume_close(volume);
+    return false;
+}
+
+bool volume_open(struct volume *volume, const char *folder)
+{
+    return open_sides(volume, folder, DATA);
 }
 
 void volume_close(struct volume *volume)
@@ -121,23 +129,48 @@ void volume_close(struct volume *volume)
     }
 }
 
-int on_volume(const char *folder, int (*use)(const struct volume *volume, const void *wish),
-              const void *wish)
+static int on_sides(const char *folder, int last,
+                    int (*use)(const struct volume *volume, const void *wish), const void *wish)
 {
     struct volume volume;
-    if (!volume_open(&volume, folder))
+    if (!open_sides(&volume, folder, last))
         return FAILED;
     int status = use(&volume, wish);
     volume_close(&volume);
     return status;
 }
 
-/* ---- Asking the library ---- */
+int on_volume(const char *folder, int (*use)(const struct volume *volume, const void *wish),
+              const void *wish)
+{
+    return on_sides(folder, DATA, use, wish);
+}
+
+int on_tape(const char *folder, int (*use)(const struct volume *volume, const void *wish),
+            const void *wish)
+{
+    return on_sides(folder, INDEX, use, wish);
+}
+
+/* ---- Parts ---- */
 
 struct bytes part_of(struct bytes whole, uint64_t offset, uint64_t length)
 {
     return (struct bytes){ .start = whole.start + offset, .length = length };
 }
+
+struct element take_element(struct bytes *list)
+{
+    const uint8_t *at = list->start;
+    bool is_mark = at[0] == 1;
+    size_t size = is_mark ? 1 : 5;
+    uint64_t length = is_mark ? 0
+        : (uint64_t)at[1] << 24 | (uint64_t)at[2] << 16 | (uint64_t)at[3] << 8 | at[4];
+    *list = part_of(*list, size, list->length - size);
+    return (struct element){ is_mark, length };
+}
+
+/* ---- Asking the library ---- */
 
 struct bytes block_of(const struct volume *volume, int side, uint64_t number)
 {

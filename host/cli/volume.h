@@ -43,8 +43,20 @@ void volume_close(struct volume *volume);
 int on_volume(const char *folder, int (*use)(const struct volume *volume, const void *wish),
               const void *wish);
 
+/* The same of the index side alone, to which a tape of one partition is read; the data side is empty. */
+int on_tape(const char *folder, int (*use)(const struct volume *volume, const void *wish),
+            const void *wish);
+
 /* A part of a slice. */
 struct bytes part_of(struct bytes whole, uint64_t offset, uint64_t length);
+
+/* An element of a list, and its taking off the front of a list that the library took. */
+struct element {
+    bool is_mark;
+    uint64_t length;
+};
+
+struct element take_element(struct bytes *list);
 
 /* The block with this element number on one side; empty where there is none. */
 struct bytes block_of(const struct volume *volume, int side, uint64_t number);

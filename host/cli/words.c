@@ -77,8 +77,43 @@ struct origin origin_of(const struct volume *volume, uint64_t refusal)
     }
 }
 
-void print_refusal(FILE *out, const struct volume *volume, uint64_t refusal)
+bool is_ansi(const struct volume *volume, uint64_t refusal, struct ansi_tape *tape)
 {
+    if (refusal == KLAPOUZEN_NO_CUT)
+        return false;
+    ansi_open(tape, &volume->sides[INDEX]);
+    if (is_labelled(tape))
+        return true;
+    ansi_close(tape);
+    return false;
+}
+
+/* "an ANSI labelled tape, volume BENCH1, with 5 files: see klapouzen ansi DIR" */
+static void print_ansi(FILE *out, enum form form, const struct volume *volume,
+                       const struct ansi_tape *tape)
+{
+    struct bytes identifier = ansi_volume(tape).identifier;
+    fputs(identifier.length > 0 ? "an ANSI labelled tape, volume " : "an ANSI labelled tape", out);
+    print_text(out, form, identifier, false);
+    if (tape->refusal == 0) {
+        fputs(", with ", out);
+        print_counted(out, tape->files, "file", "files");
+    } else {
+        fprintf(out, ", refused %" PRIu64 " at element %" PRIu64 " behind ", tape->refusal, tape->place);
+        print_counted(out, tape->files, "whole file", "whole files");
+    }
+    fputs(": see klapouzen ansi ", out);
+    print_text(out, form, bytes_of(volume->folder), false);
+}
+
+void print_refusal(FILE *out, enum form form, const struct volume *volume, uint64_t refusal)
+{
+    struct ansi_tape tape;
+    if (is_ansi(volume, refusal, &tape)) {
+        print_ansi(out, form, volume, &tape);
+        ansi_close(&tape);
+        return;
+    }
     struct origin origin = origin_of(volume, refusal);
     fprintf(out, "refused %" PRIu64 ": %s (%s side%s: %s)", refusal, klapouzen_refusal_text(refusal),
             origin.side, strcmp(origin.side, "both") == 0 ? "s" : "", origin.file);
@@ -90,7 +125,7 @@ void complain_refusal(const struct volume *volume, uint64_t refusal)
     fputs("klapouzen: ", stderr);
     print_bytes(stderr, bytes_of(volume->folder));
     fputs(": ", stderr);
-    print_refusal(stderr, volume, refusal);
+    print_refusal(stderr, TO_TERMINAL, volume, refusal);
     fputc('\n', stderr);
 }
 

@@ -2,6 +2,7 @@
 #ifndef WORDS_H
 #define WORDS_H
 
+#include "ansi_tape.h"
 #include "text.h"
 #include "volume.h"
 
@@ -25,8 +26,14 @@ struct origin {
 
 struct origin origin_of(const struct volume *volume, uint64_t refusal);
 
-/* "refused 3: text (index side, index.store)" */
-void print_refusal(FILE *out, const struct volume *volume, uint64_t refusal);
+/* Whether a volume whose labels are refused is an ANSI labelled tape; it is open then, to be closed. */
+bool is_ansi(const struct volume *volume, uint64_t refusal, struct ansi_tape *tape);
+
+/*
+ * "refused 3: text (index side: index.store, element 0)", or that it is an ANSI labelled tape and
+ * which command reads it.
+ */
+void print_refusal(FILE *out, enum form form, const struct volume *volume, uint64_t refusal);
 
 /* The same on standard error, after the folder. */
 void complain_refusal(const struct volume *volume, uint64_t refusal);

@@ -6,6 +6,7 @@
 
 #include "klapouzen.h"
 #include "sample.h"
+#include "ultrix.h"
 
 enum { BLOCK_SIZE = 4096 };
 
@@ -220,6 +221,54 @@ static void full(struct sample *sample)
     sample_empty_index(sample, 1);
 }
 
+/* A tape of ULTRIX: record formats, paths, an ID that stands twice, a file without data, one without a path. */
+static void put_ansi(struct sample *sample, size_t lost)
+{
+    const struct ultrix_file files[] = {
+        { "HOSTS", "/etc/hosts", 'D', 2048, 512, 1, 4000, false, 0 },
+        { "PAYROLL.DAT", "/usr/staff/payroll.dat", 'F', 4000, 80, 2, 12000, false, 0 },
+        { "PAYROLL.DAT", "/usr/staff/1990/payroll.dat", 'F', 4000, 80, 3, 9600, false, lost },
+        { "QUARTERLY.REPORT.", "/usr/staff/letters/board/1991/quarterly.report.with.figures", 'S', 2048, 0, 4, 5000,
+          false, 0 },
+        { "LOCK", "/usr/spool/lock", 'F', 2048, 80, 5, 0, false, 0 },
+        { "TAPE.LOG", "", 'D', 2048, 132, 6, 300, true, 0 },
+    };
+    struct tape *tape = &sample->sides[0];
+    sample_free(sample);
+    *sample = (struct sample){ .block_size = BLOCK_SIZE };
+    ultrix_begin(tape, "BENCH1", "Klapouzen");
+    ultrix_label(tape, "UVL1 of the application");
+    for (size_t i = 0; i < sizeof files / sizeof files[0]; i++)
+        ultrix_file(tape, &files[i]);
+    ultrix_end(tape);
+}
+
+static void ansi(struct sample *sample)
+{
+    put_ansi(sample, 0);
+}
+
+/* The same where a block of the third file was lost in reading. */
+static void ansi_worn(struct sample *sample)
+{
+    put_ansi(sample, 1);
+}
+
+/* As many files as a list has room for. */
+static void ansi_many(struct sample *sample)
+{
+    struct tape *tape = &sample->sides[0];
+    sample_free(sample);
+    *sample = (struct sample){ .block_size = BLOCK_SIZE };
+    ultrix_begin(tape, "FULL", "");
+    for (unsigned i = 0; i < KLAPOUZEN_MAX_ANSI_FILES; i++) {
+        char id[16];
+        snprintf(id, sizeof id, "FILE%05u.DAT", i);
+        ultrix_file(tape, &(struct ultrix_file){ id, "", 'F', 2048, 80, i + 1, 0, false, 0 });
+    }
+    ultrix_end(tape);
+}
+
 /* ---- Writing ---- */
 
 static void write_part(const char *folder, const char *name, const struct buffer *bytes)
@@ -234,11 +283,14 @@ static void write_part(const char *folder, const char *name, const struct buffer
     }
 }
 
+/* A tape of one partition has no data side. */
 static void write_sample(const struct sample *sample, const char *folder)
 {
     mkdir(folder, 0777);
     write_part(folder, "index.list", &sample->sides[0].list);
     write_part(folder, "index.store", &sample->sides[0].store);
+    if (sample->sides[1].elements == 0)
+        return;
     write_part(folder, "data.list", &sample->sides[1].list);
     write_part(folder, "data.store", &sample->sides[1].store);
 }
@@ -249,7 +301,8 @@ int main(int count, char **words)
         { "extents", extents },
         { "fresh", fresh }, { "torn", torn }, { "nights", nights }, { "defect", defect },
         { "sparse", sparse }, { "long", long_one }, { "many", many }, { "odd", odd },
-        { "full", full },
+        { "full", full }, { "ansi", ansi }, { "ansi_worn", ansi_worn },
+        { "ansi_many", ansi_many },
     };
     struct sample sample;
     for (size_t i = 0; count == 3 && i < sizeof kinds / sizeof kinds[0]; i++) {
@@ -261,6 +314,7 @@ int main(int count, char **words)
         sample_free(&sample);
         return 0;
     }
-    fputs("usage: make_sample fresh|torn|nights|defect|sparse|long|many|extents|odd|full DIR\n", stderr);
+    fputs("usage: make_sample fresh|torn|nights|defect|sparse|long|many|extents|odd|full|ansi|ansi_worn|ansi_many"
+          " DIR\n", stderr);
     return 2;
 }

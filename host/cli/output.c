@@ -1,0 +1,65 @@
+#include "output.h"
+
+#include <errno.h>
+#include <fcntl.h>
+#include <string.h>
+#include <sys/stat.h>
+#include <sys/statvfs.h>
+#include <unistd.h>
+
+#include "common.h"
+#include "draft.h"
+#include "signals.h"
+#include "text.h"
+
+/* A file system that doesn't say its size is not asked for room. */
+bool has_room(const struct output *output, uint64_t wanted)
+{
+    struct statvfs space;
+    uint64_t room = UINT64_MAX;
+    if (output->is_regular && fstatvfs(fileno(output->file), &space) == 0 && space.f_blocks > 0)
+        room = (uint64_t)space.f_bavail * space.f_frsize;
+    if (wanted > room)
+        complain("%s: %s bytes have to be stored, %s are free", output->path, grouped(wanted),
+                 grouped(room));
+    return wanted <= room;
+}
+
+void complain_output(const struct output *output)
+{
+    bool is_said = (output->file == stdout && ferror(stdout)) || is_stopped();
+    if (!is_said)
+        complain("%s: %s", output->path, strerror(errno));
+}
+
+static struct output output_to(FILE *file, const char *path)
+{
+    struct output output = { .file = file, .path = path };
+    struct stat status;
+    int descriptor = fileno(file);
+    off_t at = lseek(descriptor, 0, SEEK_CUR);
+    output.is_regular = fstat(descriptor, &status) == 0 && S_ISREG(status.st_mode);
+    output.skips_gaps = output.is_regular && at == status.st_size
+        && (fcntl(descriptor, F_GETFL) & O_APPEND) == 0;
+    return output;
+}
+
+int write_output(const char *path, int (*write)(const struct output *output, const void *data),
+                 const void *data)
+{
+    struct draft draft;
+    struct output output;
+    if (path == NULL) {
+        output = output_to(stdout, "standard output");
+        return write(&output, data);
+    }
+    if (!draft_begin(&draft, path))
+        return FAILED;
+    output = output_to(draft.file, path);
+    int status = write(&output, data);
+    if (status != DONE)
+        draft_drop(&draft);
+    else if (!draft_finish(&draft))
+        status = FAILED;
+    return status;
+}

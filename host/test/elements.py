@@ -1,0 +1,74 @@
+"""Tapes with other elements: elements.py FROM, a folder with index.list and index.store.
+
+Each line of standard input makes a new folder: its name and the edits, with tabs between. An edit is words with commas
+between, done one after another; N is an element's number:
+  drop,N            without it
+  keep,N            the first N alone
+  mark,N            a mark before it
+  block,N,LENGTH    a block of so many bytes before it
+  label,N,TEXT      a block of 80 bytes before it, the text filled up with spaces
+  put,N,FIRST,TEXT  other bytes from this one on, counted from 1; \\xNN is a byte
+  size,N,LENGTH     the block cut off or filled up with spaces
+"""
+import os
+import sys
+
+
+def read(folder):
+    with open(os.path.join(folder, "index.list"), "rb") as file:
+        codes = file.read()
+    with open(os.path.join(folder, "index.store"), "rb") as file:
+        store = file.read()
+    elements, at, begin = [], 0, 0
+    while at < len(codes):
+        if codes[at] == 1:
+            elements.append(None)
+            at += 1
+        else:
+            length = int.from_bytes(codes[at + 1:at + 5], "big")
+            elements.append(store[begin:begin + length])
+            begin += length
+            at += 5
+    return elements
+
+
+def write(folder, elements):
+    os.mkdir(folder)
+    with open(os.path.join(folder, "index.list"), "wb") as file:
+        file.write(b"".join(b"\1" if e is None else b"\2" + len(e).to_bytes(4, "big") for e in elements))
+    with open(os.path.join(folder, "index.store"), "wb") as file:
+        file.write(b"".join(e for e in elements if e is not None))
+
+
+def as_bytes(text):
+    return text.encode().decode("unicode_escape").encode("latin-1")
+
+
+def edit(elements, kind, number, *words):
+    at = int(number)
+    if kind == "drop":
+        del elements[at]
+    elif kind == "keep":
+        del elements[at:]
+    elif kind == "mark":
+        elements.insert(at, None)
+    elif kind == "block":
+        elements.insert(at, b"x" * int(words[0]))
+    elif kind == "label":
+        elements.insert(at, as_bytes(words[0]).ljust(80))
+    elif kind == "put":
+        first, text = int(words[0]) - 1, as_bytes(words[1])
+        elements[at] = elements[at][:first] + text + elements[at][first + len(text):]
+    elif kind == "size":
+        elements[at] = elements[at][:int(words[0])].ljust(int(words[0]))
+    else:
+        sys.exit(f"no such edit: {kind}")
+
+
+whole = read(sys.argv[1])
+for line in sys.stdin:
+    folder, *edits = line.rstrip("\n").split("\t")
+    tape = list(whole)
+    for words in edits:
+        edit(tape, *words.split(",", 3))
+    write(folder, tape)
