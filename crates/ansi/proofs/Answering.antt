@@ -21,61 +21,62 @@ use Rattle.tape.proofs.Encoding.{Bytes, encodes-read}
 use Rattle.tape.proofs.Keeping.{Present, absent-list}
 use Rattle.ansi.specs.declared.Read.{Read}
 use Rattle.ansi.specs.declared.Read.the-variants as readIs
-use Rattle.ansi.specs.Layout.{File}
+use Rattle.ansi.specs.Layout.{TapeFile}
 use Rattle.ansi.specs.Places.{LongestFront}
-use Rattle.ansi.specs.Reading.{ansiOf, placeOf}
-use Rattle.ansi.specs.Answers.{allBytes, fitting, filesIn, filesAfter, Reads, placeIn, ByLayout, Found, Stopped, HandsOut}
+use Rattle.ansi.specs.Reading.{ansiOf, frontOf}
+use Rattle.ansi.specs.Answers.{allBytes, roomFor, filesOn, filesAfter, ReadsFiles, frontIn, ByLayout}
+use Rattle.ansi.specs.Owed.{AllRead, Stopped, HandsOut}
 use Rattle.ansi.proofs.Refused.{means, one-meaning, longest-front}
 
-counted-fitting : (b : Bool) (k : ℕ) (fs : List File) → k ≡ length fs
+counted-fitting : (b : Bool) (k : ℕ) (fs : List TapeFile) → k ≡ length fs
     → require b Short (answer k) ≡ andThen (require b Short (answer fs)) (λ gs. answer (length gs))
 counted-fitting true k fs e = ap (λ (n : ℕ). answer n) e
 counted-fitting false k fs e = refl
 
-stored-fitting : (b : Bool) (fs : List File) (before : List ℕ)
+stored-fitting : (b : Bool) (fs : List TapeFile) (before : List ℕ)
     → cond b (written 0 (allBytes fs) before) before ≡ filesAfter (require b Short (answer fs)) before
 stored-fitting true fs before = refl
 stored-fitting false fs before = refl
 
 -- the rows are the files' bytes
-rows-are : (fs : List File) (b : List ℕ) → take (length (allBytes fs)) (written 0 (allBytes fs) b) ≡ allBytes fs
+rows-are : (fs : List TapeFile) (b : List ℕ) → take (length (allBytes fs)) (written 0 (allBytes fs) b) ≡ allBytes fs
 rows-are fs b = ap (λ (n : ℕ). take n (written 0 (allBytes fs) b)) (sym (zero-add (length (allBytes fs)))) ∙ front-written 0 (allBytes fs) b (omega arith)
 
 module _ (l s : List ℕ) (count : ℕ) (p : Present l s count) where
-  module _ (before : List ℕ) (fs : List File) (read : ansiOf (p .tape) ≡ answer fs) where
-    files-are : filesIn (length before) l s ≡ fitting (length before) fs
+  module _ (before : List ℕ) (fs : List TapeFile) (read : ansiOf (p .tape) ≡ answer fs) where
+    files-are : filesOn (length before) l s ≡ roomFor (length before) fs
     files-are = rw (p .read, read)
 
-  pub reads-found : {b text : List ℕ} {end : ℕ} (before after : List ℕ) (r : Read) → Found (p .tape) b text end → HandsOut (take end text) before after r → Reads l s before after r
+  pub reads-found : {b text : List ℕ} {end : ℕ} (before after : List ℕ) (r : Read) → AllRead (p .tape) b text end → HandsOut (take end text) before after r → ReadsFiles l s before after r
   unfolding stored
   reads-found {b} {text} {end} before after r f h =
       let fs = f .files in
       let w : take end text ≡ allBytes fs = ap (λ (n : ℕ). take n text) (f .ends) ∙ ap (take (length (allBytes fs))) (f .holds) ∙ rows-are fs b in
       let n : length (take end text) ≡ 36 * length fs = ap length w ∙ f .sized in
       let k : length (take end text) / 36 ≡ length fs = omega arith in
-      let i : filesIn (length before) l s ≡ fitting (length before) fs = files-are before fs (f .read) in
+      let i : filesOn (length before) l s ≡ roomFor (length before) fs = files-are before fs (f .read) in
       record {
         answers = h .answers ∙ ap (λ (x : ℕ). require (leb x (length before)) Short (answer (length (take end text) / 36))) n
             ∙ counted-fitting (leb (36 * length fs) (length before)) (length (take end text) / 36) fs k
-            ∙ ap (λ (a : Answer (List File)). andThen a (λ gs. answer (length gs))) (sym i);
+            ∙ ap (λ (a : Answer (List TapeFile)). andThen a (λ gs. answer (length gs))) (sym i);
         holds = h .holds ∙ ap (λ (x : List ℕ). stored 0 x before) w
             ∙ ap (λ (x : ℕ). cond (leb x (length before)) (written 0 (allBytes fs) before) before) (zero-add (length (allBytes fs)) ∙ f .sized)
-            ∙ stored-fitting (leb (36 * length fs) (length before)) fs before ∙ ap (λ (a : Answer (List File)). filesAfter a before) (sym i);
+            ∙ stored-fitting (leb (36 * length fs) (length before)) fs before ∙ ap (λ (a : Answer (List TapeFile)). filesAfter a before) (sym i);
       }
 
-  pub reads-stopped : {place : ℕ} (before : List ℕ) (r : Refusal) → Stopped (p .tape) r place → Reads l s before before (readIs.Refused r)
+  pub reads-stopped : {place : ℕ} (before : List ℕ) (r : Refusal) → Stopped (p .tape) r place → ReadsFiles l s before before (readIs.Refused r)
   reads-stopped before r f = record { answers = rw (p .read, f .read); holds = rw (p .read, f .read) }
 
-  pub place-found : {b text : List ℕ} {end : ℕ} → Found (p .tape) b text end → answer count ≡ placeIn l s
+  pub place-found : {b text : List ℕ} {end : ℕ} → AllRead (p .tape) b text end → answer count ≡ frontIn l s
   place-found f = rw (p .read) (ap (λ (n : ℕ). answer n) (sym (f .passed ∙ p .count)))
 
-  pub place-stopped : {place : ℕ} (r : Refusal) → Stopped (p .tape) r place → answer place ≡ placeIn l s
+  pub place-stopped : {place : ℕ} (r : Refusal) → Stopped (p .tape) r place → answer place ≡ frontIn l s
   place-stopped r f = rw (p .read) (ap (λ (n : ℕ). answer n) (sym (f .passed)))
 
-pub reads-refused : (l s before : List ℕ) (r : Refusal) → refused r ≡ elementCount l s → Reads l s before before (readIs.Refused BadList)
+pub reads-refused : (l s before : List ℕ) (r : Refusal) → refused r ≡ elementCount l s → ReadsFiles l s before before (readIs.Refused BadList)
 reads-refused l s before r e = let a = absent-list l s r e in record { answers = rw a; holds = rw a }
 
-pub place-refused : (l s : List ℕ) (r : Refusal) → refused r ≡ elementCount l s → refused BadList ≡ placeIn l s
+pub place-refused : (l s : List ℕ) (r : Refusal) → refused r ≡ elementCount l s → refused BadList ≡ frontIn l s
 place-refused l s r e = rw (absent-list l s r e)
 
 -- a tape that was read from a list is within the bounds
@@ -95,13 +96,13 @@ same-answer : {A : Type 0} {x y : A} → answer x ≡ answer y → x ≡ y
 same-answer e = cc
 
 -- the place that is answered is behind the longest front that begins a layout
-pub place-longest : (l s : List ℕ) (n : ℕ) → Bytes l → answer n ≡ placeIn l s → (t : Tape) → tapeIn l s ≡ answer t → LongestFront t n
+pub place-longest : (l s : List ℕ) (n : ℕ) → Bytes l → answer n ≡ frontIn l s → (t : Tape) → tapeIn l s ≡ answer t → LongestFront t n
 place-longest l s n w q t e =
-    let z : answer n ≡ answer (placeOf t) = q ∙ ap (λ (a : Answer Tape). andThen a (λ u. answer (placeOf u))) e in
+    let z : answer n ≡ answer (frontOf t) = q ∙ ap (λ (a : Answer Tape). andThen a (λ u. answer (frontOf u))) e in
     subst (LongestFront t) (sym (same-answer z)) (longest-front t (tape-small l s t w e))
 
-pub place-none : (l s : List ℕ) (r : Refusal) → refused r ≡ placeIn l s → (t : Tape) → tapeIn l s ≡ answer t → (n : ℕ) → LongestFront t n
+pub place-none : (l s : List ℕ) (r : Refusal) → refused r ≡ frontIn l s → (t : Tape) → tapeIn l s ≡ answer t → (n : ℕ) → LongestFront t n
 place-none l s r q t e n =
-    let z : refused r ≡ answer (placeOf t) = q ∙ ap (λ (a : Answer Tape). andThen a (λ u. answer (placeOf u))) e in
+    let z : refused r ≡ answer (frontOf t) = q ∙ ap (λ (a : Answer Tape). andThen a (λ u. answer (frontOf u))) e in
     let y : _≡_ {A = ℕ} 0 1 = cc in
     absurd (omega arith)

@@ -17,15 +17,16 @@ use Rattle.big_endian.proofs.Left.{length-big-endian}
 use Rattle.writing.specs.Writing.{AddsAtMost}
 use Rattle.writing.proofs.Adding.{adds-none}
 use Rattle.ansi.specs.declared.Read.the-variants as readIs
-use Rattle.ansi.specs.Layout.{File, fileOf}
-use Rattle.ansi.specs.Answers.{fileBytes, allBytes, HandsOut}
+use Rattle.ansi.specs.Layout.{TapeFile, tapeFileOf}
+use Rattle.ansi.specs.Answers.{fileBytes, allBytes}
+use Rattle.ansi.specs.Owed.{HandsOut}
 
-pub all-append : (fs gs : List File) → allBytes (fs ++ gs) ≡ allBytes fs ++ allBytes gs
+pub all-append : (fs gs : List TapeFile) → allBytes (fs ++ gs) ≡ allBytes fs ++ allBytes gs
 unfolding allBytes
 all-append [] gs = refl
 all-append (f ∷ fs) gs = rw (all-append fs gs, append-assoc (fileBytes f) (allBytes fs) (allBytes gs))
 
-pub one-file : (f : File) → allBytes (f ∷ []) ≡ fileBytes f
+pub one-file : (f : TapeFile) → allBytes (f ∷ []) ≡ fileBytes f
 unfolding allBytes
 one-file f = append-nil (fileBytes f)
 
@@ -39,7 +40,7 @@ second-label g x =
     ∙ ap (λ (y : List ℕ). take 1 (drop 4 g) ++ y) (append-assoc (take 5 (drop 5 g)) (take 5 (drop 5 (drop 5 g))) x)
     ∙ ap (λ (y : List ℕ). take 1 (drop 4 g) ++ (take 5 (drop 5 g) ++ (take 5 y ++ x))) (drop-drop 5 5 g)
 
-pub file-bytes : (h g : List ℕ) (n : ℕ) → (take 17 (drop 4 h) ++ take 11 (drop 4 g)) ++ bigEndian 8 n ≡ fileBytes (fileOf h g n)
+pub file-bytes : (h g : List ℕ) (n : ℕ) → (take 17 (drop 4 h) ++ take 11 (drop 4 g)) ++ bigEndian 8 n ≡ fileBytes (tapeFileOf h g n)
 file-bytes h g n =
     append-assoc (take 17 (drop 4 h)) (take 11 (drop 4 g)) (bigEndian 8 n) ∙ ap (λ (y : List ℕ). take 17 (drop 4 h) ++ y) (second-label g (bigEndian 8 n))
 
@@ -47,7 +48,7 @@ file-bytes h g n =
 part-length : (k i : ℕ) (x : List ℕ) → length x ≡ 80 → i + k ≤ 80 → length (take k (drop i x)) ≡ k
 part-length k i x e h = omega (arith, length-take k (drop i x), length-drop i x)
 
-pub file-length : (h g : List ℕ) (n : ℕ) → length h ≡ 80 → length g ≡ 80 → length (fileBytes (fileOf h g n)) ≡ 36
+pub file-length : (h g : List ℕ) (n : ℕ) → length h ≡ 80 → length g ≡ 80 → length (fileBytes (tapeFileOf h g n)) ≡ 36
 file-length h g n a b =
     ap length (sym (file-bytes h g n))
     ∙ omega (

@@ -8,93 +8,93 @@ use Rattle.refusals.specs.declared.Refusal.{Refusal}
 use Rattle.refusals.specs.declared.Refusal.the-variants.{Labels}
 use Rattle.refusals.specs.Refusals.{Answer, refused, answer, andThen}
 use Rattle.tape.specs.Tape.{Tape, Element}
-use Rattle.ansi.specs.Layout.{File}
+use Rattle.ansi.specs.Layout.{TapeFile}
 use Rattle.ansi.specs.Places.{Begins}
-use Rattle.ansi.specs.Reading.{State, start, volume, header, headers, blocks, trailer, second, trailers, between, done, Step, go, found, stop, step, ended, follow, run, ansiOf, passedOn, passedFrom}
+use Rattle.ansi.specs.Reading.{Stage, start, volume, header, headers, blocks, trailer, second, trailers, between, done, Step, go, found, stop, step, ending, follow, run, ansiOf, passedOn, passedFrom}
 use Rattle.ansi.specs.Phases.{unfiled, known}
 use Rattle.ansi.proofs.Form.{same-layout}
 use Rattle.ansi.proofs.Live.{Live, LiveAt, step-live, Ends}
 
 -- reading the front t from element n and state σ on comes to element m and state τ, with the files fs made known
-pub data Reach : Tape → ℕ → State → ℕ → State → List File → Type 0 where
-  here : {n : ℕ} {σ : State} → Reach [] n σ n σ []
-  next : {e : Element} {t : Tape} {n m : ℕ} {σ τ υ : State} {fs : List File} → step n σ e ≡ go υ → Reach t (suc n) υ m τ fs → Reach (e ∷ t) n σ m τ fs
-  file : {e : Element} {t : Tape} {n m : ℕ} {σ τ υ : State} {f : File} {fs : List File} → step n σ e ≡ found f υ → Reach t (suc n) υ m τ fs
+pub data Reach : Tape → ℕ → Stage → ℕ → Stage → List TapeFile → Type 0 where
+  here : {n : ℕ} {σ : Stage} → Reach [] n σ n σ []
+  next : {e : Element} {t : Tape} {n m : ℕ} {σ τ υ : Stage} {fs : List TapeFile} → step n σ e ≡ go υ → Reach t (suc n) υ m τ fs → Reach (e ∷ t) n σ m τ fs
+  file : {e : Element} {t : Tape} {n m : ℕ} {σ τ υ : Stage} {f : TapeFile} {fs : List TapeFile} → step n σ e ≡ found f υ → Reach t (suc n) υ m τ fs
       → Reach (e ∷ t) n σ m τ (f ∷ fs)
 
-pub reach-length : {t : Tape} {n m : ℕ} {σ τ : State} {fs : List File} → Reach t n σ m τ fs → m ≡ n + length t
+pub reach-length : {t : Tape} {n m : ℕ} {σ τ : Stage} {fs : List TapeFile} → Reach t n σ m τ fs → m ≡ n + length t
 reach-length {n} Reach.here = omega arith
 reach-length (Reach.next q r) = omega (arith, reach-length r)
 reach-length (Reach.file q r) = omega (arith, reach-length r)
 
 -- one element more
-pub reach-next : {t : Tape} {n m : ℕ} {σ τ : State} {fs : List File} (e : Element) (υ : State) → Reach t n σ m τ fs → unfiled (step m τ e) ≡ go υ
+pub reach-next : {t : Tape} {n m : ℕ} {σ τ : Stage} {fs : List TapeFile} (e : Element) (υ : Stage) → Reach t n σ m τ fs → unfiled (step m τ e) ≡ go υ
     → Reach (t ++ (e ∷ [])) n σ (suc m) υ (fs ++ known (step m τ e))
 reach-next {n} {σ} e υ Reach.here q = by (step n σ e) refl q
   where
-    same-state : {σ τ : State} → go σ ≡ go τ → σ ≡ τ
+    same-state : {σ τ : Stage} → go σ ≡ go τ → σ ≡ τ
     same-state e = cc
 
     by : (s : Step) → step n σ e ≡ s → unfiled s ≡ go υ → Reach (e ∷ []) n σ (suc n) υ (known s)
     by (go ρ) h z = Reach.next (h ∙ z) Reach.here
-    by (found f ρ) h z = Reach.file (h ∙ ap (λ (x : State). found f x) (same-state z)) Reach.here
+    by (found f ρ) h z = Reach.file (h ∙ ap (λ (x : Stage). found f x) (same-state z)) Reach.here
     by (stop r) h z = let w : _≡_ {A = ℕ} 0 1 = cc in absurd (omega arith)
 reach-next e υ (Reach.next q r) z = Reach.next q (reach-next e υ r z)
 reach-next e υ (Reach.file q r) z = Reach.file q (reach-next e υ r z)
 
 -- what is read behind files that are known
-abbrev pub behind : List File → Answer (List File) → Answer (List File)
+abbrev pub behind : List TapeFile → Answer (List TapeFile) → Answer (List TapeFile)
 behind fs a = andThen a (λ gs. answer (fs ++ gs))
 
-behind-none : (a : Answer (List File)) → a ≡ behind [] a
+behind-none : (a : Answer (List TapeFile)) → a ≡ behind [] a
 behind-none (refused r) = refl
 behind-none (answer fs) = refl
 
-behind-more : (f : File) (fs : List File) (a : Answer (List File)) → andThen (behind fs a) (λ gs. answer (f ∷ gs)) ≡ behind (f ∷ fs) a
+behind-more : (f : TapeFile) (fs : List TapeFile) (a : Answer (List TapeFile)) → andThen (behind fs a) (λ gs. answer (f ∷ gs)) ≡ behind (f ∷ fs) a
 behind-more f fs (refused r) = refl
 behind-more f fs (answer gs) = refl
 
 -- the reading goes on from there
-pub reach-run : {t : Tape} {n m : ℕ} {σ τ : State} {fs : List File} (s : Tape) → Reach t n σ m τ fs → run (t ++ s) n σ ≡ behind fs (run s m τ)
+pub reach-run : {t : Tape} {n m : ℕ} {σ τ : Stage} {fs : List TapeFile} (s : Tape) → Reach t n σ m τ fs → run (t ++ s) n σ ≡ behind fs (run s m τ)
 unfolding run follow
 reach-run {n} {σ} s Reach.here = behind-none (run s n σ)
 reach-run s (Reach.next q r) = rw q (reach-run s r)
-reach-run {m} {τ} s (Reach.file {f} {fs} q r) = rw q (ap (λ (a : Answer (List File)). andThen a (λ gs. answer (f ∷ gs))) (reach-run s r) ∙ behind-more f fs (run s m τ))
+reach-run {m} {τ} s (Reach.file {f} {fs} q r) = rw q (ap (λ (a : Answer (List TapeFile)). andThen a (λ gs. answer (f ∷ gs))) (reach-run s r) ∙ behind-more f fs (run s m τ))
 
 -- and passes as many elements
-pub reach-passed : {t : Tape} {n m : ℕ} {σ τ : State} {fs : List File} (s : Tape) → Reach t n σ m τ fs → passedFrom (t ++ s) n σ ≡ passedFrom s m τ
+pub reach-passed : {t : Tape} {n m : ℕ} {σ τ : Stage} {fs : List TapeFile} (s : Tape) → Reach t n σ m τ fs → passedFrom (t ++ s) n σ ≡ passedFrom s m τ
 unfolding passedFrom passedOn
 reach-passed s Reach.here = refl
 reach-passed s (Reach.next q r) = rw q (reach-passed s r)
 reach-passed s (Reach.file q r) = rw q (reach-passed s r)
 
-pub reach-on : {t : Tape} {n m : ℕ} {σ τ : State} {fs : List File} (s : Tape) (gs : List File) → Reach t n σ m τ fs → run s m τ ≡ answer gs → run (t ++ s) n σ ≡ answer (fs ++ gs)
+pub reach-on : {t : Tape} {n m : ℕ} {σ τ : Stage} {fs : List TapeFile} (s : Tape) (gs : List TapeFile) → Reach t n σ m τ fs → run s m τ ≡ answer gs → run (t ++ s) n σ ≡ answer (fs ++ gs)
 reach-on {fs} s gs r e = reach-run s r ∙ ap (behind fs) e
 
-pub answered : (fs : List File) (a : Answer (List File)) (gs : List File) → behind fs a ≡ answer gs → (hs : List File) × (a ≡ answer hs)
+pub answered : (fs : List TapeFile) (a : Answer (List TapeFile)) (gs : List TapeFile) → behind fs a ≡ answer gs → (hs : List TapeFile) × (a ≡ answer hs)
 answered fs (refused r) gs e = let z : _≡_ {A = ℕ} 0 1 = cc in absurd (omega arith)
 answered fs (answer hs) gs e = (hs, refl)
 
-pub reach-back : {t : Tape} {n m : ℕ} {σ τ : State} {fs : List File} (s : Tape) (gs : List File) → Reach t n σ m τ fs → run (t ++ s) n σ ≡ answer gs
-    → (hs : List File) × (run s m τ ≡ answer hs)
+pub reach-back : {t : Tape} {n m : ℕ} {σ τ : Stage} {fs : List TapeFile} (s : Tape) (gs : List TapeFile) → Reach t n σ m τ fs → run (t ++ s) n σ ≡ answer gs
+    → (hs : List TapeFile) × (run s m τ ≡ answer hs)
 reach-back {m} {τ} {fs} s gs r e = answered fs (run s m τ) gs (sym (reach-run s r) ∙ e)
 
-follow-go : (t : Tape) (n : ℕ) (σ υ : State) (e : Element) → step n σ e ≡ go υ → run (e ∷ t) n σ ≡ run t (suc n) υ
+follow-go : (t : Tape) (n : ℕ) (σ υ : Stage) (e : Element) → step n σ e ≡ go υ → run (e ∷ t) n σ ≡ run t (suc n) υ
 unfolding run follow
 follow-go t n σ υ e q = rw q
 
-pub follow-stop : (t : Tape) (n : ℕ) (σ : State) (r : Refusal) (e : Element) → step n σ e ≡ stop r → run (e ∷ t) n σ ≡ refused r
+pub follow-stop : (t : Tape) (n : ℕ) (σ : Stage) (r : Refusal) (e : Element) → step n σ e ≡ stop r → run (e ∷ t) n σ ≡ refused r
 unfolding run follow
 follow-stop t n σ r e q = rw q
 
-module _ (front : Tape) (m : ℕ) (τ : State) (fs : List File) (reach : Reach front 0 start m τ fs) where
+module _ (front : Tape) (m : ℕ) (τ : Stage) (fs : List TapeFile) (reach : Reach front 0 start m τ fs) where
   -- the front begins a layout where its state can be ended
   pub front-begins : Ends m τ → Begins front
   unfolding ansiOf
   front-begins (t, gs, e) = (t, fs ++ gs, same-layout (front ++ t) (fs ++ gs) .0 (reach-on t gs reach e))
 
   -- so it does with one element more
-  pub next-begins : (e : Element) (υ : State) → step m τ e ≡ go υ → Ends (suc m) υ → Begins (front ++ (e ∷ []))
+  pub next-begins : (e : Element) (υ : Stage) → step m τ e ≡ go υ → Ends (suc m) υ → Begins (front ++ (e ∷ []))
   unfolding ansiOf
   next-begins e υ q (t, gs, r) =
       let g : ansiOf (front ++ (e ∷ t)) ≡ answer (fs ++ gs) = reach-on (e ∷ t) gs reach (follow-go t m τ υ e q ∙ r) in
@@ -111,24 +111,24 @@ module _ (front : Tape) (m : ℕ) (τ : State) (fs : List File) (reach : Reach f
       omega arith
 
 -- why a reading is refused: the tape ends, or an element can't stand
-pub data Reason (m : ℕ) (τ : State) (r : Refusal) : Tape → Type 0 where
+pub data Reason (m : ℕ) (τ : Stage) (r : Refusal) : Tape → Type 0 where
   ends : r ≡ Labels → Reason m τ r []
   stops : {e : Element} {t : Tape} → step m τ e ≡ stop r → Reason m τ r (e ∷ t)
 
 -- where a reading is refused
-pub record Halt (t : Tape) (n : ℕ) (σ : State) (r : Refusal) : Type 0 where
+pub record Halt (t : Tape) (n : ℕ) (σ : Stage) (r : Refusal) : Type 0 where
   pub front : Tape
   pub back : Tape
   pub is : t ≡ front ++ back
   pub number : ℕ
-  pub state : State
-  pub files : List File
+  pub state : Stage
+  pub files : List TapeFile
   pub reach : Reach front n σ number state files
   pub live : Live number state
   pub reason : Reason number state r back
 
-ended-labels : (σ : State) (r : Refusal) → ended σ ≡ refused r → r ≡ Labels
-unfolding ended
+ended-labels : (σ : Stage) (r : Refusal) → ending σ ≡ refused r → r ≡ Labels
+unfolding ending
 ended-labels start r e = cc
 ended-labels (volume k) r e = cc
 ended-labels (header h) r e = cc
@@ -140,17 +140,17 @@ ended-labels (trailers k) r e = cc
 ended-labels between r e = cc
 ended-labels done r e = let z : _≡_ {A = ℕ} 0 1 = cc in absurd (omega arith)
 
-refused-behind : (a : Answer (List File)) (f : File) (r : Refusal) → andThen a (λ gs. answer (f ∷ gs)) ≡ refused r → a ≡ refused r
+refused-behind : (a : Answer (List TapeFile)) (f : TapeFile) (r : Refusal) → andThen a (λ gs. answer (f ∷ gs)) ≡ refused r → a ≡ refused r
 refused-behind (refused q) f r e = cc
 refused-behind (answer gs) f r e = let z : _≡_ {A = ℕ} 0 1 = cc in absurd (omega arith)
 
-pub halts : (t : Tape) (n : ℕ) (σ : State) (r : Refusal) → Live n σ → run t n σ ≡ refused r → Halt t n σ r
+pub halts : (t : Tape) (n : ℕ) (σ : Stage) (r : Refusal) → Live n σ → run t n σ ≡ refused r → Halt t n σ r
 unfolding run follow
 halts [] n σ r l e =
     record { front = []; back = []; is = refl; number = n; state = σ; files = []; reach = Reach.here; live = l; reason = Reason.ends (ended-labels σ r e) }
 halts (x ∷ t) n σ r l e = by (step n σ x) refl (step-live n σ x l) e (halts t (suc n))
   where
-    go-on : (υ : State) (more : List File) → ((m : ℕ) (τ : State) (s : Tape) (gs : List File) → Reach s (suc n) υ m τ gs → Reach (x ∷ s) n σ m τ (more ++ gs))
+    go-on : (υ : Stage) (more : List TapeFile) → ((m : ℕ) (τ : Stage) (s : Tape) (gs : List TapeFile) → Reach s (suc n) υ m τ gs → Reach (x ∷ s) n σ m τ (more ++ gs))
         → Halt t (suc n) υ r → Halt (x ∷ t) n σ r
     go-on υ more f h =
         record {
@@ -166,7 +166,7 @@ halts (x ∷ t) n σ r l e = by (step n σ x) refl (step-live n σ x l) e (halts
         }
 
     by : (s : Step) → step n σ x ≡ s → LiveAt (suc n) s → follow (run t (suc n)) s ≡ refused r
-        → ((υ : State) (q : Refusal) → Live (suc n) υ → run t (suc n) υ ≡ refused q → Halt t (suc n) υ q) → Halt (x ∷ t) n σ r
+        → ((υ : Stage) (q : Refusal) → Live (suc n) υ → run t (suc n) υ ≡ refused q → Halt t (suc n) υ q) → Halt (x ∷ t) n σ r
     by (go υ) h (LiveAt.goes τ v) f k = go-on υ [] (λ m ρ s gs y. Reach.next h y) (k υ r v f)
     by (found g υ) h (LiveAt.finds f′ τ v) f k = go-on υ (g ∷ []) (λ m ρ s gs y. Reach.file h y) (k υ r v (refused-behind (run t (suc n) υ) g r f))
     by (stop q) h (LiveAt.halts p) f k =

@@ -14,14 +14,14 @@ use Rattle.slices.specs.Slices.{within, every, same}
 use Rattle.slices.specs.Words.{bytes}
 use Rattle.slices.proofs.Booleans.{and-left, and-right}
 use Rattle.tape.specs.Tape.{Tape, Element, mark, block}
-use Rattle.ansi_labels.specs.Labels.{isLabel, isNumbered, number, isVolume, isHeader2, isTrailer, count, isData}
-use Rattle.ansi.specs.Layout.{File}
-use Rattle.ansi.specs.Reading.{State, start, volume, header, headers, blocks, trailer, second, trailers, between, done, Step, go, found, stop, passing, opened, closed, step, ended, follow, run}
+use Rattle.ansi_labels.specs.Labels.{isLabel, isNumbered, labelNumber, isVolume, isHeader2, isTrailer, blockCount, isData}
+use Rattle.ansi.specs.Layout.{TapeFile}
+use Rattle.ansi.specs.Reading.{Stage, start, volume, header, headers, blocks, trailer, second, trailers, between, done, Step, go, found, stop, passing, opening, closing, step, ending, follow, run}
 use Rattle.ansi_labels.proofs.Tests.{label-length}
 use Rattle.ansi.proofs.Counts.{counted, counted-trailer, counted-count, trailerOf, trailer-label, trailer-5-54, trailer-61-80}
 
 -- what holds of a state before element n
-abbrev pub Live : ℕ → State → Type 0
+abbrev pub Live : ℕ → Stage → Type 0
 Live n start = Unit {0}
 Live n (volume k) = Unit {0}
 Live n (header h) = isLabel (bytes "HDR1") h ≡ true
@@ -34,8 +34,8 @@ Live n between = Unit {0}
 Live n done = Unit {0}
 
 pub data LiveAt (n : ℕ) : Step → Type 0 where
-  goes : (σ : State) → Live n σ → LiveAt n (go σ)
-  finds : (f : File) (σ : State) → Live n σ → LiveAt n (found f σ)
+  goes : (σ : Stage) → Live n σ → LiveAt n (go σ)
+  finds : (f : TapeFile) (σ : Stage) → Live n σ → LiveAt n (found f σ)
   halts : (r : Refusal) → LiveAt n (stop r)
 
 module _ (n : ℕ) where
@@ -43,26 +43,26 @@ module _ (n : ℕ) where
   either true x y = x refl
   either false x y = y
 
-  passing-live : (w u : List ℕ) (k : ℕ) (x : List ℕ) (next : ℕ → State) {other : Step} → ((i : ℕ) → k ≤ i → Live n (next i)) → Live n (next 10) → LiveAt n other
+  passing-live : (w u : List ℕ) (k : ℕ) (x : List ℕ) (next : ℕ → Stage) {other : Step} → ((i : ℕ) → k ≤ i → Live n (next i)) → Live n (next 10) → LiveAt n other
       → LiveAt n (passing w u k x next other)
   unfolding passing isNumbered
   passing-live w u k x next f g y =
       either (isNumbered w k x)
-      (λ e. LiveAt.goes (next (suc (number x))) (f (suc (number x)) (omega (arith, leb-true k (number x) (and-left (leb k (number x)) (leb (number x) 9) (and-right (isLabel w x) (within k 9 (number x)) e))))))
+      (λ e. LiveAt.goes (next (suc (labelNumber x))) (f (suc (labelNumber x)) (omega (arith, leb-true k (labelNumber x) (and-left (leb k (labelNumber x)) (leb (labelNumber x) 9) (and-right (isLabel w x) (within k 9 (labelNumber x)) e))))))
       (either (isLabel u x) (λ e. LiveAt.goes (next 10) g) y)
 
-  opened-live : (x : List ℕ) → LiveAt n (opened x)
-  unfolding opened
+  opened-live : (x : List ℕ) → LiveAt n (opening x)
+  unfolding opening
   opened-live x = either (isLabel (bytes "HDR1") x) (λ e. LiveAt.goes (header x) e) (LiveAt.halts Labels)
 
-  closed-live : (h : List ℕ) (m : ℕ) (x : List ℕ) → LiveAt n (closed h m x)
-  unfolding closed
+  closed-live : (h : List ℕ) (m : ℕ) (x : List ℕ) → LiveAt n (closing h m x)
+  unfolding closing
   closed-live h m x =
       either (isTrailer h x)
-      (λ e. either (eqb (count x) m) (λ f. LiveAt.goes second tt) (LiveAt.halts BlockCount))
+      (λ e. either (eqb (blockCount x) m) (λ f. LiveAt.goes second tt) (LiveAt.halts BlockCount))
       (either (isLabel (bytes "EOV1") x) (λ f. LiveAt.halts EndOfVolume) (LiveAt.halts Labels))
 
-pub step-live : (n : ℕ) (σ : State) (e : Element) → Live n σ → LiveAt (suc n) (step n σ e)
+pub step-live : (n : ℕ) (σ : Stage) (e : Element) → Live n σ → LiveAt (suc n) (step n σ e)
 unfolding step
 step-live n start mark l = LiveAt.halts Labels
 step-live n start (block x) l = either (suc n) (isVolume x) (λ e. LiveAt.goes (volume 2) tt) (LiveAt.halts Labels)
@@ -85,15 +85,15 @@ step-live n between (block x) l = opened-live (suc n) x
 step-live n done e l = LiveAt.halts Labels
 
 -- some tape ends a layout from here
-abbrev pub Ends : ℕ → State → Type 0
-Ends n σ = (t : Tape) × (fs : List File) × (run t n σ ≡ answer fs)
+abbrev pub Ends : ℕ → Stage → Type 0
+Ends n σ = (t : Tape) × (fs : List TapeFile) × (run t n σ ≡ answer fs)
 
 -- a step, and then the rest
-pub ends-go : (n : ℕ) (σ τ : State) (e : Element) → step n σ e ≡ go τ → Ends (suc n) τ → Ends n σ
+pub ends-go : (n : ℕ) (σ τ : Stage) (e : Element) → step n σ e ≡ go τ → Ends (suc n) τ → Ends n σ
 unfolding run follow
 ends-go n σ τ e q (t, fs, r) = (e ∷ t, fs, rw q r)
 
-ends-found : (n : ℕ) (σ τ : State) (f : File) (e : Element) → step n σ e ≡ found f τ → Ends (suc n) τ → Ends n σ
+ends-found : (n : ℕ) (σ τ : Stage) (f : TapeFile) (e : Element) → step n σ e ≡ found f τ → Ends (suc n) τ → Ends n σ
 unfolding run follow
 ends-found n σ τ f e q (t, fs, r) = (e ∷ t, f ∷ fs, rw (q, r))
 
@@ -130,7 +130,7 @@ unfolding eof2 blank isLabel bytes same
 eof2-is = refl
 
 ends-done : (n : ℕ) → Ends n done
-unfolding run ended
+unfolding run ending
 ends-done n = ([], [], refl)
 
 ends-between : (n : ℕ) → Ends n between
@@ -146,9 +146,9 @@ unfolding step
 ends-second n = ends-go n second (trailers 3) (block eof2) (rw eof2-is) (ends-trailers (suc n) 3)
 
 -- an EOF1 with the right count ends the data
-pub closes : (h : List ℕ) (m : ℕ) (x : List ℕ) → isTrailer h x ≡ true → count x ≡ m → closed h m x ≡ go second
-unfolding closed
-closes h m x e f = rw (e, eq-eqb (count x) m f)
+pub closes : (h : List ℕ) (m : ℕ) (x : List ℕ) → isTrailer h x ≡ true → blockCount x ≡ m → closing h m x ≡ go second
+unfolding closing
+closes h m x e f = rw (e, eq-eqb (blockCount x) m f)
 
 pub eof1 : List ℕ → ℕ → List ℕ
 eof1 h m = counted m (trailerOf h)
@@ -160,12 +160,12 @@ module _ (h : List ℕ) (m : ℕ) (e : isLabel (bytes "HDR1") h ≡ true) (small
       let l : length h ≡ 80 = label-length (bytes "HDR1") h e in
       counted-trailer h m (trailerOf h) small (trailer-label h l) (trailer-5-54 h l) (trailer-61-80 h l)
 
-  eof1-count : count (eof1 h m) ≡ m
+  eof1-count : blockCount (eof1 h m) ≡ m
   unfolding eof1
   eof1-count =
       counted-count h m (trailerOf h) small (label-length (bytes "EOF1") (trailerOf h) (trailer-label h (label-length (bytes "HDR1") h e)))
 
-  pub eof1-closes : closed h m (eof1 h m) ≡ go second
+  pub eof1-closes : closing h m (eof1 h m) ≡ go second
   eof1-closes = closes h m (eof1 h m) eof1-trailer eof1-count
 
 module _ (h : List ℕ) (e : isLabel (bytes "HDR1") h ≡ true) where
@@ -186,10 +186,10 @@ module _ (h : List ℕ) (e : isLabel (bytes "HDR1") h ≡ true) where
   ends-header n = ends-go n (header h) (headers h hdr2 3) (block hdr2) (rw hdr2-is) (ends-headers (suc n) hdr2 3)
 
 ends-volume : (n k : ℕ) → Ends n (volume k)
-unfolding step passing opened isNumbered isLabel hdr1 blank bytes same
+unfolding step passing opening isNumbered isLabel hdr1 blank bytes same
 ends-volume n k = ends-go n (volume k) (header hdr1) (block hdr1) refl (ends-header hdr1 hdr1-is (suc n))
 
-pub ends : (n : ℕ) (σ : State) → n < 1000000 → Live n σ → Ends n σ
+pub ends : (n : ℕ) (σ : Stage) → n < 1000000 → Live n σ → Ends n σ
 unfolding step
 ends n start s l = ends-go n start (volume 2) (block vol1) (rw vol1-is) (ends-volume (suc n) 2)
 ends n (volume k) s l = ends-volume n k

@@ -23,14 +23,15 @@ use Rattle.tape.specs.Reading.{entryAt}
 use Rattle.tape.proofs.Elements.{MarkAt, BlockAt, Says, says-at}
 use Rattle.tape.proofs.Encoding.{one-tape}
 use Rattle.tape.proofs.Passing.{take-next, drop-next, bytes-next, bytes-within, drop-store}
-use Rattle.ansi.specs.declared.Judged.{Judged}
+use Rattle.ansi.specs.declared.Walked.{Walked}
 use Rattle.ansi.specs.declared.phases.Phase.{Phase}
 use Rattle.ansi.specs.declared.phases.Phase.the-variants as phase
-use Rattle.ansi_labels.specs.Labels.{isLabel, isNumbered, number, isVolume, isHeader2, isTrailer, count, isData}
-use Rattle.ansi.specs.Layout.{File}
-use Rattle.ansi.specs.Reading.{State, start, volume, header, headers, blocks, trailer, second, trailers, between, done, Step, go, found, stop, passing, opened, closed, step, ended, run, ansiOf, passedOn, passedFrom, placeOf}
-use Rattle.ansi.specs.Phases.{stateOf, unfiled, known, knownAt, Small}
-use Rattle.ansi.specs.Answers.{fileBytes, allBytes, Found, Stopped, Judges, Walks, rowsLength, atEnd}
+use Rattle.ansi_labels.specs.Labels.{isLabel, isNumbered, labelNumber, isVolume, isHeader2, isTrailer, blockCount, isData}
+use Rattle.ansi.specs.Layout.{TapeFile}
+use Rattle.ansi.specs.Reading.{Stage, start, volume, header, headers, blocks, trailer, second, trailers, between, done, Step, go, found, stop, passing, opening, closing, step, ending, run, ansiOf, passedOn, passedFrom, frontOf}
+use Rattle.ansi.specs.Phases.{stageOf, unfiled, known, knownAt, Small}
+use Rattle.ansi.specs.Answers.{fileBytes, allBytes}
+use Rattle.ansi.specs.Owed.{AllRead, Stopped, WalkedAs, Walks, rowsLength, atEnd}
 use Rattle.ansi_labels.proofs.Tests.{label-length}
 use Rattle.ansi.proofs.Walks.{header2-length}
 use Rattle.ansi.proofs.Live.{Live, LiveAt, step-live}
@@ -38,7 +39,7 @@ use Rattle.ansi.proofs.Fronts.{Reach, reach-next, behind, reach-run, re
 use Rattle.ansi.proofs.FileBytes.{all-append, file-length}
 
 -- how many of a file's seven elements, from its header mark on, a state has behind it
-abbrev spent : State → ℕ
+abbrev spent : Stage → ℕ
 spent start = 3
 spent (volume k) = 4
 spent (header h) = 5
@@ -60,22 +61,22 @@ either : (k : ℕ) (b : Bool) (s t : Step) → Spends k s → Spends k t → Spe
 either k true s t x y = x
 either k false s t x y = y
 
-passing-spends : (k : ℕ) (w u : List ℕ) (n : ℕ) (x : List ℕ) (next : ℕ → State) (s : Step) → ((i : ℕ) → spent (next i) ≤ k) → Spends k s → Spends k (passing w u n x next s)
+passing-spends : (k : ℕ) (w u : List ℕ) (n : ℕ) (x : List ℕ) (next : ℕ → Stage) (s : Step) → ((i : ℕ) → spent (next i) ≤ k) → Spends k s → Spends k (passing w u n x next s)
 unfolding passing
 passing-spends k w u n x next s f y =
-    either k (isNumbered w n x) (go (next (suc (number x)))) (cond (isLabel u x) (go (next 10)) s) (f (suc (number x)))
+    either k (isNumbered w n x) (go (next (suc (labelNumber x)))) (cond (isLabel u x) (go (next 10)) s) (f (suc (labelNumber x)))
     (either k (isLabel u x) (go (next 10)) s (f 10) y)
 
-opened-spends : (k : ℕ) (x : List ℕ) → 5 ≤ k → Spends k (opened x)
-unfolding opened
+opened-spends : (k : ℕ) (x : List ℕ) → 5 ≤ k → Spends k (opening x)
+unfolding opening
 opened-spends k x h = either k (isLabel (bytes "HDR1") x) (go (header x)) (stop Labels) h tt
 
-step-spends : (n : ℕ) (σ : State) (e : Element) → Live n σ → Spends (suc (spent σ)) (step n σ e)
-unfolding step closed
+step-spends : (n : ℕ) (σ : Stage) (e : Element) → Live n σ → Spends (suc (spent σ)) (step n σ e)
+unfolding step closing
 step-spends n start mark l = tt
 step-spends n start (block x) l = either 4 (isVolume x) (go (volume 2)) (stop Labels) (omega arith) tt
 step-spends n (volume k) mark l = tt
-step-spends n (volume k) (block x) l = passing-spends 5 (bytes "VOL") (bytes "UVL") k x volume (opened x) (λ i. omega arith) (opened-spends 5 x (omega arith))
+step-spends n (volume k) (block x) l = passing-spends 5 (bytes "VOL") (bytes "UVL") k x volume (opening x) (λ i. omega arith) (opened-spends 5 x (omega arith))
 step-spends n (header h) mark l = tt
 step-spends n (header h) (block x) l = either 6 (isHeader2 x) (go (headers h x 3)) (stop Labels) (omega arith) tt
 step-spends n (headers h g k) mark l = (omega arith, file-length h g (suc n) (label-length (bytes "HDR1") h (l .0)) (header2-length g (l .1)))
@@ -84,7 +85,7 @@ step-spends n (blocks h m) mark l = omega arith
 step-spends n (blocks h m) (block x) l = either 1 (isData x) (go (blocks h (suc m))) (stop Labels) (omega arith) tt
 step-spends n (trailer h m) mark l = tt
 step-spends n (trailer h m) (block x) l =
-    either 2 (isTrailer h x) _ _ (either 2 (eqb (count x) m) (go second) _ (omega arith) tt) (either 2 (isLabel (bytes "EOV1") x) _ _ tt tt)
+    either 2 (isTrailer h x) _ _ (either 2 (eqb (blockCount x) m) (go second) _ (omega arith) tt) (either 2 (isLabel (bytes "EOV1") x) _ _ tt tt)
 step-spends n second mark l = tt
 step-spends n second (block x) l = either 3 (isLabel (bytes "EOF2") x) (go (trailers 3)) (stop Labels) (omega arith) tt
 step-spends n (trailers k) mark l = omega arith
@@ -94,7 +95,7 @@ step-spends n between (block x) l = opened-spends 5 x (omega arith)
 step-spends n done e l = tt
 
 -- an element's number matters to the file that a mark makes known, and to nothing else
-pub mark-step : (n : ℕ) (σ : State) → unfiled (step n σ mark) ≡ unfiled (step 0 σ mark)
+pub mark-step : (n : ℕ) (σ : Stage) → unfiled (step n σ mark) ≡ unfiled (step 0 σ mark)
 unfolding step
 mark-step n start = refl
 mark-step n (volume k) = refl
@@ -107,7 +108,7 @@ mark-step n (trailers k) = refl
 mark-step n between = refl
 mark-step n done = refl
 
-pub block-step : (n : ℕ) (σ : State) (x : List ℕ) → step n σ (block x) ≡ step 0 σ (block x)
+pub block-step : (n : ℕ) (σ : Stage) (x : List ℕ) → step n σ (block x) ≡ step 0 σ (block x)
 unfolding step
 block-step n start x = refl
 block-step n (volume k) x = refl
@@ -121,12 +122,12 @@ block-step n between x = refl
 block-step n done x = refl
 
 -- a step that goes on: what it spends, the size of its file, and what holds behind it
-record Goes (n : ℕ) (s : Step) (υ : State) (k : ℕ) : Type 0 where
+record Goes (n : ℕ) (s : Step) (υ : Stage) (k : ℕ) : Type 0 where
   spends : 7 * length (known s) + spent υ ≤ k
   sized : length (allBytes (known s)) ≡ 36 * length (known s)
   live : Live n υ
 
-goes : (n k : ℕ) (s : Step) (υ : State) → LiveAt n s → Spends k s → unfiled s ≡ go υ → Goes n s υ k
+goes : (n k : ℕ) (s : Step) (υ : Stage) → LiveAt n s → Spends k s → unfiled s ≡ go υ → Goes n s υ k
 unfolding allBytes
 goes n k (go σ) υ (LiveAt.goes τ l) h e = let z : σ ≡ υ = cc in rw (sym z) record { spends = omega arith; sized = refl; live = l }
 goes n k (found f σ) υ (LiveAt.finds g τ l) h e =
@@ -142,10 +143,10 @@ pub record Matched (l s : List ℕ) (count : ℕ) (b rows : List ℕ) (place at 
   pub inside : at ≤ count
   pub left : drop place l ≡ list (drop at tape)
   pub bytes : off ≡ bytesBefore tape at
-  pub files : List File
-  pub reach : Reach (take at tape) 0 start at (stateOf s p) files
-  pub live : Live at (stateOf s p)
-  pub few : 7 * length files + spent (stateOf s p) ≤ at + 3
+  pub files : List TapeFile
+  pub reach : Reach (take at tape) 0 start at (stageOf s p) files
+  pub live : Live at (stageOf s p)
+  pub few : 7 * length files + spent (stageOf s p) ≤ at + 3
   pub sized : length (allBytes files) ≡ 36 * length files
   pub big : length b ≡ rowsLength
   pub holds : rows ≡ written 0 (allBytes files) b
@@ -182,16 +183,16 @@ module _ {l s : List ℕ} {count : ℕ} {b rows : List ℕ} {place at off end : 
 
   -- one element more
   matched-next : (next : ℕ) (e : Element) (rest : Tape) (q : Phase) (rows′ : List ℕ) (end′ : ℕ) → drop at (m .tape) ≡ e ∷ rest → drop next l ≡ list rest
-      → unfiled (step at (stateOf s p) e) ≡ go (stateOf s q)
-      → rows′ ≡ written 0 (allBytes (m .files) ++ allBytes (known (step at (stateOf s p) e))) b
-      → end′ ≡ length (allBytes (m .files) ++ allBytes (known (step at (stateOf s p) e)))
+      → unfiled (step at (stageOf s p) e) ≡ go (stageOf s q)
+      → rows′ ≡ written 0 (allBytes (m .files) ++ allBytes (known (step at (stageOf s p) e))) b
+      → end′ ≡ length (allBytes (m .files) ++ allBytes (known (step at (stageOf s p) e)))
       → Matched l s count b rows′ next (at + 1) (off + length (content e)) end′ q
   matched-next next e rest q rows′ end′ d left z h k =
       let t = m .tape in
-      let σ = stateOf s p in
+      let σ = stageOf s p in
       let fs = m .files in
       let gs = known (step at σ e) in
-      let g = goes (suc at) (suc (spent σ)) (step at σ e) (stateOf s q) (step-live at σ e (m .live)) (step-spends at σ e (m .live)) z in
+      let g = goes (suc at) (suc (spent σ)) (step at σ e) (stageOf s q) (step-live at σ e (m .live)) (step-spends at σ e (m .live)) z in
       let a : allBytes (fs ++ gs) ≡ allBytes fs ++ allBytes gs = all-append fs gs in
       let n : length (fs ++ gs) ≡ length fs + length gs = length-append fs gs in
       rw (add-one at)
@@ -203,7 +204,7 @@ module _ {l s : List ℕ} {count : ℕ} {b rows : List ℕ} {place at off end : 
         left = left ∙ ap list (sym (drop-next t at e rest d));
         bytes = ap (λ (i : ℕ). i + length (content e)) (m .bytes) ∙ sym (bytes-next t at e rest d);
         files = fs ++ gs;
-        reach = rw (take-next t at e rest d) (reach-next e (stateOf s q) (m .reach) z);
+        reach = rw (take-next t at e rest d) (reach-next e (stageOf s q) (m .reach) z);
         live = g .live;
         few = omega (arith, m .few, g .spends);
         sized = ap length a ∙ length-append (allBytes fs) (allBytes gs) ∙ omega (arith, m .sized, g .sized);
@@ -216,7 +217,7 @@ module _ {l s : List ℕ} {count : ℕ} {b rows : List ℕ} {place at off end : 
   room : length (allBytes (m .files)) + 36 ≤ length b
   room = omega (arith, m .few, m .sized, m .big, m .counted, m .encodes .elements)
 
-  pub matched-mark : {next : ℕ} (q : Phase) {rows′ : List ℕ} {end′ : ℕ} → MarkAt l next (m .tape) at → go (stateOf s q) ≡ unfiled (step 0 (stateOf s p) mark)
+  pub matched-mark : {next : ℕ} (q : Phase) {rows′ : List ℕ} {end′ : ℕ} → MarkAt l next (m .tape) at → go (stageOf s q) ≡ unfiled (step 0 (stageOf s p) mark)
       → AddsAtMost 36 rows end (allBytes (knownAt s at p)) rows′ end′ → Matched l s count b rows′ next (at + 1) off end′ q
   unfolding content
   matched-mark {next} q {rows′} {end′} k z a =
@@ -225,7 +226,7 @@ module _ {l s : List ℕ} {count : ℕ} {b rows : List ℕ} {place at off end : 
       let n : length (v ++ w) ≡ length v + length w = length-append v w in
       let few : length w ≤ 36 = a .few in
       let r = a .added .run b v (omega (arith, room)) (m .holds) (m .ends) in
-      rw add-zero at (matched-next next mark (k .rest) q rows′ end′ (k .is) (k .left) (mark-step at (stateOf s p) ∙ sym z) (r .0) (r .1))
+      rw add-zero at (matched-next next mark (k .rest) q rows′ end′ (k .is) (k .left) (mark-step at (stageOf s p) ∙ sym z) (r .0) (r .1))
 
   -- the bytes of the block that stands here
   block-here : {next k : ℕ} (w : BlockAt l next k (m .tape) at) → take k (drop off s) ≡ w .bytes
@@ -238,49 +239,49 @@ module _ {l s : List ℕ} {count : ℕ} {b rows : List ℕ} {place at off end : 
       ∙ ap (λ (i : ℕ). take i (x ++ store (w .rest))) (w .size)
       ∙ take-append-seam x (store (w .rest))
 
-  step-here : {next k : ℕ} (w : BlockAt l next k (m .tape) at) → step 0 (stateOf s p) (block (take k (drop off s))) ≡ step at (stateOf s p) (block (w .bytes))
-  step-here w = ap (λ (x : List ℕ). step 0 (stateOf s p) (block x)) (block-here w) ∙ sym (block-step at (stateOf s p) (w .bytes))
+  step-here : {next k : ℕ} (w : BlockAt l next k (m .tape) at) → step 0 (stageOf s p) (block (take k (drop off s))) ≡ step at (stageOf s p) (block (w .bytes))
+  step-here w = ap (λ (x : List ℕ). step 0 (stageOf s p) (block x)) (block-here w) ∙ sym (block-step at (stageOf s p) (w .bytes))
 
-  pub matched-block : {next k : ℕ} (q : Phase) → BlockAt l next k (m .tape) at → go (stateOf s q) ≡ step 0 (stateOf s p) (block (take k (drop off s)))
+  pub matched-block : {next k : ℕ} (q : Phase) → BlockAt l next k (m .tape) at → go (stageOf s q) ≡ step 0 (stageOf s p) (block (take k (drop off s)))
       → Matched l s count b rows next (at + 1) (off + k) end q
   unfolding content allBytes
   matched-block {next} {k} q w z =
       let x = w .bytes in
-      let c : step at (stateOf s p) (block x) ≡ go (stateOf s q) = sym (z ∙ step-here w) in
+      let c : step at (stageOf s p) (block x) ≡ go (stageOf s q) = sym (z ∙ step-here w) in
       let v = allBytes (m .files) in
-      let e : v ++ allBytes (known (step at (stateOf s p) (block x))) ≡ v = ap (λ (y : Step). v ++ allBytes (known y)) c ∙ append-nil v in
+      let e : v ++ allBytes (known (step at (stageOf s p) (block x))) ≡ v = ap (λ (y : Step). v ++ allBytes (known y)) c ∙ append-nil v in
       rw (w .size)
       (matched-next next (block x) (w .rest) q rows end (w .is) (w .left) (ap unfiled c) (m .holds ∙ ap (λ (y : List ℕ). written 0 y b) (sym e)) (m .ends ∙ ap length (sym e)))
 
   -- an element that can't stand
-  stopped-here : (e : Element) (rest : Tape) (r : Refusal) → drop at (m .tape) ≡ e ∷ rest → step at (stateOf s p) e ≡ stop r → (rows′ : List ℕ)
+  stopped-here : (e : Element) (rest : Tape) (r : Refusal) → drop at (m .tape) ≡ e ∷ rest → step at (stageOf s p) e ≡ stop r → (rows′ : List ℕ)
       → (t : Tape) → Encodes l s t → Stopped t r at
-  unfolding ansiOf placeOf passedFrom passedOn
+  unfolding ansiOf frontOf passedFrom passedOn
   stopped-here e rest r d z rows′ t w =
       let same : m .tape ≡ t = one-tape (m .encodes) w in
       let u : m .tape ≡ take at (m .tape) ++ (e ∷ rest) = sym (take-append-drop at (m .tape)) ∙ ap (λ (x : Tape). take at (m .tape) ++ x) d in
       rw (sym same)
       record {
-        read = ap (λ (x : Tape). run x 0 start) u ∙ reach-run (e ∷ rest) (m .reach) ∙ ap (behind (m .files)) (follow-stop rest at (stateOf s p) r e z);
+        read = ap (λ (x : Tape). run x 0 start) u ∙ reach-run (e ∷ rest) (m .reach) ∙ ap (behind (m .files)) (follow-stop rest at (stageOf s p) r e z);
         passed = ap (λ (x : Tape). passedFrom x 0 start) u ∙ reach-passed (e ∷ rest) (m .reach) ∙ rw z;
       }
 
-  pub stopped-mark : {next : ℕ} (r : Refusal) → MarkAt l next (m .tape) at → stop r ≡ unfiled (step 0 (stateOf s p) mark) → (t : Tape) → Encodes l s t → Stopped t r at
-  stopped-mark r k z = stopped-here mark (k .rest) r (k .is) (by (step at (stateOf s p) mark) (mark-step at (stateOf s p) ∙ sym z)) rows
+  pub stopped-mark : {next : ℕ} (r : Refusal) → MarkAt l next (m .tape) at → stop r ≡ unfiled (step 0 (stageOf s p) mark) → (t : Tape) → Encodes l s t → Stopped t r at
+  stopped-mark r k z = stopped-here mark (k .rest) r (k .is) (by (step at (stageOf s p) mark) (mark-step at (stageOf s p) ∙ sym z)) rows
     where
       by : (y : Step) → unfiled y ≡ stop r → y ≡ stop r
       by (go σ) e = e
       by (found f σ) e = let x : _≡_ {A = ℕ} 0 1 = cc in absurd (omega arith)
       by (stop q) e = e
 
-  pub stopped-block : {next k : ℕ} (r : Refusal) → BlockAt l next k (m .tape) at → stop r ≡ step 0 (stateOf s p) (block (take k (drop off s)))
+  pub stopped-block : {next k : ℕ} (r : Refusal) → BlockAt l next k (m .tape) at → stop r ≡ step 0 (stageOf s p) (block (take k (drop off s)))
       → (t : Tape) → Encodes l s t → Stopped t r at
   stopped-block r w z = stopped-here (block (w .bytes)) (w .rest) r (w .is) (sym (z ∙ step-here w)) rows
 
   pub small : Small p
   small = by p (m .live)
     where
-      by : (q : Phase) → Live at (stateOf s q) → Small q
+      by : (q : Phase) → Live at (stageOf s q) → Small q
       by phase.Start v = tt
       by (phase.Volume k) v = tt
       by (phase.Header h) v = tt
@@ -309,25 +310,25 @@ module _ {l s : List ℕ} {count : ℕ} {b rows : List ℕ} {place at off end : 
   all-passed : take at (m .tape) ≡ m .tape
   all-passed = take-all at (m .tape) (omega (arith, m .counted))
 
-  read-all : ansiOf (m .tape) ≡ behind (m .files) (ended (stateOf s p))
+  read-all : ansiOf (m .tape) ≡ behind (m .files) (ending (stageOf s p))
   unfolding ansiOf run
   read-all =
       ap (λ (x : Tape). run x 0 start) (sym all-passed ∙ sym (append-nil (take at (m .tape)))) ∙ reach-run [] (m .reach)
 
-  place-all : placeOf (m .tape) ≡ count
-  unfolding placeOf passedFrom
+  place-all : frontOf (m .tape) ≡ count
+  unfolding frontOf passedFrom
   place-all =
       let i = m .inside in
       ap (λ (x : Tape). passedFrom x 0 start) (sym all-passed ∙ sym (append-nil (take at (m .tape)))) ∙ reach-passed [] (m .reach) ∙ omega arith
 
-  unfinished : ended (stateOf s p) ≡ refused Labels → Stopped (m .tape) Labels count
+  unfinished : ending (stageOf s p) ≡ refused Labels → Stopped (m .tape) Labels count
   unfinished e = record { read = read-all ∙ ap (behind (m .files)) e; passed = place-all }
 
-  finished : ended (stateOf s p) ≡ answer [] → Found (m .tape) b rows end
+  finished : ending (stageOf s p) ≡ answer [] → AllRead (m .tape) b rows end
   finished e =
       record {
         files = m .files;
-        read = read-all ∙ ap (behind (m .files)) e ∙ ap (λ (fs : List File). answer fs) (append-nil (m .files));
+        read = read-all ∙ ap (behind (m .files)) e ∙ ap (λ (fs : List TapeFile). answer fs) (append-nil (m .files));
         passed = place-all ∙ sym (m .counted);
         sized = m .sized;
         room = omega (arith, m .few, m .sized, m .big, m .counted, m .encodes .elements, m .inside);
@@ -335,20 +336,20 @@ module _ {l s : List ℕ} {count : ℕ} {b rows : List ℕ} {place at off end : 
         holds = m .holds;
       }
 
-judge-end : {l s : List ℕ} {count : ℕ} {b rows : List ℕ} {place at off end : ℕ} (p : Phase) (m : Matched l s count b rows place at off end p) → count ≤ at
-    → Judges (m .tape) b rows (atEnd p end count)
-unfolding ended
-judge-end phase.Start m o = unfinished m o refl
-judge-end (phase.Volume k) m o = unfinished m o refl
-judge-end (phase.Header h) m o = unfinished m o refl
-judge-end (phase.Headers h g k) m o = unfinished m o refl
-judge-end (phase.Blocks h k) m o = unfinished m o refl
-judge-end (phase.Trailer h k) m o = unfinished m o refl
-judge-end phase.Second m o = unfinished m o refl
-judge-end (phase.Trailers k) m o = unfinished m o refl
-judge-end phase.Between m o = unfinished m o refl
-judge-end phase.Done m o = finished m o refl
+walked-end : {l s : List ℕ} {count : ℕ} {b rows : List ℕ} {place at off end : ℕ} (p : Phase) (m : Matched l s count b rows place at off end p) → count ≤ at
+    → WalkedAs (m .tape) b rows (atEnd p end count)
+unfolding ending
+walked-end phase.Start m o = unfinished m o refl
+walked-end (phase.Volume k) m o = unfinished m o refl
+walked-end (phase.Header h) m o = unfinished m o refl
+walked-end (phase.Headers h g k) m o = unfinished m o refl
+walked-end (phase.Blocks h k) m o = unfinished m o refl
+walked-end (phase.Trailer h k) m o = unfinished m o refl
+walked-end phase.Second m o = unfinished m o refl
+walked-end (phase.Trailers k) m o = unfinished m o refl
+walked-end phase.Between m o = unfinished m o refl
+walked-end phase.Done m o = finished m o refl
 
-pub matched-end : {l s : List ℕ} {count : ℕ} {b rows : List ℕ} {place at off end : ℕ} {p : Phase} (r : Judged) → Matched l s count b rows place at off end p → count ≤ at
+pub matched-end : {l s : List ℕ} {count : ℕ} {b rows : List ℕ} {place at off end : ℕ} {p : Phase} (r : Walked) → Matched l s count b rows place at off end p → count ≤ at
     → r ≡ atEnd p end count → Walks l s b rows r
-matched-end {p} r m o e t w = rw (e, sym (one-tape (m .encodes) w)) (judge-end p m o)
+matched-end {p} r m o e t w = rw (e, sym (one-tape (m .encodes) w)) (walked-end p m o)

@@ -19,10 +19,10 @@ use Rattle.slices.proofs.Booleans.{and-left, and-right, and-both}
 use Rattle.slices.proofs.Equal.{same-eq, eq-same}
 use Rattle.tape.specs.Tape.{Tape, Element, block, maxElements}
 use Rattle.digits.specs.Decimal.{isDigit}
-use Rattle.ansi_labels.specs.Labels.{part, isLabel, isTrailer, count, isData}
-use Rattle.ansi.specs.Layout.{File, Layout}
-use Rattle.ansi.specs.Places.{Begins, CouldStand, LongestFront, IsEndOfVolume, IsOtherCount, RefusalAt, Refuses, Means}
-use Rattle.ansi.specs.Reading.{State, start, blocks, trailer, second, Step, go, found, stop, wrong, closed, step, follow, run, ansiOf, passedOn, passedFrom, placeOf}
+use Rattle.ansi_labels.specs.Labels.{labelPart, isLabel, isTrailer, blockCount, isData}
+use Rattle.ansi.specs.Layout.{TapeFile, Layout}
+use Rattle.ansi.specs.Places.{Begins, CouldStand, LongestFront, IsEndOfVolume, IsOtherCount, RefusalAt, Refuses, TapeMeans}
+use Rattle.ansi.specs.Reading.{Stage, start, blocks, trailer, second, Step, go, found, stop, wrong, closing, step, follow, run, ansiOf, passedOn, passedFrom, frontOf}
 use Rattle.ansi_labels.proofs.Tests.{label-length, label-word, other-word}
 use Rattle.ansi.proofs.Counts.{same-5-54, same-word, counted, counted-front, counted-back, counted-trailer, counted-count}
 use Rattle.ansi.proofs.Live.{Live, ends, ends-second, closes, eof1, eof1-trailer, eof1-closes}
@@ -53,22 +53,22 @@ label-data w x e =
     let l : length x ≡ 80 = label-length w x e in
     and-both (leb 18 (length x)) (leb (length x) 20480) (le-leb 18 (length x) (omega arith)) (le-leb (length x) 20480 (omega arith))
 
-pub trailer-parts : (h x : List ℕ) → isTrailer h x ≡ true → (isLabel (bytes "EOF1") x ≡ true) × (part 5 54 x ≡ part 5 54 h) × (part 61 80 x ≡ part 61 80 h) × (every isDigit (part 55 60 x) ≡ true)
+pub trailer-parts : (h x : List ℕ) → isTrailer h x ≡ true → (isLabel (bytes "EOF1") x ≡ true) × (labelPart 5 54 x ≡ labelPart 5 54 h) × (labelPart 61 80 x ≡ labelPart 61 80 h) × (every isDigit (labelPart 55 60 x) ≡ true)
 unfolding isTrailer
 trailer-parts h x e =
     let a = isLabel (bytes "EOF1") x in
-    let b = same (part 5 54 x) (part 5 54 h) in
-    let c = same (part 61 80 x) (part 61 80 h) in
-    let d = every isDigit (part 55 60 x) in
+    let b = same (labelPart 5 54 x) (labelPart 5 54 h) in
+    let c = same (labelPart 61 80 x) (labelPart 61 80 h) in
+    let d = every isDigit (labelPart 55 60 x) in
     let abc : (a && b && c) ≡ true = and-left (a && b && c) d e in
     let ab : (a && b) ≡ true = and-left (a && b) c abc in
-    (and-left a b ab, same-eq (part 5 54 x) (part 5 54 h) (and-right a b ab), same-eq (part 61 80 x) (part 61 80 h) (and-right (a && b) c abc), and-right (a && b && c) d e)
+    (and-left a b ab, same-eq (labelPart 5 54 x) (labelPart 5 54 h) (and-right a b ab), same-eq (labelPart 61 80 x) (labelPart 61 80 h) (and-right (a && b) c abc), and-right (a && b && c) d e)
 
-parts-trailer : (h x : List ℕ) → isLabel (bytes "EOF1") x ≡ true → part 5 54 x ≡ part 5 54 h → part 61 80 x ≡ part 61 80 h → every isDigit (part 55 60 x) ≡ true → isTrailer h x ≡ true
+parts-trailer : (h x : List ℕ) → isLabel (bytes "EOF1") x ≡ true → labelPart 5 54 x ≡ labelPart 5 54 h → labelPart 61 80 x ≡ labelPart 61 80 h → every isDigit (labelPart 55 60 x) ≡ true → isTrailer h x ≡ true
 unfolding isTrailer
-parts-trailer h x a b c d = rw (a, eq-same (part 5 54 x) (part 5 54 h) b, eq-same (part 61 80 x) (part 61 80 h) c, d)
+parts-trailer h x a b c d = rw (a, eq-same (labelPart 5 54 x) (labelPart 5 54 h) b, eq-same (labelPart 61 80 x) (labelPart 61 80 h) c, d)
 
-go-not-wrong : (σ : State) → go σ ≡ wrong → ⊥
+go-not-wrong : (σ : Stage) → go σ ≡ wrong → ⊥
 go-not-wrong σ e = let z : _≡_ {A = ℕ} 0 1 = cc in omega arith
 
 17-not-wrong : stop EndOfVolume ≡ wrong → ⊥
@@ -81,35 +81,35 @@ not-trailer : (h x : List ℕ) → isLabel (bytes "EOV1") x ≡ true → isTrail
 unfolding isTrailer bytes same
 not-trailer h x e = rw (other-word (bytes "EOV1") (bytes "EOF1") x e refl refl)
 
-closed-eov : (h : List ℕ) (m : ℕ) (x : List ℕ) → isLabel (bytes "EOV1") x ≡ true → closed h m x ≡ stop EndOfVolume
-unfolding closed
+closed-eov : (h : List ℕ) (m : ℕ) (x : List ℕ) → isLabel (bytes "EOV1") x ≡ true → closing h m x ≡ stop EndOfVolume
+unfolding closing
 closed-eov h m x e = rw (not-trailer h x e, e)
 
-closed-eof : (h : List ℕ) (m : ℕ) (x : List ℕ) → isTrailer h x ≡ true → closed h m x ≡ wrong → ⊥
-unfolding closed
-closed-eof h m x e q = by (eqb (count x) m) (rw e at q)
+closed-eof : (h : List ℕ) (m : ℕ) (x : List ℕ) → isTrailer h x ≡ true → closing h m x ≡ wrong → ⊥
+unfolding closing
+closed-eof h m x e q = by (eqb (blockCount x) m) (rw e at q)
   where
     by : (b : Bool) → cond b (go second) (stop BlockCount) ≡ wrong → ⊥
     by true z = go-not-wrong second z
     by false z = 18-not-wrong z
 
 -- where a block y with the word EOF1 can stand, a label EOV1 is data or 17
-not-16-eov : (n : ℕ) (x y : List ℕ) {τ : State} → isLabel (bytes "EOV1") x ≡ true → EofAt y τ → step n τ (block x) ≡ wrong → ⊥
+not-16-eov : (n : ℕ) (x y : List ℕ) {τ : Stage} → isLabel (bytes "EOV1") x ≡ true → EofAt y τ → step n τ (block x) ≡ wrong → ⊥
 unfolding step
 not-16-eov n x y e (EofAt.in-data h m) q = go-not-wrong (blocks h (suc m)) (rw (label-data (bytes "EOV1") x e) at q)
 not-16-eov n x y e (EofAt.in-place h m f) q = 17-not-wrong (sym (closed-eov h m x e) ∙ q)
 
 -- and a label EOF1 that differs in its digits alone is data or 18
-not-16-eof : (n : ℕ) (x y : List ℕ) {τ : State} → isLabel (bytes "EOF1") x ≡ true → every isDigit (part 55 60 x) ≡ true
-    → part 1 54 y ≡ part 1 54 x → part 61 80 y ≡ part 61 80 x → EofAt y τ → step n τ (block x) ≡ wrong → ⊥
+not-16-eof : (n : ℕ) (x y : List ℕ) {τ : Stage} → isLabel (bytes "EOF1") x ≡ true → every isDigit (labelPart 55 60 x) ≡ true
+    → labelPart 1 54 y ≡ labelPart 1 54 x → labelPart 61 80 y ≡ labelPart 61 80 x → EofAt y τ → step n τ (block x) ≡ wrong → ⊥
 unfolding step
 not-16-eof n x y e d f b (EofAt.in-data h m) q = go-not-wrong (blocks h (suc m)) (rw (label-data (bytes "EOF1") x e) at q)
 not-16-eof n x y e d f b (EofAt.in-place h m g) q =
     let p = trailer-parts h y g in
-    let l : part 5 54 x ≡ part 5 54 y = same-5-54 x y (label-length (bytes "EOF1") x e) (label-length (bytes "EOF1") y (p .0)) (sym f) in
+    let l : labelPart 5 54 x ≡ labelPart 5 54 y = same-5-54 x y (label-length (bytes "EOF1") x e) (label-length (bytes "EOF1") y (p .0)) (sym f) in
     closed-eof h m x (parts-trailer h x e (l ∙ p .1) (sym b ∙ p .2) d) q
 
-module _ (front : Tape) (m : ℕ) (τ : State) (fs : List File) (reach : Reach front 0 start m τ fs) (live : Live m τ) (small : m < 1000000) where
+module _ (front : Tape) (m : ℕ) (τ : Stage) (fs : List TapeFile) (reach : Reach front 0 start m τ fs) (live : Live m τ) (small : m < 1000000) where
   -- a block that could stand here doesn't stop the reading
   could-go : (t : Tape) (x : List ℕ) → CouldStand (front ++ t) (length front) x → (r : Refusal) → step m τ (block x) ≡ stop r → ⊥
   could-go t x c r q = next-stops front m τ fs reach (block x) r q (rw (take-append-seam front t) at c)
@@ -146,8 +146,8 @@ module _ (front : Tape) (m : ℕ) (τ : State) (fs : List File) (reach : Reach f
       no x e = let z : _≡_ {A = ℕ} 0 1 = cc in omega arith
 
 -- 17 and 18 are given behind the data blocks
-module _ (front : Tape) (m : ℕ) (fs : List File) (small : m < 1000000) where
-  trailer-here : {τ : State} (e : Element) (t : Tape) (r : Refusal) → Reach front 0 start m τ fs → Live m τ → AtTrailer τ e r → RefusalAt (front ++ (e ∷ t)) (length front) r
+module _ (front : Tape) (m : ℕ) (fs : List TapeFile) (small : m < 1000000) where
+  trailer-here : {τ : Stage} (e : Element) (t : Tape) (r : Refusal) → Reach front 0 start m τ fs → Live m τ → AtTrailer τ e r → RefusalAt (front ++ (e ∷ t)) (length front) r
   unfolding step
   trailer-here e t r reach live (AtTrailer.volume-ends h k x f) =
       let s : k < 1000000 = omega arith in
@@ -175,7 +175,7 @@ module _ (front : Tape) (m : ℕ) (fs : List File) (small : m < 1000000) where
             (closes h k (counted k x) (counted-trailer h k x s (p .0) (p .1) (p .2)) (counted-count h k x s l));
       }
 
-  reason-here : (τ : State) (back : Tape) (r : Refusal) → Reach front 0 start m τ fs → Live m τ → Reason m τ r back → RefusalAt (front ++ back) (length front) r
+  reason-here : (τ : Stage) (back : Tape) (r : Refusal) → Reach front 0 start m τ fs → Live m τ → Reason m τ r back → RefusalAt (front ++ back) (length front) r
   reason-here τ [] r reach live (Reason.ends q) = rw q (labels-at-end front m τ fs reach live small)
   reason-here τ (e ∷ t) r reach live (Reason.stops q) = by (stops m τ e r q)
     where
@@ -184,12 +184,12 @@ module _ (front : Tape) (m : ℕ) (fs : List File) (small : m < 1000000) where
       by (inr y) = trailer-here e t r reach live y
 
   -- nothing goes on from there
-  last-place : (τ : State) (back : Tape) (r : Refusal) → Reach front 0 start m τ fs → Reason m τ r back
+  last-place : (τ : Stage) (back : Tape) (r : Refusal) → Reach front 0 start m τ fs → Reason m τ r back
       → length front < length (front ++ back) → Begins (take (suc (length front)) (front ++ back)) → ⊥
   last-place τ [] r reach (Reason.ends q) g b = omega (arith, length-append front [])
   last-place τ (e ∷ t) r reach (Reason.stops q) g b = next-stops front m τ fs reach e r q (rw (one-more front e t) at b)
 
-not-laid-out : (t : Tape) (r : Refusal) → ansiOf t ≡ refused r → (fs : List File) → Layout t fs → ⊥
+not-laid-out : (t : Tape) (r : Refusal) → ansiOf t ≡ refused r → (fs : List TapeFile) → Layout t fs → ⊥
 not-laid-out t r e fs l =
     let z : ansiOf t ≡ answer fs = same-layout t fs .1 l in
     let w : _≡_ {A = ℕ} 0 1 = cc in
@@ -223,12 +223,12 @@ module _ (t : Tape) (r : Refusal) (small : length t ≤ maxElements) (h : Halt t
       }
 
   -- the reading passes the elements before it
-  halt-place : placeOf t ≡ length (h .front)
-  unfolding placeOf passedFrom passedOn
+  halt-place : frontOf t ≡ length (h .front)
+  unfolding frontOf passedFrom passedOn
   halt-place =
       ap (λ (u : Tape). passedFrom u 0 start) (h .is) ∙ reach-passed (h .back) (h .reach) ∙ by (h .reason) ∙ halt-number
     where
-      by : {m : ℕ} {τ : State} {u : Tape} → Reason m τ r u → passedFrom u m τ ≡ m
+      by : {m : ℕ} {τ : Stage} {u : Tape} → Reason m τ r u → passedFrom u m τ ≡ m
       by (Reason.ends q) = refl
       by (Reason.stops q) = rw q
 
@@ -282,35 +282,35 @@ refuses t r b e = refused-at t r b (halted t r e) e
 pub same-refusal : (t : Tape) (r : Refusal) → length t ≤ maxElements → (ansiOf t ≡ refused r) ↔ Refuses t r
 same-refusal t r b = (refuses t r b, λ f. by f (ansiOf t) refl)
   where
-    by : Refuses t r → (a : Answer (List File)) → ansiOf t ≡ a → a ≡ refused r
+    by : Refuses t r → (a : Answer (List TapeFile)) → ansiOf t ≡ a → a ≡ refused r
     by f (refused q) e = ap (λ (p : Refusal). refused p) (one-refusal t q r (refuses t q b e) f)
     by f (answer fs) e = absurd (f .not-laid-out fs (same-layout t fs .0 e))
 
 -- what is read is what the tape means, and a tape has one meaning
-pub means : (t : Tape) → length t ≤ maxElements → Means t (ansiOf t)
+pub means : (t : Tape) → length t ≤ maxElements → TapeMeans t (ansiOf t)
 means t b = by (ansiOf t) refl
   where
-    by : (a : Answer (List File)) → ansiOf t ≡ a → Means t a
-    by (refused r) e = Means.not (refuses t r b e)
-    by (answer fs) e = Means.laid-out (same-layout t fs .0 e)
+    by : (a : Answer (List TapeFile)) → ansiOf t ≡ a → TapeMeans t a
+    by (refused r) e = TapeMeans.not (refuses t r b e)
+    by (answer fs) e = TapeMeans.laid-out (same-layout t fs .0 e)
 
-pub one-meaning : (t : Tape) (a : Answer (List File)) → length t ≤ maxElements → Means t a → ansiOf t ≡ a
-one-meaning t a b (Means.laid-out {fs} l) = same-layout t fs .1 l
-one-meaning t a b (Means.not {r} f) = same-refusal t r b .1 f
+pub one-meaning : (t : Tape) (a : Answer (List TapeFile)) → length t ≤ maxElements → TapeMeans t a → ansiOf t ≡ a
+one-meaning t a b (TapeMeans.laid-out {fs} l) = same-layout t fs .1 l
+one-meaning t a b (TapeMeans.not {r} f) = same-refusal t r b .1 f
 
 -- a tape that is read to its end is its own longest front
-run-passed : (t : Tape) (n : ℕ) (σ : State) (fs : List File) → run t n σ ≡ answer fs → passedFrom t n σ ≡ n + length t
+run-passed : (t : Tape) (n : ℕ) (σ : Stage) (fs : List TapeFile) → run t n σ ≡ answer fs → passedFrom t n σ ≡ n + length t
 unfolding run follow passedFrom passedOn
 run-passed [] n σ fs e = omega arith
 run-passed (x ∷ t) n σ fs e = by (step n σ x) (run-passed t (suc n)) e
   where
-    by : (s : Step) → ((τ : State) (gs : List File) → run t (suc n) τ ≡ answer gs → passedFrom t (suc n) τ ≡ suc n + length t) → follow (run t (suc n)) s ≡ answer fs
+    by : (s : Step) → ((τ : Stage) (gs : List TapeFile) → run t (suc n) τ ≡ answer gs → passedFrom t (suc n) τ ≡ suc n + length t) → follow (run t (suc n)) s ≡ answer fs
         → passedOn n (passedFrom t (suc n)) s ≡ n + suc (length t)
     by (go τ) k f = k τ fs f ∙ omega arith
     by (found g τ) k f = let (gs, q) = answered (g ∷ []) (run t (suc n) τ) fs f in k τ gs q ∙ omega arith
     by (stop r) k f = let z : _≡_ {A = ℕ} 0 1 = cc in absurd (omega arith)
 
-whole-front : (t : Tape) (fs : List File) → Layout t fs → LongestFront t (length t)
+whole-front : (t : Tape) (fs : List TapeFile) → Layout t fs → LongestFront t (length t)
 whole-front t fs l =
     record {
       inside = omega arith;
@@ -319,13 +319,13 @@ whole-front t fs l =
     }
 
 -- the place is behind the longest front that begins a layout
-pub longest-front : (t : Tape) → length t ≤ maxElements → LongestFront t (placeOf t)
-unfolding ansiOf placeOf
+pub longest-front : (t : Tape) → length t ≤ maxElements → LongestFront t (frontOf t)
+unfolding ansiOf frontOf
 longest-front t b = by (ansiOf t) refl
   where
-    all : (fs : List File) → ansiOf t ≡ answer fs → placeOf t ≡ length t
+    all : (fs : List TapeFile) → ansiOf t ≡ answer fs → frontOf t ≡ length t
     all fs e = run-passed t 0 start fs e ∙ omega arith
 
-    by : (a : Answer (List File)) → ansiOf t ≡ a → LongestFront t (placeOf t)
+    by : (a : Answer (List TapeFile)) → ansiOf t ≡ a → LongestFront t (frontOf t)
     by (refused r) e = let h = halted t r e in rw (halt-place t r b h) (halt-front t r b h)
     by (answer fs) e = rw (all fs e) (whole-front t fs (same-layout t fs .0 e))

@@ -10,8 +10,8 @@ use lib.Seq.{take-all}
 use borrow.Author.Tests.{leb-true, leb-false, eq-eqb}
 use Rattle.slices.specs.Words.{bytes}
 use Rattle.slices.proofs.Booleans.{and-left}
-use Rattle.ansi_labels.specs.Labels.{byte, isLabel, isNumbered, number, isFormat, isHeader2, isTrailer, count}
-use Rattle.ansi.specs.Reading.{State, header, headers, Step, go, wrong, passing, opened}
+use Rattle.ansi_labels.specs.Labels.{byte, isLabel, isNumbered, labelNumber, isFormat, isHeader2, isTrailer, blockCount}
+use Rattle.ansi.specs.Reading.{Stage, header, headers, Step, go, wrong, passing, opening}
 use Rattle.ansi.specs.Phases.{labelAt, passedTo}
 use Rattle.ansi_labels.proofs.Tests.{label-length}
 use Rattle.ansi.proofs.Refused.{trailer-parts}
@@ -32,20 +32,20 @@ unfolding isHeader2
 header2-length x e = label-length (bytes "HDR2") x (and-left (isLabel (bytes "HDR2") x) _ (and-left (isLabel (bytes "HDR2") x && isFormat (byte 5 x)) _ e))
 
 module _ (s : List ℕ) (at len : ℕ) where
-  pub opens-at : isLabel (bytes "HDR1") (take len (drop at s)) ≡ true → go (header (labelAt s at)) ≡ opened (take len (drop at s))
-  unfolding opened
+  pub opens-at : isLabel (bytes "HDR1") (take len (drop at s)) ≡ true → go (header (labelAt s at)) ≡ opening (take len (drop at s))
+  unfolding opening
   opens-at e = rw e (ap (λ (x : List ℕ). go (header x)) (label-there s at len (label-length (bytes "HDR1") (take len (drop at s)) e)))
 
   pub header-at : (h : List ℕ) → isHeader2 (take len (drop at s)) ≡ true
       → go (headers h (labelAt s at) 3) ≡ cond (isHeader2 (take len (drop at s))) (go (headers h (take len (drop at s)) 3)) wrong
   header-at h e = rw e (ap (λ (x : List ℕ). go (headers h x 3)) (label-there s at len (header2-length (take len (drop at s)) e)))
 
-module _ (w u : List ℕ) (k : ℕ) (x : List ℕ) (next : ℕ → State) (other : Step) where
+module _ (w u : List ℕ) (k : ℕ) (x : List ℕ) (next : ℕ → Stage) (other : Step) where
   pub passing-none : passedTo w u k x ≡ 0 → other ≡ passing w u k x next other
   unfolding passedTo passing
   passing-none e = by (isNumbered w k x) (isLabel u x) e
     where
-      by : (a b : Bool) → cond a (suc (number x)) (cond b 10 0) ≡ 0 → other ≡ cond a (go (next (suc (number x)))) (cond b (go (next 10)) other)
+      by : (a b : Bool) → cond a (suc (labelNumber x)) (cond b 10 0) ≡ 0 → other ≡ cond a (go (next (suc (labelNumber x)))) (cond b (go (next 10)) other)
       by true b z = absurd (omega arith)
       by false true z = absurd (omega arith)
       by false false z = refl
@@ -54,7 +54,7 @@ module _ (w u : List ℕ) (k : ℕ) (x : List ℕ) (next : ℕ → State) (other
   unfolding passedTo passing
   passing-some n e h = by (isNumbered w k x) (isLabel u x) e
     where
-      by : (a b : Bool) → cond a (suc (number x)) (cond b 10 0) ≡ n → go (next n) ≡ cond a (go (next (suc (number x)))) (cond b (go (next 10)) other)
+      by : (a b : Bool) → cond a (suc (labelNumber x)) (cond b 10 0) ≡ n → go (next n) ≡ cond a (go (next (suc (labelNumber x)))) (cond b (go (next 10)) other)
       by true b z = rw z
       by false true z = rw z
       by false false z = absurd (h (sym z))
@@ -63,5 +63,5 @@ trailer-length : (h x : List ℕ) → isTrailer h x ≡ true → length x ≡ 80
 trailer-length h x e = label-length (bytes "EOF1") x (trailer-parts h x e .0)
 
 -- a label EOF1 has 80 bytes, so that its count is all that is compared
-pub trailer-count : (h x : List ℕ) (m : ℕ) (b : Bool) → isTrailer h x ≡ true → b ≡ (eqb (length x) 80 && eqb (count x) m) → eqb (count x) m ≡ b
-trailer-count h x m b e q = sym (q ∙ ap (λ (t : Bool). t && eqb (count x) m) (eq-eqb (length x) 80 (trailer-length h x e)))
+pub trailer-count : (h x : List ℕ) (m : ℕ) (b : Bool) → isTrailer h x ≡ true → b ≡ (eqb (length x) 80 && eqb (blockCount x) m) → eqb (blockCount x) m ≡ b
+trailer-count h x m b e q = sym (q ∙ ap (λ (t : Bool). t && eqb (blockCount x) m) (eq-eqb (length x) 80 (trailer-length h x e)))

@@ -8,34 +8,34 @@ use Rattle.ansi.specs.declared.phases.Phase.{Phase}
 use Rattle.ansi.specs.declared.phases.Phase.the-variants as phase
 use Rattle.ansi.specs.declared.phases.Next.{Next}
 use Rattle.ansi.specs.declared.phases.Next.the-variants as nextIs
-use Rattle.ansi_labels.specs.Labels.{isLabel, isNumbered, number}
-use Rattle.ansi.specs.Layout.{File}
-use Rattle.ansi.specs.Reading.{State, start, volume, header, headers, blocks, trailer, second, trailers, between, done, Step, go, found, stop, step}
+use Rattle.ansi_labels.specs.Labels.{isLabel, isNumbered, labelNumber}
+use Rattle.ansi.specs.Layout.{TapeFile}
+use Rattle.ansi.specs.Reading.{Stage, start, volume, header, headers, blocks, trailer, second, trailers, between, done, Step, go, found, stop, step}
 
 -- the label that begins at a place of the store
 abbrev pub labelAt : List ℕ → ℕ → List ℕ
 labelAt s at = take 80 (drop at s)
 
 -- what a phase means
-abbrev pub stateOf : List ℕ → Phase → State
-stateOf s phase.Start = start
-stateOf s (phase.Volume k) = volume k
-stateOf s (phase.Header h) = header (labelAt s h)
-stateOf s (phase.Headers h g k) = headers (labelAt s h) (labelAt s g) k
-stateOf s (phase.Blocks h m) = blocks (labelAt s h) m
-stateOf s (phase.Trailer h m) = trailer (labelAt s h) m
-stateOf s phase.Second = second
-stateOf s (phase.Trailers k) = trailers k
-stateOf s phase.Between = between
-stateOf s phase.Done = done
+abbrev pub stageOf : List ℕ → Phase → Stage
+stageOf s phase.Start = start
+stageOf s (phase.Volume k) = volume k
+stageOf s (phase.Header h) = header (labelAt s h)
+stageOf s (phase.Headers h g k) = headers (labelAt s h) (labelAt s g) k
+stageOf s (phase.Blocks h m) = blocks (labelAt s h) m
+stageOf s (phase.Trailer h m) = trailer (labelAt s h) m
+stageOf s phase.Second = second
+stageOf s (phase.Trailers k) = trailers k
+stageOf s phase.Between = between
+stageOf s phase.Done = done
 
 abbrev pub stepOf : List ℕ → Next → Step
-stepOf s (nextIs.Go p) = go (stateOf s p)
+stepOf s (nextIs.Go p) = go (stageOf s p)
 stepOf s (nextIs.Stop r) = stop r
 
 -- the number from which on optional labels may follow behind the block x; 0 where it is none of them
 unfoldable pub passedTo : List ℕ → List ℕ → ℕ → List ℕ → ℕ
-passedTo w u k x = cond (isNumbered w k x) (suc (number x)) (cond (isLabel u x) 10 0)
+passedTo w u k x = cond (isNumbered w k x) (suc (labelNumber x)) (cond (isLabel u x) 10 0)
 
 -- the step without its file
 abbrev pub unfiled : Step → Step
@@ -44,14 +44,14 @@ unfiled (found f σ) = go σ
 unfiled (stop r) = stop r
 
 -- the file that a step makes known, if it does
-abbrev pub known : Step → List File
+abbrev pub known : Step → List TapeFile
 known (go σ) = []
 known (found f σ) = f ∷ []
 known (stop r) = []
 
 -- the file that a mark, element n, makes known
-abbrev pub knownAt : List ℕ → ℕ → Phase → List File
-knownAt s n p = known (step n (stateOf s p) mark)
+abbrev pub knownAt : List ℕ → ℕ → Phase → List TapeFile
+knownAt s n p = known (step n (stageOf s p) mark)
 
 -- the data blocks counted so far leave room for one more
 abbrev pub Small : Phase → Type 0

@@ -12,12 +12,12 @@ use Rattle.slices.specs.Slices.{every}
 use Rattle.slices.specs.Words.{bytes}
 use Rattle.digits.specs.Decimal.{isDigit}
 use Rattle.tape.specs.Tape.{Tape, block}
-use Rattle.ansi_labels.specs.Labels.{part, isLabel}
-use Rattle.ansi.specs.Layout.{File, Layout}
+use Rattle.ansi_labels.specs.Labels.{labelPart, isLabel}
+use Rattle.ansi.specs.Layout.{TapeFile, Layout}
 
 -- some tape in the layout begins with these elements
 abbrev pub Begins : Tape → Type 0
-Begins front = (rest : Tape) × (fs : List File) × Layout (front ++ rest) fs
+Begins front = (rest : Tape) × (fs : List TapeFile) × Layout (front ++ rest) fs
 
 -- the block x could stand behind the first n elements
 abbrev pub CouldStand : Tape → ℕ → List ℕ → Type 0
@@ -43,10 +43,10 @@ pub record IsOtherCount (t : Tape) (n : ℕ) : Type 0 where
   pub label : List ℕ
   pub is : getElem? t n ≡ some (block label)
   pub eof1 : isLabel (bytes "EOF1") label ≡ true
-  pub digits : every isDigit (part 55 60 label) ≡ true
+  pub digits : every isDigit (labelPart 55 60 label) ≡ true
   pub other : List ℕ
-  pub front : part 1 54 other ≡ part 1 54 label
-  pub back : part 61 80 other ≡ part 61 80 label
+  pub front : labelPart 1 54 other ≡ labelPart 1 54 label
+  pub back : labelPart 61 80 other ≡ labelPart 61 80 label
   pub could : CouldStand t n other
 
 -- the refusal at a place: 17, 18, else 16
@@ -57,12 +57,12 @@ pub data RefusalAt (t : Tape) (n : ℕ) : Refusal → Type 0 where
 
 -- a tape that is not laid out is refused at its first wrong place, behind the longest front that begins a layout
 pub record Refuses (t : Tape) (r : Refusal) : Type 0 where
-  pub not-laid-out : (fs : List File) → Layout t fs → ⊥
+  pub not-laid-out : (fs : List TapeFile) → Layout t fs → ⊥
   pub place : ℕ
   pub front : LongestFront t place
   pub reason : RefusalAt t place r
 
 -- what a tape is read as: the files of its layout, or a refusal
-pub data Means (t : Tape) : Answer (List File) → Type 0 where
-  laid-out : {fs : List File} → Layout t fs → Means t (answer fs)
-  not : {r : Refusal} → Refuses t r → Means t (refused r)
+pub data TapeMeans (t : Tape) : Answer (List TapeFile) → Type 0 where
+  laid-out : {fs : List TapeFile} → Layout t fs → TapeMeans t (answer fs)
+  not : {r : Refusal} → Refuses t r → TapeMeans t (refused r)

@@ -8,104 +8,104 @@ use Rattle.refusals.specs.declared.Refusal.the-variants.{Labels, EndOfVolume, B
 use Rattle.refusals.specs.Refusals.{Answer, refused, answer, andThen}
 use Rattle.slices.specs.Words.{bytes}
 use Rattle.tape.specs.Tape.{Element, Tape, mark, block}
-use Rattle.ansi_labels.specs.Labels.{isLabel, number, isNumbered, isVolume, isHeader2, isTrailer, count, isData}
-use Rattle.ansi.specs.Layout.{File, fileOf}
+use Rattle.ansi_labels.specs.Labels.{isLabel, labelNumber, isNumbered, isVolume, isHeader2, isTrailer, blockCount, isData}
+use Rattle.ansi.specs.Layout.{TapeFile, tapeFileOf}
 
 -- what was read last: nothing; the volume's labels, VOL numbers from n on may follow; HDR1 h; the header labels, HDR1 h and HDR2 g among them,
 -- HDR numbers from n on may follow; n data blocks behind the labels; the mark behind n data blocks; EOF1; the trailer labels, EOF numbers from
 -- n on may follow; the mark behind a trailer; the further mark
-pub data State : Type 0 where
-  start : State
-  volume : ℕ → State
-  header : List ℕ → State
-  headers : List ℕ → List ℕ → ℕ → State
-  blocks : List ℕ → ℕ → State
-  trailer : List ℕ → ℕ → State
-  second : State
-  trailers : ℕ → State
-  between : State
-  done : State
+pub data Stage : Type 0 where
+  start : Stage
+  volume : ℕ → Stage
+  header : List ℕ → Stage
+  headers : List ℕ → List ℕ → ℕ → Stage
+  blocks : List ℕ → ℕ → Stage
+  trailer : List ℕ → ℕ → Stage
+  second : Stage
+  trailers : ℕ → Stage
+  between : Stage
+  done : Stage
 
 -- what an element does: it is passed over, it makes a file known, or it can't stand
 pub data Step : Type 0 where
-  go : State → Step
-  found : File → State → Step
+  go : Stage → Step
+  found : TapeFile → Stage → Step
   stop : Refusal → Step
 
 -- an optional label of the words w and u is passed over; behind a user label no number may follow
-unfoldable pub passing : List ℕ → List ℕ → ℕ → List ℕ → (ℕ → State) → Step → Step
-passing w u n x next other = cond (isNumbered w n x) (go (next (suc (number x)))) (cond (isLabel u x) (go (next 10)) other)
+unfoldable pub passing : List ℕ → List ℕ → ℕ → List ℕ → (ℕ → Stage) → Step → Step
+passing w u n x next other = cond (isNumbered w n x) (go (next (suc (labelNumber x)))) (cond (isLabel u x) (go (next 10)) other)
 
 abbrev pub wrong : Step
 wrong = stop Labels
 
 -- a label HDR1, or what can't stand
-unfoldable pub opened : List ℕ → Step
-opened x = cond (isLabel (bytes "HDR1") x) (go (header x)) wrong
+unfoldable pub opening : List ℕ → Step
+opening x = cond (isLabel (bytes "HDR1") x) (go (header x)) wrong
 
 -- the label behind n data blocks
-unfoldable pub closed : List ℕ → ℕ → List ℕ → Step
-closed h n x =
-    cond (isTrailer h x) (cond (eqb (count x) n) (go second) (stop BlockCount)) (cond (isLabel (bytes "EOV1") x) (stop EndOfVolume) wrong)
+unfoldable pub closing : List ℕ → ℕ → List ℕ → Step
+closing h n x =
+    cond (isTrailer h x) (cond (eqb (blockCount x) n) (go second) (stop BlockCount)) (cond (isLabel (bytes "EOV1") x) (stop EndOfVolume) wrong)
 
 -- element n
-unfoldable pub step : ℕ → State → Element → Step
+unfoldable pub step : ℕ → Stage → Element → Step
 step n start mark = wrong
 step n start (block x) = cond (isVolume x) (go (volume 2)) wrong
 step n (volume k) mark = wrong
-step n (volume k) (block x) = passing (bytes "VOL") (bytes "UVL") k x volume (opened x)
+step n (volume k) (block x) = passing (bytes "VOL") (bytes "UVL") k x volume (opening x)
 step n (header h) mark = wrong
 step n (header h) (block x) = cond (isHeader2 x) (go (headers h x 3)) wrong
-step n (headers h g k) mark = found (fileOf h g (suc n)) (blocks h 0)
+step n (headers h g k) mark = found (tapeFileOf h g (suc n)) (blocks h 0)
 step n (headers h g k) (block x) = passing (bytes "HDR") (bytes "UHL") k x (headers h g) wrong
 step n (blocks h m) mark = go (trailer h m)
 step n (blocks h m) (block x) = cond (isData x) (go (blocks h (suc m))) wrong
 step n (trailer h m) mark = wrong
-step n (trailer h m) (block x) = closed h m x
+step n (trailer h m) (block x) = closing h m x
 step n second mark = wrong
 step n second (block x) = cond (isLabel (bytes "EOF2") x) (go (trailers 3)) wrong
 step n (trailers k) mark = go between
 step n (trailers k) (block x) = passing (bytes "EOF") (bytes "UTL") k x trailers wrong
 step n between mark = go done
-step n between (block x) = opened x
+step n between (block x) = opening x
 step n done e = wrong
 
 -- where the tape ends
-unfoldable pub ended : State → Answer (List File)
-ended start = refused Labels
-ended (volume k) = refused Labels
-ended (header h) = refused Labels
-ended (headers h g k) = refused Labels
-ended (blocks h m) = refused Labels
-ended (trailer h m) = refused Labels
-ended second = refused Labels
-ended (trailers k) = refused Labels
-ended between = refused Labels
-ended done = answer []
+unfoldable pub ending : Stage → Answer (List TapeFile)
+ending start = refused Labels
+ending (volume k) = refused Labels
+ending (header h) = refused Labels
+ending (headers h g k) = refused Labels
+ending (blocks h m) = refused Labels
+ending (trailer h m) = refused Labels
+ending second = refused Labels
+ending (trailers k) = refused Labels
+ending between = refused Labels
+ending done = answer []
 
-unfoldable pub follow : (State → Answer (List File)) → Step → Answer (List File)
+unfoldable pub follow : (Stage → Answer (List TapeFile)) → Step → Answer (List TapeFile)
 follow next (go σ) = next σ
 follow next (found f σ) = andThen (next σ) (λ fs. answer (f ∷ fs))
 follow next (stop r) = refused r
 
 -- the files from element n on
-unfoldable pub run : Tape → ℕ → State → Answer (List File)
-run [] n σ = ended σ
+unfoldable pub run : Tape → ℕ → Stage → Answer (List TapeFile)
+run [] n σ = ending σ
 run (e ∷ t) n σ = follow (run t (suc n)) (step n σ e)
 
 -- the files of a tape
-unfoldable pub ansiOf : Tape → Answer (List File)
+unfoldable pub ansiOf : Tape → Answer (List TapeFile)
 ansiOf t = run t 0 start
 
 -- how many elements are passed before one can't stand
-unfoldable pub passedOn : ℕ → (State → ℕ) → Step → ℕ
+unfoldable pub passedOn : ℕ → (Stage → ℕ) → Step → ℕ
 passedOn n next (go σ) = next σ
 passedOn n next (found f σ) = next σ
 passedOn n next (stop r) = n
 
-unfoldable pub passedFrom : Tape → ℕ → State → ℕ
+unfoldable pub passedFrom : Tape → ℕ → Stage → ℕ
 passedFrom [] n σ = n
 passedFrom (e ∷ t) n σ = passedOn n (passedFrom t (suc n)) (step n σ e)
 
-unfoldable pub placeOf : Tape → ℕ
-placeOf t = passedFrom t 0 start
+unfoldable pub frontOf : Tape → ℕ
+frontOf t = passedFrom t 0 start

@@ -14,7 +14,8 @@ ghost use lib.ListN.{length, take};
 ghost use Rattle.tape.specs.Answers.{Encoded, counted};
 ghost use Rattle.writing.specs.Writing.{AddsAtMost};
 ghost use Rattle.ansi.specs.Phases.{knownAt};
-ghost use Rattle.ansi.specs.Answers.{allBytes, Reads, placeIn, Walks, rowsLength, atEnd, HandsOut};
+ghost use Rattle.ansi.specs.Answers.{allBytes, ReadsFiles, frontIn};
+ghost use Rattle.ansi.specs.Owed.{Walks, rowsLength, atEnd, HandsOut};
 
 // Adds the file that a mark, element at, makes known, and answers where the rows end then.
 fn note(out: &mut [u8], end: usize, phase: Phase, store: &[u8], at: usize) -> usize
@@ -41,32 +42,32 @@ fn note(out: &mut [u8], end: usize, phase: Phase, store: &[u8], at: usize) -> us
     }
 }
 
-// How a tape is judged: the bytes of its files' rows, or a refusal and the element where it is given.
-enum Judged {
+// Where a walk ends: with so many bytes of rows, or with a refusal at an element.
+enum Walked {
     Files(usize),
     Refused(Refusal, usize),
 }
 
 // The answer where the tape ends, behind so many elements.
-fn at_end(phase: Phase, end: usize, count: usize) -> Judged
+fn at_end(phase: Phase, end: usize, count: usize) -> Walked
     ensures { λ r. ⌜ r ≡ atEnd phase end count ⌝ }
 {
     match phase {
-        Phase::Start => Judged::Refused(Refusal::Labels, count),
-        Phase::Volume(_) => Judged::Refused(Refusal::Labels, count),
-        Phase::Header(_) => Judged::Refused(Refusal::Labels, count),
-        Phase::Headers(_, _, _) => Judged::Refused(Refusal::Labels, count),
-        Phase::Blocks(_, _) => Judged::Refused(Refusal::Labels, count),
-        Phase::Trailer(_, _) => Judged::Refused(Refusal::Labels, count),
-        Phase::Second => Judged::Refused(Refusal::Labels, count),
-        Phase::Trailers(_) => Judged::Refused(Refusal::Labels, count),
-        Phase::Between => Judged::Refused(Refusal::Labels, count),
-        Phase::Done => Judged::Files(end),
+        Phase::Start => Walked::Refused(Refusal::Labels, count),
+        Phase::Volume(_) => Walked::Refused(Refusal::Labels, count),
+        Phase::Header(_) => Walked::Refused(Refusal::Labels, count),
+        Phase::Headers(_, _, _) => Walked::Refused(Refusal::Labels, count),
+        Phase::Blocks(_, _) => Walked::Refused(Refusal::Labels, count),
+        Phase::Trailer(_, _) => Walked::Refused(Refusal::Labels, count),
+        Phase::Second => Walked::Refused(Refusal::Labels, count),
+        Phase::Trailers(_) => Walked::Refused(Refusal::Labels, count),
+        Phase::Between => Walked::Refused(Refusal::Labels, count),
+        Phase::Done => Walked::Files(end),
     }
 }
 
 // Reads a list of so many elements, its files' rows to the front of out.
-fn walk(list: &[u8], store: &[u8], count: usize, out: &mut [u8]) -> Judged
+fn walk(list: &[u8], store: &[u8], count: usize, out: &mut [u8]) -> Walked
     requires { ⌜ Encoded (now list) (now store) count × (length (now out) ≡ rowsLength) ⌝ }
     ensures { λ r. ⌜ Walks (now (list .entry)) (now (store .entry)) (now (out .entry)) (now (out .exit)) r ⌝ }
 {
@@ -86,7 +87,7 @@ fn walk(list: &[u8], store: &[u8], count: usize, out: &mut [u8]) -> Judged
                         at += 1;
                     }
                     Next::Stop(r) => {
-                        return Judged::Refused(r, at);
+                        return Walked::Refused(r, at);
                     }
                 }
             }
@@ -99,15 +100,15 @@ fn walk(list: &[u8], store: &[u8], count: usize, out: &mut [u8]) -> Judged
                         at += 1;
                     }
                     Next::Stop(r) => {
-                        return Judged::Refused(r, at);
+                        return Walked::Refused(r, at);
                     }
                 }
             }
             Entry::End => {
-                return Judged::Refused(Refusal::List, at);
+                return Walked::Refused(Refusal::List, at);
             }
             Entry::Bad => {
-                return Judged::Refused(Refusal::List, at);
+                return Walked::Refused(Refusal::List, at);
             }
         }
     }
@@ -140,28 +141,28 @@ fn hand_out(text: &[u8], end: usize, out: &mut [u8]) -> Read
 
 // Reads the files of an old labelled tape to the front of out, 36 bytes each.
 pub fn files(list: &[u8], store: &[u8], out: &mut [u8]) -> Read
-    ensures { λ r. ⌜ Reads (now (list .entry)) (now (store .entry)) (now (out .entry)) (now (out .exit)) r ⌝ }
+    ensures { λ r. ⌜ ReadsFiles (now (list .entry)) (now (store .entry)) (now (out .entry)) (now (out .exit)) r ⌝ }
 {
     let Checked::Elements(count) = tape::check(list, store) else {
         return Read::Refused(Refusal::List);
     };
     let mut text = empty();
     match walk(list, store, count, &mut text) {
-        Judged::Files(end) => hand_out(&text, end, out),
-        Judged::Refused(r, _) => Read::Refused(r),
+        Walked::Files(end) => hand_out(&text, end, out),
+        Walked::Refused(r, _) => Read::Refused(r),
     }
 }
 
 // How many elements at the front of a tape some tape in the layout begins with.
 pub fn place(list: &[u8], store: &[u8]) -> Checked
-    ensures { λ r. ⌜ counted r ≡ placeIn (now (list .entry)) (now (store .entry)) ⌝ }
+    ensures { λ r. ⌜ counted r ≡ frontIn (now (list .entry)) (now (store .entry)) ⌝ }
 {
     let Checked::Elements(count) = tape::check(list, store) else {
         return Checked::Refused(Refusal::List);
     };
     let mut text = empty();
     match walk(list, store, count, &mut text) {
-        Judged::Files(_) => Checked::Elements(count),
-        Judged::Refused(_, at) => Checked::Elements(at),
+        Walked::Files(_) => Checked::Elements(count),
+        Walked::Refused(_, at) => Checked::Elements(at),
     }
 }

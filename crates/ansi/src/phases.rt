@@ -4,8 +4,8 @@ ghost use mathlib.Core.Path.{_≡_};
 ghost use Prim.Native.Nat.{_+_, _<_};
 ghost use lib.ListN.{take, drop};
 ghost use Rattle.tape.specs.Tape.{mark, block};
-ghost use Rattle.ansi.specs.Reading.{step, start, volume, header, headers, blocks, trailer, second, trailers, opened};
-ghost use Rattle.ansi.specs.Phases.{stateOf, stepOf, unfiled, passedTo, labelAt, Small};
+ghost use Rattle.ansi.specs.Reading.{step, start, volume, header, headers, blocks, trailer, second, trailers, opening};
+ghost use Rattle.ansi.specs.Phases.{stageOf, stepOf, unfiled, passedTo, labelAt, Small};
 
 // What was read last; a label is told by its place in the store.
 pub enum Phase {
@@ -29,7 +29,7 @@ pub enum Next {
 
 // The phase behind a mark.
 pub fn after_mark(phase: Phase, store: &[u8]) -> Next
-    ensures { λ r. ⌜ stepOf (now (store .entry)) r ≡ unfiled (step 0 (stateOf (now (store .entry)) phase) mark) ⌝ }
+    ensures { λ r. ⌜ stepOf (now (store .entry)) r ≡ unfiled (step 0 (stageOf (now (store .entry)) phase) mark) ⌝ }
 {
     match phase {
         Phase::Start => Next::Stop(Refusal::Labels),
@@ -71,7 +71,7 @@ fn in_start(store: &[u8], from: usize, len: usize) -> Next
 
 // A block where a file may begin.
 fn begin_file(store: &[u8], from: usize, len: usize) -> Next
-    ensures { λ r. ⌜ stepOf (now (store .entry)) r ≡ opened (take len (drop from (now (store .entry)))) ⌝ }
+    ensures { λ r. ⌜ stepOf (now (store .entry)) r ≡ opening (take len (drop from (now (store .entry)))) ⌝ }
 {
     let x = slices::part(store, from, len);
     if !ansi_labels::is_label(x, b"HDR1") {
@@ -170,7 +170,7 @@ fn in_trailers(store: &[u8], from: usize, len: usize, k: usize) -> Next
 // The phase behind the block of so many bytes that begins at a place of the store.
 pub fn after_block(phase: Phase, store: &[u8], from: usize, len: usize) -> Next
     requires { ⌜ Small phase ⌝ }
-    ensures { λ r. ⌜ stepOf (now (store .entry)) r ≡ step 0 (stateOf (now (store .entry)) phase) (block (take len (drop from (now (store .entry))))) ⌝ }
+    ensures { λ r. ⌜ stepOf (now (store .entry)) r ≡ step 0 (stageOf (now (store .entry)) phase) (block (take len (drop from (now (store .entry))))) ⌝ }
 {
     match phase {
         Phase::Start => in_start(store, from, len),

@@ -3,7 +3,7 @@ use slices::Written;
 use writing::add;
 ghost use Rattle.big_endian.specs.BigEndian.{bigEndian};
 ghost use Rattle.writing.specs.Writing.{AddsAtMost};
-ghost use Rattle.ansi.specs.Layout.{fileOf};
+ghost use Rattle.ansi.specs.Layout.{tapeFileOf};
 ghost use Rattle.ansi.specs.Answers.{fileBytes};
 
 // Adds a number in 8 bytes, high byte first.
@@ -18,7 +18,7 @@ fn add_number(out: &mut [u8], at: usize, n: usize) -> usize
 
 // Adds the file with the labels HDR1 and HDR2 whose header mark element first follows.
 pub fn add_file(out: &mut [u8], from: usize, h: &[u8], g: &[u8], first: usize) -> usize
-    ensures { λ r. ⌜ AddsAtMost 36 (now (out .entry)) from (fileBytes (fileOf (now (h .entry)) (now (g .entry)) first)) (now (out .exit)) r ⌝ }
+    ensures { λ r. ⌜ AddsAtMost 36 (now (out .entry)) from (fileBytes (tapeFileOf (now (h .entry)) (now (g .entry)) first)) (now (out .exit)) r ⌝ }
 {
     let mut at = add(out, from, slices::part(h, 4, 17));
     at = add(out, at, slices::part(g, 4, 11));

@@ -7,17 +7,17 @@ use Rattle.refusals.specs.Refusals.{answer}
 use Rattle.tape.specs.Tape.{Tape}
 use Rattle.tape.specs.Answers.{tapeIn}
 use Rattle.ansi.specs.Places.{LongestFront}
-use Rattle.ansi.specs.Answers.{filesIn, filesAfter, placeIn, ByLayout}
+use Rattle.ansi.specs.Answers.{filesOn, filesAfter, frontIn, ByLayout}
 use Rattle.api.specs.Outputs.{Shown, one}
 use Rattle.api.specs.Indexes.{howMany}
 
 -- the files, their number and their bytes in the buffer; and that they are those of the tape's layout, as a refusal is
 pub record ReadsAnsi (l s before after : List ℕ) (returned told : ℕ) : Type 0 where
-  pub answers : Shown 1 howMany (filesIn (length before) l s) returned (one told)
-  pub holds : after ≡ filesAfter (filesIn (length before) l s) before
+  pub answers : Shown 1 howMany (filesOn (length before) l s) returned (one told)
+  pub holds : after ≡ filesAfter (filesOn (length before) l s) before
   pub layout : ByLayout (length before) l s
 
 -- how many elements are passed; and that they are the longest front that begins a layout
 pub record PlacesAnsi (l s : List ℕ) (returned told : ℕ) : Type 0 where
-  pub answers : Shown 1 one (placeIn l s) returned (one told)
+  pub answers : Shown 1 one (frontIn l s) returned (one told)
   pub longest : (t : Tape) → tapeIn l s ≡ answer t → LongestFront t told

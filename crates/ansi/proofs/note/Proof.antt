@@ -4,7 +4,7 @@ use mathlib.Core.List.{List}
 use Prim.Native.Nat.{ℕ, suc, _+_}
 use native.Mathlib.Numerals.{add-one}
 use Rattle.writing.proofs.Pieces.{the-same}
-use Rattle.ansi.specs.Layout.{fileOf}
+use Rattle.ansi.specs.Layout.{tapeFileOf}
 use Rattle.ansi.specs.Reading.{step}
 use Rattle.ansi.specs.Phases.{labelAt}
 use Rattle.ansi.specs.Answers.{fileBytes}
@@ -78,9 +78,9 @@ returns-4 c =
     let g = c .before .before .before .before .before .before .before .phase .given .0 .1 .0 in
     rw (c .before .before .before .before .before .before .before .phase .given .1)
     (the-same
-    (ap₂ (λ (x y : List ℕ). fileBytes (fileOf x y (a .at + 1))) (c .before .before .before .before .part .ensures) (c .before .before .before .part2 .ensures)
-    ∙ ap (λ (n : ℕ). fileBytes (fileOf (labelAt (a .store .now) h) (labelAt (a .store .now) g) n)) (add-one (a .at))
-    ∙ sym (one-file (fileOf (labelAt (a .store .now) h) (labelAt (a .store .now) g) (suc (a .at)))))
+    (ap₂ (λ (x y : List ℕ). fileBytes (tapeFileOf x y (a .at + 1))) (c .before .before .before .before .part .ensures) (c .before .before .before .part2 .ensures)
+    ∙ ap (λ (n : ℕ). fileBytes (tapeFileOf (labelAt (a .store .now) h) (labelAt (a .store .now) g) n)) (add-one (a .at))
+    ∙ sym (one-file (tapeFileOf (labelAt (a .store .now) h) (labelAt (a .store .now) g) (suc (a .at)))))
     (c .before .before .add-file .ensures))
 
 returns-5 : tie.Need-returns-5

@@ -3,7 +3,7 @@ use borrow.Author.Tests.{not-true, not-false}
 use mathlib.Core.Path.{sym, ap, _∙_}
 use Rattle.slices.specs.Words.{bytes}
 use Rattle.ansi_labels.specs.Labels.{isLabel}
-use Rattle.ansi.specs.Reading.{opened}
+use Rattle.ansi.specs.Reading.{opening}
 use Rattle.ansi.proofs.Walks.{opens-at}
 use borrow.Author.Needs.{needs}
 use Rattle.ansi.proofs.phases.begin_file.Statement.{statement}
@@ -19,7 +19,7 @@ is-label-requires : tie.Need-is-label-requires
 is-label-requires c κs = search needs
 
 returns : tie.Need-returns
-unfolding opened bytes
+unfolding opening bytes
 returns c = rw (ap (isLabel (bytes "HDR1")) (sym (c .before .before .before .part .ensures)) ∙ sym (c .before .is-label .ensures) ∙ not-true _ (c .if1 .taken))
 
 returns-2 : tie.Need-returns-2

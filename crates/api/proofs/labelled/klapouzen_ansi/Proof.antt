@@ -1,7 +1,7 @@
 -- `klapouzen_ansi` meets its contract: what reading answers, and that it is what the layout says.
 use mathlib.Core.Path.{sym, _∙_, ap}
 use lib.ListN.{length}
-use Rattle.ansi.specs.Answers.{filesIn, readCount}
+use Rattle.ansi.specs.Answers.{filesOn, readCount}
 use Rattle.ansi.proofs.Answering.{by-layout}
 use Rattle.api.proofs.Showing.{shown, not-shown}
 use Rattle.api.proofs.Headers.{shown-counted}
@@ -28,7 +28,7 @@ returns : tie.Need-returns
 returns c =
     let a = c .before .before .before .before .before .before .before .before .before .before .args in
     record {
-      answers = shown-counted (filesIn (length (a .buffer .now)) (a .list .now) (a .store .now)) (shown (c .before .n .given .0 .0) (ap readCount (sym (c .before .n .given .1)) ∙ c .before .before .before .before .before .files .ensures .answers));
+      answers = shown-counted (filesOn (length (a .buffer .now)) (a .list .now) (a .store .now)) (shown (c .before .n .given .0 .0) (ap readCount (sym (c .before .n .given .1)) ∙ c .before .before .before .before .before .files .ensures .answers));
       holds = c .before .before .before .before .before .files .ensures .holds;
       layout = by-layout (length (a .buffer .now)) (a .list .now) (a .store .now) (λ i. c .before .before .before .before .before .before .before .before .before .shared-slice-known .given i .fits);
     }
@@ -40,7 +40,7 @@ returns-2 : tie.Need-returns-2
 returns-2 c =
     let a = c .before .before .before .before .before .before .before .before .before .before .before .args in
     record {
-      answers = shown-counted (filesIn (length (a .buffer .now)) (a .list .now) (a .store .now)) (not-shown (c .before .before .r .given .0 .0) (ap readCount (sym (c .before .before .r .given .1)) ∙ c .before .before .before .before .before .before .files .ensures .answers) (c .number .ensures));
+      answers = shown-counted (filesOn (length (a .buffer .now)) (a .list .now) (a .store .now)) (not-shown (c .before .before .r .given .0 .0) (ap readCount (sym (c .before .before .r .given .1)) ∙ c .before .before .before .before .before .before .files .ensures .answers) (c .number .ensures));
       holds = c .before .before .before .before .before .before .files .ensures .holds;
       layout = by-layout (length (a .buffer .now)) (a .list .now) (a .store .now) (λ i. c .before .before .before .before .before .before .before .before .before .before .shared-slice-known .given i .fits);
     }
