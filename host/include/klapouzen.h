@@ -19,7 +19,7 @@
  * last. Constructs that are closed before the first defect stand; they are
  * numbered from 0 on each partition.
  *
- * An old labelled tape, with ANSI labels instead of LTFS, is one list with its
+ * An ANSI labelled tape, an old tape without LTFS, is one list with its
  * store and no volume: klapouzen_ansi is for it.
  *
  * How the functions go together: klapouzen_check_labels gives the UUID, the

@@ -1,4 +1,4 @@
--- What is answered of a list and a store: the files of an old labelled tape in a lent buffer, or a refusal (02, Item 1: 1, then 16, 17 or 18,
+-- What is answered of a list and a store: the files of an ANSI labelled tape in a lent buffer, or a refusal (02, Item 1: 1, then 16, 17 or 18,
 -- then 10); and where the tape leaves the layout.
 use mathlib.Core.Path.{_≡_}
 use mathlib.Core.List.{List, [], _∷_, _++_}

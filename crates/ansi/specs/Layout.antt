@@ -1,4 +1,4 @@
--- The layout of an old labelled tape (02, Item 1), production by production. A production relates a tape with what follows the production on
+-- The layout of an ANSI labelled tape (02, Item 1), production by production. A production relates a tape with what follows the production on
 -- it: `Users u s t` says that s has user labels first, and then t. `Layout t fs` says that the whole tape t is laid out so, with the files fs.
 use mathlib.Core.Path.{_≡_}
 use mathlib.Core.Bool.{true}

@@ -1,4 +1,4 @@
--- An old labelled tape read element by element, from left to right: its files, or the refusal at the first element that can't stand.
+-- An ANSI labelled tape read element by element, from left to right: its files, or the refusal at the first element that can't stand.
 use mathlib.Core.Bool.{cond}
 use mathlib.Core.List.{List, [], _∷_}
 use Prim.Native.Nat.{ℕ, suc}

@@ -1,4 +1,4 @@
-// Old labelled tapes (02, Item 1): the files of a tape, and where a tape leaves the layout.
+// ANSI labelled tapes (02, Item 1): the files of a tape, and where a tape leaves the layout.
 mod phases;
 mod rows;
 
@@ -139,7 +139,7 @@ fn hand_out(text: &[u8], end: usize, out: &mut [u8]) -> Read
     }
 }
 
-// Reads the files of an old labelled tape to the front of out, 36 bytes each.
+// Reads the files of an ANSI labelled tape to the front of out, 36 bytes each.
 pub fn files(list: &[u8], store: &[u8], out: &mut [u8]) -> Read
     ensures { λ r. ⌜ ReadsFiles (now (list .entry)) (now (store .entry)) (now (out .entry)) (now (out .exit)) r ⌝ }
 {

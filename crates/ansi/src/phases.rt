@@ -1,4 +1,4 @@
-// How far an old labelled tape is read, and what an element does then.
+// How far an ANSI labelled tape is read, and what an element does then.
 use refusals::Refusal;
 ghost use mathlib.Core.Path.{_≡_};
 ghost use Prim.Native.Nat.{_+_, _<_};

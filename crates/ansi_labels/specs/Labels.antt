@@ -1,4 +1,4 @@
--- The blocks of an old labelled tape (02, Item 1; source document 004): what is tested in a label and in a data block.
+-- The blocks of an ANSI labelled tape (02, Item 1; source document 004): what is tested in a label and in a data block.
 use mathlib.Core.Bool.{Bool, _&&_, _||_}
 use mathlib.Core.List.{List}
 use Prim.Native.Nat.{ℕ, _+_, _-_}

@@ -1,4 +1,4 @@
--- What C is told of an old labelled tape (02, Item 1).
+-- What C is told of an ANSI labelled tape (02, Item 1).
 use mathlib.Core.Path.{_≡_}
 use mathlib.Core.List.{List}
 use Prim.Native.Nat.{ℕ}

@@ -1,9 +1,9 @@
-// Old labelled tapes: their files, and where a tape leaves the layout.
+// ANSI labelled tapes: their files, and where a tape leaves the layout.
 use ansi::Read;
 use tape::Checked;
 ghost use Rattle.api.specs.Labelled.{ReadsAnsi, PlacesAnsi};
 
-// The files of an old labelled tape, 36 bytes each, at the front of buffer.
+// The files of an ANSI labelled tape, 36 bytes each, at the front of buffer.
 #[no_mangle]
 pub extern "C" fn klapouzen_ansi(
     list: &[u8],

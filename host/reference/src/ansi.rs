@@ -1,4 +1,4 @@
-//! Old labelled tapes: a list and its store laid out with ANSI labels. Bytes of a
+//! ANSI labelled tapes: a list and its store laid out with ANSI labels. Bytes of a
 //! label are counted from 1, as the papers count them.
 
 use crate::tape::{Element, Partition, Side};
