@@ -1,12 +1,28 @@
-/* The benchmarks: everything in one run, ratios with the absolute figures beside them. */
+/*
+ * The benchmarks, all in one run or the one named: bench [texts|volumes|ansi]. Ratios have the absolute figures beside
+ * them. bench once: a single call, whose instructions make counts counts.
+ */
 #include <stdio.h>
+#include <string.h>
 
 #include "bench.h"
 
-int main(void)
+static const struct {
+    const char *name;
+    void (*run)(void);
+} parts[] = {
+    { "texts", bench_texts },
+    { "volumes", bench_volumes },
+    { "ansi", bench_ansi },
+};
+
+int main(int count, char **words)
 {
     setvbuf(stdout, NULL, _IOLBF, 0);
-    bench_texts();
-    bench_volumes();
+    if (count > 1 && strcmp(words[1], "once") == 0)
+        ansi_once();
+    for (size_t i = 0; i < sizeof parts / sizeof parts[0]; i++)
+        if (count == 1 || strcmp(words[1], parts[i].name) == 0)
+            parts[i].run();
     return 0;
 }

@@ -11,9 +11,9 @@
 #include "sample.h"
 #include "vectors.h"
 
-enum target { VOLUME, LABEL, INDEX, FORM, ROWS, TARGETS };
+enum target { VOLUME, LABEL, INDEX, FORM, ROWS, ANSI, TARGETS };
 
-static const char *const names[TARGETS] = { "volume", "label", "index", "form", "rows" };
+static const char *const names[TARGETS] = { "volume", "label", "index", "form", "rows", "ansi" };
 static uint64_t written[TARGETS];
 static const char *folder;
 
@@ -98,6 +98,15 @@ static void write_rows(const struct random_case *list)
     write_input(ROWS, &input);
 }
 
+static void write_ansi(const struct random_case *tape)
+{
+    struct buffer input = { 0 };
+    put_number(&input, tape->numbers[0], 2);
+    put_slice(&input, tape, 0);
+    put_part(&input, tape, 1);
+    write_input(ANSI, &input);
+}
+
 static void write_random(struct random_case random, void (*write)(const struct random_case *random))
 {
     write(&random);
@@ -122,6 +131,8 @@ static void write_vectors(void)
     each_vector(INDEXES, write_index);
     each_vector(TEXTS, write_form);
     each_vector(ROW_LISTS, write_rows);
+    each_vector(ANSI_TAPES, write_ansi);
+    each_vector(ANSI_PLACES, write_ansi);
 }
 
 int main(int count, char **words)
@@ -140,6 +151,7 @@ int main(int count, char **words)
         write_random(random_vol1(seed), write_label);
         write_random(random_index(seed), write_index);
         write_random(random_rows(seed), write_rows);
+        write_random(random_ansi(seed), write_ansi);
     }
     for (int i = 0; i < TARGETS; i++)
         printf("%s: %" PRIu64 " inputs from vectors, %" PRIu64 " from the generator\n", names[i], vectors[i],

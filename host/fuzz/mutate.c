@@ -99,6 +99,7 @@ static void change(struct buffer *input)
     static const char *const pieces[] = {
         "<a/>", "<a>", "</a>", "&amp;", "&", "]]>", "<!--", "<![CDATA[", "'", "\"", "18446744073709551615", "0",
         "007", "\xc3\xa9", "\xed\xa0\x80", "<file>", "</file>", "<extent>", "\1", "\2", "/", " ",
+        "EOF1", "EOV1", "EOF3", "HDR1", "HDR3", "UHL", "000001",
     };
     size_t from = below(input->length + 1), to = from + below(9);
     uint8_t byte = (uint8_t)draw();
@@ -113,7 +114,8 @@ static void change(struct buffer *input)
         break;
     case 2: {
         const char *piece = pieces[below(sizeof pieces / sizeof pieces[0])];
-        splice(input, from, from, (const uint8_t *)piece, strlen(piece));
+        size_t length = strlen(piece), over = from + below(2) * length;
+        splice(input, from, over < input->length ? over : input->length, (const uint8_t *)piece, length);
         break;
     }
     case 3:

@@ -4,7 +4,7 @@ set -euo pipefail
 cd "$(dirname "$0")/.."
 T=target/fuzz
 seconds=$1
-for target in volume label index form rows; do
+for target in volume label index form rows ansi; do
     # shellcheck disable=SC2086
     if clang -std=c11 -D_GNU_SOURCE $CFLAGS -Iinclude -fsanitize=fuzzer,address,undefined fuzz/$target.c fuzz/counters.c \
         target/libklapouzen.a -o $T/${target}_libfuzzer 2> $T/clang.log; then

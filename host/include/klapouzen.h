@@ -19,6 +19,9 @@
  * last. Constructs that are closed before the first defect stand; they are
  * numbered from 0 on each partition.
  *
+ * An old labelled tape, with ANSI labels instead of LTFS, is one list with its
+ * store and no volume: klapouzen_ansi is for it.
+ *
  * How the functions go together: klapouzen_check_labels gives the UUID, the
  * letters and the block size of a volume, klapouzen_constructs with that block
  * size where the texts of its indexes are, and klapouzen_read_index and the
@@ -29,9 +32,9 @@
  *   - answers a refusal number, enum klapouzen_refusal, 0 for none. The
  *     comments name the numbers that a function can answer in the order in
  *     which it looks for them: the first that applies is answered;
- *   - fills all of `out`, *count and *length: with its answer, or on a refusal
- *     with zeros. On a refusal `buffer`, `rows`, `files` and `table` keep every
- *     byte;
+ *   - fills all of `out`, *count, *length and *place: with its answer, or on a
+ *     refusal with zeros. On a refusal `buffer`, `rows`, `files` and `table`
+ *     keep every byte;
  *   - takes NULL for a slice of length 0, and takes any bytes in a slice: there
  *     is nothing that a caller must check before;
  *   - writes only to the memory named in its comment, keeps no pointer,
@@ -39,12 +42,12 @@
  *
  * A slice is a pointer and a length: in bytes, or for 64-bit numbers (`rows`,
  * `files`) in numbers. Slices that are only read may overlap each other. What a
- * function writes (`out`, *count, *length, `table`, and where they are not
- * const `buffer`, `rows` and `files`) must not overlap anything else that it is
- * given. `out`, `table` and the pointers to single numbers must not be NULL, and
- * must have room for as many numbers as the declaration says. The names of the
- * numbers in `out` and in a row are an enum above the function; its last name is
- * how many they are.
+ * function writes (`out`, *count, *length, *place, `table`, and where they are
+ * not const `buffer`, `rows` and `files`) must not overlap anything else that it
+ * is given. `out`, `table` and the pointers to single numbers must not be NULL,
+ * and must have room for as many numbers as the declaration says. The names of
+ * the numbers in `out` and in a row are an enum above the function; its last name
+ * is how many they are.
  *
  * Stack: a call needs less than KLAPOUZEN_STACK bytes.
  */
@@ -75,6 +78,7 @@ extern "C" {
 #define KLAPOUZEN_MAX_BLOCK_SIZE 1048576
 #define KLAPOUZEN_VOL1_LENGTH 80        /* bytes of a VOL1 label */
 #define KLAPOUZEN_CONSTRUCT_TABLE 87380 /* numbers of klapouzen_constructs' table */
+#define KLAPOUZEN_MAX_ANSI_FILES 9362   /* files of an ANSI labelled tape: seven elements each */
 
 /* A stack of so many bytes is enough for every call; host/test/stack measures it. */
 #define KLAPOUZEN_STACK 2097152
@@ -97,7 +101,10 @@ enum klapouzen_refusal {
     KLAPOUZEN_WRONG_PLACE = 12,
     KLAPOUZEN_NO_CUT = 13,
     KLAPOUZEN_BAD_ARGUMENT = 14,
-    KLAPOUZEN_TOO_LONG = 15
+    KLAPOUZEN_TOO_LONG = 15,
+    KLAPOUZEN_BAD_ANSI_LABELS = 16,
+    KLAPOUZEN_END_OF_VOLUME = 17,
+    KLAPOUZEN_WRONG_BLOCK_COUNT = 18
 };
 
 /* A refusal's text in a few words; an empty one for a number that is none. */
@@ -119,7 +126,10 @@ static inline const char *klapouzen_refusal_text(uint64_t refusal)
         "the index does not stand where it says",
         "no consistent cut",
         "a given field or number is outside its rule",
-        "text too long, or too many entries or extents"
+        "text too long, or too many entries or extents",
+        "not an ANSI labelled tape: its layout or a label is wrong",
+        "a file that goes on on another tape: EOV1 in the place of EOF1",
+        "EOF1's block count is not that of the data blocks present"
     };
     return refusal < sizeof texts / sizeof texts[0] ? texts[refusal] : "";
 }
@@ -505,6 +515,59 @@ uint64_t klapouzen_rescue(const uint8_t *index_list, size_t index_list_length,
                           const uint8_t *data_list, size_t data_list_length,
                           const uint8_t *data_store, size_t data_store_length,
                           uint64_t out[KLAPOUZEN_CUT]);
+
+/* ---- ANSI labelled tapes ---- */
+
+/*
+ * The files of an ANSI labelled tape. *count: how many. Each has
+ * KLAPOUZEN_ANSI_FILE bytes at the front of the buffer, in tape order; the bytes
+ * after them keep their values.
+ *
+ * The layout, a label being a block of 80 bytes that begins with the four named
+ * here, and a user label (UVL, UHL, UTL) with three:
+ *   VOL1, VOL2 to VOL9, user labels UVL
+ *   for each file, one or more:
+ *     HDR1, HDR2, HDR3 to HDR9, user labels UHL, a mark
+ *     data blocks, or none, each of 18 to 20,480 bytes, and a mark
+ *     EOF1, EOF2, EOF3 to EOF9, user labels UTL, a mark
+ *   a mark, the last element
+ * VOL1, HDR1, HDR2, EOF1 and EOF2 must be there. Of the other numbered labels any
+ * may be missing, and the numbers rise; there may be any number of user labels.
+ * Counted from 1, byte 80 of VOL1 is 3 or 4; byte 5 of HDR2 is F, D or S, bytes 6
+ * to 15 are digits; bytes 5 to 54 and 61 to 80 of EOF1 are as in HDR1, bytes 55
+ * to 60 are digits, the number of the file's data blocks. All else may be any
+ * bytes.
+ *
+ * Refusals: 1; then the one of the first element that can't stand where it does,
+ * or of a tape that ends too early: 17 (an EOV1 label in the place of EOF1), 18
+ * (an EOF1 label with all right but the number in its six digits), 16 (any other
+ * cause); then 10 (buffer_length is below KLAPOUZEN_ANSI_FILE times the files).
+ */
+enum klapouzen_ansi_file {
+    KLAPOUZEN_ANSI_ID = 0,             /* the file ID, 17 bytes, any */
+    KLAPOUZEN_ANSI_FORMAT = 17,        /* the record format: F, D or S */
+    KLAPOUZEN_ANSI_BLOCK_LENGTH = 18,  /* 5 digits */
+    KLAPOUZEN_ANSI_RECORD_LENGTH = 23, /* 5 digits */
+    KLAPOUZEN_ANSI_ELEMENT = 28,       /* number of the element after the header mark: 8 bytes, high byte first */
+    KLAPOUZEN_ANSI_FILE = 36           /* bytes of a file */
+};
+
+uint64_t klapouzen_ansi(const uint8_t *list, size_t list_length,
+                        const uint8_t *store, size_t store_length,
+                        uint8_t *buffer, size_t buffer_length,
+                        uint64_t *count);
+
+/*
+ * Where a tape leaves that layout, to be told with klapouzen_ansi's 16, 17 or 18.
+ * *place: how many elements at the front some tape in the layout, of any length,
+ * begins with. It is the number of the first element that can't stand where it
+ * does, or the number of all elements where the tape is in the layout or ends too
+ * early.
+ * Refusals: 1.
+ */
+uint64_t klapouzen_ansi_place(const uint8_t *list, size_t list_length,
+                              const uint8_t *store, size_t store_length,
+                              uint64_t *place);
 
 #ifdef __cplusplus
 }

@@ -347,3 +347,57 @@ void sample_unmount(struct sample *sample)
     sample_empty_index(sample, 1);
     sample_empty_index(sample, 0);
 }
+
+/* ---- ANSI labelled tapes ---- */
+
+/* The text, and spaces behind it. */
+static void ansi_label(struct tape *tape, const char *text)
+{
+    uint8_t label[80];
+    memset(label, ' ', sizeof label);
+    memcpy(label, text, strlen(text));
+    tape_block(tape, label, sizeof label);
+}
+
+/* HDR1 or EOF1; the dates are those of the 320th day of 2026 and of no end. */
+static void ansi_first_label(struct tape *tape, const char *word, uint64_t number, size_t blocks)
+{
+    char text[81];
+    snprintf(text, sizeof text, "%sFILE%06u.DAT   0000010001%04u000100026320 99366 %06uKLAPOUZEN0001", word,
+             (unsigned)(number % 1000000), (unsigned)(number % 10000), (unsigned)(blocks % 1000000));
+    ansi_label(tape, text);
+}
+
+void ansi_begin(struct tape *tape)
+{
+    char text[81];
+    snprintf(text, sizeof text, "%-79s3", "VOL1KLA001");
+    *tape = (struct tape){ 0 };
+    ansi_label(tape, text);
+}
+
+void ansi_file(struct tape *tape, uint64_t number, size_t blocks, size_t length)
+{
+    ansi_first_label(tape, "HDR1", number, 0);
+    ansi_label(tape, "HDR2F2048000080");
+    tape_mark(tape);
+    for (size_t i = 0; i < blocks; i++)
+        tape_filled_block(tape, (uint8_t)('a' + (number + i) % 26), length);
+    tape_mark(tape);
+    ansi_first_label(tape, "EOF1", number, blocks);
+    ansi_label(tape, "EOF2F2048000080");
+    tape_mark(tape);
+}
+
+void ansi_end(struct tape *tape)
+{
+    tape_mark(tape);
+}
+
+void ansi_most_files(struct tape *tape)
+{
+    ansi_begin(tape);
+    for (uint64_t number = 1; number <= KLAPOUZEN_MAX_ANSI_FILES; number++)
+        ansi_file(tape, number, 0, 0);
+    ansi_end(tape);
+}

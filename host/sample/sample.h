@@ -102,6 +102,18 @@ void sample_empty_index(struct sample *sample, int side);
 /* The next index construct on both sides, with no files: what unmounting writes. */
 void sample_unmount(struct sample *sample);
 
+/* ---- ANSI labelled tapes ---- */
+
+/* VOL1 alone; then files, numbered from 1, with so many data blocks of a length; then the last mark. */
+void ansi_begin(struct tape *tape);
+void ansi_file(struct tape *tape, uint64_t number, size_t blocks, size_t length);
+void ansi_end(struct tape *tape);
+
+/* As many files as a list of the most elements has room for. */
+void ansi_most_files(struct tape *tape);
+
+/* ---- Slices ---- */
+
 /* The four slices, as the library's functions take them. */
 #define TAPE(tape) (tape).list.bytes, (tape).list.length, (tape).store.bytes, (tape).store.length
 #define SAMPLE(sample) TAPE((sample)->sides[0]), TAPE((sample)->sides[1])

@@ -65,6 +65,16 @@ static void drop(struct slice slice)
     guarded_free(slice.start, slice.length);
 }
 
+/* ---- Refusals ---- */
+
+static void refusal_texts(void)
+{
+    for (uint64_t number = 0; number <= KLAPOUZEN_WRONG_BLOCK_COUNT; number++)
+        expect("a refusal without a text", strlen(klapouzen_refusal_text(number)) > 0, true);
+    expect("no refusal", strlen(klapouzen_refusal_text(KLAPOUZEN_WRONG_BLOCK_COUNT + 1)), 0);
+    expect("no refusal", strlen(klapouzen_refusal_text(UINT64_MAX)), 0);
+}
+
 /* ---- The smallest ---- */
 
 static void smallest_lists(void)
@@ -139,6 +149,14 @@ static void smallest_indexes(void)
     expect("its block", out[KLAPOUZEN_BYTE_BLOCK], 11);
     expect("its byte", out[KLAPOUZEN_BYTE_OFFSET], 0);
     expect("byte_at 9000", klapouzen_byte_at(rows, KLAPOUZEN_ROW, 9000, 4096, 9000, filled()), 2);
+}
+
+static void smallest_ansi(void)
+{
+    expect("ansi of nothing", klapouzen_ansi(NONE, NONE, NONE, filled()), 16);
+    expect_zeros("its files", 1);
+    expect("ansi_place of nothing", klapouzen_ansi_place(NONE, NONE, filled()), 0);
+    expect_zeros("its place", 1);
 }
 
 /* ---- The largest lists ---- */
@@ -476,15 +494,117 @@ static void largest_volume(void)
         drop(parts[i]);
 }
 
+/* ---- ANSI labelled tapes ---- */
+
+/* As ansi_file writes it, behind files of seven elements each. */
+static void expect_file(const uint8_t *file, uint64_t number)
+{
+    char labels[KLAPOUZEN_ANSI_ELEMENT + 1];
+    uint64_t element = 0;
+    snprintf(labels, sizeof labels, "FILE%06u.DAT   F2048000080", (unsigned)(number + 1) % 1000000);
+    expect("a file's labels", memcmp(file, labels, KLAPOUZEN_ANSI_ELEMENT) != 0, 0);
+    for (int i = KLAPOUZEN_ANSI_ELEMENT; i < KLAPOUZEN_ANSI_FILE; i++)
+        element = element << 8 | file[i];
+    expect("its element", element, 7 * number + 4);
+}
+
+/* Into exactly their room, after a byte less of it was refused and nothing changed. */
+static void expect_files(const char *what, struct slice list, struct slice store, uint64_t count)
+{
+    size_t size = KLAPOUZEN_ANSI_FILE * count;
+    uint8_t *room = guarded_room(size);
+    memset(room, 0xa5, size);
+    expect(what, klapouzen_ansi(SLICE(list), SLICE(store), NONE, filled()), 10);
+    expect(what, klapouzen_ansi(SLICE(list), SLICE(store), room, size - 1, filled()), 10);
+    expect_zeros(what, 1);
+    for (size_t i = 0; i < size; i++)
+        expect("an unchanged byte", room[i], 0xa5);
+    expect(what, klapouzen_ansi(SLICE(list), SLICE(store), room, size, filled()), 0);
+    expect(what, out[0], count);
+    for (uint64_t i = 0; i < count; i++)
+        expect_file(room + KLAPOUZEN_ANSI_FILE * i, i);
+    guarded_free(room, size);
+}
+
+/* The tape's place, and its files or its refusal; it is gone afterwards. */
+static void expect_ansi(const char *what, struct tape *tape, uint64_t refusal, uint64_t place, uint64_t files)
+{
+    struct slice list = guarded(&tape->list), store = guarded(&tape->store);
+    expect(what, klapouzen_ansi_place(SLICE(list), SLICE(store), filled()), refusal == 1 ? 1 : 0);
+    expect(what, out[0], place);
+    if (refusal == 0) {
+        expect_files(what, list, store, files);
+    } else {
+        expect(what, klapouzen_ansi(SLICE(list), SLICE(store), NONE, filled()), refusal);
+        expect_zeros(what, 1);
+    }
+    drop(list);
+    drop(store);
+}
+
+static void most_ansi_files(void)
+{
+    struct tape tape;
+    ansi_most_files(&tape);
+    expect("their elements", tape.elements, KLAPOUZEN_MAX_ELEMENTS);
+    expect_ansi("9,362 files", &tape, 0, 65536, 9362);
+    ansi_most_files(&tape);
+    tape_mark(&tape);
+    expect_ansi("an element more", &tape, 1, 0, 0);
+    ansi_most_files(&tape);
+    tape.list.length--;
+    expect_ansi("an element less", &tape, 16, 65535, 0);
+}
+
+/* One file. */
+static void ansi_blocks(const char *what, size_t blocks, size_t length, uint64_t refusal, uint64_t place)
+{
+    struct tape tape;
+    ansi_begin(&tape);
+    ansi_file(&tape, 1, blocks, length);
+    ansi_end(&tape);
+    expect_ansi(what, &tape, refusal, place, 1);
+}
+
+/* The most data blocks, and one told that is not there. */
+static void most_ansi_blocks(void)
+{
+    enum { BLOCKS = KLAPOUZEN_MAX_ELEMENTS - 9, COUNT_END = 3 * 80 + 18 * BLOCKS + 60 };
+    struct tape tape;
+    ansi_blocks("65,527 data blocks", BLOCKS, 18, 0, 65536);
+    ansi_blocks("65,528 data blocks", BLOCKS + 1, 18, 1, 0);
+    ansi_begin(&tape);
+    ansi_file(&tape, 1, BLOCKS, 18);
+    ansi_end(&tape);
+    tape.store.bytes[COUNT_END - 1]++;
+    expect_ansi("another count", &tape, 18, 65532, 0);
+}
+
+static void largest_ansi(void)
+{
+    most_ansi_files();
+    most_ansi_blocks();
+    ansi_blocks("no data blocks", 0, 0, 0, 9);
+    ansi_blocks("data blocks of 17 bytes", 1, 17, 16, 4);
+    ansi_blocks("data blocks of 18 bytes", 1, 18, 0, 10);
+    ansi_blocks("data blocks of 20,480 bytes", 1, 20480, 0, 10);
+    ansi_blocks("data blocks of 20,481 bytes", 1, 20481, 16, 4);
+    ansi_blocks("16 MB of data blocks", 819, 20480, 0, 828);
+    ansi_blocks("more than a store holds", 820, 20480, 1, 0);
+}
+
 int main(void)
 {
+    refusal_texts();
     smallest_lists();
     smallest_texts();
     smallest_indexes();
+    smallest_ansi();
     largest_lists();
     most_constructs();
     largest_texts();
     largest_indexes();
     largest_volume();
+    largest_ansi();
     return failures > 0;
 }

@@ -18,6 +18,7 @@ struct random_case random_label(uint64_t seed);
 struct random_case random_index(uint64_t seed);
 struct random_case random_vol1(uint64_t seed);
 struct random_case random_rows(uint64_t seed);
+struct random_case random_ansi(uint64_t seed);
 void random_free(struct random_case random);
 
 #endif

@@ -13,13 +13,14 @@
 #include "cases.h"
 #include "guard.h"
 #include "klapouzen.h"
+#include "vectors.h"
 
 /* ---- Both sides' functions ---- */
 
 #define FUNCTIONS(X) \
     X(check_list) X(keep) X(block) X(constructs) X(check_form) X(read_vol1) X(write_vol1) \
     X(read_label) X(write_label) X(check_labels) X(read_index) X(read_file) X(read_rows) \
-    X(read_files) X(read_all_rows) X(index) X(byte_at) X(verdict) X(rescue)
+    X(read_files) X(read_all_rows) X(index) X(byte_at) X(verdict) X(rescue) X(ansi) X(ansi_place)
 
 #define DECLARE(name) extern __typeof__(klapouzen_##name) reference_##name;
 #define MEMBER(name) __typeof__(klapouzen_##name) *name;
@@ -39,7 +40,7 @@ static const struct functions sides[2] = {
 
 /* ---- Answers ---- */
 
-enum { NUMBERS = 20, LENT = 4096, ROWS = 256 };
+enum { NUMBERS = 20, LENT = 4096, ROWS = 256, REFUSALS = KLAPOUZEN_WRONG_BLOCK_COUNT + 1 };
 
 struct answer {
     uint64_t refusal;
@@ -50,7 +51,7 @@ struct answer {
 
 static struct answer answers[2];
 static uint32_t tables[2][KLAPOUZEN_CONSTRUCT_TABLE];
-static uint64_t seed, differences, calls, refusals[16];
+static uint64_t seed, differences, calls, vectors, refusals[REFUSALS];
 
 /* The same other data on both sides. */
 static void fill(struct answer *answer)
@@ -77,7 +78,7 @@ static void differ(const char *what)
 static void compare(const char *what)
 {
     calls++;
-    if (answers[1].refusal < 16)
+    if (answers[1].refusal < REFUSALS)
         refusals[answers[1].refusal]++;
     if (memcmp(&answers[0], &answers[1], sizeof answers[0]) != 0)
         differ(what);
@@ -343,11 +344,89 @@ static void many_rows_case(void)
     BOTH("byte_at", f->byte_at(rows, KLAPOUZEN_ROW * count, 8000, 4096, seed % 8001, a->out));
 }
 
+/* ---- ANSI labelled tapes ---- */
+
+/* What the library left in the buffer that it was lent. */
+static uint8_t after[LENT];
+
+/* Into buffers with these bytes, at the border of a page; a refusal changes none, an answer none past the files. */
+static void compare_ansi(struct slice list, struct slice store, const uint8_t *before, size_t room)
+{
+    uint8_t *lent[2] = { guarded_room(room), guarded_room(room) };
+    for (int i = 0; i < 2 && room > 0; i++)
+        memcpy(lent[i], before, room);
+    BOTH("ansi", f->ansi(SIDE(list, store), lent[side], room, a->out));
+    size_t put = answers[1].refusal == 0 ? KLAPOUZEN_ANSI_FILE * (size_t)answers[1].out[0] : 0;
+    if (room > 0) {
+        memcpy(after, lent[0], room);
+        if (memcmp(lent[0], lent[1], room) != 0 || put > room || memcmp(after + put, before + put, room - put) != 0)
+            differ("ansi's buffer");
+    }
+    for (int i = 0; i < 2; i++)
+        guarded_free(lent[i], room);
+}
+
+/* A large buffer, one that the case names, one that fits, one a byte short, one a byte longer, and none. */
+static void ansi_case(void)
+{
+    struct random_case random = random_ansi(seed);
+    struct slice parts[4];
+    uint8_t before[LENT];
+    size_t rooms[] = { LENT, (size_t)random.numbers[0], 0, 0, 0, 0 };
+    guard_case(&random, parts);
+    for (size_t i = 0; i < LENT; i++)
+        before[i] = (uint8_t)(seed + 37 * i);
+    BOTH("ansi_place", f->ansi_place(SIDE(parts[0], parts[1]), a->out));
+    for (int i = 0; i < 6; i++) {
+        compare_ansi(parts[0], parts[1], before, rooms[i]);
+        if (i == 0 && answers[1].refusal == 0) {
+            rooms[2] = KLAPOUZEN_ANSI_FILE * (size_t)answers[1].out[0];
+            rooms[3] = rooms[2] - 1;
+            rooms[4] = rooms[2] + 1;
+        }
+    }
+    drop_case(random, parts);
+}
+
+/* Of a vector also what it says itself. */
+static void ansi_vector(const struct random_case *vector)
+{
+    struct slice parts[4];
+    guard_case(vector, parts);
+    if (parts[2].length > LENT || parts[2].length != parts[3].length)
+        abort();
+    compare_ansi(parts[0], parts[1], parts[2].start, parts[2].length);
+    if (answers[0].refusal != vector->numbers[1] || answers[0].out[0] != vector->numbers[2]
+        || memcmp(after, vector->bytes[3], vector->lengths[3]) != 0)
+        differ("a vector of ansi");
+    vectors++;
+    for (int i = 0; i < 4; i++)
+        guarded_free(parts[i].start, parts[i].length);
+}
+
+static void ansi_place_vector(const struct random_case *vector)
+{
+    struct slice parts[4];
+    uint8_t before[LENT] = { 0 };
+    guard_case(vector, parts);
+    compare_ansi(parts[0], parts[1], before, LENT);
+    if (answers[0].refusal != vector->numbers[1])
+        differ("a vector's refusal");
+    BOTH("ansi_place", f->ansi_place(SIDE(parts[0], parts[1]), a->out));
+    if (answers[0].out[0] != vector->numbers[2])
+        differ("a vector's place");
+    vectors++;
+    for (int i = 0; i < 4; i++)
+        guarded_free(parts[i].start, parts[i].length);
+}
+
 int main(int count, char **words)
 {
     uint64_t cases = count > 1 ? strtoull(words[1], NULL, 10) : 10000;
     uint64_t first = count > 2 ? strtoull(words[2], NULL, 10) : 0;
     memset(tables, 0xc3, sizeof tables);
+    each_vector(ANSI_TAPES, ansi_vector);
+    each_vector(ANSI_PLACES, ansi_place_vector);
     for (seed = first; seed < first + cases && differences < 20; seed++) {
         volume_case();
         index_case();
@@ -355,10 +434,11 @@ int main(int count, char **words)
         vol1_case();
         rows_case();
         many_rows_case();
+        ansi_case();
     }
-    printf("%" PRIu64 " cases, %" PRIu64 " calls, %" PRIu64 " differences; answers by refusal:", cases,
-           calls, differences);
-    for (int i = 0; i < 16; i++)
+    printf("%" PRIu64 " cases, %" PRIu64 " vectors, %" PRIu64 " calls, %" PRIu64 " differences; answers by refusal:",
+           cases, vectors, calls, differences);
+    for (int i = 0; i < REFUSALS; i++)
         printf(" %d:%" PRIu64, i, refusals[i]);
     putchar('\n');
     return differences > 0;

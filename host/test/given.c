@@ -1,7 +1,7 @@
 /*
  * What a caller gives outside its rule: 14, once for each cause that klapouzen.h
- * names, and once with nothing wrong. Every output is zero then, and no byte of a
- * buffer is changed.
+ * names, and once with nothing wrong. After every refusal all outputs are zero, and
+ * no byte of a buffer is changed.
  */
 #include <inttypes.h>
 #include <stdio.h>
@@ -52,12 +52,12 @@ static int is_as_refused(size_t handed)
         && is_filled(numbers, sizeof numbers) && is_filled(buffer, sizeof buffer) && is_filled(table, sizeof table);
 }
 
-/* The answer; where it is 14, what the function leaves in memory too. */
+/* The answer; where it is a refusal, what the function leaves in memory too. */
 static void expect(const char *function, const char *what, uint64_t found, uint64_t wanted, size_t handed)
 {
     if (found != wanted)
         fail(function, what, found);
-    if (wanted == 14 && !is_as_refused(handed))
+    if (wanted != 0 && !is_as_refused(handed))
         fail(function, "its outputs and buffers", found);
     fill();
 }
@@ -181,9 +181,36 @@ static void map_with(const char *what, uint8_t letter, size_t length, uint64_t s
     expect("byte_at", what, klapouzen_byte_at(row, length, 1, size, 0, out), wanted, KLAPOUZEN_BYTE);
 }
 
+/* ---- ANSI labelled tapes ---- */
+
+/* No 14: they take slices alone, of any bytes. */
+static void read_ansi(const char *what, const uint8_t *list, size_t list_length, const uint8_t *store,
+                      size_t store_length, uint64_t wanted)
+{
+    expect("ansi", what, klapouzen_ansi(list, list_length, store, store_length, buffer, sizeof buffer, out), wanted, 1);
+    expect("ansi", what, klapouzen_ansi(list, list_length, store, store_length, NONE, out), wanted, 1);
+    uint64_t refusal = wanted == KLAPOUZEN_BAD_LIST ? wanted : 0;
+    expect("ansi_place", what, klapouzen_ansi_place(list, list_length, store, store_length, out), refusal, 1);
+}
+
+static void ansi_with(void)
+{
+    static const uint8_t block[5] = { 2, 0, 0, 0, 80 };
+    uint8_t label[80];
+    memset(label, 0xff, sizeof label);
+    read_ansi("nothing", NONE, NONE, KLAPOUZEN_BAD_ANSI_LABELS);
+    read_ansi("a mark", (const uint8_t *)"\1", 1, NONE, KLAPOUZEN_BAD_ANSI_LABELS);
+    read_ansi("a block", block, sizeof block, label, sizeof label, KLAPOUZEN_BAD_ANSI_LABELS);
+    read_ansi("a block without bytes", block, sizeof block, NONE, KLAPOUZEN_BAD_LIST);
+    read_ansi("bytes without a block", NONE, label, sizeof label, KLAPOUZEN_BAD_LIST);
+    read_ansi("a list cut off", block, sizeof block - 1, label, sizeof label, KLAPOUZEN_BAD_LIST);
+    read_ansi("no list", label, sizeof label, NONE, KLAPOUZEN_BAD_LIST);
+}
+
 int main(void)
 {
     fill();
+    ansi_with();
     for (size_t i = 0; i < sizeof volumes / sizeof volumes[0]; i++) {
         read_with(&volumes[i]);
         find_with(&volumes[i]);

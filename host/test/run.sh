@@ -70,7 +70,7 @@ END
 # The long ones first, so that none runs alone at the end.
 start "against the reference" $T/test/differential "$CASES"
 start "command line" test/cli.sh $T/klapouzen $T/make_sample
-for target in volume label index form rows; do
+for target in volume label index form rows ansi; do
     start "fuzz $target" $T/fuzz/${target}_mutate $T/fuzz/corpus/$target "${FUZZ_SECONDS:-3}"
 done
 start "smallest and largest sizes" $T/test/bounds

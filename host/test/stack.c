@@ -17,6 +17,8 @@ static struct sample volume;
 static struct buffer index_text;
 static uint32_t table[KLAPOUZEN_CONSTRUCT_TABLE];
 static uint64_t files[KLAPOUZEN_FILE * 3], rows[KLAPOUZEN_ROW * KLAPOUZEN_MAX_ROWS];
+static struct tape ansi;
+static uint8_t ansi_files[KLAPOUZEN_ANSI_FILE * KLAPOUZEN_MAX_ANSI_FILES];
 
 #define WORD(text, length) (const uint8_t *)(text), length
 #define UUID WORD(SAMPLE_UUID, 36)
@@ -144,9 +146,19 @@ static void call_volumes(void)
     must(out[KLAPOUZEN_CUT_DATA_CONSTRUCT] == CONSTRUCTS - 1);
 }
 
+static void call_ansi(void)
+{
+    uint64_t count, place;
+    answered(klapouzen_ansi(TAPE(ansi), ansi_files, sizeof ansi_files, &count));
+    must(count == KLAPOUZEN_MAX_ANSI_FILES);
+    answered(klapouzen_ansi_place(TAPE(ansi), &place));
+    must(place == KLAPOUZEN_MAX_ELEMENTS);
+}
+
 static void *run(void *nothing)
 {
     call_lists();
+    call_ansi();
     call_labels();
     call_indexes();
     call_volumes();
@@ -160,6 +172,7 @@ int main(void)
     pthread_t thread;
     make_index();
     make_volume();
+    ansi_most_files(&ansi);
     memset(stack, PAINT, STACK);
     pthread_attr_init(&attributes);
     if (pthread_attr_setstack(&attributes, stack, STACK) != 0

@@ -44,6 +44,29 @@ static bool read_vol1(struct case_file *file, struct random_case *vector)
     return true;
 }
 
+/* ---- ANSI labelled tapes ---- */
+
+/* List, store and lent buffer; refusal, files and the buffer after it expected. */
+static bool read_ansi(struct case_file *file, struct random_case *vector)
+{
+    read_parts(file, vector, 3);
+    vector->numbers[0] = vector->lengths[2];
+    vector->numbers[1] = next_number(file);
+    vector->numbers[2] = next_number(file);
+    vector->bytes[3] = next_bytes(file, &vector->lengths[3]);
+    return true;
+}
+
+/* List and store; refusal and place expected. */
+static bool read_ansi_place(struct case_file *file, struct random_case *vector)
+{
+    read_parts(file, vector, 2);
+    vector->numbers[0] = (uint64_t)KLAPOUZEN_ANSI_FILE * vector->lengths[0];
+    vector->numbers[1] = next_number(file);
+    vector->numbers[2] = next_number(file);
+    return true;
+}
+
 /* ---- Indexes ---- */
 
 static void read_given(struct case_file *file, struct random_case *vector)
@@ -231,6 +254,8 @@ static const struct vector_file {
     { ROW_LISTS, LINES, "../crates/extents_cases/stdin", read_row_line },
     { TEXTS, LINES, "../crates/xml_cases/data/cases", read_text_line },
     { TEXTS, LINES, "../crates/xml_cases/data/vectors", read_text_line },
+    { ANSI_TAPES, CASES, "../crates/ansi_cases/data/vectors", read_ansi },
+    { ANSI_PLACES, CASES, "../crates/ansi_cases/data/places", read_ansi_place },
 };
 
 static void each_of_file(const struct vector_file *from, void (*use)(const struct random_case *vector))

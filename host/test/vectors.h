@@ -14,7 +14,9 @@ enum vectors {
     VOL1S,
     INDEXES,
     ROW_LISTS,
-    TEXTS /* Bytes: a text. Numbers: 1 where it is in the form, else 0. */
+    TEXTS, /* Bytes: a text. Numbers: 1 where it is in the form, else 0. */
+    ANSI_TAPES, /* Bytes: list, store, lent buffer, the buffer after. Numbers: bytes lent, refusal, files. */
+    ANSI_PLACES /* Bytes: list, store. Numbers: bytes lent, all that are needed; refusal with them, place. */
 };
 
 /* Calls `use` with each vector of a kind; it is gone afterwards. */

@@ -2,6 +2,7 @@
 
 use crate::label::Label;
 use crate::random::{self, Random};
+use crate::random_ansi;
 use std::ptr;
 
 /// Buffers and numbers of one case; which is which, each function says.
@@ -165,6 +166,14 @@ pub extern "C" fn random_rows(seed: u64) -> Case {
     let map = random::map_case(&mut random);
     let numbers = [map.length, map.block_size, map.position];
     case_of(Vec::new(), map.numbers, &numbers)
+}
+
+/// An ANSI labelled tape. Bytes: list, store. Number: bytes lent for its files.
+#[no_mangle]
+pub extern "C" fn random_ansi(seed: u64) -> Case {
+    let mut random = Random::new(seed);
+    let case = random_ansi::case(&mut random);
+    case_of(vec![case.list, case.store], Vec::new(), &[case.room as u64])
 }
 
 /// Gives a case's buffers back.

@@ -7,6 +7,7 @@
 
 #![allow(clippy::too_many_arguments, clippy::missing_safety_doc)]
 
+use crate::ansi;
 use crate::extents::{self, FileByte};
 use crate::index::{self, File, Index, Place};
 use crate::label::{self, Label};
@@ -580,4 +581,33 @@ fn rescue(index: Side, data: Side) -> Result<[u64; 5], Refusal> {
         cut.data_kept,
         cut.generation,
     ])
+}
+
+// ---- ANSI labelled tapes ----
+
+#[no_mangle]
+pub unsafe extern "C" fn reference_ansi(
+    list: *const u8,
+    list_length: usize,
+    store: *const u8,
+    store_length: usize,
+    buffer: *mut u8,
+    buffer_length: usize,
+    count: *mut u64,
+) -> u64 {
+    let side = side(list, list_length, store, store_length);
+    let read = ansi::read(side, lent(buffer, buffer_length));
+    answer(read.map(|files| [files as u64]), count)
+}
+
+#[no_mangle]
+pub unsafe extern "C" fn reference_ansi_place(
+    list: *const u8,
+    list_length: usize,
+    store: *const u8,
+    store_length: usize,
+    place: *mut u64,
+) -> u64 {
+    let side = side(list, list_length, store, store_length);
+    answer(ansi::place(side).map(|place| [place as u64]), place)
 }

@@ -2,6 +2,7 @@
 //! specification function by function. It is meant for tests: it favours the
 //! shortest statement of a rule over speed.
 
+pub mod ansi;
 pub mod c_cases;
 pub mod c_functions;
 pub mod extents;
@@ -9,6 +10,7 @@ pub mod index;
 pub mod label;
 pub mod program;
 pub mod random;
+pub mod random_ansi;
 pub mod structure;
 pub mod tape;
 pub mod values;
@@ -49,6 +51,12 @@ pub enum Refusal {
     Argument = 14,
     /// Text too long, or too many entries or extents.
     TooLong = 15,
+    /// Not laid out as an ANSI labelled tape, or a label of it is wrong.
+    AnsiLabels = 16,
+    /// An EOV1 label in the place of EOF1.
+    EndOfVolume = 17,
+    /// EOF1's block count is not that of the data blocks present.
+    BlockCount = 18,
 }
 
 impl Refusal {

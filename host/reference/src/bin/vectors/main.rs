@@ -9,7 +9,7 @@ use reference::index::{Entry, File, Index, Place};
 use reference::label::Label;
 use reference::tape::{Letters, Side};
 use reference::values::Version;
-use reference::{extents, index, label, program, tape, volume, xml, Refusal};
+use reference::{ansi, extents, index, label, program, tape, volume, xml, Refusal};
 use std::collections::BTreeMap;
 use std::path::Path;
 
@@ -226,6 +226,19 @@ fn run(name: &str, input: &Json) -> Json {
                 Ok(block) => Json::List(vec![Json::Number(0), hex(block)]),
                 Err(refusal) => Json::List(vec![refused(refusal), hex(b"")]),
             }
+        }
+        "ansi_read" => {
+            let (list, store) = (bytes("list"), bytes("store"));
+            let mut buffer = bytes("buffer");
+            let side = Side {
+                list: &list,
+                store: &store,
+            };
+            let (refusal, files) = match ansi::read(side, &mut buffer) {
+                Ok(files) => (Json::Number(0), files),
+                Err(refusal) => (refused(refusal), 0),
+            };
+            Json::List(vec![refusal, Json::Number(files as u64), hex(&buffer)])
         }
         other => panic!("no function {other}"),
     }
