@@ -29,7 +29,7 @@ use Rattle.ansi.specs.declared.phases.Phase.the-variants as phase
 use Rattle.ansi_labels.specs.Labels.{isLabel, isNumbered, labelNumber, isVolume, isHeader2, isTrailer, blockCount, isData}
 use Rattle.ansi.specs.Layout.{TapeFile}
 use Rattle.ansi.specs.Reading.{Stage, start, volume, header, headers, blocks, trailer, second, trailers, between, done, Step, go, found, stop, passing, opening, closing, step, ending, run, ansiOf, passedOn, passedFrom, frontOf}
-use Rattle.ansi.specs.Phases.{stageOf, unfiled, known, knownAt, Small}
+use Rattle.ansi.specs.Phases.{stageOf, blockStep, markStep, unfiled, known, knownAt, Small}
 use Rattle.ansi.specs.Answers.{fileBytes, allBytes}
 use Rattle.ansi.specs.Owed.{AllRead, Stopped, WalkedAs, Walks, rowsLength, atEnd}
 use Rattle.ansi_labels.proofs.Tests.{label-length}
@@ -217,7 +217,7 @@ module _ {l s : List ℕ} {count : ℕ} {b rows : List ℕ} {place at off end : 
   room : length (allBytes (m .files)) + 36 ≤ length b
   room = omega (arith, m .few, m .sized, m .big, m .counted, m .encodes .elements)
 
-  pub matched-mark : {next : ℕ} (q : Phase) {rows′ : List ℕ} {end′ : ℕ} → MarkAt l next (m .tape) at → go (stageOf s q) ≡ unfiled (step 0 (stageOf s p) mark)
+  pub matched-mark : {next : ℕ} (q : Phase) {rows′ : List ℕ} {end′ : ℕ} → MarkAt l next (m .tape) at → go (stageOf s q) ≡ markStep s p
       → AddsAtMost 36 rows end (allBytes (knownAt s at p)) rows′ end′ → Matched l s count b rows′ next (at + 1) off end′ q
   unfolding content
   matched-mark {next} q {rows′} {end′} k z a =
@@ -239,10 +239,10 @@ module _ {l s : List ℕ} {count : ℕ} {b rows : List ℕ} {place at off end : 
       ∙ ap (λ (i : ℕ). take i (x ++ store (w .rest))) (w .size)
       ∙ take-append-seam x (store (w .rest))
 
-  step-here : {next k : ℕ} (w : BlockAt l next k (m .tape) at) → step 0 (stageOf s p) (block (take k (drop off s))) ≡ step at (stageOf s p) (block (w .bytes))
+  step-here : {next k : ℕ} (w : BlockAt l next k (m .tape) at) → blockStep s p off k ≡ step at (stageOf s p) (block (w .bytes))
   step-here w = ap (λ (x : List ℕ). step 0 (stageOf s p) (block x)) (block-here w) ∙ sym (block-step at (stageOf s p) (w .bytes))
 
-  pub matched-block : {next k : ℕ} (q : Phase) → BlockAt l next k (m .tape) at → go (stageOf s q) ≡ step 0 (stageOf s p) (block (take k (drop off s)))
+  pub matched-block : {next k : ℕ} (q : Phase) → BlockAt l next k (m .tape) at → go (stageOf s q) ≡ blockStep s p off k
       → Matched l s count b rows next (at + 1) (off + k) end q
   unfolding content allBytes
   matched-block {next} {k} q w z =
@@ -254,10 +254,9 @@ module _ {l s : List ℕ} {count : ℕ} {b rows : List ℕ} {place at off end : 
       (matched-next next (block x) (w .rest) q rows end (w .is) (w .left) (ap unfiled c) (m .holds ∙ ap (λ (y : List ℕ). written 0 y b) (sym e)) (m .ends ∙ ap length (sym e)))
 
   -- an element that can't stand
-  stopped-here : (e : Element) (rest : Tape) (r : Refusal) → drop at (m .tape) ≡ e ∷ rest → step at (stageOf s p) e ≡ stop r → (rows′ : List ℕ)
-      → (t : Tape) → Encodes l s t → Stopped t r at
+  stopped-here : (e : Element) (rest : Tape) (r : Refusal) → drop at (m .tape) ≡ e ∷ rest → step at (stageOf s p) e ≡ stop r → (t : Tape) → Encodes l s t → Stopped t r at
   unfolding ansiOf frontOf passedFrom passedOn
-  stopped-here e rest r d z rows′ t w =
+  stopped-here e rest r d z t w =
       let same : m .tape ≡ t = one-tape (m .encodes) w in
       let u : m .tape ≡ take at (m .tape) ++ (e ∷ rest) = sym (take-append-drop at (m .tape)) ∙ ap (λ (x : Tape). take at (m .tape) ++ x) d in
       rw (sym same)
@@ -266,17 +265,17 @@ module _ {l s : List ℕ} {count : ℕ} {b rows : List ℕ} {place at off end : 
         passed = ap (λ (x : Tape). passedFrom x 0 start) u ∙ reach-passed (e ∷ rest) (m .reach) ∙ rw z;
       }
 
-  pub stopped-mark : {next : ℕ} (r : Refusal) → MarkAt l next (m .tape) at → stop r ≡ unfiled (step 0 (stageOf s p) mark) → (t : Tape) → Encodes l s t → Stopped t r at
-  stopped-mark r k z = stopped-here mark (k .rest) r (k .is) (by (step at (stageOf s p) mark) (mark-step at (stageOf s p) ∙ sym z)) rows
+  pub stopped-mark : {next : ℕ} (r : Refusal) → MarkAt l next (m .tape) at → stop r ≡ markStep s p → (t : Tape) → Encodes l s t → Stopped t r at
+  stopped-mark r k z = stopped-here mark (k .rest) r (k .is) (by (step at (stageOf s p) mark) (mark-step at (stageOf s p) ∙ sym z))
     where
       by : (y : Step) → unfiled y ≡ stop r → y ≡ stop r
       by (go σ) e = e
       by (found f σ) e = let x : _≡_ {A = ℕ} 0 1 = cc in absurd (omega arith)
       by (stop q) e = e
 
-  pub stopped-block : {next k : ℕ} (r : Refusal) → BlockAt l next k (m .tape) at → stop r ≡ step 0 (stageOf s p) (block (take k (drop off s)))
+  pub stopped-block : {next k : ℕ} (r : Refusal) → BlockAt l next k (m .tape) at → stop r ≡ blockStep s p off k
       → (t : Tape) → Encodes l s t → Stopped t r at
-  stopped-block r w z = stopped-here (block (w .bytes)) (w .rest) r (w .is) (sym (z ∙ step-here w)) rows
+  stopped-block r w z = stopped-here (block (w .bytes)) (w .rest) r (w .is) (sym (z ∙ step-here w))
 
   pub small : Small p
   small = by p (m .live)

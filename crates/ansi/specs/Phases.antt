@@ -3,7 +3,7 @@ use mathlib.Core.Bool.{cond}
 use mathlib.Core.List.{List, [], _∷_}
 use Prim.Native.Nat.{ℕ, suc, _<_}
 use lib.ListN.{take, drop}
-use Rattle.tape.specs.Tape.{mark}
+use Rattle.tape.specs.Tape.{mark, block}
 use Rattle.ansi.specs.declared.phases.Phase.{Phase}
 use Rattle.ansi.specs.declared.phases.Phase.the-variants as phase
 use Rattle.ansi.specs.declared.phases.Next.{Next}
@@ -33,15 +33,23 @@ abbrev pub stepOf : List ℕ → Next → Step
 stepOf s (nextIs.Go p) = go (stageOf s p)
 stepOf s (nextIs.Stop r) = stop r
 
--- the number from which on optional labels may follow behind the block x; 0 where it is none of them
-unfoldable pub passedTo : List ℕ → List ℕ → ℕ → List ℕ → ℕ
-passedTo w u k x = cond (isNumbered w k x) (suc (labelNumber x)) (cond (isLabel u x) 10 0)
-
 -- the step without its file
 abbrev pub unfiled : Step → Step
 unfiled (go σ) = go σ
 unfiled (found f σ) = go σ
 unfiled (stop r) = stop r
+
+-- what the block of so many bytes that begins at a place of the store does in a phase
+abbrev pub blockStep : List ℕ → Phase → ℕ → ℕ → Step
+blockStep s p from len = step 0 (stageOf s p) (block (take len (drop from s)))
+
+-- what a mark does, without the file that it may make known
+abbrev pub markStep : List ℕ → Phase → Step
+markStep s p = unfiled (step 0 (stageOf s p) mark)
+
+-- the number from which on optional labels may follow behind the block x; 0 where it is none of them
+unfoldable pub passedTo : List ℕ → List ℕ → ℕ → List ℕ → ℕ
+passedTo w u k x = cond (isNumbered w k x) (suc (labelNumber x)) (cond (isLabel u x) 10 0)
 
 -- the file that a step makes known, if it does
 abbrev pub known : Step → List TapeFile

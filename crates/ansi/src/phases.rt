@@ -3,9 +3,9 @@ use refusals::Refusal;
 ghost use mathlib.Core.Path.{_≡_};
 ghost use Prim.Native.Nat.{_+_, _<_};
 ghost use lib.ListN.{take, drop};
-ghost use Rattle.tape.specs.Tape.{mark, block};
-ghost use Rattle.ansi.specs.Reading.{step, start, volume, header, headers, blocks, trailer, second, trailers, opening};
-ghost use Rattle.ansi.specs.Phases.{stageOf, stepOf, unfiled, passedTo, labelAt, Small};
+ghost use Rattle.ansi.specs.declared.phases.Phase.the-variants as is;
+ghost use Rattle.ansi.specs.Reading.{opening};
+ghost use Rattle.ansi.specs.Phases.{stepOf, blockStep, markStep, passedTo, Small};
 
 // What was read last; a label is told by its place in the store.
 pub enum Phase {
@@ -29,7 +29,7 @@ pub enum Next {
 
 // The phase behind a mark.
 pub fn after_mark(phase: Phase, store: &[u8]) -> Next
-    ensures { λ r. ⌜ stepOf (now (store .entry)) r ≡ unfiled (step 0 (stageOf (now (store .entry)) phase) mark) ⌝ }
+    ensures { λ r. ⌜ stepOf (now (store .entry)) r ≡ markStep (now (store .entry)) phase ⌝ }
 {
     match phase {
         Phase::Start => Next::Stop(Refusal::Labels),
@@ -60,7 +60,7 @@ fn passed(x: &[u8], w: &[u8], u: &[u8], k: usize) -> usize
 
 // A block at the tape's start.
 fn in_start(store: &[u8], from: usize, len: usize) -> Next
-    ensures { λ r. ⌜ stepOf (now (store .entry)) r ≡ step 0 (start) (block (take len (drop from (now (store .entry))))) ⌝ }
+    ensures { λ r. ⌜ stepOf (now (store .entry)) r ≡ blockStep (now (store .entry)) is.Start from len ⌝ }
 {
     let x = slices::part(store, from, len);
     if !ansi_labels::is_volume(x) {
@@ -82,7 +82,7 @@ fn begin_file(store: &[u8], from: usize, len: usize) -> Next
 
 // A block among the volume's labels.
 fn in_volume(store: &[u8], from: usize, len: usize, k: usize) -> Next
-    ensures { λ r. ⌜ stepOf (now (store .entry)) r ≡ step 0 (volume k) (block (take len (drop from (now (store .entry))))) ⌝ }
+    ensures { λ r. ⌜ stepOf (now (store .entry)) r ≡ blockStep (now (store .entry)) (is.Volume k) from len ⌝ }
 {
     let x = slices::part(store, from, len);
     let next = passed(x, b"VOL", b"UVL", k);
@@ -94,7 +94,7 @@ fn in_volume(store: &[u8], from: usize, len: usize, k: usize) -> Next
 
 // A block behind HDR1.
 fn in_header(store: &[u8], from: usize, len: usize, h: usize) -> Next
-    ensures { λ r. ⌜ stepOf (now (store .entry)) r ≡ step 0 (header (labelAt (now (store .entry)) h)) (block (take len (drop from (now (store .entry))))) ⌝ }
+    ensures { λ r. ⌜ stepOf (now (store .entry)) r ≡ blockStep (now (store .entry)) (is.Header h) from len ⌝ }
 {
     let x = slices::part(store, from, len);
     if !ansi_labels::is_header2(x) {
@@ -105,7 +105,7 @@ fn in_header(store: &[u8], from: usize, len: usize, h: usize) -> Next
 
 // A block among the header labels.
 fn in_headers(store: &[u8], from: usize, len: usize, h: usize, g: usize, k: usize) -> Next
-    ensures { λ r. ⌜ stepOf (now (store .entry)) r ≡ step 0 (headers (labelAt (now (store .entry)) h) (labelAt (now (store .entry)) g) k) (block (take len (drop from (now (store .entry))))) ⌝ }
+    ensures { λ r. ⌜ stepOf (now (store .entry)) r ≡ blockStep (now (store .entry)) (is.Headers h g k) from len ⌝ }
 {
     let x = slices::part(store, from, len);
     let next = passed(x, b"HDR", b"UHL", k);
@@ -118,7 +118,7 @@ fn in_headers(store: &[u8], from: usize, len: usize, h: usize, g: usize, k: usiz
 // A block among the data blocks.
 fn in_blocks(store: &[u8], from: usize, len: usize, h: usize, m: usize) -> Next
     requires { ⌜ m < 65536 ⌝ }
-    ensures { λ r. ⌜ stepOf (now (store .entry)) r ≡ step 0 (blocks (labelAt (now (store .entry)) h) m) (block (take len (drop from (now (store .entry))))) ⌝ }
+    ensures { λ r. ⌜ stepOf (now (store .entry)) r ≡ blockStep (now (store .entry)) (is.Blocks h m) from len ⌝ }
 {
     let x = slices::part(store, from, len);
     if !ansi_labels::is_data(x) {
@@ -129,7 +129,7 @@ fn in_blocks(store: &[u8], from: usize, len: usize, h: usize, m: usize) -> Next
 
 // A block behind the data blocks.
 fn in_trailer(store: &[u8], from: usize, len: usize, h: usize, m: usize) -> Next
-    ensures { λ r. ⌜ stepOf (now (store .entry)) r ≡ step 0 (trailer (labelAt (now (store .entry)) h) m) (block (take len (drop from (now (store .entry))))) ⌝ }
+    ensures { λ r. ⌜ stepOf (now (store .entry)) r ≡ blockStep (now (store .entry)) (is.Trailer h m) from len ⌝ }
 {
     let x = slices::part(store, from, len);
     if ansi_labels::is_trailer(x, slices::part(store, h, 80)) {
@@ -146,7 +146,7 @@ fn in_trailer(store: &[u8], from: usize, len: usize, h: usize, m: usize) -> Next
 
 // A block behind EOF1.
 fn in_second(store: &[u8], from: usize, len: usize) -> Next
-    ensures { λ r. ⌜ stepOf (now (store .entry)) r ≡ step 0 (second) (block (take len (drop from (now (store .entry))))) ⌝ }
+    ensures { λ r. ⌜ stepOf (now (store .entry)) r ≡ blockStep (now (store .entry)) is.Second from len ⌝ }
 {
     let x = slices::part(store, from, len);
     if !ansi_labels::is_label(x, b"EOF2") {
@@ -157,7 +157,7 @@ fn in_second(store: &[u8], from: usize, len: usize) -> Next
 
 // A block among the trailer labels.
 fn in_trailers(store: &[u8], from: usize, len: usize, k: usize) -> Next
-    ensures { λ r. ⌜ stepOf (now (store .entry)) r ≡ step 0 (trailers k) (block (take len (drop from (now (store .entry))))) ⌝ }
+    ensures { λ r. ⌜ stepOf (now (store .entry)) r ≡ blockStep (now (store .entry)) (is.Trailers k) from len ⌝ }
 {
     let x = slices::part(store, from, len);
     let next = passed(x, b"EOF", b"UTL", k);
@@ -170,7 +170,7 @@ fn in_trailers(store: &[u8], from: usize, len: usize, k: usize) -> Next
 // The phase behind the block of so many bytes that begins at a place of the store.
 pub fn after_block(phase: Phase, store: &[u8], from: usize, len: usize) -> Next
     requires { ⌜ Small phase ⌝ }
-    ensures { λ r. ⌜ stepOf (now (store .entry)) r ≡ step 0 (stageOf (now (store .entry)) phase) (block (take len (drop from (now (store .entry))))) ⌝ }
+    ensures { λ r. ⌜ stepOf (now (store .entry)) r ≡ blockStep (now (store .entry)) phase from len ⌝ }
 {
     match phase {
         Phase::Start => in_start(store, from, len),
