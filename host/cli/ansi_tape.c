@@ -89,6 +89,14 @@ struct bytes label_field(struct bytes label, size_t first, size_t last)
     return without_spaces(label_bytes(label, first, last));
 }
 
+uint64_t number_in(struct bytes digits)
+{
+    uint64_t number = 0;
+    for (size_t i = 0; i < digits.length; i++)
+        number = 10 * number + (uint64_t)(digits.start[i] - '0');
+    return number;
+}
+
 bool begins_with(struct bytes block, const char *word)
 {
     size_t length = strlen(word);
@@ -111,14 +119,6 @@ struct ansi_volume ansi_volume(const struct ansi_tape *tape)
 
 /* ---- Files ---- */
 
-static uint64_t number_of(const uint8_t *digits, int count)
-{
-    uint64_t number = 0;
-    for (int i = 0; i < count; i++)
-        number = 10 * number + (uint64_t)(digits[i] - '0');
-    return number;
-}
-
 static uint64_t first_element(const uint8_t *row)
 {
     uint64_t element = 0;
@@ -134,8 +134,8 @@ struct ansi_file ansi_file(const struct ansi_tape *tape, uint64_t number)
     struct ansi_file file = {
         .id = without_spaces(id),
         .format = (char)row[KLAPOUZEN_ANSI_FORMAT],
-        .block_length = number_of(row + KLAPOUZEN_ANSI_BLOCK_LENGTH, 5),
-        .record_length = number_of(row + KLAPOUZEN_ANSI_RECORD_LENGTH, 5),
+        .block_length = number_in((struct bytes){ row + KLAPOUZEN_ANSI_BLOCK_LENGTH, 5 }),
+        .record_length = number_in((struct bytes){ row + KLAPOUZEN_ANSI_RECORD_LENGTH, 5 }),
         .element = first_element(row),
     };
     for (uint64_t i = file.element; !tape->elements[i].is_mark; i++) {

@@ -37,6 +37,9 @@ enum { ANSI_LABEL = 80 };
 struct bytes label_bytes(struct bytes label, size_t first, size_t last);
 struct bytes label_field(struct bytes label, size_t first, size_t last);
 
+/* The number that digits say. */
+uint64_t number_in(struct bytes digits);
+
 /* Whether a block begins with a word. */
 bool begins_with(struct bytes block, const char *word);
 

@@ -137,14 +137,6 @@ static bool are_digits(struct bytes text)
     return digits;
 }
 
-static uint64_t number_in(struct bytes digits)
-{
-    uint64_t number = 0;
-    for (size_t i = 0; i < digits.length; i++)
-        number = 10 * number + (uint64_t)(digits.start[i] - '0');
-    return number;
-}
-
 /* A field of a label, by its bytes. */
 struct field {
     const char *name;
