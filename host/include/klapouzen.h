@@ -521,7 +521,7 @@ uint64_t klapouzen_rescue(const uint8_t *index_list, size_t index_list_length,
 /*
  * The files of an ANSI labelled tape. *count: how many. Each has
  * KLAPOUZEN_ANSI_FILE bytes at the front of the buffer, in tape order; the bytes
- * after them keep their values.
+ * after them keep their values. There are KLAPOUZEN_MAX_ANSI_FILES at most.
  *
  * The layout, a label being a block of 80 bytes that begins with the four named
  * here, and a user label (UVL, UHL, UTL) with three:

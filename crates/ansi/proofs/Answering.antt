@@ -21,12 +21,14 @@ use Rattle.tape.proofs.Encoding.{Bytes, encodes-read}
 use Rattle.tape.proofs.Keeping.{Present, absent-list}
 use Rattle.ansi.specs.declared.Read.{Read}
 use Rattle.ansi.specs.declared.Read.the-variants as readIs
-use Rattle.ansi.specs.Layout.{TapeFile}
+use Rattle.ansi.specs.Layout.{TapeFile, Layout, maxFiles}
 use Rattle.ansi.specs.Places.{LongestFront}
 use Rattle.ansi.specs.Reading.{ansiOf, frontOf}
 use Rattle.ansi.specs.Answers.{allBytes, roomFor, filesOn, filesAfter, ReadsFiles, frontIn, ByLayout}
 use Rattle.ansi.specs.Owed.{AllRead, Stopped, HandsOut}
+use Rattle.ansi.proofs.Form.{same-layout}
 use Rattle.ansi.proofs.Refused.{means, one-meaning, longest-front}
+use Rattle.ansi.proofs.Few.{few-files}
 
 counted-fitting : (b : Bool) (k : ℕ) (fs : List TapeFile) → k ≡ length fs
     → require b Short (answer k) ≡ andThen (require b Short (answer fs)) (λ gs. answer (length gs))
@@ -106,3 +108,19 @@ place-none l s r q t e n =
     let z : refused r ≡ answer (frontOf t) = q ∙ ap (λ (a : Answer Tape). andThen a (λ u. answer (frontOf u))) e in
     let y : _≡_ {A = ℕ} 0 1 = cc in
     absurd (omega arith)
+
+-- the number that is told is one that a tape can have
+pub few-told : (room : ℕ) (l s : List ℕ) (n : ℕ) → Bytes l → answer n ≡ andThen (filesOn room l s) (λ fs. answer (length fs)) → n ≤ maxFiles
+few-told room l s n w e = on (tapeIn l s) refl e
+  where
+    fit : (b : Bool) (t : Tape) (fs : List TapeFile) → length t ≤ maxElements → Layout t fs → answer n ≡ andThen (require b Short (answer fs)) (λ gs. answer (length gs)) → n ≤ maxFiles
+    fit true t fs small y q = let z : n ≡ length fs = same-answer q in omega (arith, few-files small y)
+    fit false t fs small y q = let z : _≡_ {A = ℕ} 0 1 = cc in absurd (omega arith)
+
+    read : (t : Tape) (a : Answer (List TapeFile)) → length t ≤ maxElements → ansiOf t ≡ a → answer n ≡ andThen (andThen a (roomFor room)) (λ fs. answer (length fs)) → n ≤ maxFiles
+    read t (refused r) small h q = let z : _≡_ {A = ℕ} 0 1 = cc in absurd (omega arith)
+    read t (answer fs) small h q = fit (leb (36 * length fs) room) t fs small (same-layout t fs .0 h) q
+
+    on : (a : Answer Tape) → tapeIn l s ≡ a → answer n ≡ andThen (andThen a (λ t. andThen (ansiOf t) (roomFor room))) (λ fs. answer (length fs)) → n ≤ maxFiles
+    on (refused r) h q = let z : _≡_ {A = ℕ} 0 1 = cc in absurd (omega arith)
+    on (answer t) h q = read t (ansiOf t) (tape-small l s t w h) refl q

@@ -7,6 +7,7 @@ pub mod Live
 pub mod Fronts
 pub mod Stops
 pub mod Refused
+pub mod Few
 pub mod Walks
 pub mod FileBytes
 pub mod Matching

@@ -63,3 +63,7 @@ pub data Layout : Tape → List TapeFile → Type 0 where
   layout : {x : List ℕ} {f : TapeFile} {fs : List TapeFile} {s s₁ s₂ : Tape} → isVolume x ≡ true
       → Optional (bytes "VOL") (bytes "UVL") 2 s s₁ → FileOn (block x ∷ s) f s₁ s₂ → Files (block x ∷ s) s₂ fs
       → Layout (block x ∷ s) (f ∷ fs)
+
+-- the most files that a tape within the bounds can have: seven elements a file, VOL1 and the further mark
+abbrev pub maxFiles : ℕ
+maxFiles = 9362

@@ -1,8 +1,9 @@
 -- `klapouzen_ansi` meets its contract: what reading answers, and that it is what the layout says.
 use mathlib.Core.Path.{sym, _∙_, ap}
+use native.Mathlib.Omega.{arith}
 use lib.ListN.{length}
 use Rattle.ansi.specs.Answers.{filesOn, readCount}
-use Rattle.ansi.proofs.Answering.{by-layout}
+use Rattle.ansi.proofs.Answering.{by-layout, few-told}
 use Rattle.api.proofs.Showing.{shown, not-shown}
 use Rattle.api.proofs.Headers.{shown-counted}
 use borrow.Author.Needs.{needs}
@@ -31,6 +32,7 @@ returns c =
       answers = shown-counted (filesOn (length (a .buffer .now)) (a .list .now) (a .store .now)) (shown (c .before .n .given .0 .0) (ap readCount (sym (c .before .n .given .1)) ∙ c .before .before .before .before .before .files .ensures .answers));
       holds = c .before .before .before .before .before .files .ensures .holds;
       layout = by-layout (length (a .buffer .now)) (a .list .now) (a .store .now) (λ i. c .before .before .before .before .before .before .before .before .before .shared-slice-known .given i .fits);
+      few = few-told (length (a .buffer .now)) (a .list .now) (a .store .now) (c .before .n .given .0 .0) (λ i. c .before .before .before .before .before .before .before .before .before .shared-slice-known .given i .fits) (ap readCount (sym (c .before .n .given .1)) ∙ c .before .before .before .before .before .files .ensures .answers);
     }
 
 same-length-2 : tie.Need-same-length-2
@@ -43,6 +45,7 @@ returns-2 c =
       answers = shown-counted (filesOn (length (a .buffer .now)) (a .list .now) (a .store .now)) (not-shown (c .before .before .r .given .0 .0) (ap readCount (sym (c .before .before .r .given .1)) ∙ c .before .before .before .before .before .before .files .ensures .answers) (c .number .ensures));
       holds = c .before .before .before .before .before .before .files .ensures .holds;
       layout = by-layout (length (a .buffer .now)) (a .list .now) (a .store .now) (λ i. c .before .before .before .before .before .before .before .before .before .before .shared-slice-known .given i .fits);
+      few = omega arith;
     }
 
 pub klapouzen-ansi-spec : {M : Type 1} → statement M
