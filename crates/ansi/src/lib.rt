@@ -86,9 +86,7 @@ fn walk(list: &[u8], store: &[u8], count: usize, out: &mut [u8]) -> Walked
                         place = next;
                         at += 1;
                     }
-                    Next::Stop(r) => {
-                        return Walked::Refused(r, at);
-                    }
+                    Next::Stop(r) => return Walked::Refused(r, at),
                 }
             }
             Entry::Block(k, next) => {
@@ -99,17 +97,11 @@ fn walk(list: &[u8], store: &[u8], count: usize, out: &mut [u8]) -> Walked
                         place = next;
                         at += 1;
                     }
-                    Next::Stop(r) => {
-                        return Walked::Refused(r, at);
-                    }
+                    Next::Stop(r) => return Walked::Refused(r, at),
                 }
             }
-            Entry::End => {
-                return Walked::Refused(Refusal::List, at);
-            }
-            Entry::Bad => {
-                return Walked::Refused(Refusal::List, at);
-            }
+            Entry::End => return Walked::Refused(Refusal::List, at),
+            Entry::Bad => return Walked::Refused(Refusal::List, at),
         }
     }
     at_end(phase, end, count)
