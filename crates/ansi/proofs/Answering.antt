@@ -30,15 +30,15 @@ use Rattle.ansi.proofs.Form.{same-layout}
 use Rattle.ansi.proofs.Refused.{means, one-meaning, longest-front}
 use Rattle.ansi.proofs.Few.{few-files}
 
-counted-fitting : (b : Bool) (k : ℕ) (fs : List TapeFile) → k ≡ length fs
+counted-room : (b : Bool) (k : ℕ) (fs : List TapeFile) → k ≡ length fs
     → require b Short (answer k) ≡ andThen (require b Short (answer fs)) (λ gs. answer (length gs))
-counted-fitting true k fs e = ap (λ (n : ℕ). answer n) e
-counted-fitting false k fs e = refl
+counted-room true k fs e = ap (λ (n : ℕ). answer n) e
+counted-room false k fs e = refl
 
-stored-fitting : (b : Bool) (fs : List TapeFile) (before : List ℕ)
+stored-room : (b : Bool) (fs : List TapeFile) (before : List ℕ)
     → cond b (written 0 (allBytes fs) before) before ≡ filesAfter (require b Short (answer fs)) before
-stored-fitting true fs before = refl
-stored-fitting false fs before = refl
+stored-room true fs before = refl
+stored-room false fs before = refl
 
 -- the rows are the files' bytes
 rows-are : (fs : List TapeFile) (b : List ℕ) → take (length (allBytes fs)) (written 0 (allBytes fs) b) ≡ allBytes fs
@@ -59,11 +59,11 @@ module _ (l s : List ℕ) (count : ℕ) (p : Present l s count) where
       let i : filesOn (length before) l s ≡ roomFor (length before) fs = files-are before fs (f .read) in
       record {
         answers = h .answers ∙ ap (λ (x : ℕ). require (leb x (length before)) Short (answer (length (take end text) / 36))) n
-            ∙ counted-fitting (leb (36 * length fs) (length before)) (length (take end text) / 36) fs k
+            ∙ counted-room (leb (36 * length fs) (length before)) (length (take end text) / 36) fs k
             ∙ ap (λ (a : Answer (List TapeFile)). andThen a (λ gs. answer (length gs))) (sym i);
         holds = h .holds ∙ ap (λ (x : List ℕ). stored 0 x before) w
             ∙ ap (λ (x : ℕ). cond (leb x (length before)) (written 0 (allBytes fs) before) before) (zero-add (length (allBytes fs)) ∙ f .sized)
-            ∙ stored-fitting (leb (36 * length fs) (length before)) fs before ∙ ap (λ (a : Answer (List TapeFile)). filesAfter a before) (sym i);
+            ∙ stored-room (leb (36 * length fs) (length before)) fs before ∙ ap (λ (a : Answer (List TapeFile)). filesAfter a before) (sym i);
       }
 
   pub reads-stopped : {place : ℕ} (before : List ℕ) (r : Refusal) → Stopped (p .tape) r place → ReadsFiles l s before before (readIs.Refused r)

@@ -1,6 +1,6 @@
 -- A file takes seven elements of the tape or more, so that a tape within the bounds has few of them.
 use Prim.Native.Nat.{ℕ, _+_, _*_, _≤_}
-use mathlib.Core.List.{List, [], _∷_}
+use mathlib.Core.List.{List}
 use native.Mathlib.Omega.{arith}
 use lib.ListN.{length}
 use Rattle.tape.specs.Tape.{Tape, maxElements}

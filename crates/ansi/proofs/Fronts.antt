@@ -15,7 +15,7 @@ use Rattle.ansi.specs.Phases.{unfiled, known}
 use Rattle.ansi.proofs.Form.{same-layout}
 use Rattle.ansi.proofs.Live.{Live, LiveAt, step-live, Ends}
 
--- reading the front t from element n and state σ on comes to element m and state τ, with the files fs made known
+-- reading the front t from element n and stage σ on comes to element m and stage τ, with the files fs made known
 pub data Reach : Tape → ℕ → Stage → ℕ → Stage → List TapeFile → Type 0 where
   here : {n : ℕ} {σ : Stage} → Reach [] n σ n σ []
   next : {e : Element} {t : Tape} {n m : ℕ} {σ τ υ : Stage} {fs : List TapeFile} → step n σ e ≡ go υ → Reach t (suc n) υ m τ fs → Reach (e ∷ t) n σ m τ fs
@@ -88,7 +88,7 @@ unfolding run follow
 follow-stop t n σ r e q = rw q
 
 module _ (front : Tape) (m : ℕ) (τ : Stage) (fs : List TapeFile) (reach : Reach front 0 start m τ fs) where
-  -- the front begins a layout where its state can be ended
+  -- the front begins a layout where its stage can be brought to an end
   pub front-begins : Ends m τ → Begins front
   unfolding ansiOf
   front-begins (t, gs, e) = (t, fs ++ gs, same-layout (front ++ t) (fs ++ gs) .0 (reach-on t gs reach e))
@@ -127,18 +127,18 @@ pub record Halt (t : Tape) (n : ℕ) (σ : Stage) (r : Refusal) : Type 0 where
   pub live : Live number state
   pub reason : Reason number state r back
 
-ended-labels : (σ : Stage) (r : Refusal) → ending σ ≡ refused r → r ≡ Labels
+ending-labels : (σ : Stage) (r : Refusal) → ending σ ≡ refused r → r ≡ Labels
 unfolding ending
-ended-labels start r e = cc
-ended-labels (volume k) r e = cc
-ended-labels (header h) r e = cc
-ended-labels (headers h g k) r e = cc
-ended-labels (blocks h m) r e = cc
-ended-labels (trailer h m) r e = cc
-ended-labels second r e = cc
-ended-labels (trailers k) r e = cc
-ended-labels between r e = cc
-ended-labels done r e = let z : _≡_ {A = ℕ} 0 1 = cc in absurd (omega arith)
+ending-labels start r e = cc
+ending-labels (volume k) r e = cc
+ending-labels (header h) r e = cc
+ending-labels (headers h g k) r e = cc
+ending-labels (blocks h m) r e = cc
+ending-labels (trailer h m) r e = cc
+ending-labels second r e = cc
+ending-labels (trailers k) r e = cc
+ending-labels between r e = cc
+ending-labels done r e = let z : _≡_ {A = ℕ} 0 1 = cc in absurd (omega arith)
 
 refused-behind : (a : Answer (List TapeFile)) (f : TapeFile) (r : Refusal) → andThen a (λ gs. answer (f ∷ gs)) ≡ refused r → a ≡ refused r
 refused-behind (refused q) f r e = cc
@@ -147,7 +147,7 @@ refused-behind (answer gs) f r e = let z : _≡_ {A = ℕ} 0 1 = cc in absurd (o
 pub halts : (t : Tape) (n : ℕ) (σ : Stage) (r : Refusal) → Live n σ → run t n σ ≡ refused r → Halt t n σ r
 unfolding run follow
 halts [] n σ r l e =
-    record { front = []; back = []; is = refl; number = n; state = σ; files = []; reach = Reach.here; live = l; reason = Reason.ends (ended-labels σ r e) }
+    record { front = []; back = []; is = refl; number = n; state = σ; files = []; reach = Reach.here; live = l; reason = Reason.ends (ending-labels σ r e) }
 halts (x ∷ t) n σ r l e = by (step n σ x) refl (step-live n σ x l) e (halts t (suc n))
   where
     go-on : (υ : Stage) (more : List TapeFile) → ((m : ℕ) (τ : Stage) (s : Tape) (gs : List TapeFile) → Reach s (suc n) υ m τ gs → Reach (x ∷ s) n σ m τ (more ++ gs))

@@ -1,4 +1,4 @@
--- The states that a reading comes to, and for each of them a tape that ends a layout from there.
+-- The stages that a reading comes to, and for each of them a tape that ends a layout from there.
 use mathlib.Core.Path.{_≡_, refl}
 use mathlib.Core.Bool.{Bool, true, false, cond}
 use mathlib.Core.List.{List, [], _∷_, _++_}
@@ -20,7 +20,7 @@ use Rattle.ansi.specs.Reading.{Stage, start, volume, header, headers, bl
 use Rattle.ansi_labels.proofs.Tests.{label-length}
 use Rattle.ansi.proofs.Counts.{counted, counted-trailer, counted-count, trailerOf, trailer-label, trailer-5-54, trailer-61-80}
 
--- what holds of a state before element n
+-- what holds of a stage before element n
 abbrev pub Live : ℕ → Stage → Type 0
 Live n start = Unit {0}
 Live n (volume k) = Unit {0}
@@ -51,13 +51,13 @@ module _ (n : ℕ) where
       (λ e. LiveAt.goes (next (suc (labelNumber x))) (f (suc (labelNumber x)) (omega (arith, leb-true k (labelNumber x) (and-left (leb k (labelNumber x)) (leb (labelNumber x) 9) (and-right (isLabel w x) (within k 9 (labelNumber x)) e))))))
       (either (isLabel u x) (λ e. LiveAt.goes (next 10) g) y)
 
-  opened-live : (x : List ℕ) → LiveAt n (opening x)
+  opening-live : (x : List ℕ) → LiveAt n (opening x)
   unfolding opening
-  opened-live x = either (isLabel (bytes "HDR1") x) (λ e. LiveAt.goes (header x) e) (LiveAt.halts Labels)
+  opening-live x = either (isLabel (bytes "HDR1") x) (λ e. LiveAt.goes (header x) e) (LiveAt.halts Labels)
 
-  closed-live : (h : List ℕ) (m : ℕ) (x : List ℕ) → LiveAt n (closing h m x)
+  closing-live : (h : List ℕ) (m : ℕ) (x : List ℕ) → LiveAt n (closing h m x)
   unfolding closing
-  closed-live h m x =
+  closing-live h m x =
       either (isTrailer h x)
       (λ e. either (eqb (blockCount x) m) (λ f. LiveAt.goes second tt) (LiveAt.halts BlockCount))
       (either (isLabel (bytes "EOV1") x) (λ f. LiveAt.halts EndOfVolume) (LiveAt.halts Labels))
@@ -67,7 +67,7 @@ unfolding step
 step-live n start mark l = LiveAt.halts Labels
 step-live n start (block x) l = either (suc n) (isVolume x) (λ e. LiveAt.goes (volume 2) tt) (LiveAt.halts Labels)
 step-live n (volume k) mark l = LiveAt.halts Labels
-step-live n (volume k) (block x) l = passing-live (suc n) (bytes "VOL") (bytes "UVL") k x volume (λ i h. tt) tt (opened-live (suc n) x)
+step-live n (volume k) (block x) l = passing-live (suc n) (bytes "VOL") (bytes "UVL") k x volume (λ i h. tt) tt (opening-live (suc n) x)
 step-live n (header h) mark l = LiveAt.halts Labels
 step-live n (header h) (block x) l = either (suc n) (isHeader2 x) (λ e. LiveAt.goes (headers h x 3) (l, e)) (LiveAt.halts Labels)
 step-live n (headers h g k) mark l = LiveAt.finds _ (blocks h 0) (l .0, omega arith)
@@ -75,13 +75,13 @@ step-live n (headers h g k) (block x) l = passing-live (suc n) (bytes "HDR") (by
 step-live n (blocks h m) mark l = LiveAt.goes (trailer h m) (l .0, omega arith)
 step-live n (blocks h m) (block x) l = either (suc n) (isData x) (λ e. LiveAt.goes (blocks h (suc m)) (l .0, omega arith)) (LiveAt.halts Labels)
 step-live n (trailer h m) mark l = LiveAt.halts Labels
-step-live n (trailer h m) (block x) l = closed-live (suc n) h m x
+step-live n (trailer h m) (block x) l = closing-live (suc n) h m x
 step-live n second mark l = LiveAt.halts Labels
 step-live n second (block x) l = either (suc n) (isLabel (bytes "EOF2") x) (λ e. LiveAt.goes (trailers 3) (omega arith)) (LiveAt.halts Labels)
 step-live n (trailers k) mark l = LiveAt.goes between tt
 step-live n (trailers k) (block x) l = passing-live (suc n) (bytes "EOF") (bytes "UTL") k x trailers (λ i b. omega arith) (omega arith) (LiveAt.halts Labels)
 step-live n between mark l = LiveAt.goes done tt
-step-live n between (block x) l = opened-live (suc n) x
+step-live n between (block x) l = opening-live (suc n) x
 step-live n done e l = LiveAt.halts Labels
 
 -- some tape ends a layout from here

@@ -38,7 +38,7 @@ use Rattle.ansi.proofs.Live.{Live, LiveAt, step-live}
 use Rattle.ansi.proofs.Fronts.{Reach, reach-next, behind, reach-run, reach-passed, follow-stop}
 use Rattle.ansi.proofs.FileBytes.{all-append, file-length}
 
--- how many of a file's seven elements, from its header mark on, a state has behind it
+-- how many of a file's seven elements, from its header mark on, a stage has behind it
 abbrev spent : Stage → ℕ
 spent start = 3
 spent (volume k) = 4
@@ -67,16 +67,16 @@ passing-spends k w u n x next s f y =
     either k (isNumbered w n x) (go (next (suc (labelNumber x)))) (cond (isLabel u x) (go (next 10)) s) (f (suc (labelNumber x)))
     (either k (isLabel u x) (go (next 10)) s (f 10) y)
 
-opened-spends : (k : ℕ) (x : List ℕ) → 5 ≤ k → Spends k (opening x)
+opening-spends : (k : ℕ) (x : List ℕ) → 5 ≤ k → Spends k (opening x)
 unfolding opening
-opened-spends k x h = either k (isLabel (bytes "HDR1") x) (go (header x)) (stop Labels) h tt
+opening-spends k x h = either k (isLabel (bytes "HDR1") x) (go (header x)) (stop Labels) h tt
 
 step-spends : (n : ℕ) (σ : Stage) (e : Element) → Live n σ → Spends (suc (spent σ)) (step n σ e)
 unfolding step closing
 step-spends n start mark l = tt
 step-spends n start (block x) l = either 4 (isVolume x) (go (volume 2)) (stop Labels) (omega arith) tt
 step-spends n (volume k) mark l = tt
-step-spends n (volume k) (block x) l = passing-spends 5 (bytes "VOL") (bytes "UVL") k x volume (opening x) (λ i. omega arith) (opened-spends 5 x (omega arith))
+step-spends n (volume k) (block x) l = passing-spends 5 (bytes "VOL") (bytes "UVL") k x volume (opening x) (λ i. omega arith) (opening-spends 5 x (omega arith))
 step-spends n (header h) mark l = tt
 step-spends n (header h) (block x) l = either 6 (isHeader2 x) (go (headers h x 3)) (stop Labels) (omega arith) tt
 step-spends n (headers h g k) mark l = (omega arith, file-length h g (suc n) (label-length (bytes "HDR1") h (l .0)) (header2-length g (l .1)))
@@ -91,7 +91,7 @@ step-spends n second (block x) l = either 3 (isLabel (bytes "EOF2") x) (go (trai
 step-spends n (trailers k) mark l = omega arith
 step-spends n (trailers k) (block x) l = passing-spends 4 (bytes "EOF") (bytes "UTL") k x trailers (stop Labels) (λ i. omega arith) tt
 step-spends n between mark l = omega arith
-step-spends n between (block x) l = opened-spends 5 x (omega arith)
+step-spends n between (block x) l = opening-spends 5 x (omega arith)
 step-spends n done e l = tt
 
 -- an element's number matters to the file that a mark makes known, and to nothing else

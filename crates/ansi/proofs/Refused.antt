@@ -81,13 +81,13 @@ not-trailer : (h x : List ℕ) → isLabel (bytes "EOV1") x ≡ true → isTrail
 unfolding isTrailer bytes same
 not-trailer h x e = rw (other-word (bytes "EOV1") (bytes "EOF1") x e refl refl)
 
-closed-eov : (h : List ℕ) (m : ℕ) (x : List ℕ) → isLabel (bytes "EOV1") x ≡ true → closing h m x ≡ stop EndOfVolume
+closing-eov : (h : List ℕ) (m : ℕ) (x : List ℕ) → isLabel (bytes "EOV1") x ≡ true → closing h m x ≡ stop EndOfVolume
 unfolding closing
-closed-eov h m x e = rw (not-trailer h x e, e)
+closing-eov h m x e = rw (not-trailer h x e, e)
 
-closed-eof : (h : List ℕ) (m : ℕ) (x : List ℕ) → isTrailer h x ≡ true → closing h m x ≡ wrong → ⊥
+closing-eof : (h : List ℕ) (m : ℕ) (x : List ℕ) → isTrailer h x ≡ true → closing h m x ≡ wrong → ⊥
 unfolding closing
-closed-eof h m x e q = by (eqb (blockCount x) m) (rw e at q)
+closing-eof h m x e q = by (eqb (blockCount x) m) (rw e at q)
   where
     by : (b : Bool) → cond b (go second) (stop BlockCount) ≡ wrong → ⊥
     by true z = go-not-wrong second z
@@ -97,7 +97,7 @@ closed-eof h m x e q = by (eqb (blockCount x) m) (rw e at q)
 not-16-eov : (n : ℕ) (x y : List ℕ) {τ : Stage} → isLabel (bytes "EOV1") x ≡ true → EofAt y τ → step n τ (block x) ≡ wrong → ⊥
 unfolding step
 not-16-eov n x y e (EofAt.in-data h m) q = go-not-wrong (blocks h (suc m)) (rw (label-data (bytes "EOV1") x e) at q)
-not-16-eov n x y e (EofAt.in-place h m f) q = 17-not-wrong (sym (closed-eov h m x e) ∙ q)
+not-16-eov n x y e (EofAt.in-place h m f) q = 17-not-wrong (sym (closing-eov h m x e) ∙ q)
 
 -- and a label EOF1 that differs in its digits alone is data or 18
 not-16-eof : (n : ℕ) (x y : List ℕ) {τ : Stage} → isLabel (bytes "EOF1") x ≡ true → every isDigit (labelPart 55 60 x) ≡ true
@@ -107,7 +107,7 @@ not-16-eof n x y e d f b (EofAt.in-data h m) q = go-not-wrong (blocks h (suc m))
 not-16-eof n x y e d f b (EofAt.in-place h m g) q =
     let p = trailer-parts h y g in
     let l : labelPart 5 54 x ≡ labelPart 5 54 y = same-5-54 x y (label-length (bytes "EOF1") x e) (label-length (bytes "EOF1") y (p .0)) (sym f) in
-    closed-eof h m x (parts-trailer h x e (l ∙ p .1) (sym b ∙ p .2) d) q
+    closing-eof h m x (parts-trailer h x e (l ∙ p .1) (sym b ∙ p .2) d) q
 
 module _ (front : Tape) (m : ℕ) (τ : Stage) (fs : List TapeFile) (reach : Reach front 0 start m τ fs) (live : Live m τ) (small : m < 1000000) where
   -- a block that could stand here doesn't stop the reading
@@ -291,12 +291,12 @@ pub means : (t : Tape) → length t ≤ maxElements → TapeMeans t (ansiOf t)
 means t b = by (ansiOf t) refl
   where
     by : (a : Answer (List TapeFile)) → ansiOf t ≡ a → TapeMeans t a
-    by (refused r) e = TapeMeans.not (refuses t r b e)
+    by (refused r) e = TapeMeans.refuses (refuses t r b e)
     by (answer fs) e = TapeMeans.laid-out (same-layout t fs .0 e)
 
 pub one-meaning : (t : Tape) (a : Answer (List TapeFile)) → length t ≤ maxElements → TapeMeans t a → ansiOf t ≡ a
 one-meaning t a b (TapeMeans.laid-out {fs} l) = same-layout t fs .1 l
-one-meaning t a b (TapeMeans.not {r} f) = same-refusal t r b .1 f
+one-meaning t a b (TapeMeans.refuses {r} f) = same-refusal t r b .1 f
 
 -- a tape that is read to its end is its own longest front
 run-passed : (t : Tape) (n : ℕ) (σ : Stage) (fs : List TapeFile) → run t n σ ≡ answer fs → passedFrom t n σ ≡ n + length t

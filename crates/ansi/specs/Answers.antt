@@ -17,9 +17,13 @@ use Rattle.ansi.specs.Layout.{TapeFile}
 use Rattle.ansi.specs.Places.{TapeMeans}
 use Rattle.ansi.specs.Reading.{ansiOf, frontOf}
 
--- the 36 bytes of a file: ID, record format, block length, record length, and the element's number in 8 bytes, high byte first
+-- the bytes of a file: ID, record format, block length, record length, and the element's number in 8 bytes, high byte first
 abbrev pub fileBytes : TapeFile → List ℕ
 fileBytes f = f .id ++ (f .format ++ (f .blockLength ++ (f .recordLength ++ bigEndian 8 (f .first))))
+
+-- how many they are
+abbrev pub fileSize : ℕ
+fileSize = 36
 
 unfoldable pub allBytes : List TapeFile → List ℕ
 allBytes [] = []
@@ -27,7 +31,7 @@ allBytes (f ∷ fs) = fileBytes f ++ allBytes fs
 
 -- files that a lent buffer of so many bytes has room for
 abbrev pub roomFor : ℕ → List TapeFile → Answer (List TapeFile)
-roomFor room fs = require (leb (36 * length fs) room) Short (answer fs)
+roomFor room fs = require (leb (fileSize * length fs) room) Short (answer fs)
 
 -- the files of the tape that a list and a store encode
 abbrev pub filesOn : ℕ → List ℕ → List ℕ → Answer (List TapeFile)

@@ -1,7 +1,7 @@
 -- What the functions of this crate owe each other: the walk over a list, its end, and the rows that are handed out.
 use mathlib.Core.Path.{_≡_}
 use mathlib.Core.List.{List}
-use Prim.Native.Nat.{ℕ, _*_, _/_, _≤_}
+use Prim.Native.Nat.{ℕ, _+_, _*_, _/_, _≤_}
 use lib.Dec.{leb}
 use lib.ListN.{length}
 use Rattle.refusals.specs.declared.Refusal.{Refusal}
@@ -15,16 +15,16 @@ use Rattle.ansi.specs.declared.Walked.the-variants as walkedIs
 use Rattle.ansi.specs.declared.phases.Phase.{Phase}
 use Rattle.ansi.specs.declared.phases.Phase.the-variants as phase
 use Rattle.ansi.specs.declared.Read.{Read}
-use Rattle.ansi.specs.Layout.{TapeFile}
+use Rattle.ansi.specs.Layout.{TapeFile, maxFiles}
 use Rattle.ansi.specs.Reading.{ansiOf, frontOf}
-use Rattle.ansi.specs.Answers.{allBytes, readCount}
+use Rattle.ansi.specs.Answers.{fileSize, allBytes, readCount}
 
 -- the walk over a list: the bytes of all files at the front of the rows, and where they end
 pub record AllRead (t : Tape) (before after : List ℕ) (end : ℕ) : Type 0 where
   pub files : List TapeFile
   pub read : ansiOf t ≡ answer files
   pub passed : frontOf t ≡ length t
-  pub sized : length (allBytes files) ≡ 36 * length files
+  pub sized : length (allBytes files) ≡ fileSize * length files
   pub room : length (allBytes files) ≤ length before
   pub ends : end ≡ length (allBytes files)
   pub holds : after ≡ written 0 (allBytes files) before
@@ -56,9 +56,9 @@ atEnd phase.Between end count = walkedIs.Refused Labels count
 
 -- the rows w put to the front of a lent buffer
 pub record HandsOut (w before after : List ℕ) (r : Read) : Type 0 where
-  pub answers : readCount r ≡ require (leb (length w) (length before)) Short (answer (length w / 36))
+  pub answers : readCount r ≡ require (leb (length w) (length before)) Short (answer (length w / fileSize))
   pub holds : after ≡ stored 0 w before
 
 -- the length of the rows: one file more than a tape can have
 abbrev pub rowsLength : ℕ
-rowsLength = 337068
+rowsLength = fileSize * (maxFiles + 1)

@@ -65,4 +65,4 @@ pub record Refuses (t : Tape) (r : Refusal) : Type 0 where
 -- what a tape is read as: the files of its layout, or a refusal
 pub data TapeMeans (t : Tape) : Answer (List TapeFile) → Type 0 where
   laid-out : {fs : List TapeFile} → Layout t fs → TapeMeans t (answer fs)
-  not : {r : Refusal} → Refuses t r → TapeMeans t (refused r)
+  refuses : {r : Refusal} → Refuses t r → TapeMeans t (refused r)

@@ -4,4 +4,4 @@ pub mod Labels
 pub mod Files
 pub mod Indexes
 pub mod Volumes
-pub mod Labelled
+pub mod Tapes

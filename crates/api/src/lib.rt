@@ -1,7 +1,7 @@
 // The functions that C calls. Each answers a refusal's number, or 0, and writes numbers to its outputs, zeros where refused.
+pub mod ansi_tapes;
 pub mod files;
 pub mod indexes;
-pub mod labelled;
 pub mod labelling;
 mod numbers;
 pub mod partitions;

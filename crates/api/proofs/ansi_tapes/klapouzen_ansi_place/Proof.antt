@@ -4,8 +4,8 @@ use Rattle.tape.specs.Answers.{counted}
 use Rattle.ansi.proofs.Answering.{place-longest, place-none}
 use Rattle.api.proofs.Showing.{shown, not-shown}
 use borrow.Author.Needs.{needs}
-use Rattle.api.proofs.labelled.klapouzen_ansi_place.Statement.{statement}
-use Rattle.api.proofs.labelled.klapouzen_ansi_place.Tie as tie
+use Rattle.api.proofs.ansi_tapes.klapouzen_ansi_place.Statement.{statement}
+use Rattle.api.proofs.ansi_tapes.klapouzen_ansi_place.Tie as tie
 
 place-requires : tie.Need-place-requires
 place-requires c κs = search needs

@@ -1,7 +1,7 @@
 // ANSI labelled tapes: their files, and where a tape leaves the layout.
 use ansi::Read;
 use tape::Checked;
-ghost use Rattle.api.specs.Labelled.{ReadsAnsi, PlacesAnsi};
+ghost use Rattle.api.specs.Tapes.{ReadsAnsi, PlacesAnsi};
 
 // The files of an ANSI labelled tape, 36 bytes each, at the front of buffer.
 #[no_mangle]

@@ -7,8 +7,8 @@ use Rattle.ansi.proofs.Answering.{by-layout, few-told}
 use Rattle.api.proofs.Showing.{shown, not-shown}
 use Rattle.api.proofs.Headers.{shown-counted}
 use borrow.Author.Needs.{needs}
-use Rattle.api.proofs.labelled.klapouzen_ansi.Statement.{statement}
-use Rattle.api.proofs.labelled.klapouzen_ansi.Tie as tie
+use Rattle.api.proofs.ansi_tapes.klapouzen_ansi.Statement.{statement}
+use Rattle.api.proofs.ansi_tapes.klapouzen_ansi.Tie as tie
 
 files-requires : tie.Need-files-requires
 files-requires c κs = search needs
