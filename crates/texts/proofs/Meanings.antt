@@ -13,6 +13,7 @@ use Rattle.slices.specs.Slices.{written}
 use Rattle.slices.proofs.Writing.{written-set, written-then}
 use Rattle.slices.proofs.Equal.{same-eq, lengths-differ}
 use Rattle.texts.specs.Decoded.{begins, Meant, meant, reference, meaning, decodedBehind, decoded, Means}
+use Rattle.slices.specs.Words.{bytes}
 
 -- a text that begins with w is no shorter
 begins-fits : (w r : List ℕ) → begins w r ≡ true → length w ≤ length r
@@ -26,7 +27,7 @@ record Fits (r : List ℕ) (m : Meant) : Type 0 where
 
 -- a reference lies in the text
 reference-fits : (r : List ℕ) → Fits r (reference r)
-unfolding reference
+unfolding reference bytes
 reference-fits r =
     word 38 (97 ∷ 109 ∷ 112 ∷ 59 ∷ []) _
     (word 60 (108 ∷ 116 ∷ 59 ∷ []) _

@@ -6,6 +6,7 @@ use Prim.Native.Nat.{ℕ, zero, suc, _+_, _<_, _≤_}
 use lib.Dec.{eqb}
 use lib.ListN.{length, take, drop}
 use Rattle.slices.specs.Slices.{within, same}
+use Rattle.slices.specs.Words.{bytes}
 use Rattle.texts.specs.declared.Spelled.{Spelled}
 use Rattle.texts.specs.declared.Spelled.the-variants.{End, Byte}
 
@@ -24,11 +25,11 @@ meant b n = record { byte = b; more = n }
 -- what an `&` before s means: `&amp;`, `&lt;`, `&gt;`, `&quot;`, `&apos;`, and itself before anything else
 unfoldable pub reference : List ℕ → Meant
 reference s =
-    cond (begins (97 ∷ 109 ∷ 112 ∷ 59 ∷ []) s) (meant 38 4)
-    (cond (begins (108 ∷ 116 ∷ 59 ∷ []) s) (meant 60 3)
-    (cond (begins (103 ∷ 116 ∷ 59 ∷ []) s) (meant 62 3)
-    (cond (begins (113 ∷ 117 ∷ 111 ∷ 116 ∷ 59 ∷ []) s) (meant 34 5)
-    (cond (begins (97 ∷ 112 ∷ 111 ∷ 115 ∷ 59 ∷ []) s) (meant 39 5) (meant 38 0)))))
+    cond (begins (bytes "amp;") s) (meant 38 4)
+    (cond (begins (bytes "lt;") s) (meant 60 3)
+    (cond (begins (bytes "gt;") s) (meant 62 3)
+    (cond (begins (bytes "quot;") s) (meant 34 5)
+    (cond (begins (bytes "apos;") s) (meant 39 5) (meant 38 0)))))
 
 -- what the byte b before s means
 unfoldable pub meaning : ℕ → List ℕ → Meant

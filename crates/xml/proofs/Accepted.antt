@@ -17,6 +17,7 @@ use Rattle.xml.proofs.Stays.{before-stay, tag-stay, keyed-stay, equals-
 use Rattle.xml.proofs.Utf8.{Tail}
 use Rattle.xml.proofs.Classes.{space-low, space-no-name, letter-no-space, letter-not}
 use Rattle.xml.proofs.Logic.{cons-head, cons-tail}
+use Rattle.slices.specs.Words.{bytes}
 
 stays : (p : Place) (ns : List (List ℕ)) → ((b : ℕ) → isSpace b ≡ true → step p ns b ≡ at p ns) → {s t : List ℕ} → Spaces s t → run (at p ns) s ≡ run (at p ns) t
 stays p ns h Spaces.end = refl
@@ -188,7 +189,7 @@ module _ (p : Place) (ns : List (List ℕ)) where
           by-tail (240 + c / 262144) 128 143 2 _ (omega arith) (lead-244 (240 + c / 262144) (omega arith)) z (Tail.next (omega arith) (omega arith) (Tail.next (omega arith) (omega arith) (Tail.last (omega arith) (omega arith))))
 
   entity-runs : (e t : List ℕ) → Entity e → run (char p ns 38) (e ++ t) ≡ run (at p ns) t
-  unfolding char run step reads
+  unfolding char run step reads bytes
   entity-runs e t Entity.amp = refl
   entity-runs e t Entity.lt = refl
   entity-runs e t Entity.gt = refl
@@ -435,5 +436,5 @@ root-run (Elements.nest {n = n} x _ y k (End.end w) v Elements.end) = nest-run [
 
 -- every text with a derivation is in the form
 pub derived-form : {f : Forest} {s : List ℕ} → Document f s → form s ≡ good
-unfolding form declaration reads
+unfolding form declaration reads bytes
 derived-form (Document.document {s = s} x y) = run-word before [] declaration s ∙ stays before [] (before-stay []) x ∙ root-run y

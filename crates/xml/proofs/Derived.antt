@@ -17,6 +17,7 @@ use Rattle.xml.proofs.Runs.{run-stop, run-to}
 use Rattle.xml.proofs.Live.{Live, LiveAt, live, step-live}
 use Rattle.xml.proofs.Utf8.{Tail, ascii, wide2, wide3-low, wide3-238, wide3-239, wide4}
 use Rattle.xml.proofs.Logic.{cons-head, cons-tail, or-cases, and-both}
+use Rattle.slices.specs.Words.{bytes}
 
 -- the elements of the innermost open element, from here on, with its end tag
 data Inner (d : ℕ) (n : List ℕ) : List ℕ → List ℕ → Type 0 where
@@ -306,6 +307,7 @@ referA : (p : Place) (ns : List (List ℕ)) (b k : ℕ) (w : List ℕ) {s : List
 referA p ns b k w e c (t, x, y) = (t, rw (eqb-true b k e, x) (c t), y)
 
 lt-gt : (p : Place) (ns : List (List ℕ)) (b : ℕ) {s : List ℕ} → (eqb b 108 ≡ true) ⊎ (eqb b 103 ≡ true) → Remains (word p (116 ∷ 59 ∷ [])) ns s → Remains (amp p) ns (b ∷ s)
+unfolding bytes
 lt-gt p ns b (inl e) o = refer p ns b 108 (116 ∷ 59 ∷ []) e (λ t. Char.reference Entity.lt) o
 lt-gt p ns b (inr e) o = refer p ns b 103 (116 ∷ 59 ∷ []) e (λ t. Char.reference Entity.gt) o
 
@@ -313,7 +315,7 @@ tag-ends : (o : Bool) (n : List ℕ) (ns : List (List ℕ)) (b : ℕ) {s : List 
 tag-ends o n ns b e (t, x, (u, y, z)) = rw (eqb-true b 47 e, x) (ends (End.end y) z)
 
 back : (p : Place) (ns : List (List ℕ)) (b : ℕ) {s : List ℕ} → Live p ns → RemainsAt (step p ns b) s → Remains p ns (b ∷ s)
-unfolding step innermost
+unfolding step innermost bytes
 back (word p []) ns b l o = no o
 back (word p (c ∷ w)) ns b l o =
     pick (eqb b c) o (λ e r. let (t, x, y) = reads-back p ns w r in (t, rw (eqb-true b c e) (ap (λ (z : List ℕ). c ∷ z) x), y)) (λ _ o. no o)
@@ -424,7 +426,7 @@ derive (b ∷ s) p ns l e = back p ns b l (go (step p ns b) refl (step-live p ns
 
 -- every text in the form has a derivation
 pub form-derives : (s : List ℕ) → form s ≡ good → (f : Forest) × Document f s
-unfolding form declaration
+unfolding form declaration bytes
 form-derives s e =
     let (t, x, y) = derive s (word before declaration) [] (tt, tt) e in
     let (u, z, w) = y in

@@ -5,6 +5,7 @@ use Prim.Native.Nat.{ℕ, zero, suc, _+_, _-_, _<_, _≤_}
 use native.Mathlib.Omega.{arith}
 use native.Mathlib.Nat.{not-suc-le-zero, le-of-suc-le-suc}
 use lib.ListN.{length, take}
+use Rattle.slices.specs.Words.{bytes}
 use Rattle.xml.specs.Bytes.{declaration}
 use Rattle.xml.specs.Machine.{Place, word, before, root, name, tag, key, keyed, equals, value, valued, slash, content, opens, closed, after, amp, ampA, more, lead239, State, stop, at, step, good, broken, ended, run, start, form}
 use Rattle.xml.proofs.Runs.{run-stop, run-to, stop-not-good}
@@ -79,7 +80,7 @@ longest (b ∷ s) p ns u l e = go (step p ns b) refl (step-live p ns b l) (longe
     go (at q ms) h (live g) k = goes b s p ns u q ms h (k q ms u g (sym (run-to p ns b s (at q ms) h) ∙ e))
 
 pub longest-run : (s : List ℕ) (u : ℕ) → form s ≡ broken u → Longest start s (length s - u)
-unfolding form declaration
+unfolding form declaration bytes
 longest-run s u e =
     let (n, z, f) = longest s (word before declaration) [] u (tt, tt) e in
     let y : length s - u ≡ n = omega (arith, z) in

@@ -11,6 +11,7 @@ use lib.ListN.{length}
 use Rattle.xml.specs.Bytes.{isSpace, isLetter, isNameByte}
 use Rattle.xml.proofs.Runs.{run-to, run-word}
 use Rattle.xml.specs.Machine.{Place, word, before, root, name, tag, key, keyed, equals, value, valued, slash, content, opens, closed, after, amp, ampA, more, lead239, Held, blank, words, children, State, stop, at, reads, char, inText, inside, tagEnd, outside, leave, innermost, noText, step, good, ended, run}
+use Rattle.slices.specs.Words.{bytes}
 
 abbrev pub Some : List (List ℕ) → Type 0
 Some [] = ⊥
@@ -97,7 +98,7 @@ leave-live (n ∷ []) = live tt
 leave-live (n ∷ m ∷ ns) = clive tt tt
 
 pub step-live : (p : Place) (ns : List (List ℕ)) (b : ℕ) → Live p ns → LiveAt (step p ns b)
-unfolding step IsLe
+unfolding step IsLe bytes
 step-live (word p []) ns b l = halt
 step-live (word p (c ∷ w)) ns b l = both (eqb b c) (reads-live p w ns (l .1)) halt
 step-live before ns b l = both (isSpace b) (live tt) (both (eqb b 60) (live tt) halt)
@@ -165,7 +166,7 @@ more-ends (suc n) p ns lo hi h e =
     (lo ∷ r .0, run-to (more p lo hi (suc n)) ns lo (r .0) (at (more p 128 191 n) ns) (simp (le-ltb lo lo (omega arith), le-ltb hi lo h, eqb·suc-zero n, y)) ∙ r .1)
 
 pub ends : (p : Place) (ns : List (List ℕ)) → Live p ns → Ends p ns
-unfolding run step reads tagEnd isSpace isLetter isNameByte leave outside ended IsLe
+unfolding run step reads tagEnd isSpace isLetter isNameByte leave outside ended IsLe bytes
 ends (word p []) ns l = absurd (l .0)
 ends (word p (c ∷ w)) ns l = let e : Ends p ns = ends p ns (l .1) in (c ∷ w ++ e .0, run-to (word p (c ∷ w)) ns c (w ++ e .0) (at (reads p w) ns) (simp (eq-eqb c c refl)) ∙ run-word p ns w (e .0) ∙ e .1)
 ends before ns l = let e : Ends (content blank) ((97 ∷ []) ∷ ns) = content-ends blank ((97 ∷ []) ∷ ns) tt in (60 ∷ 97 ∷ 62 ∷ e .0, e .1)

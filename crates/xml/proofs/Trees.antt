@@ -11,6 +11,7 @@ use Rattle.xml.specs.Bytes.{isSpace, isLetter, isNameByte, declaration}
 use Rattle.xml.specs.Tree.{Head, Forest, none, node, past, quoteAfter, front, isNot, notOpen, behind, quoted, headOf, top, pop, closed, opened, alone, put, forests}
 use Rattle.xml.specs.Grammar.{Spaces, NameBytes, Name, Char, Entity, Value, Quoted, Equals, Attribute, Start, End, Text, Elements, Document, head, utf8}
 use Rattle.xml.proofs.Classes.{space-low, space-no-name, letter-no-space, letter-not, space-not, name-not, letter-name}
+use Rattle.slices.specs.Words.{bytes}
 
 -- from s to t there is no byte x
 data Free (x : ℕ) : List ℕ → List ℕ → Type 0 where
@@ -52,7 +53,7 @@ lacks-free x (b ∷ w) t e = go (eqb b x) refl (lacks-free x w t)
     go false h ih = Free.more b (eqb-false b x h) (ih (sym (simp h) ∙ e))
 
 entity-lacks : {x : ℕ} {e : List ℕ} → Mark x → Entity e → lacks x e ≡ true
-unfolding lacks
+unfolding lacks bytes
 entity-lacks angle Entity.amp = refl
 entity-lacks angle Entity.lt = refl
 entity-lacks angle Entity.gt = refl
@@ -396,7 +397,7 @@ top-node (g ∷ fs) h k f e = ap (λ (x : Forest). x ∷ fs) e
 
 -- the tree of a derivation is read from the text behind the declaration
 pub tree-read : {f : Forest} {s : List ℕ} → Document f s → forests (drop 38 s) ≡ f ∷ []
-unfolding declaration top pop forests
+unfolding declaration top pop forests bytes
 tree-read (Document.document {h} {k} {s} {s₁} x y) =
     let (a, b) = spells y refl in
     forests-free (spaces-free (omega arith) x) ∙ top-node (forests s₁) h k none a ∙ ap (λ (fs : List Forest). node h k none ∷ fs) b

@@ -1,9 +1,41 @@
--- Bytes of the XML form (01, The XML form): white space, the bytes of names, and the declaration that a text starts with.
+-- Bytes of the XML form (01, The XML form): those with a meaning of their own, white space, the bytes of names, and the declaration that a
+-- text starts with.
 use mathlib.Core.Bool.{Bool, _||_}
-use mathlib.Core.List.{List, [], _∷_}
+use mathlib.Core.List.{List}
 use Prim.Native.Nat.{ℕ}
 use lib.Dec.{eqb}
 use Rattle.slices.specs.Slices.{within}
+use Rattle.slices.specs.Words.{bytes}
+
+-- `<` and `>`
+abbrev pub less : ℕ
+less = 60
+
+abbrev pub greater : ℕ
+greater = 62
+
+-- `]`
+abbrev pub bracket : ℕ
+bracket = 93
+
+-- `/`
+abbrev pub slash : ℕ
+slash = 47
+
+-- `&`
+abbrev pub ampersand : ℕ
+ampersand = 38
+
+-- `=`
+abbrev pub equality : ℕ
+equality = 61
+
+-- `"` and `'`
+abbrev pub doubleQuote : ℕ
+doubleQuote = 34
+
+abbrev pub singleQuote : ℕ
+singleQuote = 39
 
 -- space, tab, CR, LF
 unfoldable pub isSpace : ℕ → Bool
@@ -19,6 +51,4 @@ isNameByte b = isLetter b || within 48 57 b || eqb b 95 || eqb b 45 || eqb b 46
 
 -- the 38 bytes `<?xml version="1.0" encoding="UTF-8"?>`
 unfoldable pub declaration : List ℕ
-declaration =
-    60 ∷ 63 ∷ 120 ∷ 109 ∷ 108 ∷ 32 ∷ 118 ∷ 101 ∷ 114 ∷ 115 ∷ 105 ∷ 111 ∷ 110 ∷ 61 ∷ 34 ∷ 49 ∷ 46 ∷ 48 ∷ 34 ∷ 32 ∷ 101
-    ∷ 110 ∷ 99 ∷ 111 ∷ 100 ∷ 105 ∷ 110 ∷ 103 ∷ 61 ∷ 34 ∷ 85 ∷ 84 ∷ 70 ∷ 45 ∷ 56 ∷ 34 ∷ 63 ∷ 62 ∷ []
+declaration = bytes "<?xml version=\"1.0\" encoding=\"UTF-8\"?>"

@@ -6,7 +6,8 @@ use mathlib.Core.List.{List, [], _∷_, _++_}
 use Prim.Native.Nat.{ℕ, suc, _+_, _/_, _%_}
 use lib.Dec.{ltb, eqb}
 use Rattle.slices.specs.Slices.{within}
-use Rattle.xml.specs.Bytes.{isSpace, isLetter, isNameByte, declaration}
+use Rattle.slices.specs.Words.{bytes}
+use Rattle.xml.specs.Bytes.{less, greater, bracket, slash, ampersand, equality, doubleQuote, singleQuote, isSpace, isLetter, isNameByte, declaration}
 use Rattle.xml.specs.Tree.{Head, Forest, none, node}
 
 -- white space, or nothing
@@ -36,16 +37,16 @@ utf8 c =
 
 -- a reference behind its `&`: `amp;`, `lt;`, `gt;`, `quot;`, `apos;`
 pub data Entity : List ℕ → Type 0 where
-  amp : Entity (97 ∷ 109 ∷ 112 ∷ 59 ∷ [])
-  lt : Entity (108 ∷ 116 ∷ 59 ∷ [])
-  gt : Entity (103 ∷ 116 ∷ 59 ∷ [])
-  quot : Entity (113 ∷ 117 ∷ 111 ∷ 116 ∷ 59 ∷ [])
-  apos : Entity (97 ∷ 112 ∷ 111 ∷ 115 ∷ 59 ∷ [])
+  amp : Entity (bytes "amp;")
+  lt : Entity (bytes "lt;")
+  gt : Entity (bytes "gt;")
+  quot : Entity (bytes "quot;")
+  apos : Entity (bytes "apos;")
 
 -- a character other than `<` and `&`, or a reference
 pub data Char : List ℕ → List ℕ → Type 0 where
-  char : (c : ℕ) {s t : List ℕ} → isChar c ≡ true → (c ≡ 60 → ⊥) → (c ≡ 38 → ⊥) → s ≡ utf8 c ++ t → Char s t
-  reference : {e t : List ℕ} → Entity e → Char (38 ∷ e ++ t) t
+  char : (c : ℕ) {s t : List ℕ} → isChar c ≡ true → (c ≡ less → ⊥) → (c ≡ ampersand → ⊥) → s ≡ utf8 c ++ t → Char s t
+  reference : {e t : List ℕ} → Entity e → Char (ampersand ∷ e ++ t) t
 
 -- the rest of an attribute's value in the quotes q, with the quote that ends it
 pub data Value (q : ℕ) : List ℕ → List ℕ → Type 0 where
@@ -54,12 +55,12 @@ pub data Value (q : ℕ) : List ℕ → List ℕ → Type 0 where
 
 -- the value v in double or single quotes
 pub data Quoted (v : List ℕ) : List ℕ → List ℕ → Type 0 where
-  double : {s t : List ℕ} → Value 34 s t → s ≡ v ++ 34 ∷ t → Quoted v (34 ∷ s) t
-  single : {s t : List ℕ} → Value 39 s t → s ≡ v ++ 39 ∷ t → Quoted v (39 ∷ s) t
+  double : {s t : List ℕ} → Value doubleQuote s t → s ≡ v ++ doubleQuote ∷ t → Quoted v (doubleQuote ∷ s) t
+  single : {s t : List ℕ} → Value singleQuote s t → s ≡ v ++ singleQuote ∷ t → Quoted v (singleQuote ∷ s) t
 
 -- `=`, with white space around it
 pub data Equals : List ℕ → List ℕ → Type 0 where
-  equals : {s s₁ t : List ℕ} → Spaces s (61 ∷ s₁) → Spaces s₁ t → Equals s t
+  equals : {s s₁ t : List ℕ} → Spaces s (equality ∷ s₁) → Spaces s₁ t → Equals s t
 
 -- at most one attribute, behind white space: its name and its value, both empty where there is none
 pub data Attribute : List ℕ → List ℕ → List ℕ → List ℕ → Type 0 where
@@ -68,16 +69,16 @@ pub data Attribute : List ℕ → List ℕ → List ℕ → List ℕ → Type 0 
 
 -- a start tag or an empty-element tag, up to its `>` or `/>`
 pub data Start (n k v : List ℕ) : List ℕ → List ℕ → Type 0 where
-  start : {s s₁ t : List ℕ} → Name n → Attribute k v s s₁ → Spaces s₁ t → Start n k v (60 ∷ n ++ s) t
+  start : {s s₁ t : List ℕ} → Name n → Attribute k v s s₁ → Spaces s₁ t → Start n k v (less ∷ n ++ s) t
 
 -- an end tag
 pub data End (n : List ℕ) : List ℕ → List ℕ → Type 0 where
-  end : {s t : List ℕ} → Spaces s (62 ∷ t) → End n (60 ∷ 47 ∷ n ++ s) t
+  end : {s t : List ℕ} → Spaces s (greater ∷ t) → End n (less ∷ slash ∷ n ++ s) t
 
 -- characters and references, `]]>` nowhere
 pub data Text : List ℕ → List ℕ → Type 0 where
   end : {s : List ℕ} → Text s s
-  more : {s s₁ t : List ℕ} → ((r : List ℕ) → s ≡ 93 ∷ 93 ∷ 62 ∷ r → ⊥) → Char s s₁ → Text s₁ t → Text s t
+  more : {s s₁ t : List ℕ} → ((r : List ℕ) → s ≡ bracket ∷ bracket ∷ greater ∷ r → ⊥) → Char s s₁ → Text s₁ t → Text s t
 
 abbrev pub head : List ℕ → List ℕ → List ℕ → List ℕ → Head
 head n k v w = record { name = n; key = k; value = v; text = w }
@@ -86,11 +87,11 @@ head n k v w = record { name = n; key = k; value = v; text = w }
 -- has elements with only white space besides them; its text reaches to its first tag
 pub data Elements : ℕ → Forest → List ℕ → List ℕ → Type 0 where
   end : {d : ℕ} {s : List ℕ} → Elements d none s s
-  empty : {d : ℕ} {f : Forest} {n k v s s₁ s₂ t : List ℕ} → Start n k v s (47 ∷ 62 ∷ s₁) → Spaces s₁ s₂ → Elements (suc d) f s₂ t
+  empty : {d : ℕ} {f : Forest} {n k v s s₁ s₂ t : List ℕ} → Start n k v s (slash ∷ greater ∷ s₁) → Spaces s₁ s₂ → Elements (suc d) f s₂ t
       → Elements (suc d) (node (head n k v []) none f) s t
-  text : {d : ℕ} {f : Forest} {n k v w s s₁ s₂ s₃ s₄ t : List ℕ} → Start n k v s (62 ∷ s₁) → s₁ ≡ w ++ s₂ → Text s₁ s₂ → End n s₂ s₃
+  text : {d : ℕ} {f : Forest} {n k v w s s₁ s₂ s₃ s₄ t : List ℕ} → Start n k v s (greater ∷ s₁) → s₁ ≡ w ++ s₂ → Text s₁ s₂ → End n s₂ s₃
       → Spaces s₃ s₄ → Elements (suc d) f s₄ t → Elements (suc d) (node (head n k v w) none f) s t
-  nest : {d : ℕ} {g f : Forest} {n k v w s s₁ s₂ s₃ s₄ s₅ t : List ℕ} → Start n k v s (62 ∷ s₁) → s₁ ≡ w ++ s₂ → Spaces s₁ s₂ → Elements d g s₂ s₃
+  nest : {d : ℕ} {g f : Forest} {n k v w s s₁ s₂ s₃ s₄ s₅ t : List ℕ} → Start n k v s (greater ∷ s₁) → s₁ ≡ w ++ s₂ → Spaces s₁ s₂ → Elements d g s₂ s₃
       → End n s₃ s₄ → Spaces s₄ s₅ → Elements (suc d) f s₅ t → Elements (suc d) (node (head n k v w) g f) s t
 
 -- the declaration, one root element, white space around it

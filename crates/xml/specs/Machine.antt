@@ -6,6 +6,7 @@ use Prim.Native.Nat.{ℕ, suc, _+_, _-_, min}
 use lib.ListN.{length}
 use lib.Dec.{leb, ltb, eqb}
 use Rattle.refusals.specs.Refusals.{Answer, require}
+use Rattle.slices.specs.Words.{bytes}
 use Rattle.refusals.specs.declared.Refusal.the-variants.{Form}
 use Rattle.xml.specs.Bytes.{isSpace, isLetter, isNameByte, declaration}
 use Rattle.xml.specs.declared.Checked.{Checked}
@@ -120,11 +121,11 @@ step closed ns b = cond (isSpace b) (at closed ns) (cond (eqb b 62) (leave ns) s
 step after ns b = cond (isSpace b) (at after ns) stop
 step (amp p) ns b =
     cond (eqb b 97) (at (ampA p) ns)
-    (cond (eqb b 108 || eqb b 103) (at (word p (116 ∷ 59 ∷ [])) ns)
-    (cond (eqb b 113) (at (word p (117 ∷ 111 ∷ 116 ∷ 59 ∷ [])) ns) stop))
+    (cond (eqb b 108 || eqb b 103) (at (word p (bytes "t;")) ns)
+    (cond (eqb b 113) (at (word p (bytes "uot;")) ns) stop))
 step (ampA p) ns b =
-    cond (eqb b 109) (at (word p (112 ∷ 59 ∷ [])) ns)
-    (cond (eqb b 112) (at (word p (111 ∷ 115 ∷ 59 ∷ [])) ns) stop)
+    cond (eqb b 109) (at (word p (bytes "p;")) ns)
+    (cond (eqb b 112) (at (word p (bytes "os;")) ns) stop)
 step (more p lo hi n) ns b =
     cond (ltb b lo) stop (cond (ltb hi b) stop (cond (eqb n 0) (at p ns) (at (more p 128 191 (n - 1)) ns)))
 step (lead239 p) ns b =

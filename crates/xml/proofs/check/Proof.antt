@@ -2,6 +2,7 @@
 use mathlib.Core.Path.{refl, ap, _∙_, sym}
 use mathlib.Core.List.{[]}
 use borrow.Author.Needs.{needs}
+use Rattle.slices.specs.Words.{bytes}
 use Rattle.xml.specs.Bytes.{isSpace, isLetter, isNameByte, declaration}
 use Rattle.xml.specs.Machine.{before, at, reads, form}
 use Rattle.xml.specs.Scans.{isText, kindOf, goesOn}
@@ -29,11 +30,11 @@ enum-known-u : tie.Need-enum-known-u
 enum-known-u c = search needs
 
 returns : tie.Need-returns
-unfolding form declaration reads
+unfolding form declaration reads bytes
 returns c = c .root .ensures ∙ sym (c .before .before .before .before .before .word-end .ensures before .runs [] ∙ ap (goesOn (c .before .before .before .before .before .before .before .before .args .text .now) (at before [])) (c .before .before .before .j .given .1))
 
 returns-2 : tie.Need-returns-2
-unfolding form declaration reads
+unfolding form declaration reads bytes
 returns-2 c = sym (c .before .before .before .word-end .ensures before .runs [] ∙ ap (goesOn (c .before .before .before .before .before .before .args .text .now) (at before [])) (c .before .u .given .1))
 
 pub check-spec : {M : Type 1} → statement M
