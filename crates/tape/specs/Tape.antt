@@ -2,9 +2,10 @@
 use mathlib.Core.Path.{_≡_}
 use mathlib.Core.Bool.{Bool, true, _&&_}
 use mathlib.Core.List.{List, [], _∷_, _++_}
-use Prim.Native.Nat.{ℕ, _/_, _%_, _≤_}
+use Prim.Native.Nat.{ℕ, _≤_}
 use lib.ListN.{length}
 use Rattle.slices.specs.Slices.{within}
+use Rattle.big_endian.specs.BigEndian.{bigEndian}
 
 -- an element: a file mark, or a block with its bytes
 pub data Element : Type 0 where
@@ -33,7 +34,7 @@ blockKind = 2
 
 -- a number in four bytes, high byte first
 abbrev pub fourBytes : ℕ → List ℕ
-fourBytes n = (n / 16777216) ∷ (n / 65536 % 256) ∷ (n / 256 % 256) ∷ (n % 256) ∷ []
+fourBytes n = bigEndian 4 n
 
 -- an element in the list: its kind byte and its body, none or a block's length
 unfoldable pub entry : Cell → List ℕ
