@@ -5,6 +5,7 @@ use mathlib.Core.List.{List, [], _∷_, _++_}
 use Prim.Native.Nat.{ℕ, _≤_}
 use lib.ListN.{length}
 use Rattle.slices.specs.Slices.{within}
+pub use Rattle.quantities.specs.Sizes.{maxBlock}
 use Rattle.big_endian.specs.BigEndian.{bigEndian}
 
 -- an element: a file mark, or a block with its bytes
@@ -54,12 +55,9 @@ unfoldable pub store : Tape → List ℕ
 store [] = []
 store (e ∷ t) = content e ++ store t
 
--- the bounds
+-- the bounds, with that of a block
 abbrev pub maxElements : ℕ
 maxElements = 65536
-
-abbrev pub maxBlock : ℕ
-maxBlock = 1048576
 
 abbrev pub maxStore : ℕ
 maxStore = 16777216
