@@ -6,9 +6,9 @@ use Rattle.refusals.specs.declared.Refusal.the-variants.{Caller}
 use Rattle.refusals.specs.Refusals.{Answer, answer, require, andThen}
 use Rattle.quantities.specs.Sizes.{isBlockSize}
 use Rattle.tape.specs.Tape.{Tape}
-use Rattle.tape.specs.Answers.{tapeIn, Lengths, lengths, keeping, Place}
+use Rattle.tape.specs.Answers.{tapeIn, Lengths, lengths, keeping, Place, placeOf, blockOf, Holds}
 use Rattle.constructs.specs.Constructs.{standing}
-use Rattle.api.specs.Outputs.{bit}
+use Rattle.api.specs.Outputs.{Shown, bit}
 use lib.ListN.{length}
 
 -- how many bytes of the list and of the store n elements keep
@@ -21,6 +21,11 @@ fronts f = f .list ∷ f .store ∷ []
 -- the side, 0 for the index side and 1 for the data side; where the block begins in that side's store, and its length
 abbrev pub place : Place → List ℕ
 place p = bit (not (p .onIndex)) ∷ p .from ∷ p .size ∷ []
+
+-- what asking for a block shows: its place, which holds it
+pub record ShowsPlace (i d letter n : ℕ) (l s l′ s′ : List ℕ) (returned : ℕ) (outputs : List ℕ) : Type 0 where
+  pub shown : Shown 3 place (placeOf i d letter n l s l′ s′) returned outputs
+  pub holds : Holds s s′ (placeOf i d letter n l s l′ s′) (blockOf i d letter n l s l′ s′)
 
 -- the elements of a partition that is asked for its constructs: 14 for the block size, then 1
 abbrev pub sizedIn : ℕ → List ℕ → List ℕ → Answer Tape

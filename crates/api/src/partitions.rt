@@ -6,10 +6,10 @@ use tape::Checked;
 use tape::Kept;
 use tape::Located;
 ghost use mathlib.Core.Path.{_≡_};
-ghost use Rattle.tape.specs.Answers.{elementCount, tapeIn, placeOf};
+ghost use Rattle.tape.specs.Answers.{elementCount};
 ghost use Rattle.constructs.specs.Tables.{tableAfter};
 ghost use Rattle.api.specs.Outputs.{Shown, one};
-ghost use Rattle.api.specs.Partitions.{keptOf, fronts, place, sizedIn, standingCount};
+ghost use Rattle.api.specs.Partitions.{keptOf, fronts, ShowsPlace, sizedIn, standingCount};
 
 // The number of elements of a partition.
 #[no_mangle]
@@ -58,7 +58,7 @@ pub extern "C" fn klapouzen_block(
     number: u64,
     out: &mut [u64; 3],
 ) -> u64
-    ensures { λ r. ⌜ Shown 3 place (placeOf «index_letter» «data_letter» letter number (tapeIn (now («index_list» .entry)) (now («index_store» .entry))) (tapeIn (now («data_list» .entry)) (now («data_store» .entry)))) r (now (out .exit)) ⌝ }
+    ensures { λ r. ⌜ ShowsPlace «index_letter» «data_letter» letter number (now («index_list» .entry)) (now («index_store» .entry)) (now («data_list» .entry)) (now («data_store» .entry)) r (now (out .exit)) ⌝ }
 {
     match tape::find_block(
         index_list,

@@ -2,16 +2,20 @@
 -- verdict and cut). B is the block size.
 use mathlib.Core.Bool.{Bool, true, false, not, cond}
 use mathlib.Core.List.{List, [], _∷_, _++_}
-use Prim.Native.Nat.{ℕ, zero, suc}
+use Prim.Native.Nat.{ℕ, zero, suc, _/_}
 use lib.ListN.{length}
 use lib.Dec.{ltb, eqb}
-use Rattle.tape.specs.Tape.{Element, mark, block, Tape}
+use Rattle.tape.specs.Tape.{Element, mark, block, Tape, maxElements}
 
 -- an index construct that stands: the number of its first block, the number of elements through its closing mark, and its text
 pub record Construct : Type 0 where
   pub first : ℕ
   pub upTo : ℕ
   pub text : List ℕ
+
+-- the most constructs of a partition: each has a mark, a block and a mark
+abbrev pub maxConstructs : ℕ
+maxConstructs = maxElements / 3
 
 -- where the next element stands: among the four of the labels, so many of them after it; in a data run; in an index run, with the number
 -- of its first element, its bytes so far, and whether a block shorter than B was met; or behind the first defect

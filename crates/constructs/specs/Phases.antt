@@ -4,6 +4,8 @@ use mathlib.Core.List.{List, [], _∷_}
 use Prim.Native.Nat.{ℕ, _+_, _-_, _*_, _<_, _≤_}
 use lib.Dec.{ltb, eqb}
 use lib.Seq.{sets}
+use Rattle.tape.specs.Tape.{maxElements, maxStore}
+use Rattle.constructs.specs.Constructs.{maxConstructs}
 use Rattle.constructs.specs.declared.Phase.{Phase}
 use Rattle.constructs.specs.declared.Phase.the-variants.{Labels, Data, Index, Defect}
 
@@ -37,11 +39,11 @@ closedTable table n Defect at off = table
 
 -- there is room in the table, and the numbers fit it
 pub record Fitting (n first end from to : ℕ) : Type 0 where
-  pub few : n < 21845
-  pub inFirst : first ≤ 65536
-  pub inEnd : end ≤ 65536
-  pub inFrom : from ≤ 16777216
-  pub inTo : to ≤ 16777216
+  pub few : n < maxConstructs
+  pub inFirst : first ≤ maxElements
+  pub inEnd : end ≤ maxElements
+  pub inFrom : from ≤ maxStore
+  pub inTo : to ≤ maxStore
 
 abbrev pub Roomy : ℕ → Phase → ℕ → ℕ → Type 0
 Roomy n (Index first from short) at off = Fitting n first (at + 1) from off

@@ -12,7 +12,11 @@ use Rattle.refusals.specs.Refusals.{Answer, refused, answer, andThen}
 use Rattle.constructs.specs.declared.Place.{Place}
 use Rattle.constructs.specs.declared.Scanned.{Scanned}
 use Rattle.constructs.specs.declared.Scanned.the-variants as scannedIs
-use Rattle.constructs.specs.Constructs.{Construct, standing}
+use Rattle.constructs.specs.Constructs.{Construct, maxConstructs, standing}
+
+-- the numbers of a table that has room for all
+abbrev pub tableLength : ℕ
+tableLength = maxConstructs * 4
 
 -- a construct: its first block's number, the number of elements through its closing mark, and where its text begins and ends in the store
 abbrev pub entry : Tape → Construct → List ℕ
@@ -47,5 +51,5 @@ pub record Scans (B : ℕ) (l s before after : List ℕ) (r : Scanned) : Type 0 
 -- the construct with number k of a table
 abbrev pub placeIn : List ℕ → ℕ → Place
 placeIn table k =
-    cond (leb 21845 k) (record { first = 0; end = 0; from = 0; to = 0 })
+    cond (leb maxConstructs k) (record { first = 0; end = 0; from = 0; to = 0 })
     (record { first = getD table (k * 4) 0; end = getD table (k * 4 + 1) 0; from = getD table (k * 4 + 2) 0; to = getD table (k * 4 + 3) 0 })

@@ -10,9 +10,15 @@ pub mod reach;
 use refusals::Refusal;
 use tape::Checked;
 use tape::Entry;
+ghost use Rattle.tape.specs.Tape.{maxElements};
 ghost use Rattle.tape.specs.Answers.{Encoded};
 ghost use Rattle.constructs.specs.Tables.{Finds, Scans, placeIn};
 ghost use Rattle.constructs.specs.Phases.{pastLabels, afterMark, afterBlock, closedCount, closedTable, Roomy, Fitting};
+
+// The most standing constructs of a partition, and the numbers of a table of them, four for each.
+pub const CONSTRUCTS: usize = 21845;
+
+pub const NUMBERS: usize = 87380;
 
 // Where the next element stands: among the four of the labels, so many after it there; in a data run; in an index run, with its first
 // element, where its bytes begin in the store, and whether a short block was met; behind the first defect.
@@ -29,7 +35,7 @@ enum Phase {
 
 // The phase behind a mark, element at, with off bytes of blocks before it.
 fn after_mark(phase: Phase, at: usize, off: usize) -> Phase
-    requires { ⌜ at < 65536 ⌝ }
+    requires { ⌜ at < maxElements ⌝ }
     ensures { λ r. ⌜ r ≡ afterMark phase at off ⌝ }
 {
     match phase {
@@ -88,7 +94,7 @@ fn after_block(phase: Phase, size: usize, n: usize) -> Phase
 }
 
 // Puts a construct into the table behind the n that are there.
-fn enter(table: &mut [u32; 87380], n: usize, first: usize, end: usize, from: usize, to: usize)
+fn enter(table: &mut [u32; NUMBERS], n: usize, first: usize, end: usize, from: usize, to: usize)
     requires { ⌜ Fitting n first end from to ⌝ }
     ensures { λ r. ⌜ now (table .exit) ≡ sets (now (table .entry)) (n * 4) (first ∷ end ∷ from ∷ to ∷ []) ⌝ }
 {
@@ -100,7 +106,7 @@ fn enter(table: &mut [u32; 87380], n: usize, first: usize, end: usize, from: usi
 }
 
 // Puts the construct that a mark, element at, closes into the table behind the n that are there; the number that are there then.
-fn close(table: &mut [u32; 87380], n: usize, phase: Phase, at: usize, off: usize) -> usize
+fn close(table: &mut [u32; NUMBERS], n: usize, phase: Phase, at: usize, off: usize) -> usize
     requires { ⌜ Roomy n phase at off ⌝ }
     ensures { λ r. ⌜ (r ≡ closedCount n phase at) × (now (table .exit) ≡ closedTable (now (table .entry)) n phase at off) ⌝ }
 {
@@ -123,7 +129,7 @@ fn close(table: &mut [u32; 87380], n: usize, phase: Phase, at: usize, off: usize
 }
 
 // Puts the standing constructs of a list of so many elements into the table; their number.
-fn fill(list: &[u8], store: &[u8], count: usize, size: usize, table: &mut [u32; 87380]) -> usize
+fn fill(list: &[u8], store: &[u8], count: usize, size: usize, table: &mut [u32; NUMBERS]) -> usize
     requires { ⌜ Encoded (now list) (now store) count ⌝ }
     ensures { λ r. ⌜ Finds size (now (list .entry)) (now (store .entry)) (now (table .entry)) (now (table .exit)) r ⌝ }
 {
@@ -165,7 +171,7 @@ pub enum Scanned {
 
 // Puts the standing constructs of a partition into a table, four numbers for each: its first block, the elements through its closing
 // mark, and where its text begins and ends in the store.
-pub fn scan(list: &[u8], store: &[u8], block_size: usize, table: &mut [u32; 87380]) -> Scanned
+pub fn scan(list: &[u8], store: &[u8], block_size: usize, table: &mut [u32; NUMBERS]) -> Scanned
     ensures { λ r. ⌜ Scans «block_size» (now (list .entry)) (now (store .entry)) (now (table .entry)) (now (table .exit)) r ⌝ }
 {
     match tape::check(list, store) {
@@ -195,10 +201,10 @@ fn wide(x: u32) -> usize
 }
 
 // The construct with number k of a table.
-pub fn construct(table: &[u32; 87380], k: usize) -> Place
+pub fn construct(table: &[u32; NUMBERS], k: usize) -> Place
     ensures { λ r. ⌜ r ≡ placeIn (now (table .entry)) k ⌝ }
 {
-    if 21845 <= k {
+    if CONSTRUCTS <= k {
         return Place {
             first: 0,
             end: 0,

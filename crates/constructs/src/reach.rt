@@ -7,6 +7,7 @@ ghost use Prim.Native.Nat.{_+_, _≤_, _<_, _/_, _-_};
 ghost use mathlib.Core.List.{_++_};
 ghost use lib.ListN.{take, drop, length, getD};
 ghost use Rattle.constructs.specs.Reach.{reachOne, labelsAfter, evenAfter, dataLength, PutsLengths, reaches, sumOf, Reaches, liesBy};
+ghost use Rattle.tape.specs.Tape.{maxStore};
 ghost use Rattle.tape.specs.Answers.{Encoded};
 
 fn labels_after(k: usize) -> usize
@@ -88,7 +89,7 @@ fn put_lengths(list: &[u8], store: &[u8], count: usize, table: &mut [u32])
 
 // Turns the lengths at the front of the table into how far data blocks reach, from the last element back.
 fn extend(count: usize, size: usize, table: &mut [u32])
-    requires { ⌜ (count ≤ length (now table)) × (sumOf (take count (now table)) ≤ 16777216) ⌝ }
+    requires { ⌜ (count ≤ length (now table)) × (sumOf (take count (now table)) ≤ maxStore) ⌝ }
     ensures { λ r. ⌜ now (table .exit) ≡ reaches size (take count (now (table .entry))) ++ drop count (now (table .entry)) ⌝ }
 {
     let mut i = count;

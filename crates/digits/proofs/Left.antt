@@ -1,70 +1,47 @@
--- The digits of n that are left, those of v, while its last ones are taken off one by one.
-use mathlib.Core.Path.{_≡_, ap, ap₂, sym, _∙_}
-use mathlib.Core.List.{List, [], _∷_, _++_, append-nil, append-assoc}
-use Prim.Native.Nat.{ℕ, _+_, _-_, _/_, _%_, _<_, _≤_}
+-- Runs of digits written from the last one on: the digits that are left, while the last ones are stored one by one. Over the base, the width
+-- and the bytes that stand for the digits.
+use mathlib.Core.Path.{_≡_, refl, ap, ap₂, sym, _∙_}
+use mathlib.Core.List.{List, [], _∷_, _++_, map, map-append, append-assoc}
+use Prim.Native.Nat.{ℕ, zero, suc, _+_, _-_, _/_, _%_, _<_, _≤_}
 use native.Mathlib.Omega.{arith}
-use lib.ListN.{length, drop, set, length-drop}
-use lib.Seq.{drop-length, drop-at}
+use lib.ListN.{length, take, drop, set, length-append, length-set, length-map}
+use lib.Seq.{take-set-le, drop-cons, drop-set-lt, getD-set-same, append-snoc}
 use Rattle.slices.specs.Slices.{written}
-use Rattle.slices.proofs.Writing.{written-cons}
-use Rattle.digits.specs.Decimal.{byteOf, short}
-use Rattle.digits.proofs.Short.{short-one, short-more, length-one, length-more}
+use Rattle.slices.proofs.Writing.{written-nil}
+use Rattle.digits.specs.Runs.{digits}
+use Rattle.digits.proofs.Values.{length-digits}
 
--- i digits of n are left, and they are v's
-pub record Left (n v i : ℕ) : Type 0 where
-  pub count : i ≡ length (short v)
-  pub front : short n ≡ short v ++ drop i (short n)
+-- a run's last byte may be stored before the others are written
+last-first : (at x : ℕ) (w b : List ℕ) → at + length w < length b → written at w (set b (at + length w) x) ≡ written at (w ++ (x ∷ [])) b
+unfolding written
+last-first at x w b h =
+    let n : length (set b (at + length w) x) ≡ length b = length-set b (at + length w) x in
+    let m : length (w ++ (x ∷ [])) ≡ length w + 1 = length-append w (x ∷ []) in
+    let e : suc (at + length w) ≡ at + length (w ++ (x ∷ [])) = omega arith in
+    ap (λ (l : List ℕ). l ++ w ++ drop (at + length w) (set b (at + length w) x)) (take-set-le at b (at + length w) x (omega arith))
+    ∙ ap (λ (l : List ℕ). take at b ++ w ++ l)
+    (drop-cons (set b (at + length w) x) (at + length w) 0 (omega arith)
+    ∙ ap₂ _∷_ (getD-set-same b (at + length w) x 0 h) (drop-set-lt (suc (at + length w)) b (at + length w) x (omega arith)))
+    ∙ sym (append-snoc (take at b ++ w) x (drop (suc (at + length w)) b))
+    ∙ ap₂ (λ (l : List ℕ) (k : ℕ). l ++ drop k b) (append-assoc (take at b) w (x ∷ [])) e
 
-pub left-all : (n i : ℕ) → i ≡ length (short n) → Left n n i
-left-all n i e = record {
-  count = e;
-  front = sym (ap (λ (s : List ℕ). short n ++ s) (ap (λ (k : ℕ). drop k (short n)) e ∙ drop-length (short n)) ∙ append-nil (short n));
-}
+module _ (code : ℕ → ℕ) (base at : ℕ) (b : List ℕ) where
+  -- the lowest digit is stored, and those of the quotient are left
+  pub left-less :
+      (i n : ℕ) → 0 < i → at + i ≤ length b
+      → written at (map code (digits base (i - 1) (n / base))) (set b (at + (i - 1)) (code (n % base))) ≡ written at (map code (digits base i n)) b
+  unfolding digits
+  left-less zero n p h = absurd (omega arith)
+  left-less (suc i) n p h =
+      let e : suc i - 1 ≡ i = omega arith in
+      let s : List ℕ = map code (digits base i (n / base)) in
+      let l : length s ≡ i = length-map (digits base i (n / base)) code ∙ length-digits base i (n / base) in
+      let k : at + i ≡ at + length s = ap (λ (j : ℕ). at + j) (sym l) in
+      ap (λ (j : ℕ). written at (map code (digits base j (n / base))) (set b (at + j) (code (n % base)))) e
+      ∙ ap (λ (j : ℕ). written at s (set b j (code (n % base)))) k
+      ∙ last-first at (code (n % base)) s b (omega arith)
+      ∙ ap (λ (t : List ℕ). written at t b) (sym (map-append code (digits base i (n / base)) (n % base ∷ [])))
 
--- a byte stored in front of what is written at at + i
-in-front : (at i x : ℕ) (w b : List ℕ) → 0 < i → at + i + length w ≤ length b → set (written (at + i) w b) (at + (i - 1)) x ≡ written (at + (i - 1)) (x ∷ w) b
-in-front at i x w b h g =
-    let e : at + i ≡ at + (i - 1) + 1 = omega arith in
-    ap (λ (k : ℕ). set (written k w b) (at + (i - 1)) x) e ∙ written-cons (at + (i - 1)) x w b (omega arith)
-
-module _ (n v i : ℕ) (left : Left n v i) where
-  -- one more is taken
-  taken : 10 ≤ v → short n ≡ short (v / 10) ++ byteOf (v % 10) ∷ drop i (short n)
-  taken h =
-      left .front
-      ∙ ap (λ (s : List ℕ). s ++ drop i (short n)) (short-more v h)
-      ∙ append-assoc (short (v / 10)) (byteOf (v % 10) ∷ []) (drop i (short n))
-
-  fewer : 10 ≤ v → length (short (v / 10)) ≡ i - 1
-  fewer h = omega (arith, length-more v h, left .count)
-
-  pub taken-off : 10 ≤ v → drop (i - 1) (short n) ≡ byteOf (v % 10) ∷ drop i (short n)
-  taken-off h = ap (drop (i - 1)) (taken h) ∙ drop-at (short (v / 10)) (byteOf (v % 10) ∷ drop i (short n)) (i - 1) (fewer h)
-
-  pub left-less : 10 ≤ v → Left n (v / 10) (i - 1)
-  left-less h = record { count = sym (fewer h); front = taken h ∙ ap (λ (s : List ℕ). short (v / 10) ++ s) (sym (taken-off h)) }
-
-  -- the first is all that is left
-  pub left-one : v < 10 → i ≡ 1
-  left-one h = left .count ∙ length-one v h
-
-  pub all-taken : v < 10 → byteOf v ∷ drop 1 (short n) ≡ short n
-  all-taken h =
-      sym (left .front ∙ ap (λ (s : List ℕ). s ++ drop i (short n)) (short-one v h) ∙ ap (λ (k : ℕ). byteOf v ∷ drop k (short n)) (left-one h))
-
-  -- what a buffer holds with the digits taken off written at their places, one more stored
-  module _ (at : ℕ) (b out : List ℕ) (some-left : 0 < i) (part : i ≤ length (short n)) (room : at + length (short n) ≤ length b)
-      (holds : out ≡ written (at + i) (drop i (short n)) b) where
-    pub stored-less : 10 ≤ v → set out (at + (i - 1)) (byteOf (v % 10)) ≡ written (at + (i - 1)) (drop (i - 1) (short n)) b
-    stored-less h =
-        ap (λ (o : List ℕ). set o (at + (i - 1)) (byteOf (v % 10))) holds
-        ∙ in-front at i (byteOf (v % 10)) (drop i (short n)) b some-left (omega (arith, length-drop i (short n)))
-        ∙ ap (λ (s : List ℕ). written (at + (i - 1)) s b) (sym (taken-off h))
-
-    pub stored-one : v < 10 → set out at (byteOf v) ≡ written at (short n) b
-    stored-one h =
-        let e : at + i ≡ at + 1 = ap (λ (k : ℕ). at + k) (left-one h) in
-        let d : drop i (short n) ≡ drop 1 (short n) = ap (λ (k : ℕ). drop k (short n)) (left-one h) in
-        ap (λ (o : List ℕ). set o at (byteOf v)) (holds ∙ ap₂ (λ (k : ℕ) (t : List ℕ). written k t b) e d)
-        ∙ written-cons at (byteOf v) (drop 1 (short n)) b (omega (arith, length-drop 1 (short n)))
-        ∙ ap (λ (s : List ℕ). written at s b) (all-taken h)
+  pub left-none : (i n : ℕ) → i ≡ 0 → written at (map code (digits base i n)) b ≡ b
+  unfolding digits
+  left-none i n e = ap (λ (j : ℕ). written at (map code (digits base j n)) b) e ∙ written-nil at b

@@ -1,4 +1,5 @@
 pub mod Values
+pub mod Widths
 pub mod Short
 pub mod Numbers
 pub mod Left

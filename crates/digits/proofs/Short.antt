@@ -1,85 +1,22 @@
--- The short form of a number: its digits by tens, that it says the number, that no other plain run does, and how long it is.
-use mathlib.Core.Path.{_≡_, refl, ap, ap₂, _∙_}
-use mathlib.Core.Bool.{Bool, true, false, not, cond, and-false, false≢true}
-use mathlib.Core.List.{List, [], _∷_, _++_, append-nil, append-assoc}
+-- The short form of a number: that it says the number, that no other plain run does, and how long it is.
+use mathlib.Core.Path.{_≡_, refl, ap, ap₂, sym, _∙_}
+use mathlib.Core.Bool.{Bool, true, false, not, and-false, false≢true}
+use mathlib.Core.List.{List, [], _∷_, _++_, map, map-append}
 use Prim.Native.Nat.{ℕ, zero, suc, _+_, _*_, _-_, _/_, _%_, _^_, _<_, _≤_}
-use native.Mathlib.Nat.{pow-suc, div-lt-iff-lt-mul}
+use native.Mathlib.Nat.{zero-add, one-mul, mul-le-mul-right, pow-le-pow-right, le-trans}
 use native.Mathlib.Omega.{arith}
-use borrow.Author.Tests.{le-leb, lt-leb, lt-ltb, le-ltb, ltb-true, ltb-false, leb-true, ne-eqb, eqb-false, not-true}
+use borrow.Author.Tests.{le-leb, lt-leb, ltb-true, ltb-false, leb-true, eqb-true, eqb-false, not-true}
 use lib.Dec.{leb, ltb, eqb}
-use lib.ListN.{length, getD, length-append, List·getD-append}
+use lib.ListN.{length, getD, length-map}
 use Rattle.slices.specs.Slices.{every}
-use Rattle.slices.proofs.Booleans.{and-parts}
+use Rattle.slices.proofs.Booleans.{split, and-parts}
 use Rattle.slices.proofs.Every.{every-append}
-use Rattle.digits.specs.Runs.{value}
-use Rattle.digits.specs.Decimal.{isDigit, digitOf, byteOf, decimal, plain, shortIn, short}
-use Rattle.digits.proofs.Values.{value-append}
+use Rattle.digits.specs.Runs.{value, digits, width}
+use Rattle.digits.specs.Decimal.{isDigit, digitOf, byteOf, decimal, plain, short}
+use Rattle.digits.proofs.Values.{value-map, value-least, value-below, digits-value, value-digits, length-digits}
+use Rattle.digits.proofs.Widths.{Width, width-of, width-is}
 
--- ---- by tens
-
-module _ (P : ℕ → Type 0) (one : (n : ℕ) → n < 10 → P n) (more : (n : ℕ) → 10 ≤ n → P (n / 10) → P n) where
-  within-tenths : (k n : ℕ) → n ≤ k → P n
-  within-tenths zero n h = one n (omega arith)
-  within-tenths (suc k) n h = go (ltb n 10) refl (within-tenths k (n / 10))
-    where
-      go : (t : Bool) → ltb n 10 ≡ t → (n / 10 ≤ k → P (n / 10)) → P n
-      go true e next = one n (ltb-true n 10 e)
-      go false e next = let g : 10 ≤ n = ltb-false n 10 e in more n g (next (omega arith))
-
-  -- what holds below ten, and of a number where it holds of its tenth, holds of all
-  pub by-tens : (n : ℕ) → P n
-  by-tens n = within-tenths n n (omega arith)
-
--- ---- the two steps
-
-any-tenths : (j k n : ℕ) → n ≤ j → n ≤ k → shortIn j n ≡ shortIn k n
-unfolding shortIn
-any-tenths zero zero n h g = refl
-any-tenths zero (suc k) n h g = let e : n < 10 = omega arith in rw (lt-ltb n 10 e)
-any-tenths (suc j) zero n h g = let e : n < 10 = omega arith in rw (lt-ltb n 10 e)
-any-tenths (suc j) (suc k) n h g = go (ltb n 10) refl (any-tenths j k (n / 10))
-  where
-    go : (t : Bool) → ltb n 10 ≡ t → (n / 10 ≤ j → n / 10 ≤ k → shortIn j (n / 10) ≡ shortIn k (n / 10))
-        → cond t (byteOf n ∷ []) (shortIn j (n / 10) ++ (byteOf (n % 10) ∷ [])) ≡ cond t (byteOf n ∷ []) (shortIn k (n / 10) ++ (byteOf (n % 10) ∷ []))
-    go true e next = refl
-    go false e next =
-        let m : 10 ≤ n = ltb-false n 10 e in
-        ap (λ (s : List ℕ). s ++ (byteOf (n % 10) ∷ [])) (next (omega arith) (omega arith))
-
-one-in : (k n : ℕ) → n < 10 → shortIn k n ≡ byteOf n ∷ []
-unfolding shortIn
-one-in zero n h = refl
-one-in (suc k) n h = rw (lt-ltb n 10 h)
-
-more-in : (k n : ℕ) → 10 ≤ n → shortIn (suc k) n ≡ shortIn k (n / 10) ++ (byteOf (n % 10) ∷ [])
-unfolding shortIn
-more-in k n h = rw (le-ltb n 10 h)
-
-pub short-one : (n : ℕ) → n < 10 → short n ≡ byteOf n ∷ []
-unfolding short
-short-one n h = one-in n n h
-
-pub short-more : (n : ℕ) → 10 ≤ n → short n ≡ short (n / 10) ++ (byteOf (n % 10) ∷ [])
-unfolding short
-short-more n h =
-    let e : n ≡ suc (n - 1) = omega arith in
-    ap (λ (k : ℕ). shortIn k n) e
-    ∙ more-in (n - 1) n h
-    ∙ ap (λ (s : List ℕ). s ++ (byteOf (n % 10) ∷ [])) (any-tenths (n - 1) (n / 10) (n / 10) (omega arith) (omega arith))
-
--- ---- it says the number
-
-pub decimal-short : (n : ℕ) → decimal 0 (short n) ≡ n
-unfolding value
-decimal-short = by-tens (λ (n : ℕ). decimal 0 (short n) ≡ n)
-    (λ n h. ap (decimal 0) (short-one n h) ∙ omega arith)
-    (λ n h e.
-    ap (decimal 0) (short-more n h)
-    ∙ value-append 10 digitOf (short (n / 10)) (byteOf (n % 10) ∷ []) 0
-    ∙ ap (λ (v : ℕ). v * 10 + (byteOf (n % 10) - 48)) e
-    ∙ omega arith)
-
--- ---- its bytes
+-- ---- the ASCII digits
 
 pub digit-between : (b : ℕ) → 48 ≤ b → b ≤ 57 → isDigit b ≡ true
 digit-between b lo hi = rw (le-leb _ _ lo) (le-leb _ _ hi)
@@ -90,25 +27,55 @@ digit-below b h = rw (lt-leb 48 b h)
 pub digit-above : (b : ℕ) → 57 < b → isDigit b ≡ false
 digit-above b h = rw (lt-leb b 57 h) (and-false (leb 48 b))
 
-a-digit : (d : ℕ) → d < 10 → isDigit (byteOf d) ≡ true
-a-digit d h = digit-between (byteOf d) (omega arith) (omega arith)
+-- a digit's byte, and what it counts
+digit-bounds : (b : ℕ) → isDigit b ≡ true → (48 ≤ b) × (b ≤ 57)
+digit-bounds b e = let (lo, hi) = and-parts (leb 48 b) (leb b 57) e in (leb-true 48 b lo, leb-true b 57 hi)
+
+digit-small : (b : ℕ) → isDigit b ≡ true → digitOf b < 10
+digit-small b e = let d = digit-bounds b e in omega arith
+
+byte-counts : (d : ℕ) → digitOf (byteOf d) ≡ d
+byte-counts d = omega arith
+
+bytes-counted : (s : List ℕ) → every isDigit s ≡ true → map byteOf (map digitOf s) ≡ s
+unfolding every
+bytes-counted [] e = refl
+bytes-counted (b ∷ s) e =
+    let (d, r) = and-parts (isDigit b) (every isDigit s) e in
+    let n = digit-bounds b d in
+    let q : byteOf (digitOf b) ≡ b = omega arith in
+    ap₂ _∷_ q (bytes-counted s r)
+
+bytes-digits : (w n : ℕ) → every isDigit (map byteOf (digits 10 w n)) ≡ true
+unfolding every digits
+bytes-digits zero n = refl
+bytes-digits (suc w) n =
+    let d : isDigit (byteOf (n % 10)) ≡ true = digit-between (byteOf (n % 10)) (omega arith) (omega arith) in
+    rw (map-append byteOf (digits 10 w (n / 10)) (n % 10 ∷ []), every-append, bytes-digits w (n / 10), d)
+
+-- ---- it says the number, in digits, as many as the number has
+
+pub short-width : (n : ℕ) → length (short n) ≡ width 10 n
+unfolding short
+short-width n = length-map (digits 10 (width 10 n) n) byteOf ∙ length-digits 10 (width 10 n) n
+
+pub decimal-short : (n : ℕ) → decimal 0 (short n) ≡ n
+unfolding short
+decimal-short n = value-map 10 digitOf byteOf byte-counts (digits 10 (width 10 n) n) 0 ∙ value-digits 10 (omega arith) (width 10 n) n (width-of 10 (omega arith) n .fits)
 
 pub digits-short : (n : ℕ) → every isDigit (short n) ≡ true
-unfolding every
-digits-short = by-tens (λ (n : ℕ). every isDigit (short n) ≡ true)
-    (λ n h. rw (short-one n h, a-digit n h))
-    (λ n h e. rw (short-more n h, every-append, e, a-digit (n % 10) (omega arith)))
+unfolding short
+digits-short n = bytes-digits (width 10 n) n
 
-pub short-not-empty : (n : ℕ) → 0 < length (short n)
-short-not-empty = by-tens (λ (n : ℕ). 0 < length (short n))
-    (λ n h. rw (short-one n h) (omega arith))
-    (λ n h e. rw (short-more n h, length-append) (omega arith))
+-- a number below 10 ^ w has at most w digits
+pub length-short : (w n : ℕ) → 0 < w → n < 10 ^ w → length (short n) ≤ w
+length-short w n p h = go (ltb w (width 10 n)) refl
+  where
+    go : (t : Bool) → ltb w (width 10 n) ≡ t → length (short n) ≤ w
+    go true e = let m = width-of 10 (omega arith) n .least w p (ltb-true _ _ e) in absurd (omega arith)
+    go false e = omega (arith, short-width n, ltb-false w (width 10 n) e)
 
--- the first digit of a number that is not 0 is not 0
-pub first-short : (n : ℕ) → 0 < n → 48 < getD (short n) 0 0
-first-short = by-tens (λ (n : ℕ). 0 < n → 48 < getD (short n) 0 0)
-    (λ n h g. rw (short-one n h) (omega arith))
-    (λ n h next g. rw (short-more n h, List·getD-append (short (n / 10)) (byteOf (n % 10) ∷ []) 0 0 (short-not-empty (n / 10))) (next (omega arith)))
+-- ---- plain runs
 
 pub plain-empty : (s : List ℕ) → length s ≡ 0 → plain s ≡ false
 unfolding plain
@@ -127,72 +94,45 @@ plain-first [] h = absurd (omega arith)
 plain-first (b ∷ []) h = absurd (omega arith)
 plain-first (b ∷ c ∷ s) h = refl
 
-plain-of : (s : List ℕ) → 0 < length s → 48 < getD s 0 0 → plain s ≡ true
-unfolding plain
-plain-of [] h g = absurd (omega arith)
-plain-of (b ∷ []) h g = refl
-plain-of (b ∷ c ∷ s) h g = let n : b ≡ 48 → ⊥ = λ e. omega arith in rw (ne-eqb b 48 n)
+-- a run of digits as long as its number is wide is plain: a zero in front would leave less than the rest's least
+plain-wide : (s : List ℕ) → every isDigit s ≡ true → Width 10 (decimal 0 s) (length s) → plain s ≡ true
+unfolding plain value every
+plain-wide [] e w = absurd (omega (arith, w .some))
+plain-wide (b ∷ []) e w = refl
+plain-wide (b ∷ c ∷ s) e w = split (λ (t : Bool). not t ≡ true) (eqb b 48) zero-first (λ q. refl)
+  where
+    zero-first : eqb b 48 ≡ true → false ≡ true
+    zero-first q =
+        let z : 0 * 10 + (b - 48) ≡ 0 = let y : b ≡ 48 = eqb-true b 48 q in omega arith in
+        let n = value-below 10 digitOf isDigit digit-small (c ∷ s) 0 (and-parts (isDigit b) (every isDigit (c ∷ s)) e .1) in
+        let m : 10 ^ length (c ∷ s) ≤ decimal 0 (c ∷ s) = rw z at (w .least (length (c ∷ s)) (omega arith) (omega arith)) in
+        absurd (omega (arith, one-mul (10 ^ length (c ∷ s))))
+
+-- and a plain one is so long
+wide-plain : (s : List ℕ) → every isDigit s ≡ true → plain s ≡ true → Width 10 (decimal 0 s) (length s)
+unfolding plain value every
+wide-plain [] e p = absurd (false≢true p)
+wide-plain (b ∷ []) e p =
+    record { some = omega arith; fits = rw one-mul at (value-below 10 digitOf isDigit digit-small (b ∷ []) 0 e); least = λ k q l. absurd (omega arith) }
+wide-plain (b ∷ c ∷ s) e p =
+    let d = digit-bounds b (and-parts (isDigit b) (every isDigit (c ∷ s)) e .0) in
+    let n : b ≡ 48 → ⊥ = eqb-false b 48 (not-true (eqb b 48) p) in
+    let v : 1 ≤ 0 * 10 + (b - 48) = omega (arith, n) in
+    let r = mul-le-mul-right (10 ^ length (c ∷ s)) v in
+    let m = value-least 10 digitOf (c ∷ s) (0 * 10 + (b - 48)) in
+    record {
+      some = omega arith;
+      fits = rw one-mul at (value-below 10 digitOf isDigit digit-small (b ∷ c ∷ s) 0 e);
+      least = λ k q l. le-trans (pow-le-pow-right {n = 10} (omega arith) {j = length (c ∷ s)} (omega arith)) (omega (arith, one-mul (10 ^ length (c ∷ s))));
+    }
 
 pub plain-short : (n : ℕ) → plain (short n) ≡ true
-unfolding plain
-plain-short zero = rw (short-one 0 (omega arith))
-plain-short (suc n) = plain-of (short (suc n)) (short-not-empty (suc n)) (first-short (suc n) (omega arith))
+plain-short n = plain-wide (short n) (digits-short n) (rw (decimal-short n, short-width n) (width-of 10 (omega arith) n))
 
--- ---- no other plain run says it
-
-pub short-after : (s : List ℕ) (v : ℕ) → 0 < v → every isDigit s ≡ true → short (decimal v s) ≡ short v ++ s
-unfolding value every
-short-after [] v h e = rw append-nil
-short-after (b ∷ s) v h e =
-    let t = and-parts (isDigit b) (every isDigit s) e in
-    let d = and-parts (leb 48 b) (leb b 57) (t .0) in
-    let lo : 48 ≤ b = leb-true 48 b (d .0) in
-    let hi : b ≤ 57 = leb-true b 57 (d .1) in
-    let q : (v * 10 + (b - 48)) / 10 ≡ v = omega arith in
-    let r : byteOf ((v * 10 + (b - 48)) % 10) ≡ b = omega arith in
-    short-after s (v * 10 + (b - 48)) (omega arith) (t .1)
-    ∙ ap (λ (x : List ℕ). x ++ s) (short-more (v * 10 + (b - 48)) (omega arith) ∙ ap₂ (λ (x y : ℕ). short x ++ (y ∷ [])) q r)
-    ∙ append-assoc (short v) (b ∷ []) s
-
+-- no other plain run says it
 pub short-decimal : (s : List ℕ) → every isDigit s ≡ true → plain s ≡ true → short (decimal 0 s) ≡ s
-unfolding value every plain
-short-decimal [] e p = absurd (false≢true p)
-short-decimal (b ∷ []) e p =
-    let t = and-parts (isDigit b) true e in
-    let d = and-parts (leb 48 b) (leb b 57) (t .0) in
-    let lo : 48 ≤ b = leb-true 48 b (d .0) in
-    let hi : b ≤ 57 = leb-true b 57 (d .1) in
-    let z : 0 * 10 + (b - 48) ≡ b - 48 = omega arith in
-    let y : byteOf (b - 48) ≡ b = omega arith in
-    ap short z ∙ short-one (b - 48) (omega arith) ∙ ap (λ (x : ℕ). x ∷ []) y
-short-decimal (b ∷ c ∷ s) e p =
-    let t = and-parts (isDigit b) (every isDigit (c ∷ s)) e in
-    let d = and-parts (leb 48 b) (leb b 57) (t .0) in
-    let lo : 48 ≤ b = leb-true 48 b (d .0) in
-    let hi : b ≤ 57 = leb-true b 57 (d .1) in
-    let n : b ≡ 48 → ⊥ = eqb-false b 48 (not-true (eqb b 48) p) in
-    let z : 0 * 10 + (b - 48) ≡ b - 48 = omega arith in
-    let y : byteOf (b - 48) ≡ b = omega arith in
-    ap (λ (v : ℕ). short (decimal v (c ∷ s))) z
-    ∙ short-after (c ∷ s) (b - 48) (omega (arith, n)) (t .1)
-    ∙ ap (λ (x : List ℕ). x ++ c ∷ s) (short-one (b - 48) (omega arith) ∙ ap (λ (x : ℕ). x ∷ []) y)
-
--- ---- its length
-
-pub length-one : (n : ℕ) → n < 10 → length (short n) ≡ 1
-length-one n h = ap length (short-one n h)
-
-pub length-more : (n : ℕ) → 10 ≤ n → length (short n) ≡ length (short (n / 10)) + 1
-length-more n h = ap length (short-more n h) ∙ length-append (short (n / 10)) (byteOf (n % 10) ∷ [])
-
--- a number below 10 ^ w has at most w digits
-pub length-short : (w n : ℕ) → 0 < w → n < 10 ^ w → length (short n) ≤ w
-length-short zero n p h = absurd (omega arith)
-length-short (suc zero) n p h = omega (arith, length-one n h)
-length-short (suc (suc w)) n p h = go (ltb n 10) refl (length-short (suc w) (n / 10) (omega arith))
-  where
-    go : (t : Bool) → ltb n 10 ≡ t → (n / 10 < 10 ^ suc w → length (short (n / 10)) ≤ suc w) → length (short n) ≤ suc (suc w)
-    go true e next = omega (arith, length-one n (ltb-true n 10 e))
-    go false e next =
-        let z = next (div-lt-iff-lt-mul (omega arith) .1 (rw pow-suc at h)) in
-        omega (arith, length-more n (ltb-false n 10 e))
+unfolding short digits
+short-decimal s e p =
+    ap (λ (w : ℕ). map byteOf (digits 10 w (decimal 0 s))) (width-is 10 (omega arith) (decimal 0 s) (length s) (wide-plain s e p) ∙ sym (zero-add (length s)))
+    ∙ ap (map byteOf) (digits-value 10 digitOf isDigit digit-small s 0 0 e)
+    ∙ bytes-counted s e

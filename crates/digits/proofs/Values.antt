@@ -3,11 +3,11 @@ use mathlib.Core.Path.{_≡_, refl, ap, ap₂, sym, _∙_}
 use mathlib.Core.Bool.{Bool, true}
 use mathlib.Core.List.{List, [], _∷_, _++_, map, append-nil, append-assoc}
 use Prim.Native.Nat.{ℕ, zero, suc, _+_, _*_, _/_, _%_, _^_, _<_, _≤_}
-use native.Mathlib.Nat.{add-zero, add-suc, suc-add, suc-mul, mul-one, mul-assoc, pow-zero, pow-suc, pow-succ', mul-le-mul-left, mul-le-mul-right, le-trans, div-lt-iff-lt-mul, div-add-mod'}
+use native.Mathlib.Nat.{add-zero, add-suc, suc-add, suc-mul, mul-one, mul-assoc, pow-zero, pow-suc, pow-succ', one-le-pow, mul-le-mul-left, mul-le-mul-right, le-trans, div-lt-iff-lt-mul, div-add-mod'}
 use native.Mathlib.Omega.{arith}
 use lib.Arith.{digits-div, digits-mod, lt-one}
 use native.Mathlib.Numerals.{add-one}
-use lib.ListN.{length, drop, getD, drop-of-length-le}
+use lib.ListN.{length, drop, getD, drop-of-length-le, length-append}
 use lib.Seq.{drop-cons}
 use Rattle.slices.specs.Slices.{every}
 use Rattle.slices.proofs.Booleans.{and-parts}
@@ -29,14 +29,25 @@ module _ (base : ℕ) (digit : ℕ → ℕ) where
     unfolding value
     value-end h = ap (value base digit v) (drop-of-length-le s h)
 
+  -- after v, w digits say at least v * base ^ w
+  pub value-least : (s : List ℕ) (v : ℕ) → v * base ^ length s ≤ value base digit v s
+  unfolding value
+  value-least [] v = rw (pow-zero, mul-one) (omega arith)
+  value-least (b ∷ s) v =
+      let k : v * base * base ^ length s ≤ (v * base + digit b) * base ^ length s = mul-le-mul-right (base ^ length s) (omega arith) in
+      rw (pow-succ', ← mul-assoc) (le-trans k (value-least s (v * base + digit b)))
+
   -- more digits say no less
   pub value-grows : 0 < base → (s : List ℕ) (v : ℕ) → v ≤ value base digit v s
+  value-grows h s v =
+      let k : v * 1 ≤ v * base ^ length s = mul-le-mul-left v (one-le-pow (length s) base h) in
+      omega (arith, mul-one v, value-least s v)
+
+  -- what bytes say that stand for their digits
+  pub value-map : (code : ℕ → ℕ) → ((d : ℕ) → digit (code d) ≡ d) → (s : List ℕ) (v : ℕ) → value base digit v (map code s) ≡ value base (λ (d : ℕ). d) v s
   unfolding value
-  value-grows h [] v = omega arith
-  value-grows h (b ∷ s) v =
-      let k : v * 1 ≤ v * base = mul-le-mul-left v h in
-      let n = value-grows h s (v * base + digit b) in
-      omega (arith, mul-one v)
+  value-map code h [] v = refl
+  value-map code h (d ∷ s) v = ap (λ (x : ℕ). value base digit (v * base + x) (map code s)) (h d) ∙ value-map code h s (v * base + d)
 
   module _ (test : ℕ → Bool) (small : (b : ℕ) → test b ≡ true → digit b < base) where
     -- after v, w digits say a number below (v + 1) * base ^ w
@@ -61,6 +72,11 @@ module _ (base : ℕ) (digit : ℕ → ℕ) where
         ∙ n
         ∙ ap₂ (λ (q r : ℕ). digits base k q ++ (r ∷ []) ++ map digit s) (digits-div v d) (digits-mod v d)
         ∙ append-assoc (digits base k v) (digit b ∷ []) (map digit s)
+
+pub length-digits : (base w n : ℕ) → length (digits base w n) ≡ w
+unfolding digits
+length-digits base zero n = refl
+length-digits base (suc w) n = length-append (digits base w (n / base)) (n % base ∷ []) ∙ add-one (length (digits base w (n / base))) ∙ ap suc (length-digits base w (n / base))
 
 -- what the digits of a number say is the number
 pub value-digits : (base : ℕ) → 0 < base → (w n : ℕ) → n < base ^ w → value base (λ (d : ℕ). d) 0 (digits base w n) ≡ n

@@ -1,11 +1,11 @@
 -- Numbers as texts (01, Values): the short form of a number, and the number that a text says.
 use mathlib.Core.Bool.{Bool, true, false, not, cond, _&&_}
-use mathlib.Core.List.{List, [], _∷_, _++_}
+use mathlib.Core.List.{List, [], _∷_, map}
 use mathlib.Core.Option.{Option, some, none}
-use Prim.Native.Nat.{ℕ, zero, suc, _+_, _-_, _/_, _%_}
-use lib.Dec.{leb, ltb, eqb}
+use Prim.Native.Nat.{ℕ, _+_, _-_}
+use lib.Dec.{leb, eqb}
 use Rattle.slices.specs.Slices.{within, every}
-use Rattle.digits.specs.Runs.{value}
+use Rattle.digits.specs.Runs.{value, digits, width}
 use Rattle.digits.specs.declared.Number.{Number}
 use Rattle.digits.specs.declared.Number.the-variants.{Value, Nothing}
 
@@ -46,13 +46,6 @@ abbrev pub valueOf : Number → Option ℕ
 valueOf (Value n) = some n
 valueOf Nothing = none
 
--- the digits of n: below ten its digit alone, else those of its tenth and then its last; at most so many tenths are taken
-unfoldable pub shortIn : ℕ → ℕ → List ℕ
-shortIn zero n = byteOf n ∷ []
-shortIn (suc tenths) n =
-    let longer = shortIn tenths (n / 10) ++ (byteOf (n % 10) ∷ []) in
-    cond (ltb n 10) (byteOf n ∷ []) longer
-
--- the short form: n itself bounds how often a tenth is taken
+-- the short form: the digits of n, as many as it has
 unfoldable pub short : ℕ → List ℕ
-short n = shortIn n n
+short n = map byteOf (digits 10 (width 10 n) n)

@@ -98,11 +98,10 @@ pub fn write(out: &mut [u8], at: usize, n: u64) -> Written
     }
     let mut v = n;
     let mut i = w;
-    while 9 < v {
+    while 0 < i {
         i -= 1;
         out[at + i] = last(v);
         v /= 10;
     }
-    out[at] = last(v);
     Written::To(at + w)
 }

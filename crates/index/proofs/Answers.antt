@@ -1,6 +1,6 @@
 -- The order of the classes, class by class, and the header that is handed out.
 use mathlib.Core.Path.{_≡_, refl, ap, sym, _∙_}
-use mathlib.Core.Bool.{Bool, true, false, cond, _||_}
+use mathlib.Core.Bool.{Bool, true, false, cond, _||_, and-true}
 use mathlib.Core.List.{List, [], _∷_}
 use mathlib.Core.Option.{some, none}
 use Prim.Native.Nat.{ℕ, suc, _-_}
@@ -26,7 +26,7 @@ pub caller-last : (g : Given) (letter : ℕ) → isLetter (g .first) ≡ true �
     → isBlockSize (g .size) ≡ true → is.isUuid (g .uuid) ≡ true
     → callerRight g letter ≡ (eqb letter (g .first) || eqb letter (g .other))
 unfolding callerRight
-caller-last g letter a b c d e = rw (a, b, c, d, e)
+caller-last g letter a b c d e = rw (a, b, c, d, e, and-true, and-true)
 
 module _ (g : Given) (letter block release : ℕ) (k : Forest) where
   pub children-5 : structured k ≡ false → refused Structure ≡ toldBy (childrenRead g letter block release k)

@@ -1,6 +1,6 @@
 -- An index's text (01, Index and Refusal numbers): what it is refused for, in the order of the classes, and what it says.
 use mathlib.Core.Path.{_≡_}
-use mathlib.Core.Bool.{Bool, true, false, cond, not, _&&_, _||_}
+use mathlib.Core.Bool.{Bool, true, false, cond, _&&_}
 use mathlib.Core.List.{List, [], _∷_}
 use mathlib.Core.Option.{Option, some, none}
 use Prim.Native.Nat.{ℕ, _-_}
@@ -10,7 +10,7 @@ use Rattle.refusals.specs.Refusals.{Answer, refused, answer, require, andThen}
 use Rattle.refusals.specs.declared.Refusal.the-variants.{Caller, TooMany, Form, Structure, Version, Value, Foreign, Extents, Location}
 use Rattle.slices.specs.Slices.{every, same}
 use Rattle.slices.specs.Words.{bytes}
-use Rattle.quantities.specs.Letters.{isLetter}
+use Rattle.quantities.specs.Letters.{areLetters}
 use Rattle.quantities.specs.Sizes.{isBlockSize}
 use Rattle.quantities.specs.Places.{Place}
 use Rattle.quantities.specs.declared.BlockNumber.{BlockNumber}
@@ -138,18 +138,21 @@ rootRead g letter block (node h k r) = tagRead g letter block h k
 -- 14: the caller's letters, block size, UUID and place
 unfoldable pub callerRight : Given → ℕ → Bool
 callerRight g letter =
-    isLetter (g .first) && isLetter (g .other) && not (eqb (g .first) (g .other)) && isBlockSize (g .size) && is.isUuid (g .uuid)
-    && (eqb letter (g .first) || eqb letter (g .other))
+    areLetters (g .first) (g .other) letter && isBlockSize (g .size) && is.isUuid (g .uuid)
 
 abbrev pub isGood : Outcome → Bool
 isGood good = true
 isGood (broken u) = false
 
+-- the longest text of an index
+abbrev pub maxText : ℕ
+maxText = 1048576
+
 -- an index's text, at a partition letter and the number of its first block
 unfoldable pub indexOf : Given → ℕ → ℕ → List ℕ → Answer Index
 indexOf g letter block text =
     require (callerRight g letter) Caller
-    (require (leb (length text) 1048576) TooMany
+    (require (leb (length text) maxText) TooMany
     (require (isGood (form text)) Form
     (rootRead g letter block (rowAt text 38))))
 

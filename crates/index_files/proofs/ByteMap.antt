@@ -1,19 +1,19 @@
 -- A file's rows, written to a lent buffer and read again by the byte map: what it asks for, an index that is read without refusal has passed. So
 -- each byte of the file has a place, and only positions from its length on are refused, with 2.
 use mathlib.Core.Path.{_≡_, refl, ap, sym, _∙_, subst}
-use mathlib.Core.Bool.{Bool, true, false, not, _&&_, _||_}
+use mathlib.Core.Bool.{Bool, true, false, _&&_}
 use mathlib.Core.List.{List, [], _∷_}
 use Prim.Native.Nat.{ℕ, zero, suc, _+_, _*_, _<_, _≤_}
 use native.Mathlib.Omega.{arith}
 use borrow.Author.Tests.{leb-true, lt-ltb, le-ltb}
-use lib.Dec.{eqb, leb, ltb}
+use lib.Dec.{leb, ltb}
 use lib.ListN.{length, take}
 use Rattle.refusals.specs.Refusals.{Answer, refused, answer, require, andThen}
 use Rattle.refusals.specs.declared.Refusal.the-variants.{Short, Missing}
 use Rattle.slices.specs.Slices.{every}
 use Rattle.slices.proofs.Booleans.{and-left, and-right, and-parts}
 use Rattle.slices.proofs.Writing.{front-written}
-use Rattle.quantities.specs.Letters.{isLetter}
+use Rattle.quantities.specs.Letters.{areLetters}
 use Rattle.quantities.specs.Sizes.{isBlockSize}
 use Rattle.values.specs.Values as is
 use Rattle.extents.specs.Rows.{Row, rowsOf, numbersOf}
@@ -48,8 +48,7 @@ nth-passes test (suc k) (y ∷ l) x e n = nth-passes test k l x (and-right (test
 size-right : (g : Given) (letter : ℕ) → callerRight g letter ≡ true → isBlockSize (g .size) ≡ true
 unfolding callerRight
 size-right g letter e =
-    and-right (isLetter (g .first) && isLetter (g .other) && not (eqb (g .first) (g .other))) (isBlockSize (g .size))
-    (and-left _ (is.isUuid (g .uuid)) (and-left _ (eqb letter (g .first) || eqb letter (g .other)) e))
+    and-right (areLetters (g .first) (g .other) letter) (isBlockSize (g .size)) (and-left _ (is.isUuid (g .uuid)) e)
 
 each-valued : (k : List Element) → allValued k ≡ true → every (λ e. valued (e .sort) (e .head .text)) k ≡ true
 unfolding allValued

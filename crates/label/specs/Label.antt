@@ -1,17 +1,18 @@
 -- The LTFS label (01, LTFS label; 002, 6.1.2): what a label says, and the label that a text is. Each class of refusals is a test of the whole
 -- text, in document 01's order.
-use mathlib.Core.Bool.{Bool, true, false, _&&_, _||_, not}
+use mathlib.Core.Bool.{Bool, true, false, _&&_}
 use mathlib.Core.List.{List}
 use mathlib.Core.Option.{Option, some, none as nothing}
 use Prim.Native.Nat.{ℕ}
 use Prim.Native.String.{String}
-use lib.Dec.{leb, eqb}
+use lib.Dec.{leb}
 use lib.ListN.{length}
 use Rattle.refusals.specs.Refusals.{Answer, refused, answer, require}
 use Rattle.refusals.specs.declared.Refusal.{Refusal}
 use Rattle.refusals.specs.declared.Refusal.the-variants.{Form, Structure, Value, Version, TooMany}
 use Rattle.slices.specs.Slices.{same}
 use Rattle.slices.specs.Words.{bytes}
+use Rattle.quantities.specs.Letters.{isOneOf}
 use Rattle.quantities.specs.Sizes.{isBlockSize}
 use Rattle.xml.specs.Machine.{Outcome, good, broken, form}
 use Rattle.xml.specs.Tree.{Head, Forest, none, node}
@@ -85,7 +86,7 @@ module _ {A B : Type 0} where
 
 -- the letters are different, and the location is one of them
 unfoldable pub lettersFit : ℕ → ℕ → ℕ → Bool
-lettersFit l i d = not (eqb i d) && (eqb l i || eqb l d)
+lettersFit l i d = isOneOf i d l
 
 -- 6: the values
 unfoldable pub labelFrom : ℕ → Texts → Answer Label

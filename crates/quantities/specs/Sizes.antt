@@ -1,8 +1,12 @@
--- A volume's block size (01, Bounds).
+-- Sizes in bytes (01, Bounds): a block's, and a volume's block size.
 use mathlib.Core.Bool.{Bool}
 use Prim.Native.Nat.{ℕ}
 use Rattle.slices.specs.Slices.{within}
 
--- from 4,096 to 1,048,576 bytes
+-- the longest block
+abbrev pub maxBlock : ℕ
+maxBlock = 1048576
+
+-- from 4,096 bytes to the longest block
 abbrev pub isBlockSize : ℕ → Bool
-isBlockSize n = within 4096 1048576 n
+isBlockSize n = within 4096 maxBlock n

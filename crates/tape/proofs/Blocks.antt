@@ -13,6 +13,7 @@ use lib.Dec.{leb, eqb}
 use Rattle.refusals.specs.declared.Refusal.{Refusal}
 use Rattle.refusals.specs.declared.Refusal.the-variants as refusal
 use Rattle.refusals.specs.Refusals.{Answer, refused, answer, require, andThen, Shows}
+use Rattle.quantities.specs.Letters.{areLetters}
 use Rattle.tape.specs.declared.Entry.{Entry}
 use Rattle.tape.specs.declared.Front.{Front}
 use Rattle.tape.specs.declared.Spot.{Spot}
@@ -20,10 +21,11 @@ use Rattle.tape.specs.declared.Spot.the-variants as spot
 use Rattle.tape.specs.Tape.{Tape, Element, mark, block, Cell, markCell, blockCell, list, store, content, lawful, isBlockLength}
 use Rattle.tape.specs.Reading.{entryAt, tapeOf}
 use Rattle.tape.specs.Walks.{reach, spotOf, spotAt, spotBelow}
-use Rattle.tape.specs.Answers.{orRefused, Place, placeOf, placeOn, asBlock, blockOn, blockOf, tapeIn, elementCount, areLetters}
+use Rattle.tape.specs.Answers.{orRefused, Place, placeOf, placeOn, asBlock, blockOn, blockOf, elementCount, storeOf, Holds, Finds}
 use Rattle.slices.proofs.Booleans.{split, and-left, and-right}
 use Rattle.tape.proofs.Walking.{entry-here, entry-none, next-here}
-use Rattle.tape.proofs.Encoding.{Bytes, encodes-read}
+use Rattle.tape.proofs.Entries.{Bytes}
+use Rattle.tape.proofs.Encoding.{encodes-read}
 use Rattle.tape.proofs.Keeping.{Present, absent-list}
 
 -- the spot from the walk's end and the entry there
@@ -81,28 +83,29 @@ placed side v none = refl
 placed side v (some mark) = refl
 placed side v (some (block x)) = refl
 
-module _ (i d c n : ℕ) where
-  pub place-letters : (a b : Answer Tape) → areLetters i d c ≡ false → placeOf i d c n a b ≡ refused refusal.Caller
+module _ (i d c n : ℕ) (l s l′ s′ : List ℕ) where
+  pub place-letters : areLetters i d c ≡ false → placeOf i d c n l s l′ s′ ≡ refused refusal.Caller
   unfolding placeOf
-  place-letters a b h = rw h
+  place-letters h = rw h
 
-  pub place-index : (l s : List ℕ) (b : Answer Tape) (r : Refusal) → areLetters i d c ≡ true → refused r ≡ elementCount l s → placeOf i d c n (tapeIn l s) b ≡ refused refusal.List
-  unfolding placeOf
-  place-index l s b r h e = rw (h, absent-list l s r e)
-
-  module _ (l s : List ℕ) (count : ℕ) (p : Present l s count) (l′ s′ : List ℕ) where
-    pub place-data : (r : Refusal) → areLetters i d c ≡ true → refused r ≡ elementCount l′ s′ → placeOf i d c n (tapeIn l s) (tapeIn l′ s′) ≡ refused refusal.List
+  module _ (h : areLetters i d c ≡ true) where
+    pub place-index : (r : Refusal) → refused r ≡ elementCount l s → placeOf i d c n l s l′ s′ ≡ refused refusal.List
     unfolding placeOf
-    place-data r h e = rw (h, p .read, absent-list l′ s′ r e)
+    place-index r e = rw (h, absent-list l s r e)
 
-    -- both tapes are there: the spot on the side that the letter picks
-    pub place-found : (count′ : ℕ) → Present l′ s′ count′ → areLetters i d c ≡ true → (side : Bool) → eqb c i ≡ side → (x : Spot)
-        → x ≡ spotBelow (cond side count count′) (cond side l l′) n → placeOf i d c n (tapeIn l s) (tapeIn l′ s′) ≡ placeFrom side x
-    unfolding placeOf
-    place-found count′ q h true e x f =
-        rw (h, p .read, q .read, e) (placed true _ (getElem? (p .tape) n) ∙ ap (placeFrom true) (sym (f ∙ below-of n count l s p)))
-    place-found count′ q h false e x f =
-        rw (h, p .read, q .read, e) (placed false _ (getElem? (q .tape) n) ∙ ap (placeFrom false) (sym (f ∙ below-of n count′ l′ s′ q)))
+    module _ (count : ℕ) (p : Present l s count) where
+      pub place-data : (r : Refusal) → refused r ≡ elementCount l′ s′ → placeOf i d c n l s l′ s′ ≡ refused refusal.List
+      unfolding placeOf
+      place-data r e = rw (h, p .read, absent-list l′ s′ r e)
+
+      -- both tapes are there: the spot on the side that the letter picks
+      pub place-found : (count′ : ℕ) → Present l′ s′ count′ → (side : Bool) → eqb c i ≡ side → (x : Spot)
+          → x ≡ spotBelow (cond side count count′) (cond side l l′) n → placeOf i d c n l s l′ s′ ≡ placeFrom side x
+      unfolding placeOf
+      place-found count′ q true e x f =
+          rw (h, p .read, q .read, e) (placed true _ (getElem? (p .tape) n) ∙ ap (placeFrom true) (sym (f ∙ below-of n count l s p)))
+      place-found count′ q false e x f =
+          rw (h, p .read, q .read, e) (placed false _ (getElem? (q .tape) n) ∙ ap (placeFrom false) (sym (f ∙ below-of n count′ l′ s′ q)))
 
 -- block n is a part of the store
 pub block-bytes : (t : Tape) (n : ℕ) (x : List ℕ) → getElem? t n ≡ some (block x)
@@ -119,39 +122,41 @@ block-bytes (d ∷ t) (suc n) x e =
     rw (w, drop-append-add (content d) (store t) (length (store (take n t))))
     (ih .0, let b = ih .1 in omega (arith, length-append (content d) (store t)))
 
--- what a place says of the block that was asked for
-abbrev pub Holds : Answer Place → List ℕ → List ℕ → Answer (List ℕ) → Type 0
-Holds (refused r) s s′ b = b ≡ refused r
-Holds (answer p) s s′ b =
-    (b ≡ answer (take (p .size) (drop (p .from) (cond (p .onIndex) s s′)))) × (p .from + p .size ≤ length (cond (p .onIndex) s s′))
+-- a refusal of the place is the block's
+refused-holds : (s s′ : List ℕ) (r : Refusal) → Holds s s′ (refused r) (refused r)
+refused-holds s s′ r = record { bytes = refl; inside = λ p e. let z : _≡_ {A = ℕ} 0 1 = cc in absurd (omega arith) }
 
+-- the place of a block of a tape holds it
 holds-on : (side : Bool) (t : Tape) (n : ℕ) (s s′ : List ℕ) (o : Option Element) → getElem? t n ≡ o → cond side s s′ ≡ store t
-    → Holds (andThen (asBlock o) (λ x. answer (record { onIndex = side; from = length (store (take n t)); size = length x }))) s s′ (asBlock o)
-holds-on side t n s s′ none e q = refl
-holds-on side t n s s′ (some mark) e q = refl
-holds-on side t n s s′ (some (block x)) e q = rw q (let b = block-bytes t n x e in (ap answer (sym (b .0)), b .1))
+    → Holds s s′ (andThen (asBlock o) (λ x. answer (record { onIndex = side; from = length (store (take n t)); size = length x }))) (asBlock o)
+holds-on side t n s s′ none e q = refused-holds s s′ refusal.Missing
+holds-on side t n s s′ (some mark) e q = refused-holds s s′ refusal.Missing
+holds-on side t n s s′ (some (block x)) e q =
+    let b = block-bytes t n x e in
+    let here : Place = record { onIndex = side; from = length (store (take n t)); size = length x } in
+    let fits : length (store (take n t)) + length x ≤ length (cond side s s′) = rw q (b .1) in
+    record {
+      bytes = rw q (ap answer (sym (b .0)));
+      inside = λ p g. let z : here ≡ p = cc in subst (λ (p : Place). p .from + p .size ≤ length (storeOf s s′ p)) z fits;
+    }
 
-holds-of : (i d c n : ℕ) (l s l′ s′ : List ℕ) (o o′ : Option Tape) → Bytes l → Bytes l′ → tapeOf l s ≡ o → tapeOf l′ s′ ≡ o′
-    → Holds (placeOf i d c n (orRefused o) (orRefused o′)) s s′ (blockOf i d c n (orRefused o) (orRefused o′))
-unfolding placeOf blockOf
-holds-of i d c n l s l′ s′ o o′ w w′ e e′ = by-letters (areLetters i d c) o o′ e e′
-  where
-    by-letters : (b : Bool) (o o′ : Option Tape) → tapeOf l s ≡ o → tapeOf l′ s′ ≡ o′
-        → Holds (require b refusal.Caller (andThen (orRefused o) (λ ti. andThen (orRefused o′) (λ td. placeOn (eqb c i) (cond (eqb c i) ti td) n)))) s s′
-        (require b refusal.Caller (andThen (orRefused o) (λ ti. andThen (orRefused o′) (λ td. blockOn (cond (eqb c i) ti td) n))))
-    by-letters false o o′ e e′ = refl
-    by-letters true none o′ e e′ = refl
-    by-letters true (some t) none e e′ = refl
-    by-letters true (some t) (some u) e e′ =
-        split (λ b. Holds (placeOn b (cond b t u) n) s s′ (blockOn (cond b t u) n)) (eqb c i)
-        (λ y. holds-on true t n s s′ (getElem? t n) refl (encodes-read l s t w e .stores))
-        (λ y. holds-on false u n s s′ (getElem? u n) refl (encodes-read l′ s′ u w′ e′ .stores))
+module _ (i d c n : ℕ) (l s l′ s′ : List ℕ) (w : Bytes l) (w′ : Bytes l′) where
+  holds-of : (a : Bool) (o o′ : Option Tape) → tapeOf l s ≡ o → tapeOf l′ s′ ≡ o′
+      → Holds s s′ (require a refusal.Caller (andThen (orRefused o) (λ ti. andThen (orRefused o′) (λ td. placeOn n (eqb c i) (cond (eqb c i) ti td)))))
+      (require a refusal.Caller (andThen (orRefused o) (λ ti. andThen (orRefused o′) (λ td. blockOn (cond (eqb c i) ti td) n))))
+  holds-of false o o′ e e′ = refused-holds s s′ refusal.Caller
+  holds-of true none o′ e e′ = refused-holds s s′ refusal.List
+  holds-of true (some t) none e e′ = refused-holds s s′ refusal.List
+  holds-of true (some t) (some u) e e′ =
+      split (λ b. Holds s s′ (placeOn n b (cond b t u)) (blockOn (cond b t u) n)) (eqb c i)
+      (λ y. holds-on true t n s s′ (getElem? t n) refl (encodes-read l s t w e .stores))
+      (λ y. holds-on false u n s s′ (getElem? u n) refl (encodes-read l′ s′ u w′ e′ .stores))
 
-pub holds : (i d c n : ℕ) (l s l′ s′ : List ℕ) → Bytes l → Bytes l′ → (a : Answer Place) → a ≡ placeOf i d c n (tapeIn l s) (tapeIn l′ s′)
-    → Holds a s s′ (blockOf i d c n (tapeIn l s) (tapeIn l′ s′))
-holds i d c n l s l′ s′ w w′ a e =
-    subst (λ (x : Answer Place). Holds x s s′ (blockOf i d c n (tapeIn l s) (tapeIn l′ s′))) (sym e)
-    (holds-of i d c n l s l′ s′ (tapeOf l s) (tapeOf l′ s′) w w′ refl refl)
+  -- what is found holds the block
+  pub finds : (a : Answer Place) → a ≡ placeOf i d c n l s l′ s′ → Finds i d c n l s l′ s′ a
+  unfolding placeOf blockOf
+  finds a e =
+      subst (Finds i d c n l s l′ s′) (sym e) record { place = refl; holds = holds-of (areLetters i d c) (tapeOf l s) (tapeOf l′ s′) refl refl }
 
 -- a part of a store, cut out between two places, and the refusal beside it
 pub shows-part : (s : List ℕ) (from n : ℕ) {b : Answer (List ℕ)} → b ≡ answer (take n (drop from s)) → Shows b (take ((from + n) - from) (drop from s)) 0

@@ -3,12 +3,12 @@ use mathlib.Core.Path.{_≡_, refl, sym, _∙_, ap}
 use mathlib.Core.Bool.{Bool, true, false, cond, _&&_}
 use mathlib.Core.Option.{Option, none, some}
 use mathlib.Core.List.{List, [], _∷_}
-use Prim.Native.Nat.{ℕ, suc, _+_, _≤_, _<_}
+use Prim.Native.Nat.{ℕ, suc, _+_, _-_, _≤_, _<_}
 use native.Mathlib.Nat.{add-zero, zero-add}
 use native.Mathlib.Omega.{arith}
 use lib.Dec.{leb, eqb}
 use lib.ListN.{length, drop}
-use borrow.Author.Tests.{le-leb, lt-leb}
+use borrow.Author.Tests.{le-leb, lt-leb, le-ltb}
 use Rattle.slices.proofs.Booleans.{split}
 use Rattle.refusals.specs.declared.Refusal.the-variants as refusal
 use Rattle.refusals.specs.Refusals.{Answer, refused, answer, andThen}
@@ -17,10 +17,10 @@ use Rattle.tape.specs.declared.Entry.the-variants as entry
 use Rattle.tape.specs.declared.Totals.{Totals}
 use Rattle.tape.specs.declared.Totals.the-variants.{Of, Bad}
 use Rattle.tape.specs.Tape.{Tape, Cell, markCell, blockCell, maxStore}
-use Rattle.tape.specs.Reading.{cells, kind, added, size, total, entryAt, filled, filledWith, tapeOf}
+use Rattle.tape.specs.Reading.{andBehind, cellsFrom, cells, added, size, total, entryAt, filled, filledWith, tapeOf}
 use Rattle.tape.specs.Walks.{totalsFrom}
 use Rattle.tape.specs.Answers.{orRefused, elementCount}
-use Rattle.tape.proofs.Entries.{goesOn, Lies, cells-at, entry-lies}
+use Rattle.tape.proofs.Entries.{Lies, entry-lies}
 
 -- one element counted
 pub totals-more : (n v : ℕ) (c : Cell) (o : Option (List Cell)) → totalsFrom n v (added c o) ≡ totalsFrom (n + 1) (v + size c) o
@@ -41,15 +41,32 @@ unfolding totalsFrom added
 over v c none = refl
 over v c (some cs) = simp (lt-leb (65536 + suc (length cs)) 65536 (omega arith))
 
-full-at : (l : List ℕ) (at v : ℕ) (e : Entry) → at < length l → Lies l at e → totalsFrom 65536 v (goesOn l e) ≡ Bad
+full-at : (l : List ℕ) (at v : ℕ) (behind : ℕ → Option (List Cell)) (e : Entry) → at < length l → Lies l at e → totalsFrom 65536 v (andBehind behind e) ≡ Bad
 unfolding totalsFrom
-full-at l at v (entry.Mark next) h i = over v _ (cells kind (drop next l))
-full-at l at v (entry.Block n next) h i = over v _ (cells kind (drop next l))
-full-at l at v entry.End h i = absurd (omega arith)
-full-at l at v entry.Bad h i = refl
+full-at l at v behind (entry.Mark next) h i = over v _ (behind next)
+full-at l at v behind (entry.Block n next) h i = over v _ (behind next)
+full-at l at v behind entry.End h i = absurd (omega arith)
+full-at l at v behind entry.Bad h i = refl
 
-pub totals-full : (l : List ℕ) (at v : ℕ) → at < length l → totalsFrom 65536 v (cells kind (drop at l)) ≡ Bad
-totals-full l at v h = ap (totalsFrom 65536 v) (cells-at l at) ∙ full-at l at v (entryAt l at) h (entry-lies l at)
+-- the reading of a list from a place on, of which n elements were counted: each has at least a byte
+abbrev pub left : List ℕ → ℕ → ℕ → Option (List Cell)
+left l n at = cellsFrom (suc (length l - n)) l at
+
+pub left-all : (l : List ℕ) → cells l ≡ left l 0 0
+left-all l = let e : length l ≡ length l - 0 = omega arith in ap (λ (n : ℕ). cellsFrom (suc n) l 0) e
+
+pub totals-full : (l : List ℕ) (n at v : ℕ) → at < length l → totalsFrom 65536 v (left l n at) ≡ Bad
+unfolding cellsFrom
+totals-full l n at v h = full-at l at v (cellsFrom (length l - n) l) (entryAt l at) h (entry-lies l at)
+
+-- the entry at the place, and those behind it
+pub left-on : (l : List ℕ) (n at : ℕ) {e : Entry} → n < length l → entryAt l at ≡ e → left l n at ≡ andBehind (left l (n + 1)) e
+unfolding cellsFrom
+left-on l n at h q = let k : length l - n ≡ suc (length l - (n + 1)) = omega arith in rw (q, k)
+
+pub left-none : (l : List ℕ) (n at : ℕ) → length l ≤ at → left l n at ≡ some []
+unfolding cellsFrom entryAt
+left-none l n at h = simp (le-ltb at (length l) h)
 
 pub length-filled : (cs : List Cell) (s : List ℕ) → length (filled cs s) ≡ length cs
 unfolding filled
@@ -80,6 +97,6 @@ count-of s (some cs) =
     (by-tests (length cs) (filled cs s) (leb (length cs) 65536) (eqb (total cs) (length s)) (leb (length s) maxStore) (length-filled cs s)
     ∙ either (leb (length cs) 65536) _ _ (length cs) (total cs) s refl refl)
 
-pub counted-by : (l s : List ℕ) {r q : Totals} → r ≡ totalsFrom 0 0 (cells kind l) → r ≡ q → elementCount l s ≡ countBy s q
+pub counted-by : (l s : List ℕ) {r q : Totals} → r ≡ totalsFrom 0 0 (cells l) → r ≡ q → elementCount l s ≡ countBy s q
 unfolding tapeOf
-counted-by l s e f = count-of s (cells kind l) ∙ ap (countBy s) (sym e ∙ f)
+counted-by l s e f = count-of s (cells l) ∙ ap (countBy s) (sym e ∙ f)

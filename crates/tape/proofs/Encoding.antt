@@ -4,38 +4,40 @@ use mathlib.Core.Path.{_≡_, refl, sym, _∙_, ap, subst}
 use mathlib.Core.Bool.{true, cond, _&&_}
 use mathlib.Core.Option.{Option, none, some}
 use mathlib.Core.List.{List, [], _∷_, _++_, map}
-use Prim.Native.Nat.{ℕ, zero, suc, _+_, _*_, _/_, _%_, _≤_, _<_}
+use Prim.Native.Nat.{ℕ, zero, suc, _+_, _≤_, _<_}
 use native.Mathlib.Omega.{arith}
 use lib.Dec.{leb, eqb}
-use lib.ListN.{length, getD, take, drop, length-append, length-map, length-drop, take-append-drop}
+use lib.ListN.{length, take, drop, length-append, length-map, length-drop, take-append-drop}
 use lib.Seq.{take-append-seam, drop-append-seam, length-take-le}
 use borrow.Author.Tests.{leb-true, eqb-true, le-leb, eq-eqb}
-use Rattle.slices.proofs.Booleans.{split, and-left, and-right}
+use Rattle.slices.proofs.Booleans.{split, and-parts, and-left, and-right}
+use Rattle.tape.specs.declared.Entry.{Entry}
+use Rattle.tape.specs.declared.Entry.the-variants.{Mark, Block, End, Bad}
+use Rattle.tape.specs.Tape.{mark, block, Tape, Cell, markCell, blockCell, cellOf, entry, content, list, store, isBlockLength, isLawful, lawful, maxElements, maxStore, Encodes, markKind}
+use Rattle.tape.specs.Reading.{entryAt, andBehind, cellsFrom, cells, added, size, total, filled, fits, filledWith, tapeOf}
+pub use Rattle.tape.proofs.Entries.{Bytes}
+use Rattle.tape.proofs.Entries.{spells-as}
 use Rattle.tape.proofs.Counting.{length-filled}
-use Rattle.tape.specs.Tape.{mark, block, Tape, Cell, markCell, blockCell, cellOf, fourBytes, entry, content, list, store, isBlockLength, isLawful, lawful, maxElements, maxStore, Encodes, markKind, blockKind}
-use Rattle.tape.specs.Reading.{cells, kind, length-byte, added, size, total, filled, fits, filledWith, tapeOf}
+use Rattle.tape.proofs.Walking.{length-entry, entry-here, entry-none, next-here}
 
--- the number that its four bytes make
-four-value : (n : ℕ) → (((0 * 256 + n / 16777216) * 256 + n / 65536 % 256) * 256 + n / 256 % 256) * 256 + n % 256 ≡ n
-four-value n = omega arith
-
--- the four bytes of the number that they make
-four-bytes : (a b c d : ℕ) → a < 256 → b < 256 → c < 256 → d < 256 → fourBytes ((((0 * 256 + a) * 256 + b) * 256 + c) * 256 + d) ≡ a ∷ b ∷ c ∷ d ∷ []
-four-bytes a b c d ha hb hc hd =
-    let n : ℕ = (((0 * 256 + a) * 256 + b) * 256 + c) * 256 + d in
-    let p : ((((0 * 256 + a) * 256 + b) * 256 + c) * 256 + d) / 16777216 ≡ a = omega arith in
-    let q : ((((0 * 256 + a) * 256 + b) * 256 + c) * 256 + d) / 65536 % 256 ≡ b = omega arith in
-    let r : ((((0 * 256 + a) * 256 + b) * 256 + c) * 256 + d) / 256 % 256 ≡ c = omega arith in
-    let s : ((((0 * 256 + a) * 256 + b) * 256 + c) * 256 + d) % 256 ≡ d = omega arith in
-    rw (p, q, r, s)
+-- each element has at least a byte in the list
+elements-few : (t : Tape) → length t ≤ length (list t)
+unfolding list
+elements-few [] = omega arith
+elements-few (mark ∷ t) = omega (arith, length-append (entry markCell) (list t), length-entry markCell, elements-few t)
+elements-few (block x ∷ t) = omega (arith, length-append (entry (blockCell (length x))) (list t), length-entry (blockCell (length x)), elements-few t)
 
 -- a list is read back, element by element
-pub cells-list : (t : Tape) → lawful t ≡ true → cells kind (list t) ≡ some (map cellOf t)
-unfolding cells list lawful entry added
-cells-list [] h = refl
-cells-list (mark ∷ t) h = rw (cells-list t h)
-cells-list (block x ∷ t) h =
-    rw (four-value (length x), and-left (isBlockLength (length x)) (lawful t) h, cells-list t (and-right (isBlockLength (length x)) (lawful t) h))
+pub cells-list : (n : ℕ) (l : List ℕ) (at : ℕ) (t : Tape) → lawful t ≡ true → drop at l ≡ list t → length t < n → cellsFrom n l at ≡ some (map cellOf t)
+unfolding cellsFrom list lawful added
+cells-list zero l at t h d few = absurd (omega arith)
+cells-list (suc n) l at [] h d few = rw (entry-none l at d)
+cells-list (suc n) l at (mark ∷ t) h d few =
+    rw (entry-here l at markCell (list t) refl d, cells-list n l (at + 1) t h (next-here l at markCell (list t) d) (omega arith))
+cells-list (suc n) l at (block x ∷ t) h d few =
+    let c : Cell = blockCell (length x) in
+    let (ok, rest) = and-parts (isBlockLength (length x)) (lawful t) h in
+    rw (entry-here l at c (list t) ok d, cells-list n l (at + 5) t rest (next-here l at c (list t) d) (omega arith))
 
 pub filled-store : (t : Tape) → filled (map cellOf t) (store t) ≡ t
 unfolding filled store content
@@ -55,19 +57,15 @@ unfolding tapeOf filledWith
 read-encoded {l} {s} {t} e =
     let few : length (map cellOf t) ≤ maxElements = rw (length-map t cellOf) (e .elements) in
     let bytes : length (store t) ≤ maxStore = rw (e .stores) at (e .bytes) in
+    let read : cells l ≡ some (map cellOf t) = cells-list (suc (length l)) l 0 t (e .blocks) (e .lists) (omega (arith, elements-few t, ap length (e .lists))) in
     rw (
-      e .lists,
-      cells-list t (e .blocks),
+      read,
       e .stores,
       le-leb (length (map cellOf t)) maxElements few,
       eq-eqb (total (map cellOf t)) (length (store t)) (total-store t),
       le-leb (length (store t)) maxStore bytes,
       filled-store t,
     )
-
--- numbers that are bytes
-abbrev pub Bytes : List ℕ → Type 0
-Bytes l = (i : ℕ) → getD l i 0 < 256
 
 -- what of `Encodes` goes element by element
 record Spelt (l s : List ℕ) (t : Tape) : Type 0 where
@@ -85,17 +83,17 @@ unfolding added
 added-some c none cs e = let z : _≡_ {A = ℕ} 0 1 = cc in absurd (omega arith)
 added-some c (some ds) cs e = record { rest = ds; gives = refl; is = cc }
 
-Back : List ℕ → Type 0
-Back l = (s : List ℕ) (cs : List Cell) → cells kind l ≡ some cs → total cs ≡ length s → Spelt l s (filled cs s)
+Back : Option (List Cell) → List ℕ → Type 0
+Back o l = (s : List ℕ) (cs : List Cell) → o ≡ some cs → total cs ≡ length s → Spelt l s (filled cs s)
 
 -- one element more in front
-one-back : (c : Cell) (l : List ℕ) (rest : List Cell) → Back l → isLawful c ≡ true → cells kind l ≡ some rest
+one-back : (c : Cell) (o : Option (List Cell)) (l : List ℕ) (rest : List Cell) → Back o l → isLawful c ≡ true → o ≡ some rest
     → (s : List ℕ) → size c + total rest ≡ length s → Spelt (entry c ++ l) s (filled (c ∷ rest) s)
 unfolding Back list store lawful entry content filled
-one-back markCell l rest back h e s k =
+one-back markCell o l rest back h e s k =
     let b = back s rest e (omega arith) in
     record { lists = ap (λ (m : List ℕ). markKind ∷ m) (b .lists); stores = b .stores; blocks = b .blocks }
-one-back (blockCell n) l rest back h e s k =
+one-back (blockCell n) o l rest back h e s k =
     let b = back (drop n s) rest e (simp length-drop (omega arith)) in
     let w : length (take n s) ≡ n = length-take-le n s (omega arith) in
     record {
@@ -104,60 +102,41 @@ one-back (blockCell n) l rest back h e s k =
       blocks = rw (w, h) (b .blocks);
     }
 
-more-back : (c : Cell) (l : List ℕ) → Back l → isLawful c ≡ true
-    → (s : List ℕ) (cs : List Cell) → added c (cells kind l) ≡ some cs → total cs ≡ length s → Spelt (entry c ++ l) s (filled cs s)
-unfolding total
-more-back c l back h s cs e k =
-    let a = added-some c (cells kind l) cs e in
+more-back : (c : Cell) (o : Option (List Cell)) (l : List ℕ) → Back o l → isLawful c ≡ true → Back (added c o) (entry c ++ l)
+unfolding Back total
+more-back c o l back h s cs e k =
+    let a = added-some c o cs e in
     let k′ : size c + total (a .rest) ≡ length s = sym (ap total (a .is)) ∙ k in
-    rw (a .is) (one-back c l (a .rest) back h (a .gives) s k′)
-
--- the length bytes, none of them missing, and what follows
-block-back : (l : List ℕ) → Bytes l → ((r : List ℕ) → length r ≤ length l → Bytes r → Back r)
-    → (s : List ℕ) (cs : List Cell) → cells (length-byte 3 0) l ≡ some cs → total cs ≡ length s → Spelt (blockKind ∷ l) s (filled cs s)
-unfolding cells entry
-block-back [] h ih s cs e k = let z : _≡_ {A = ℕ} 0 1 = cc in absurd (omega arith)
-block-back (a ∷ []) h ih s cs e k = let z : _≡_ {A = ℕ} 0 1 = cc in absurd (omega arith)
-block-back (a ∷ b ∷ []) h ih s cs e k = let z : _≡_ {A = ℕ} 0 1 = cc in absurd (omega arith)
-block-back (a ∷ b ∷ c ∷ []) h ih s cs e k = let z : _≡_ {A = ℕ} 0 1 = cc in absurd (omega arith)
-block-back (a ∷ b ∷ c ∷ d ∷ l) h ih s cs e k =
-    let n = (((0 * 256 + a) * 256 + b) * 256 + c) * 256 + d in
-    split
-    (λ t. cond t (added (blockCell n) (cells kind l)) none ≡ some cs → Spelt (blockKind ∷ a ∷ b ∷ c ∷ d ∷ l) s (filled cs s))
-    (isBlockLength n)
-    (λ y e′. subst (λ (m : List ℕ). Spelt (blockKind ∷ (m ++ l)) s (filled cs s)) (four-bytes a b c d (h 0) (h 1) (h 2) (h 3)) (more-back (blockCell n) l (ih l (omega arith) (λ i. h (suc (suc (suc (suc i)))))) y s cs e′ k))
-    (λ y e′. let z : _≡_ {A = ℕ} 0 1 = cc in absurd (omega arith))
-    e
+    rw (a .is) (one-back c o l (a .rest) back h (a .gives) s k′)
 
 nothing-back : (s : List ℕ) → 0 ≡ length s → Spelt [] s (filled [] s)
 unfolding filled list store lawful
 nothing-back [] k = record { lists = refl; stores = refl; blocks = refl }
 nothing-back (b ∷ s) k = absurd (omega arith)
 
-back-step : (l : List ℕ) → Bytes l → ((r : List ℕ) → length r < length l → Bytes r → Back r) → Back l
-unfolding Back cells total entry
-back-step [] w ih s cs e k =
-    let q : [] ≡ cs = cc in
-    subst (λ (ds : List Cell). total ds ≡ length s → Spelt [] s (filled ds s)) q (nothing-back s) k
-back-step (b ∷ l) w ih s cs e k =
-    split
-    (λ t. cond t (added markCell (cells kind l)) (cond (eqb b blockKind) (cells (length-byte 3 0) l) none) ≡ some cs → Spelt (b ∷ l) s (filled cs s))
-    (eqb b markKind)
-    (λ y e′. subst (λ (m : ℕ). Spelt (m ∷ l) s (filled cs s)) (sym (eqb-true b markKind y))
-    (more-back markCell l (ih l (omega arith) (λ i. w (suc i))) refl s cs e′ k))
-    (λ y e′. split (λ t. cond t (cells (length-byte 3 0) l) none ≡ some cs → Spelt (b ∷ l) s (filled cs s))
-    (eqb b blockKind)
-    (λ z e″. subst (λ (m : ℕ). Spelt (m ∷ l) s (filled cs s)) (sym (eqb-true b blockKind z))
-    (block-back l (λ i. w (suc i)) (λ r le. ih r (omega arith)) s cs e″ k))
-    (λ z e″. let n : _≡_ {A = ℕ} 0 1 = cc in absurd (omega arith))
-    e′)
-    e
+none-back : Back (some []) []
+unfolding Back total
+none-back s cs e k = let q : [] ≡ cs = cc in subst (λ (ds : List Cell). total ds ≡ length s → Spelt [] s (filled ds s)) q (nothing-back s) k
 
-back-by : (n : ℕ) (l : List ℕ) → length l < n → Bytes l → Back l
-back-by zero l h w = absurd (omega arith)
-back-by (suc n) l h w = back-step l w (λ r le. back-by n r (omega arith))
+-- the entry at a place, and those behind it
+module _ (l : List ℕ) (w : Bytes l) where
+  entry-back : (at : ℕ) (behind : ℕ → Option (List Cell)) → ((next : ℕ) → Back (behind next) (drop next l)) → (x : Entry) → entryAt l at ≡ x
+      → Back (andBehind behind x) (drop at l)
+  unfolding Back
+  entry-back at behind back (Mark next) q =
+      subst (Back (added markCell (behind next))) (sym (spells-as l at w q)) (more-back markCell (behind next) (drop next l) (back next) refl)
+  entry-back at behind back (Block n next) q =
+      let (d, h) = spells-as l at w q in
+      subst (Back (added (blockCell n) (behind next))) (sym d) (more-back (blockCell n) (behind next) (drop next l) (back next) h)
+  entry-back at behind back End q = subst (Back (some [])) (sym (spells-as l at w q)) none-back
+  entry-back at behind back Bad q = λ s cs e k. let z : _≡_ {A = ℕ} 0 1 = cc in absurd (omega arith)
 
-encodes-filled : (l s : List ℕ) (t : Tape) (o : Option (List Cell)) → Bytes l → cells kind l ≡ o → filledWith s o ≡ some t → Encodes l s t
+  back-from : (n at : ℕ) → Back (cellsFrom n l at) (drop at l)
+  unfolding Back cellsFrom
+  back-from zero at = λ s cs e k. let z : _≡_ {A = ℕ} 0 1 = cc in absurd (omega arith)
+  back-from (suc n) at = entry-back at (cellsFrom n l) (back-from n) (entryAt l at) refl
+
+encodes-filled : (l s : List ℕ) (t : Tape) (o : Option (List Cell)) → Bytes l → cells l ≡ o → filledWith s o ≡ some t → Encodes l s t
 unfolding filledWith Back
 encodes-filled l s t none w q f = let z : _≡_ {A = ℕ} 0 1 = cc in absurd (omega arith)
 encodes-filled l s t (some cs) w q f =
@@ -166,7 +145,7 @@ encodes-filled l s t (some cs) w q f =
     let few = leb-true (length cs) maxElements (and-left (leb (length cs) maxElements) _ (and-left (leb (length cs) maxElements && eqb (total cs) (length s)) _ x)) in
     let all = eqb-true (total cs) (length s) (and-right (leb (length cs) maxElements) _ (and-left (leb (length cs) maxElements && eqb (total cs) (length s)) _ x)) in
     let small = leb-true (length s) maxStore (and-right (leb (length cs) maxElements && eqb (total cs) (length s)) _ x) in
-    let b = back-by (suc (length l)) l (omega arith) w s cs q all in
+    let b = back-from l w (suc (length l)) 0 s cs q all in
     let is : filled cs s ≡ t = cc in
     subst (λ (u : Tape). Encodes l s u) is
     record { lists = b .lists; stores = b .stores; blocks = b .blocks; elements = rw (length-filled cs s) few; bytes = small })
@@ -176,7 +155,7 @@ encodes-filled l s t (some cs) w q f =
 -- a tape that is read is encoded
 pub encodes-read : (l s : List ℕ) (t : Tape) → Bytes l → tapeOf l s ≡ some t → Encodes l s t
 unfolding tapeOf
-encodes-read l s t w e = encodes-filled l s t (cells kind l) w refl e
+encodes-read l s t w e = encodes-filled l s t (cells l) w refl e
 
 -- a list and a store have at most one tape
 pub one-tape : {l s : List ℕ} {t u : Tape} → Encodes l s t → Encodes l s u → t ≡ u

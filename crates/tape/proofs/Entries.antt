@@ -1,28 +1,79 @@
--- What stands at a place of a list, against the reading of the list from there on.
-use mathlib.Core.Path.{_≡_, refl, _∙_, ap, subst}
+-- What stands at a place of a list: where an entry ends, and the bytes that it is spelt with.
+use mathlib.Core.Path.{_≡_, refl, sym, _∙_, ap, subst}
 use mathlib.Core.Bool.{Bool, true, cond, _&&_}
-use mathlib.Core.Option.{Option, none, some}
-use mathlib.Core.List.{List, [], _∷_}
-use Prim.Native.Nat.{ℕ, zero, suc, _+_, _*_, _≤_, _<_}
+use mathlib.Core.List.{List, [], _∷_, _++_}
+use Prim.Native.Nat.{ℕ, suc, _+_, _*_, _≤_, _<_}
 use native.Mathlib.Omega.{arith}
 use native.Mathlib.Nat.{add-zero, add-suc, add-assoc}
-use native.Mathlib.Numerals.{add-one}
 use lib.Dec.{leb, ltb, eqb}
-use lib.ListN.{length, getD, drop, drop-of-length-le, length-drop}
-use lib.Seq.{drop-cons}
-use borrow.Author.Tests.{ltb-true, ltb-false, leb-true, leb-false}
-use Rattle.slices.proofs.Booleans.{split, and-left, and-right}
+use lib.ListN.{length, getD, take, drop, drop-of-length-le, take-append-drop}
+use lib.Seq.{drop-cons, drop-drop}
+use borrow.Author.Tests.{ltb-true, ltb-false, lt-ltb, leb-true, eqb-true}
+use Rattle.slices.specs.Slices.{every}
+use Rattle.slices.proofs.Booleans.{split, and-parts}
+use Rattle.digits.specs.Runs.{value}
+use Rattle.big_endian.specs.BigEndian.{bigEndian}
+use Rattle.big_endian.proofs.Said.{bytes-said}
 use Rattle.tape.specs.declared.Entry.{Entry}
 use Rattle.tape.specs.declared.Entry.the-variants.{Mark, Block, End, Bad}
-use Rattle.tape.specs.Tape.{Cell, markCell, blockCell, markKind, blockKind, isBlockLength, maxBlock}
-use Rattle.tape.specs.Reading.{kind, length-byte, cells, added, entryAt, numberAt}
+use Rattle.tape.specs.Tape.{markCell, blockCell, entry, markKind, blockKind, isBlockLength, maxBlock}
+use Rattle.tape.specs.Reading.{entryAt, numberAt}
 
--- the reading goes on behind the entry
-abbrev pub goesOn : List ℕ → Entry → Option (List Cell)
-goesOn l (Mark next) = added markCell (cells kind (drop next l))
-goesOn l (Block n next) = added (blockCell n) (cells kind (drop next l))
-goesOn l End = some []
-goesOn l Bad = none
+-- numbers that are bytes
+abbrev pub Bytes : List ℕ → Type 0
+Bytes l = (i : ℕ) → getD l i 0 < 256
+
+one-more : (l : List ℕ) (at k : ℕ) → at + k < length l → drop (at + k) l ≡ getD l (at + k) 0 ∷ drop (at + suc k) l
+one-more l at k h = drop-cons l (at + k) 0 h ∙ rw (add-suc at k)
+
+first-byte : (l : List ℕ) (at : ℕ) → at < length l → drop at l ≡ getD l at 0 ∷ drop (at + 1) l
+first-byte l at h = rw add-zero at (one-more l at 0 (omega arith))
+
+-- the four bytes at a place
+module _ (l : List ℕ) (at : ℕ) (h : at + 4 ≤ length l) where
+  four : take 4 (drop at l) ≡ getD l at 0 ∷ getD l (at + 1) 0 ∷ getD l (at + 2) 0 ∷ getD l (at + 3) 0 ∷ []
+  four = rw (first-byte l at (omega arith), one-more l at 1 (omega arith), one-more l at 2 (omega arith), one-more l at 3 (omega arith))
+
+  pub number-four : numberAt l at ≡ getD l at 0 * 16777216 + getD l (at + 1) 0 * 65536 + getD l (at + 2) 0 * 256 + getD l (at + 3) 0
+  unfolding value
+  number-four = rw four (omega arith)
+
+  -- are the number's that they say
+  four-bytes : Bytes l → take 4 (drop at l) ≡ bigEndian 4 (numberAt l at)
+  unfolding every
+  four-bytes w =
+      let e : every (λ (b : ℕ). ltb b 256) (take 4 (drop at l)) ≡ true
+      = rw (four, lt-ltb _ 256 (w at), lt-ltb _ 256 (w (at + 1)), lt-ltb _ 256 (w (at + 2)), lt-ltb _ 256 (w (at + 3))) in
+      sym (bytes-said (take 4 (drop at l)) e) ∙ ap (λ (k : ℕ). bigEndian k (numberAt l at)) (ap length four)
+
+-- what holds of each entry that can stand at a place holds of the one there
+module _ (P : Entry → Type 0) (l : List ℕ) (at : ℕ) where
+  entry-by : (at < length l → getD l at 0 ≡ markKind → P (Mark (at + 1)))
+      → (at + 5 ≤ length l → getD l at 0 ≡ blockKind → isBlockLength (numberAt l (at + 1)) ≡ true → P (Block (numberAt l (at + 1)) (at + 5)))
+      → (length l ≤ at → P End) → (at < length l → P Bad) → P (entryAt l at)
+  unfolding entryAt
+  entry-by mark block end bad =
+      split
+      (λ t. P (cond t
+      (cond (eqb (getD l at 0) markKind) (Mark (at + 1))
+      (cond (eqb (getD l at 0) blockKind && leb (at + 5) (length l) && isBlockLength (numberAt l (at + 1)))
+      (Block (numberAt l (at + 1)) (at + 5)) Bad))
+      End))
+      (ltb at (length l))
+      (λ e. let h : at < length l = ltb-true _ _ e in
+      split
+      (λ t. P (cond t (Mark (at + 1))
+      (cond (eqb (getD l at 0) blockKind && leb (at + 5) (length l) && isBlockLength (numberAt l (at + 1)))
+      (Block (numberAt l (at + 1)) (at + 5)) Bad)))
+      (eqb (getD l at 0) markKind)
+      (λ y. mark h (eqb-true _ _ y))
+      (λ y. split (λ t. P (cond t (Block (numberAt l (at + 1)) (at + 5)) Bad))
+      (eqb (getD l at 0) blockKind && leb (at + 5) (length l) && isBlockLength (numberAt l (at + 1)))
+      (λ z. let (p, q) = and-parts (eqb (getD l at 0) blockKind && leb (at + 5) (length l)) (isBlockLength (numberAt l (at + 1))) z in
+      let (k, r) = and-parts (eqb (getD l at 0) blockKind) (leb (at + 5) (length l)) p in
+      block (leb-true _ _ r) (eqb-true _ _ k) q)
+      (λ z. bad h)))
+      (λ e. end (ltb-false _ _ e))
 
 -- the entry lies within the list, and a block's length within its bounds
 abbrev pub Lies : List ℕ → ℕ → Entry → Type 0
@@ -31,115 +82,40 @@ Lies l at (Block n next) = (1 ≤ n) × (n ≤ maxBlock) × (at < next) × (next
 Lies l at End = length l ≤ at
 Lies l at Bad = at < length l
 
-one-more : (l : List ℕ) (at k : ℕ) → at + k < length l → drop (at + k) l ≡ getD l (at + k) 0 ∷ drop (at + suc k) l
-one-more l at k h = drop-cons l (at + k) 0 h ∙ rw (add-suc at k)
-
--- the four bytes at a place
-four : (l : List ℕ) (at : ℕ) → at + 4 ≤ length l
-    → drop at l ≡ getD l at 0 ∷ getD l (at + 1) 0 ∷ getD l (at + 2) 0 ∷ getD l (at + 3) 0 ∷ drop (at + 4) l
-four l at h =
-    let a : drop at l ≡ getD l at 0 ∷ drop (at + 1) l = rw add-zero at (one-more l at 0 (omega arith)) in
-    let b : drop (at + 1) l ≡ getD l (at + 1) 0 ∷ drop (at + 2) l = one-more l at 1 (omega arith) in
-    let c : drop (at + 2) l ≡ getD l (at + 2) 0 ∷ drop (at + 3) l = one-more l at 2 (omega arith) in
-    let d : drop (at + 3) l ≡ getD l (at + 3) 0 ∷ drop (at + 4) l = one-more l at 3 (omega arith) in
-    rw (a, b, c, d)
-
--- the length bytes of a block, none of them missing
-sized : (l : List ℕ) (at : ℕ) → at + 4 ≤ length l
-    → cells (length-byte 3 0) (drop at l)
-    ≡ cond (isBlockLength (numberAt l at)) (added (blockCell (numberAt l at)) (cells kind (drop (at + 4) l))) none
-unfolding cells
-sized l at h =
-    let e : ((((0 * 256 + getD l at 0) * 256 + getD l (at + 1) 0) * 256 + getD l (at + 2) 0) * 256 + getD l (at + 3) 0) ≡ numberAt l at = omega arith in
-    rw (four l at h, e)
-
--- a cut length
-cut : (n v : ℕ) (s : List ℕ) → length s ≤ n → cells (length-byte n v) s ≡ none
-unfolding cells
-cut n v [] h = refl
-cut zero v (b ∷ s) h = absurd (omega arith)
-cut (suc n) v (b ∷ s) h = cut n (v * 256 + b) s (omega arith)
-
--- an entry with a length: all five bytes are there, or it is cut
-lengthy : (l : List ℕ) (at : ℕ) → at < length l
-    → cells (length-byte 3 0) (drop (at + 1) l)
-    ≡ goesOn l (cond (leb (at + 5) (length l) && isBlockLength (numberAt l (at + 1))) (Block (numberAt l (at + 1)) (at + 5)) Bad)
-lengthy l at h =
-    split
-    (λ t. cells (length-byte 3 0) (drop (at + 1) l)
-    ≡ goesOn l (cond (t && isBlockLength (numberAt l (at + 1))) (Block (numberAt l (at + 1)) (at + 5)) Bad))
-    (leb (at + 5) (length l))
-    (λ e. let room : (at + 1) + 4 ≤ length l = omega (arith, leb-true) in
-    sized l (at + 1) room
-    ∙ rw (add-assoc at 1 4)
-    (split (λ t. cond t (added (blockCell (numberAt l (at + 1))) (cells kind (drop (at + 5) l))) none ≡ goesOn l (cond t (Block (numberAt l (at + 1)) (at + 5)) Bad))
-    (isBlockLength (numberAt l (at + 1))) (λ y. refl) (λ y. refl)))
-    (λ e. cut 3 0 (drop (at + 1) l) (simp length-drop (omega (arith, leb-false))))
-
--- reading on from a place is reading the entry there, and then reading on
-pub cells-at : (l : List ℕ) (at : ℕ) → cells kind (drop at l) ≡ goesOn l (entryAt l at)
-unfolding cells entryAt
-cells-at l at =
-    split
-    (λ t. cells kind (drop at l)
-    ≡ goesOn l (cond t
-    (cond (eqb (getD l at 0) markKind) (Mark (at + 1))
-    (cond (eqb (getD l at 0) blockKind && leb (at + 5) (length l) && isBlockLength (numberAt l (at + 1)))
-    (Block (numberAt l (at + 1)) (at + 5)) Bad))
-    End))
-    (ltb at (length l))
-    (λ e. let h : at < length l = ltb-true _ _ e in
-    let d : drop at l ≡ getD l at 0 ∷ drop (at + 1) l = rw add-one (drop-cons l at 0 h) in
-    rw d
-    (split
-    (λ t. cond t (added markCell (cells kind (drop (at + 1) l))) (cond (eqb (getD l at 0) blockKind) (cells (length-byte 3 0) (drop (at + 1) l)) none)
-    ≡ goesOn l (cond t (Mark (at + 1))
-    (cond (eqb (getD l at 0) blockKind && leb (at + 5) (length l) && isBlockLength (numberAt l (at + 1)))
-    (Block (numberAt l (at + 1)) (at + 5)) Bad)))
-    (eqb (getD l at 0) markKind)
-    (λ y. refl)
-    (λ y. split
-    (λ t. cond t (cells (length-byte 3 0) (drop (at + 1) l)) none
-    ≡ goesOn l (cond (t && leb (at + 5) (length l) && isBlockLength (numberAt l (at + 1))) (Block (numberAt l (at + 1)) (at + 5)) Bad))
-    (eqb (getD l at 0) blockKind) (λ z. lengthy l at h) (λ z. refl))))
-    (λ e. rw (drop-of-length-le l {i = at} (ltb-false _ _ e)))
-
-spanned : (l : List ℕ) (at n : ℕ) (k : Bool) → (k && leb (at + 5) (length l) && isBlockLength n) ≡ true → Lies l at (Block n (at + 5))
-spanned l at n k z =
-    let y : isBlockLength n ≡ true = and-right (k && leb (at + 5) (length l)) (isBlockLength n) z in
-    let room : (k && leb (at + 5) (length l)) ≡ true = and-left (k && leb (at + 5) (length l)) (isBlockLength n) z in (
-      leb-true 1 n (and-left (leb 1 n) (leb n maxBlock) y),
-      leb-true n maxBlock (and-right (leb 1 n) (leb n maxBlock) y),
-      omega arith,
-      leb-true (at + 5) (length l) (and-right k (leb (at + 5) (length l)) room),
-    )
+pub length-between : (n : ℕ) → isBlockLength n ≡ true → (1 ≤ n) × (n ≤ maxBlock)
+length-between n y = let (lo, hi) = and-parts (leb 1 n) (leb n maxBlock) y in (leb-true 1 n lo, leb-true n maxBlock hi)
 
 pub entry-lies : (l : List ℕ) (at : ℕ) → Lies l at (entryAt l at)
-unfolding entryAt
 entry-lies l at =
-    split
-    (λ t. Lies l at (cond t
-    (cond (eqb (getD l at 0) markKind) (Mark (at + 1))
-    (cond (eqb (getD l at 0) blockKind && leb (at + 5) (length l) && isBlockLength (numberAt l (at + 1)))
-    (Block (numberAt l (at + 1)) (at + 5)) Bad))
-    End))
-    (ltb at (length l))
-    (λ e. let h : at < length l = ltb-true _ _ e in
-    split
-    (λ t. Lies l at (cond t (Mark (at + 1))
-    (cond (eqb (getD l at 0) blockKind && leb (at + 5) (length l) && isBlockLength (numberAt l (at + 1)))
-    (Block (numberAt l (at + 1)) (at + 5)) Bad)))
-    (eqb (getD l at 0) markKind)
-    (λ y. omega arith)
-    (λ y. split (λ t. Lies l at (cond t (Block (numberAt l (at + 1)) (at + 5)) Bad))
-    (eqb (getD l at 0) blockKind && leb (at + 5) (length l) && isBlockLength (numberAt l (at + 1)))
-    (spanned l at (numberAt l (at + 1)) (eqb (getD l at 0) blockKind))
-    (λ z. h)))
-    (λ e. ltb-false _ _ e)
+    entry-by (Lies l at) l at (λ h k. (omega arith, omega arith))
+    (λ h k y. let (lo, hi) = length-between (numberAt l (at + 1)) y in (lo, hi, omega arith, h)) (λ h. h) (λ h. h)
+
+-- the bytes from a place on are the entry's and those behind it
+abbrev pub Spells : List ℕ → ℕ → Entry → Type 0
+Spells l at (Mark next) = drop at l ≡ entry markCell ++ drop next l
+Spells l at (Block n next) = (drop at l ≡ entry (blockCell n) ++ drop next l) × (isBlockLength n ≡ true)
+Spells l at End = drop at l ≡ []
+Spells l at Bad = at < length l
+
+pub entry-spells : (l : List ℕ) (at : ℕ) → Bytes l → Spells l at (entryAt l at)
+unfolding entry
+entry-spells l at w =
+    entry-by (Spells l at) l at
+    (λ h k. first-byte l at h ∙ ap (λ (b : ℕ). b ∷ drop (at + 1) l) k)
+    (λ h k y. (
+      first-byte l at (omega arith)
+          ∙ ap (λ (b : ℕ). b ∷ drop (at + 1) l) k
+          ∙ ap (λ (s : List ℕ). blockKind ∷ s)
+          (sym (take-append-drop 4 (drop (at + 1) l))
+          ∙ ap (λ (s : List ℕ). s ++ drop 4 (drop (at + 1) l)) (four-bytes l (at + 1) (omega arith) w)
+          ∙ ap (λ (s : List ℕ). bigEndian 4 (numberAt l (at + 1)) ++ s) (drop-drop 4 (at + 1) l ∙ ap (λ (k : ℕ). drop k l) (add-assoc at 1 4))),
+      y,
+    ))
+    (λ h. drop-of-length-le l h) (λ h. h)
 
 -- the two laws where the entry is known
-pub cells-as : (l : List ℕ) (at : ℕ) {e : Entry} → entryAt l at ≡ e → cells kind (drop at l) ≡ goesOn l e
-cells-as l at q = cells-at l at ∙ ap (goesOn l) q
-
 pub lies-as : (l : List ℕ) (at : ℕ) {e : Entry} → entryAt l at ≡ e → Lies l at e
 lies-as l at q = subst (Lies l at) q (entry-lies l at)
+
+pub spells-as : (l : List ℕ) (at : ℕ) {e : Entry} → Bytes l → entryAt l at ≡ e → Spells l at e
+spells-as l at w q = subst (Spells l at) q (entry-spells l at w)

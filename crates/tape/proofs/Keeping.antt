@@ -14,7 +14,8 @@ use Rattle.tape.specs.Tape.{Tape, list, store, entry, content, cellOf, E
 use Rattle.tape.specs.Reading.{tapeOf}
 use Rattle.tape.specs.Walks.{reach}
 use Rattle.tape.specs.Answers.{listKept, storeKept, orRefused, tapeIn, elementCount, Fronts, kept, keeping, Lengths, lengths}
-use Rattle.tape.proofs.Encoding.{Bytes, encodes-read}
+use Rattle.tape.proofs.Entries.{Bytes}
+use Rattle.tape.proofs.Encoding.{encodes-read}
 use Rattle.tape.proofs.Walking.{reach-tape}
 
 -- a list and a store that were found to have n elements

@@ -1,7 +1,7 @@
 pub mod Entries
 pub mod Counting
-pub mod Encoding
 pub mod Walking
+pub mod Encoding
 pub mod Elements
 pub mod Keeping
 pub mod Passing

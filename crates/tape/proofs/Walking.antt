@@ -3,18 +3,22 @@
 use mathlib.Core.Path.{_≡_, refl, sym, _∙_, ap}
 use mathlib.Core.Bool.{true}
 use mathlib.Core.List.{List, [], _∷_, _++_}
-use Prim.Native.Nat.{ℕ, zero, suc, _+_, _-_, _/_, _%_, _≤_, _<_}
-use native.Mathlib.Nat.{add-zero, add-assoc}
+use Prim.Native.Nat.{ℕ, zero, suc, _+_, _-_, _≤_, _<_}
+use native.Mathlib.Nat.{add-zero}
 use native.Mathlib.Omega.{arith}
 use lib.ListN.{length, getD, take, drop, length-append, length-drop}
-use lib.Seq.{getD-drop, drop-drop, drop-append-seam}
+use lib.Seq.{getD-drop, drop-drop, drop-append-seam, take-append-seam}
 use borrow.Author.Tests.{lt-ltb, le-ltb, le-leb}
 use Rattle.slices.proofs.Booleans.{and-left, and-right}
 use Rattle.tape.specs.declared.Entry.{Entry}
 use Rattle.tape.specs.declared.Entry.the-variants.{Mark, Block, End}
-use Rattle.tape.specs.Tape.{mark, block, Tape, Cell, markCell, blockCell, entry, content, list, store, isBlockLength, isLawful, lawful}
+use Rattle.big_endian.specs.BigEndian.{bytesSay}
+use Rattle.big_endian.proofs.Left.{length-big-endian}
+use Rattle.big_endian.proofs.Said.{said-bytes}
+use Rattle.tape.specs.Tape.{mark, block, Tape, Cell, markCell, blockCell, fourBytes, entry, content, list, store, isBlockLength, isLawful, lawful}
 use Rattle.tape.specs.Reading.{entryAt, numberAt}
 use Rattle.tape.specs.Walks.{reach, pastEntry}
+use Rattle.tape.proofs.Entries.{length-between}
 
 -- what a cell's entry is read as
 abbrev pub entryFor : Cell → ℕ → Entry
@@ -29,13 +33,19 @@ width (blockCell n) = 5
 pub length-entry : (c : Cell) → length (entry c) ≡ width c
 unfolding entry
 length-entry markCell = refl
-length-entry (blockCell n) = refl
+length-entry (blockCell n) = ap suc (length-big-endian 4 n)
 
 byte-at : (l : List ℕ) (at : ℕ) (s : List ℕ) → drop at l ≡ s → (i : ℕ) → getD l (at + i) 0 ≡ getD s i 0
 byte-at l at s h i = sym (getD-drop at l i 0) ∙ ap (λ (x : List ℕ). getD x i 0) h
 
 room-at : (l : List ℕ) (at b : ℕ) (s : List ℕ) → drop at l ≡ b ∷ s → at + suc (length s) ≡ length l
 room-at l at b s h = let e : length (drop at l) ≡ suc (length s) = ap length h in let f : length l - at ≡ suc (length s) = sym (length-drop at l) ∙ e in omega arith
+
+-- a length is read as it was written
+number-read : (n : ℕ) (s : List ℕ) → isBlockLength n ≡ true → bytesSay (take 4 (fourBytes n ++ s)) ≡ n
+number-read n s h =
+    let small = length-between n h in
+    ap bytesSay (ap (λ (k : ℕ). take k (fourBytes n ++ s)) (sym (length-big-endian 4 n)) ∙ take-append-seam (fourBytes n) s) ∙ said-bytes 4 n (omega arith)
 
 pub entry-here : (l : List ℕ) (at : ℕ) (c : Cell) (s : List ℕ) → isLawful c ≡ true → drop at l ≡ entry c ++ s → entryAt l at ≡ entryFor c at
 unfolding entryAt entry
@@ -45,12 +55,9 @@ entry-here l at markCell s h d =
     simp (lt-ltb at (length l) (omega arith), b)
 entry-here l at (blockCell n) s h d =
     let r = room-at l at 2 _ d in
+    let w : length (fourBytes n ++ s) ≡ 4 + length s = length-append (fourBytes n) s ∙ ap (λ (k : ℕ). k + length s) (length-big-endian 4 n) in
     let b : getD l at 0 ≡ 2 = rw add-zero at (byte-at l at _ d 0) in
-    let b₁ : getD l (at + 1) 0 ≡ n / 16777216 = byte-at l at _ d 1 in
-    let b₂ : getD l ((at + 1) + 1) 0 ≡ n / 65536 % 256 = rw (add-assoc at 1 1) (byte-at l at _ d 2) in
-    let b₃ : getD l ((at + 1) + 2) 0 ≡ n / 256 % 256 = rw (add-assoc at 1 2) (byte-at l at _ d 3) in
-    let b₄ : getD l ((at + 1) + 3) 0 ≡ n % 256 = rw (add-assoc at 1 3) (byte-at l at _ d 4) in
-    let v : numberAt l (at + 1) ≡ n = omega arith in
+    let v : numberAt l (at + 1) ≡ n = ap (λ (t : List ℕ). bytesSay (take 4 t)) (sym (drop-drop 1 at l) ∙ ap (drop 1) d) ∙ number-read n s h in
     simp (lt-ltb at (length l) (omega arith), b, le-leb (at + 5) (length l) (omega arith), v, h)
 
 pub entry-none : (l : List ℕ) (at : ℕ) → drop at l ≡ [] → entryAt l at ≡ End

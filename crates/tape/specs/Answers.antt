@@ -1,15 +1,14 @@
 -- What this crate's functions answer: the check, keeping n elements, a block by letter and number (01, The block list).
 use mathlib.Core.Path.{_≡_}
-use mathlib.Core.Bool.{Bool, true, false, cond, not, _&&_, _||_}
+use mathlib.Core.Bool.{Bool, true, false, cond}
 use mathlib.Core.Option.{Option, none, some}
 use mathlib.Core.List.{List}
-use Prim.Native.Nat.{ℕ}
-use lib.ListN.{length, take, getElem?}
+use Prim.Native.Nat.{ℕ, _+_, _≤_}
+use lib.ListN.{length, take, drop, getElem?}
 use lib.Dec.{eqb}
-use Rattle.refusals.specs.declared.Refusal.{Refusal}
 use Rattle.refusals.specs.declared.Refusal.the-variants as is
 use Rattle.refusals.specs.Refusals.{Answer, refused, answer, require, andThen}
-use Rattle.quantities.specs.Letters.{isLetter}
+use Rattle.quantities.specs.Letters.{areLetters}
 use Rattle.tape.specs.declared.Checked.{Checked}
 use Rattle.tape.specs.declared.Checked.the-variants as checked
 use Rattle.tape.specs.declared.Kept.{Kept}
@@ -76,10 +75,6 @@ listKept a = andThen a (λ f. answer (f .list))
 abbrev pub storeKept : Answer Fronts → Answer (List ℕ)
 storeKept a = andThen a (λ f. answer (f .store))
 
--- two different partition letters, and a letter that is one of them
-abbrev pub areLetters : ℕ → ℕ → ℕ → Bool
-areLetters i d letter = isLetter i && isLetter d && not (eqb i d) && (eqb letter i || eqb letter d)
-
 abbrev pub asBlock : Option Element → Answer (List ℕ)
 asBlock none = refused is.Missing
 asBlock (some mark) = refused is.Missing
@@ -89,11 +84,17 @@ asBlock (some (block x)) = answer x
 abbrev pub blockOn : Tape → ℕ → Answer (List ℕ)
 blockOn t n = asBlock (getElem? t n)
 
--- block n of the partition with that letter, i and d being the letters of the index and the data partition: 14; 1, index side first; 2
-unfoldable pub blockOf : ℕ → ℕ → ℕ → ℕ → Answer Tape → Answer Tape → Answer (List ℕ)
-blockOf i d letter n indexTape dataTape =
-    require (areLetters i d letter) is.Caller
-    (andThen indexTape (λ ti. andThen dataTape (λ td. blockOn (cond (eqb letter i) ti td) n)))
+module _ {A : Type 0} where
+  -- what is asked of the partition with that letter, i and d being the letters of the index and the data partition, and whether it is the
+  -- index partition: 14; 1, index side first
+  abbrev pub onPartition : ℕ → ℕ → ℕ → List ℕ → List ℕ → List ℕ → List ℕ → (Bool → Tape → Answer A) → Answer A
+  onPartition i d letter indexList indexStore dataList dataStore asked =
+      require (areLetters i d letter) is.Caller
+      (andThen (tapeIn indexList indexStore) (λ ti. andThen (tapeIn dataList dataStore) (λ td. asked (eqb letter i) (cond (eqb letter i) ti td))))
+
+-- block n of the partition with that letter; else 2
+unfoldable pub blockOf : ℕ → ℕ → ℕ → ℕ → List ℕ → List ℕ → List ℕ → List ℕ → Answer (List ℕ)
+blockOf i d letter n l s l′ s′ = onPartition i d letter l s l′ s′ (λ side t. blockOn t n)
 
 -- where a block lies: whether on the index side, from which byte of the store on, and how long
 pub record Place : Type 0 where
@@ -101,15 +102,27 @@ pub record Place : Type 0 where
   pub from : ℕ
   pub size : ℕ
 
-abbrev pub placeOn : Bool → Tape → ℕ → Answer Place
-placeOn side t n = andThen (blockOn t n) (λ x. answer (record { onIndex = side; from = bytesBefore t n; size = length x }))
+abbrev pub placeOn : ℕ → Bool → Tape → Answer Place
+placeOn n side t = andThen (blockOn t n) (λ x. answer (record { onIndex = side; from = bytesBefore t n; size = length x }))
 
-unfoldable pub placeOf : ℕ → ℕ → ℕ → ℕ → Answer Tape → Answer Tape → Answer Place
-placeOf i d letter n indexTape dataTape =
-    require (areLetters i d letter) is.Caller
-    (andThen indexTape (λ ti. andThen dataTape (λ td. placeOn (eqb letter i) (cond (eqb letter i) ti td) n)))
+unfoldable pub placeOf : ℕ → ℕ → ℕ → ℕ → List ℕ → List ℕ → List ℕ → List ℕ → Answer Place
+placeOf i d letter n l s l′ s′ = onPartition i d letter l s l′ s′ (placeOn n)
 
 abbrev pub located : Located → Answer Place
 located (locatedIs.Index from n) = answer (record { onIndex = true; from = from; size = n })
 located (locatedIs.Data from n) = answer (record { onIndex = false; from = from; size = n })
 located (locatedIs.Refused r) = refused r
+
+-- the store that holds a place, s being the index partition's
+abbrev pub storeOf : List ℕ → List ℕ → Place → List ℕ
+storeOf s s′ p = cond (p .onIndex) s s′
+
+-- the place lies in its store, and the bytes there are the block's
+pub record Holds (s s′ : List ℕ) (place : Answer Place) (asked : Answer (List ℕ)) : Type 0 where
+  pub bytes : asked ≡ andThen place (λ p. answer (take (p .size) (drop (p .from) (storeOf s s′ p))))
+  pub inside : (p : Place) → place ≡ answer p → p .from + p .size ≤ length (storeOf s s′ p)
+
+-- what finding a block answers: its place, which holds it
+pub record Finds (i d letter n : ℕ) (l s l′ s′ : List ℕ) (a : Answer Place) : Type 0 where
+  pub place : a ≡ placeOf i d letter n l s l′ s′
+  pub holds : Holds s s′ a (blockOf i d letter n l s l′ s′)

@@ -3,16 +3,17 @@
 use mathlib.Core.Bool.{Bool, cond, _&&_}
 use mathlib.Core.Option.{Option, none, some}
 use mathlib.Core.List.{List, [], _∷_}
-use Prim.Native.Nat.{ℕ, zero, suc, _+_, _*_}
+use Prim.Native.Nat.{ℕ, zero, suc, _+_}
 use lib.ListN.{length, getD, take, drop}
 use lib.Dec.{leb, ltb, eqb}
+use Rattle.big_endian.specs.BigEndian.{bytesSay}
 use Rattle.tape.specs.declared.Entry.{Entry}
 use Rattle.tape.specs.declared.Entry.the-variants.{Mark, Block, End, Bad}
 use Rattle.tape.specs.Tape.{Tape, Cell, markCell, blockCell, mark, block, markKind, blockKind, isBlockLength, maxElements, maxStore}
 
 -- the number in the four bytes at a place, high byte first
 abbrev pub numberAt : List ℕ → ℕ → ℕ
-numberAt l at = getD l at 0 * 16777216 + getD l (at + 1) 0 * 65536 + getD l (at + 2) 0 * 256 + getD l (at + 3) 0
+numberAt l at = bytesSay (take 4 (drop at l))
 
 -- what stands at a place of a list, and where the next entry begins; nothing where the list ends
 unfoldable pub entryAt : List ℕ → ℕ → Entry
@@ -28,18 +29,21 @@ unfoldable pub added : Cell → Option (List Cell) → Option (List Cell)
 added c none = none
 added c (some cs) = some (c ∷ cs)
 
--- what is awaited: a kind byte, or so many length bytes before the last one, after those that make a number
-pub data Awaited : Type 0 where
-  kind : Awaited
-  length-byte : ℕ → ℕ → Awaited
+-- an entry's element and those behind it; none where no entry of a list stands
+abbrev pub andBehind : (ℕ → Option (List Cell)) → Entry → Option (List Cell)
+andBehind behind (Mark next) = added markCell (behind next)
+andBehind behind (Block n next) = added (blockCell n) (behind next)
+andBehind behind End = some []
+andBehind behind Bad = none
 
--- what a list says of its elements; none for an unknown kind, a cut body or a bad length
-unfoldable pub cells : Awaited → List ℕ → Option (List Cell)
-cells kind [] = some []
-cells kind (b ∷ l) = cond (eqb b markKind) (added markCell (cells kind l)) (cond (eqb b blockKind) (cells (length-byte 3 0) l) none)
-cells (length-byte n v) [] = none
-cells (length-byte zero v) (b ∷ l) = cond (isBlockLength (v * 256 + b)) (added (blockCell (v * 256 + b)) (cells kind l)) none
-cells (length-byte (suc n) v) (b ∷ l) = cells (length-byte n (v * 256 + b)) l
+-- what a list says of its elements from a place on; none past so many entries
+unfoldable pub cellsFrom : ℕ → List ℕ → ℕ → Option (List Cell)
+cellsFrom zero l at = none
+cellsFrom (suc n) l at = andBehind (cellsFrom n l) (entryAt l at)
+
+-- what a list says of its elements; an entry has at least a byte
+abbrev pub cells : List ℕ → Option (List Cell)
+cells l = cellsFrom (suc (length l)) l 0
 
 -- the bytes that an element has in the store
 abbrev pub size : Cell → ℕ
@@ -65,4 +69,4 @@ filledWith s (some cs) = cond (fits cs s) (some (filled cs s)) none
 
 -- the tape that a list and a store encode
 unfoldable pub tapeOf : List ℕ → List ℕ → Option Tape
-tapeOf l s = filledWith s (cells kind l)
+tapeOf l s = filledWith s (cells l)

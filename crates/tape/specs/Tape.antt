@@ -2,9 +2,11 @@
 use mathlib.Core.Path.{_≡_}
 use mathlib.Core.Bool.{Bool, true, _&&_}
 use mathlib.Core.List.{List, [], _∷_, _++_}
-use Prim.Native.Nat.{ℕ, _/_, _%_, _≤_}
+use Prim.Native.Nat.{ℕ, _≤_}
 use lib.ListN.{length}
 use Rattle.slices.specs.Slices.{within}
+pub use Rattle.quantities.specs.Sizes.{maxBlock}
+use Rattle.big_endian.specs.BigEndian.{bigEndian}
 
 -- an element: a file mark, or a block with its bytes
 pub data Element : Type 0 where
@@ -33,7 +35,7 @@ blockKind = 2
 
 -- a number in four bytes, high byte first
 abbrev pub fourBytes : ℕ → List ℕ
-fourBytes n = (n / 16777216) ∷ (n / 65536 % 256) ∷ (n / 256 % 256) ∷ (n % 256) ∷ []
+fourBytes n = bigEndian 4 n
 
 -- an element in the list: its kind byte and its body, none or a block's length
 unfoldable pub entry : Cell → List ℕ
@@ -53,12 +55,9 @@ unfoldable pub store : Tape → List ℕ
 store [] = []
 store (e ∷ t) = content e ++ store t
 
--- the bounds
+-- the bounds, with that of a block
 abbrev pub maxElements : ℕ
 maxElements = 65536
-
-abbrev pub maxBlock : ℕ
-maxBlock = 1048576
 
 abbrev pub maxStore : ℕ
 maxStore = 16777216

@@ -5,9 +5,11 @@ ghost use mathlib.Core.Path.{_≡_};
 ghost use Prim.Native.Nat.{_+_, _≤_, _<_, min};
 ghost use lib.ListN.{length};
 ghost use Rattle.refusals.specs.Refusals.{answer, andThen, Shows};
-ghost use Rattle.tape.specs.Reading.{numberAt, entryAt, cells, kind};
+ghost use Rattle.quantities.specs.Letters.{areLetters};
+ghost use Rattle.tape.specs.Tape.{maxElements};
+ghost use Rattle.tape.specs.Reading.{numberAt, entryAt, cells};
 ghost use Rattle.tape.specs.Walks.{totalsFrom, reach, spotAt, spotBelow};
-ghost use Rattle.tape.specs.Answers.{elementCount, counted, keeping, keptLengths, lengths, listKept, storeKept, areLetters, tapeIn, blockOf, placeOf, located};
+ghost use Rattle.tape.specs.Answers.{elementCount, counted, keeping, keptLengths, lengths, listKept, storeKept, blockOf, located, Finds};
 
 // What stands at a place of a list, with the place of the next entry: a file mark, a block with its length, nothing since the list
 // ends, or no entry of a list.
@@ -69,7 +71,7 @@ enum Totals {
 
 // The number of elements of a list, and the bytes of its blocks.
 fn sum_up(list: &[u8]) -> Totals
-    ensures { λ r. ⌜ r ≡ totalsFrom 0 0 (cells kind (now (list .entry))) ⌝ }
+    ensures { λ r. ⌜ r ≡ totalsFrom 0 0 (cells (now (list .entry))) ⌝ }
 {
     let mut at: usize = 0;
     let mut elements: usize = 0;
@@ -130,7 +132,7 @@ struct Front {
 }
 
 fn walk(list: &[u8], n: usize) -> Front
-    requires { ⌜ n ≤ 65536 ⌝ }
+    requires { ⌜ n ≤ maxElements ⌝ }
     ensures { λ r. ⌜ r ≡ reach n (now (list .entry)) 0 0 ⌝ }
 {
     let mut at: usize = 0;
@@ -232,7 +234,7 @@ enum Spot {
 
 // The block behind the first n entries of a list.
 fn find(list: &[u8], n: usize) -> Spot
-    requires { ⌜ n ≤ 65536 ⌝ }
+    requires { ⌜ n ≤ maxElements ⌝ }
     ensures { λ r. ⌜ r ≡ spotAt (now (list .entry)) n ⌝ }
 {
     let f = walk(list, n);
@@ -272,7 +274,7 @@ pub enum Located {
 
 // The block with a number, of a list with so many elements.
 fn numbered(list: &[u8], count: usize, number: BlockNumber) -> Spot
-    requires { ⌜ count ≤ 65536 ⌝ }
+    requires { ⌜ count ≤ maxElements ⌝ }
     ensures { λ r. ⌜ r ≡ spotBelow count (now (list .entry)) (number .0) ⌝ }
 {
     let n = number.0 as usize;
@@ -282,7 +284,7 @@ fn numbered(list: &[u8], count: usize, number: BlockNumber) -> Spot
     find(list, n)
 }
 
-// Where the block with a letter and a number lies.
+// Where the block with a letter and a number lies; its bytes lie there.
 pub fn find_block(
     index_list: &[u8],
     index_store: &[u8],
@@ -293,7 +295,7 @@ pub fn find_block(
     letter: u8,
     number: BlockNumber,
 ) -> Located
-    ensures { λ r. ⌜ located r ≡ placeOf «index_letter» «data_letter» letter (number .0) (tapeIn (now («index_list» .entry)) (now («index_store» .entry))) (tapeIn (now («data_list» .entry)) (now («data_store» .entry))) ⌝ }
+    ensures { λ r. ⌜ Finds «index_letter» «data_letter» letter (number .0) (now («index_list» .entry)) (now («index_store» .entry)) (now («data_list» .entry)) (now («data_store» .entry)) (located r) ⌝ }
 {
     if !are_letters(index_letter, data_letter, letter) {
         return Located::Refused(Refusal::Caller);
@@ -330,7 +332,7 @@ pub fn block<'a>(
     number: BlockNumber,
     refusal: &mut u64,
 ) -> &'a [u8]
-    ensures { λ r. ⌜ Shows (blockOf «index_letter» «data_letter» letter (number .0) (tapeIn (now («index_list» .entry)) (now («index_store» .entry))) (tapeIn (now («data_list» .entry)) (now («data_store» .entry)))) (now r) (now (refusal .exit)) ⌝ }
+    ensures { λ r. ⌜ Shows (blockOf «index_letter» «data_letter» letter (number .0) (now («index_list» .entry)) (now («index_store» .entry)) (now («data_list» .entry)) (now («data_store» .entry))) (now r) (now (refusal .exit)) ⌝ }
 {
     match find_block(
         index_list,

@@ -1,6 +1,6 @@
 -- The extents of an index that reads lie on what is kept where the tables say so.
 use mathlib.Core.Path.{_≡_, refl, sym, ap, subst, _∙_}
-use mathlib.Core.Bool.{Bool, true, false, cond, not, _&&_, _||_}
+use mathlib.Core.Bool.{Bool, true, false, cond, _&&_}
 use mathlib.Core.List.{List, [], _∷_, map}
 use mathlib.Core.Option.{Option, none, some}
 use Prim.Native.Nat.{ℕ, suc, _+_, _≤_}
@@ -9,9 +9,10 @@ use borrow.Author.Tests.{leb-true, eq-eqb, ne-eqb}
 use lib.Dec.{leb, ltb, eqb}
 use lib.ListN.{length, take}
 use Rattle.refusals.specs.Refusals.{Answer, answer}
-use Rattle.slices.specs.Slices.{within, every}
+use Rattle.slices.specs.Slices.{every}
 use Rattle.slices.proofs.Booleans.{split, and-left, and-right}
-use Rattle.quantities.specs.Letters.{isLetter}
+use Rattle.quantities.specs.Letters.{areLetters}
+use Rattle.quantities.specs.Sizes.{isBlockSize}
 use Rattle.values.specs.Values.{isUuid}
 use Rattle.extents.specs.Rows.{Row}
 use Rattle.extents.specs.Lawful.{rowLawful, lawful, eachLawful, apart, end, lastBlock}
@@ -87,11 +88,8 @@ module _ (g : Given) (w : Letters) (li ld ri rd : List ℕ) (ki kd : ℕ) (i : R
 size-one : (g : Given) (letter : ℕ) → callerRight g letter ≡ true → 1 ≤ g .size
 unfolding callerRight
 size-one g letter e =
-    let r₃ : Bool = isLetter (g .first) && isLetter (g .other) && not (eqb (g .first) (g .other)) in
-    let r₄ : Bool = r₃ && within 4096 1048576 (g .size) in
-    let a = and-left (r₄ && isUuid (g .uuid)) (eqb letter (g .first) || eqb letter (g .other)) e in
-    let b = and-left r₄ (isUuid (g .uuid)) a in
-    let d = and-right r₃ (within 4096 1048576 (g .size)) b in
+    let r : Bool = areLetters (g .first) (g .other) letter in
+    let d = and-right r (isBlockSize (g .size)) (and-left (r && isBlockSize (g .size)) (isUuid (g .uuid)) e) in
     let f : 4096 ≤ g .size = leb-true 4096 (g .size) (and-left (leb 4096 (g .size)) (leb (g .size) 1048576) d) in
     omega arith
 

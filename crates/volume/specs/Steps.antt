@@ -14,9 +14,9 @@ use Rattle.index.specs.Index as text
 use Rattle.index.specs.Index.{indexOf}
 use Rattle.index_values.specs.Tests.{Given}
 use Rattle.index_values.specs.declared.tests.Volume.{Volume as Letters}
-use Rattle.tape.specs.Tape.{Tape, Encodes}
+use Rattle.tape.specs.Tape.{Tape, Encodes, maxElements}
 use Rattle.constructs.specs.Constructs.{Construct, standing, dataLengths}
-use Rattle.constructs.specs.Tables.{placeIn}
+use Rattle.constructs.specs.Tables.{placeIn, tableLength}
 use Rattle.constructs.specs.Reach.{reaches, liesBy}
 use Rattle.constructs.specs.declared.Place.{Place as Spot}
 use Rattle.constructs.proofs.Suffixes.{Suffix}
@@ -177,12 +177,12 @@ Searches g w is ti n td gens begins ri rd r =
 -- the standing constructs of a partition, counted and in a table
 abbrev pub ListsOf : ℕ → List ℕ → List ℕ → List ℕ → List ℕ → ℕ → Type 0
 ListsOf B l s before after n =
-    (t : Tape) → Encodes l s t → length before ≡ 87380 → (n ≡ length (standing B t)) × Listed s after (standing B t)
+    (t : Tape) → Encodes l s t → length before ≡ tableLength → (n ≡ length (standing B t)) × Listed s after (standing B t)
 
 -- how far data blocks reach, in a table, and the number of elements
 abbrev pub ReachesOf : ℕ → List ℕ → List ℕ → List ℕ → List ℕ → ℕ → Type 0
 ReachesOf B l s before after n =
-    (t : Tape) → Encodes l s t → length before ≡ 65536 → (n ≡ length t) × ReachTable B (dataLengths t) after
+    (t : Tape) → Encodes l s t → length before ≡ maxElements → (n ≡ length t) × ReachTable B (dataLengths t) after
 
 -- a table's last construct of n ends with the last of so many elements
 pub record EndsAt (table : List ℕ) (n count : ℕ) (r : Bool) : Type 0 where
@@ -197,7 +197,7 @@ pub record Held (B : ℕ) (s : List ℕ) (t : Tape) (table : List ℕ) (n : ℕ)
 -- both tables filled, and whether the partition ends with its last construct
 abbrev pub FillsOf : ℕ → List ℕ → List ℕ → List ℕ → List ℕ → List ℕ → List ℕ → Filled → Type 0
 FillsOf B l s before table empty reach r =
-    (t : Tape) → Encodes l s t → length before ≡ 87380 → length empty ≡ 65536
+    (t : Tape) → Encodes l s t → length before ≡ tableLength → length empty ≡ maxElements
     → Held B s t table (r .count) reach × (r .ends ≡ endsWith t (standing B t))
 
 -- the cut by the tables of both partitions

@@ -1,11 +1,14 @@
 // The verdict on a volume and the rescue's cut, from the lists and stores of its two partitions.
 use crate::chains;
 use crate::filling;
+use crate::filling::ELEMENTS;
 use crate::judge;
 use crate::judge::Judgement;
 use crate::search;
 use crate::search::Kept;
 use crate::search::Tried;
+use constructs::CONSTRUCTS;
+use constructs::NUMBERS;
 use index_values::Volume;
 use label::Fields;
 use label::Label;
@@ -33,18 +36,18 @@ fn cut_by(
     data_store: &[u8],
     uuid: &[u8],
     volume: Volume,
-    index_table: &[u32; 87380],
+    index_table: &[u32; NUMBERS],
     n: usize,
     index_reach: &[u32],
-    data_table: &[u32; 87380],
+    data_table: &[u32; NUMBERS],
     m: usize,
     data_reach: &[u32],
 ) -> Tried
     ensures { λ r. ⌜ CutsBy (given (now (uuid .entry)) volume) (now («index_store» .entry)) (now («data_store» .entry)) (now («index_table» .entry)) n (now («index_reach» .entry)) (now («data_table» .entry)) m (now («data_reach» .entry)) r ⌝ }
 {
-    let mut generations = [0u64; 21845];
+    let mut generations = [0u64; CONSTRUCTS];
     let k = chains::chain(data_store, uuid, volume, data_table, m, &mut generations);
-    let mut beginnings = [0u32; 65536];
+    let mut beginnings = [0u32; ELEMENTS];
     search::put_beginnings(data_table, k, &mut beginnings);
     search::search(
         index_store,
@@ -71,8 +74,8 @@ fn rescue_with(
 ) -> Tried
     ensures { λ r. ⌜ Cuts (given (now (uuid .entry)) volume) (now («index_list» .entry)) (now («index_store» .entry)) (now («data_list» .entry)) (now («data_store» .entry)) r ⌝ }
 {
-    let mut index_table = [0u32; 87380];
-    let mut index_reach = [0u32; 65536];
+    let mut index_table = [0u32; NUMBERS];
+    let mut index_reach = [0u32; ELEMENTS];
     let n = filling::fill(
         index_list,
         index_store,
@@ -80,8 +83,8 @@ fn rescue_with(
         &mut index_table,
         &mut index_reach,
     );
-    let mut data_table = [0u32; 87380];
-    let mut data_reach = [0u32; 65536];
+    let mut data_table = [0u32; NUMBERS];
+    let mut data_reach = [0u32; ELEMENTS];
     let m = filling::fill(
         data_list,
         data_store,

@@ -1,5 +1,6 @@
 // The data partition's chain of indexes, from its first construct on.
 use crate::sound;
+use constructs::NUMBERS;
 use index_values::Volume;
 use quantities::BlockNumber;
 use quantities::Generation;
@@ -19,7 +20,7 @@ fn link(
     store: &[u8],
     uuid: &[u8],
     volume: Volume,
-    table: &[u32; 87380],
+    table: &[u32; NUMBERS],
     k: usize,
     before: Generation,
 ) -> Linked
@@ -52,7 +53,7 @@ pub fn chain(
     store: &[u8],
     uuid: &[u8],
     volume: Volume,
-    table: &[u32; 87380],
+    table: &[u32; NUMBERS],
     n: usize,
     generations: &mut [u64],
 ) -> usize

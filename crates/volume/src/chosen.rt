@@ -1,5 +1,6 @@
 // The index of a partition by its construct's number.
 use crate::sound;
+use constructs::NUMBERS;
 use constructs::Place;
 use constructs::Scanned;
 use index::Header;
@@ -42,7 +43,7 @@ pub fn read_construct(
     if !index::is_caller_right(uuid, volume, letter) {
         return Chosen::Refused(Refusal::Caller);
     }
-    let mut table = [0u32; 87380];
+    let mut table = [0u32; NUMBERS];
     match constructs::scan(list, store, volume.size as usize, &mut table) {
         Scanned::Refused(r) => Chosen::Refused(r),
         Scanned::Constructs(n) => {

@@ -1,4 +1,5 @@
 // The tables of a partition: its standing constructs, and how far data blocks reach.
+use constructs::NUMBERS;
 use constructs::Scanned;
 use tape::Checked;
 ghost use Rattle.volume.specs.Steps.{ListsOf, ReachesOf, EndsAt, FillsOf};
@@ -9,8 +10,11 @@ pub struct Filled {
     pub ends: bool,
 }
 
+// The most elements of a list, and so the numbers of a table with one for each.
+pub const ELEMENTS: usize = 65536;
+
 // Puts the standing constructs of a partition into the table; their number.
-fn list_constructs(list: &[u8], store: &[u8], size: u64, table: &mut [u32; 87380]) -> usize
+fn list_constructs(list: &[u8], store: &[u8], size: u64, table: &mut [u32; NUMBERS]) -> usize
     ensures { λ r. ⌜ ListsOf size (now (list .entry)) (now (store .entry)) (now (table .entry)) (now (table .exit)) r ⌝ }
 {
     match constructs::scan(list, store, size as usize, table) {
@@ -30,7 +34,7 @@ fn fill_reach(list: &[u8], store: &[u8], size: u64, table: &mut [u32]) -> usize
 }
 
 // Whether a partition of so many elements ends with the last of n constructs.
-fn ends(table: &[u32; 87380], n: usize, count: usize) -> bool
+fn ends(table: &[u32; NUMBERS], n: usize, count: usize) -> bool
     ensures { λ r. ⌜ EndsAt (now (table .entry)) n count r ⌝ }
 {
     if n == 0 {
@@ -45,7 +49,7 @@ pub fn fill(
     list: &[u8],
     store: &[u8],
     size: u64,
-    table: &mut [u32; 87380],
+    table: &mut [u32; NUMBERS],
     reach: &mut [u32],
 ) -> Filled
     ensures { λ r. ⌜ FillsOf size (now (list .entry)) (now (store .entry)) (now (table .entry)) (now (table .exit)) (now (reach .entry)) (now (reach .exit)) r ⌝ }

@@ -1,9 +1,12 @@
 // The five breaks, in their order.
 use crate::chains;
 use crate::filling;
+use crate::filling::ELEMENTS;
 use crate::lost;
 use crate::lost::Lost;
 use crate::sound;
+use constructs::CONSTRUCTS;
+use constructs::NUMBERS;
 use index_values::Volume;
 use quantities::BlockNumber;
 use quantities::Generation;
@@ -21,9 +24,9 @@ fn judge_last(
     store: &[u8],
     uuid: &[u8],
     volume: Volume,
-    index_table: &[u32; 87380],
+    index_table: &[u32; NUMBERS],
     k: usize,
-    data_table: &[u32; 87380],
+    data_table: &[u32; NUMBERS],
     j: usize,
     generation: Generation,
     index_reach: &[u32],
@@ -63,16 +66,16 @@ fn judge_indexes(
     data_store: &[u8],
     uuid: &[u8],
     volume: Volume,
-    index_table: &[u32; 87380],
+    index_table: &[u32; NUMBERS],
     n: usize,
     index_reach: &[u32],
-    data_table: &[u32; 87380],
+    data_table: &[u32; NUMBERS],
     m: usize,
     data_reach: &[u32],
 ) -> Judgement
     ensures { λ r. ⌜ JudgesIndexes (given (now (uuid .entry)) volume) (now («index_store» .entry)) (now («data_store» .entry)) (now («index_table» .entry)) n (now («index_reach» .entry)) (now («data_table» .entry)) m (now («data_reach» .entry)) r ⌝ }
 {
-    let mut generations = [0u64; 21845];
+    let mut generations = [0u64; CONSTRUCTS];
     let k = chains::chain(data_store, uuid, volume, data_table, m, &mut generations);
     if k < m {
         return Judgement::Broken(3, k as u64);
@@ -103,8 +106,8 @@ pub fn judge(
 ) -> Judgement
     ensures { λ r. ⌜ Breaks (given (now (uuid .entry)) volume) (now («index_list» .entry)) (now («index_store» .entry)) (now («data_list» .entry)) (now («data_store» .entry)) r ⌝ }
 {
-    let mut index_table = [0u32; 87380];
-    let mut index_reach = [0u32; 65536];
+    let mut index_table = [0u32; NUMBERS];
+    let mut index_reach = [0u32; ELEMENTS];
     let n = filling::fill(
         index_list,
         index_store,
@@ -115,8 +118,8 @@ pub fn judge(
     if !n.ends {
         return Judgement::Broken(1, 0);
     }
-    let mut data_table = [0u32; 87380];
-    let mut data_reach = [0u32; 65536];
+    let mut data_table = [0u32; NUMBERS];
+    let mut data_reach = [0u32; ELEMENTS];
     let m = filling::fill(
         data_list,
         data_store,

@@ -3,6 +3,7 @@ use crate::lost;
 use crate::lost::Lost;
 use crate::sound;
 use crate::sound::Brief;
+use constructs::NUMBERS;
 use constructs::Place;
 use index_values::Volume;
 use quantities::BlockNumber;
@@ -36,7 +37,7 @@ fn narrow(n: usize) -> u32
 }
 
 // Puts at the first block of each of the first n constructs its number plus 1.
-pub fn put_beginnings(table: &[u32; 87380], n: usize, beginnings: &mut [u32])
+pub fn put_beginnings(table: &[u32; NUMBERS], n: usize, beginnings: &mut [u32])
     ensures { λ r. ⌜ BeginsOf (now (table .entry)) n (now (beginnings .entry)) (now (beginnings .exit)) ⌝ }
 {
     let mut k: usize = 0;
@@ -82,9 +83,9 @@ fn try_cut(
     store: &[u8],
     uuid: &[u8],
     volume: Volume,
-    index_table: &[u32; 87380],
+    index_table: &[u32; NUMBERS],
     k: usize,
-    data_table: &[u32; 87380],
+    data_table: &[u32; NUMBERS],
     generations: &[u64],
     beginnings: &[u32],
     index_reach: &[u32],
@@ -127,9 +128,9 @@ pub fn search(
     store: &[u8],
     uuid: &[u8],
     volume: Volume,
-    index_table: &[u32; 87380],
+    index_table: &[u32; NUMBERS],
     n: usize,
-    data_table: &[u32; 87380],
+    data_table: &[u32; NUMBERS],
     generations: &[u64],
     beginnings: &[u32],
     index_reach: &[u32],

@@ -12,7 +12,8 @@ use Rattle.slices.specs.Words.{bytes}
 use Rattle.slices.proofs.Booleans.{split, and-left, and-right}
 use Rattle.slices.proofs.Equal.{same-eq}
 use Rattle.slices.proofs.Writers.{placed-short}
-use Rattle.digits.specs.Decimal.{short, shortIn}
+use Rattle.digits.specs.Runs.{digits, firstFrom, width}
+use Rattle.digits.specs.Decimal.{short}
 use Rattle.xml.specs.Bytes.{declaration, isSpace, isLetter, isNameByte}
 use Rattle.xml.specs.Machine.{reads, char, inText, inside, tagEnd, outside, leave, innermost, noText, step, ended, run, form}
 use Rattle.values.specs.Values.{fits, inForm, inRanges, isTime, isUuid, isCreator}
@@ -24,11 +25,11 @@ use Rattle.label_writer.proofs.Lengths.{length-text, time-length, uuid-length}
 use Rattle.worked.specs.Cases.{isBench, sample, refuses, benchLength, benchShort}
 
 pub one : isBench sample ≡ true
-unfolding isBench sample isGiven isLawful areNumbers isCreator isTime isUuid inForm fits inRanges lettersFit every same bytes escaped escape texts letters numbers opening closing textOf declaration short shortIn word isFormed form run step reads char inText inside tagEnd outside leave innermost noText ended isSpace isLetter isNameByte
+unfolding isBench sample isGiven isLawful areNumbers isCreator isTime isUuid inForm fits inRanges lettersFit every same bytes escaped escape texts letters numbers opening closing textOf declaration short width firstFrom digits word isFormed form run step reads char inText inside tagEnd outside leave innermost noText ended isSpace isLetter isNameByte
 one = refl
 
 size : length (short 524288) ≡ 6
-unfolding short shortIn
+unfolding short width firstFrom digits
 size = refl
 
 compressed : length (word true) ≡ 4

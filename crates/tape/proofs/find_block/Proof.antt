@@ -6,9 +6,11 @@ use borrow.Author.Needs.{needs}
 use borrow.Author.Tests.{eq-eqb, ne-eqb, not-true, not-false}
 use Rattle.tape.specs.declared.Spot.{Spot}
 use Rattle.tape.specs.Walks.{spotBelow}
-use Rattle.tape.specs.Answers.{areLetters, counted, placeOf, tapeIn}
+use Rattle.refusals.specs.Refusals.{Answer}
+use Rattle.quantities.specs.Letters.{areLetters}
+use Rattle.tape.specs.Answers.{counted, Place, placeOf, Finds}
 use Rattle.tape.proofs.Keeping.{Present, present}
-use Rattle.tape.proofs.Blocks.{placeFrom, place-letters, place-index, place-data, place-found}
+use Rattle.tape.proofs.Blocks.{placeFrom, place-letters, place-index, place-data, place-found, finds}
 use Rattle.tape.proofs.find_block.Statement.{statement}
 use Rattle.tape.proofs.find_block.Tie as tie
 
@@ -32,17 +34,27 @@ data-present f =
     present (a .data-list .now) (a .data-store .now) (g .0 .0) (λ k. f .before .before .before .before .before .before .before .before .before .before .before .shared-slice-known3 .given k .fits)
     (ap counted (sym (g .1)) ∙ f .before .before .before .check2 .ensures)
 
+-- what is answered, the place being known
+answers : (f : tie.After-are-letters) (p : Answer Place)
+    → (let a = f .before .before .before .before .before .args in
+    p ≡ placeOf (a .index-letter) (a .data-letter) (a .letter) (a .number .0) (a .index-list .now) (a .index-store .now) (a .data-list .now) (a .data-store .now)
+    → Finds (a .index-letter) (a .data-letter) (a .letter) (a .number .0) (a .index-list .now) (a .index-store .now) (a .data-list .now) (a .data-store .now) p)
+answers f p e =
+    let a = f .before .before .before .before .before .args in
+    finds (a .index-letter) (a .data-letter) (a .letter) (a .number .0) (a .index-list .now) (a .index-store .now) (a .data-list .now) (a .data-store .now)
+    (λ k. f .before .before .before .before .shared-slice-known .given k .fits) (λ k. f .before .before .shared-slice-known3 .given k .fits) p e
+
 -- a spot on the side that the letter picks
 found : (f : tie.After-known-told2) (side : Bool) (x : Spot)
     → (let a = f .before .before .before .before .before .before .before .before .before .before .before .before .before .before .args in
     eqb (a .letter) (a .index-letter) ≡ side
     → x ≡ spotBelow (cond side (f .before .before .before .before .before .index-count .given .0 .0) (f .before .data-count .given .0 .0)) (cond side (a .index-list .now) (a .data-list .now)) (a .number .0)
-    → placeFrom side x
-    ≡ placeOf (a .index-letter) (a .data-letter) (a .letter) (a .number .0) (tapeIn (a .index-list .now) (a .index-store .now)) (tapeIn (a .data-list .now) (a .data-store .now)))
+    → Finds (a .index-letter) (a .data-letter) (a .letter) (a .number .0) (a .index-list .now) (a .index-store .now) (a .data-list .now) (a .data-store .now) (placeFrom side x))
 found f side x e h =
     let a = f .before .before .before .before .before .before .before .before .before .before .before .before .before .before .args in
-    sym (place-found (a .index-letter) (a .data-letter) (a .letter) (a .number .0) (a .index-list .now) (a .index-store .now) _ (index-present (f .before .before .before .before))
-    (a .data-list .now) (a .data-store .now) _ (data-present f) (lettered (f .before .before .before .before .before .before .before .before)) side e x h)
+    answers (f .before .before .before .before .before .before .before .before .before) (placeFrom side x)
+    (sym (place-found (a .index-letter) (a .data-letter) (a .letter) (a .number .0) (a .index-list .now) (a .index-store .now) (a .data-list .now) (a .data-store .now)
+    (lettered (f .before .before .before .before .before .before .before .before)) _ (index-present (f .before .before .before .before)) _ (data-present f) side e x h))
 
 are-letters-requires : tie.Need-are-letters-requires
 are-letters-requires c κs = search needs
@@ -50,7 +62,9 @@ are-letters-requires c κs = search needs
 returns : tie.Need-returns
 returns c =
     let a = c .before .before .before .before .before .before .args in
-    sym (place-letters (a .index-letter) (a .data-letter) (a .letter) (a .number .0) _ _ (sym (c .before .are-letters .ensures) ∙ not-true (c .before .are-letters .result) (c .if1 .taken)))
+    answers (c .before) _
+    (sym (place-letters (a .index-letter) (a .data-letter) (a .letter) (a .number .0) (a .index-list .now) (a .index-store .now) (a .data-list .now) (a .data-store .now)
+    (sym (c .before .are-letters .ensures) ∙ not-true (c .before .are-letters .result) (c .if1 .taken))))
 
 check-requires : tie.Need-check-requires
 check-requires c κs = search needs
@@ -64,8 +78,9 @@ enum-told c = search needs
 returns-2 : tie.Need-returns-2
 returns-2 c =
     let a = c .before .before .before .before .before .before .before .before .before .args in
-    sym (place-index (a .index-letter) (a .data-letter) (a .letter) (a .number .0) (a .index-list .now) (a .index-store .now) _ (c .enum-told .given .0 .0) (lettered (c .before .before .before))
-    (ap counted (sym (c .enum-told .given .1)) ∙ c .before .before .check .ensures))
+    answers (c .before .before .before .before) _
+    (sym (place-index (a .index-letter) (a .data-letter) (a .letter) (a .number .0) (a .index-list .now) (a .index-store .now) (a .data-list .now) (a .data-store .now)
+    (lettered (c .before .before .before)) (c .enum-told .given .0 .0) (ap counted (sym (c .enum-told .given .1)) ∙ c .before .before .check .ensures)))
 
 check-requires-2 : tie.Need-check-requires-2
 check-requires-2 c κs = search needs
@@ -79,8 +94,9 @@ enum-told-2 c = search needs
 returns-3 : tie.Need-returns-3
 returns-3 c =
     let a = c .before .before .before .before .before .before .before .before .before .before .before .before .before .args in
-    sym (place-data (a .index-letter) (a .data-letter) (a .letter) (a .number .0) (a .index-list .now) (a .index-store .now) _ (index-present (c .before .before .before)) (a .data-list .now) (a .data-store .now) (c .enum-told2 .given .0 .0) (lettered (c .before .before .before .before .before .before .before))
-    (ap counted (sym (c .enum-told2 .given .1)) ∙ c .before .before .check2 .ensures))
+    answers (c .before .before .before .before .before .before .before .before) _
+    (sym (place-data (a .index-letter) (a .data-letter) (a .letter) (a .number .0) (a .index-list .now) (a .index-store .now) (a .data-list .now) (a .data-store .now)
+    (lettered (c .before .before .before .before .before .before .before)) _ (index-present (c .before .before .before)) (c .enum-told2 .given .0 .0) (ap counted (sym (c .enum-told2 .given .1)) ∙ c .before .before .check2 .ensures)))
 
 numbered-requires : tie.Need-numbered-requires
 numbered-requires c κs =

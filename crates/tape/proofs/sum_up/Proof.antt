@@ -1,34 +1,35 @@
 -- `tape::sum_up` meets its contract. Invariant: the totals so far and those of the rest are the whole list's.
-use mathlib.Core.List.{List}
 use Prim.Native.Nat.{ℕ, _≤_, _*_, _-_}
 use mathlib.Core.Path.{_≡_, refl, sym, _∙_, ap}
 use native.Mathlib.Nat.{add-zero}
 use native.Mathlib.Omega.{arith}
 use borrow.Author.Needs.{needs}
-use lib.ListN.{length, drop, drop-of-length-le}
-use Rattle.tape.specs.Reading.{cells, kind}
+use lib.ListN.{length}
+use Rattle.tape.specs.Tape.{maxElements, maxBlock}
+use Rattle.tape.specs.Reading.{cells}
 use Rattle.tape.specs.Walks.{totalsFrom}
-use Rattle.tape.proofs.Entries.{cells-as, lies-as}
-use Rattle.tape.proofs.Counting.{totals-more, totals-end, totals-full}
+use Rattle.tape.proofs.Entries.{lies-as}
+use Rattle.tape.proofs.Counting.{totals-more, totals-end, totals-full, left, left-all, left-on, left-none}
 use Rattle.tape.proofs.sum_up.Statement.{statement}
 use Rattle.tape.proofs.sum_up.Tie as tie
 
 abbrev Inv-loop : tie.InvT-loop
 Inv-loop list at₀ elements₀ bytes₀ at elements bytes =
-    (at ≤ length list) × (elements ≤ 65536) × (bytes ≤ elements * 1048576)
-    × (totalsFrom 0 0 (cells kind list) ≡ totalsFrom elements bytes (cells kind (drop at list)))
+    (elements ≤ at) × (at ≤ length list) × (elements ≤ maxElements) × (bytes ≤ elements * maxBlock)
+    × (totalsFrom 0 0 (cells list) ≡ totalsFrom elements bytes (left list elements at))
 
 abbrev μ-loop : tie.MeasureT-loop
 μ-loop list at₀ elements₀ bytes₀ at elements bytes = length list - at
 
 loop-holds : tie.Need-loop-holds Inv-loop μ-loop
-loop-holds c = (search needs, search needs, search needs, refl)
+loop-holds c = (search needs, search needs, search needs, search needs, ap (totalsFrom 0 0) (left-all (c .before .args .list .now)))
 
 returns : tie.Need-returns Inv-loop μ-loop
 returns c =
     let l = c .before .before .loop in
     let e : l .elements ≡ 65536 = c .if1 .taken in
-    sym (l .inv .3 ∙ ap (λ (n : ℕ). totalsFrom n (l .bytes) (cells kind (drop (l .at) (c .before .before .before .before .args .list .now)))) e ∙ totals-full (c .before .before .before .before .args .list .now) (l .at) (l .bytes) (search needs))
+    let list = c .before .before .before .before .args .list .now in
+    sym (l .inv .4 ∙ ap (λ (n : ℕ). totalsFrom n (l .bytes) (left list (l .elements) (l .at))) e ∙ totals-full list (l .elements) (l .at) (l .bytes) (search needs))
 
 entry-at-requires : tie.Need-entry-at-requires Inv-loop μ-loop
 entry-at-requires c κs = search needs
@@ -54,7 +55,8 @@ loop-again c =
       search needs,
       search needs,
       search needs,
-      l .inv .3 ∙ ap (totalsFrom (l .elements) (l .bytes)) (cells-as (c .before .before .before .before .before .before .before .before .args .list .now) (l .at) q) ∙ totals-more (l .elements) (l .bytes) _ _ ∙ rw add-zero,
+      search needs,
+      l .inv .4 ∙ ap (totalsFrom (l .elements) (l .bytes)) (left-on (c .before .before .before .before .before .before .before .before .args .list .now) (l .elements) (l .at) (search needs) q) ∙ totals-more (l .elements) (l .bytes) _ _ ∙ rw add-zero,
     )
 
 enum-known-n : tie.Need-enum-known-n Inv-loop μ-loop
@@ -85,7 +87,8 @@ loop-again-2 c =
       search needs,
       search needs,
       search needs,
-      l .inv .3 ∙ ap (totalsFrom (l .elements) (l .bytes)) (cells-as (c .before .before .before .before .before .before .before .before .args .list .now) (l .at) q) ∙ totals-more (l .elements) (l .bytes) _ _,
+      search needs,
+      l .inv .4 ∙ ap (totalsFrom (l .elements) (l .bytes)) (left-on (c .before .before .before .before .before .before .before .before .args .list .now) (l .elements) (l .at) (search needs) q) ∙ totals-more (l .elements) (l .bytes) _ _,
     )
 
 enum-told : tie.Need-enum-told Inv-loop μ-loop
@@ -104,13 +107,12 @@ returns-3 : tie.Need-returns-3 Inv-loop μ-loop
 unfolding totalsFrom
 returns-3 c =
     let l = c .before .before .before .before .before .loop in
-    sym (l .inv .3 ∙ ap (totalsFrom (l .elements) (l .bytes)) (cells-as (c .before .before .before .before .before .before .before .args .list .now) (l .at) (sym (c .before .before .entry-at .ensures) ∙ c .enum-told2 .given .1)))
+    sym (l .inv .4 ∙ ap (totalsFrom (l .elements) (l .bytes)) (left-on (c .before .before .before .before .before .before .before .args .list .now) (l .elements) (l .at) (search needs) (sym (c .before .before .entry-at .ensures) ∙ c .enum-told2 .given .1)))
 
 returns-4 : tie.Need-returns-4 Inv-loop μ-loop
-unfolding cells
 returns-4 c =
     let l = c .before .loop in
-    sym (l .inv .3 ∙ ap (λ (s : List ℕ). totalsFrom (l .elements) (l .bytes) (cells kind s)) (drop-of-length-le (c .before .before .before .args .list .now) {i = l .at} (search needs)) ∙ totals-end (l .elements) (l .bytes) (search needs))
+    sym (l .inv .4 ∙ ap (totalsFrom (l .elements) (l .bytes)) (left-none (c .before .before .before .args .list .now) (l .elements) (l .at) (search needs)) ∙ totals-end (l .elements) (l .bytes) (search needs))
 
 pub sum-up-spec : {M : Type 1} → statement M
 sum-up-spec =

@@ -2,6 +2,7 @@
 use mathlib.Core.Path.{_≡_, refl, sym, _∙_}
 use Prim.Native.Nat.{_≤_, _*_, _-_, _+_}
 use borrow.Author.Needs.{needs}
+use Rattle.tape.specs.Tape.{maxElements, maxBlock}
 use Rattle.tape.specs.Walks.{reach}
 use Rattle.tape.proofs.Entries.{lies-as}
 use Rattle.tape.proofs.Walking.{reach-step, reach-done}
@@ -10,7 +11,7 @@ use Rattle.tape.proofs.walk.Tie as tie
 
 abbrev Inv-loop : tie.InvT-loop
 Inv-loop list n at₀ store₀ left₀ at store left =
-    (left ≤ n) × (n ≤ 65536) × (store + left * 1048576 ≤ n * 1048576) × (reach n list 0 0 ≡ reach left list at store)
+    (left ≤ n) × (n ≤ maxElements) × (store + left * maxBlock ≤ n * maxBlock) × (reach n list 0 0 ≡ reach left list at store)
 
 abbrev μ-loop : tie.MeasureT-loop
 μ-loop list n at₀ store₀ left₀ at store left = left

@@ -1,5 +1,5 @@
 -- `is_caller_right` meets its contract: the tests in their order.
-use mathlib.Core.Bool.{Bool, _||_}
+use mathlib.Core.Bool.{Bool, _||_, and-false}
 use lib.Dec.{eqb}
 use Rattle.index_values.specs.Tests.{given}
 use Rattle.index.proofs.Answers.{caller-last}
@@ -39,14 +39,14 @@ is-block-size-requires c κs = search needs
 
 returns-4 : tie.Need-returns-4
 unfolding callerRight
-returns-4 c = simp (sym (c .before .before .before .before .before .before .before .before .is-letter .ensures) ∙ not-false _ (c .before .before .before .before .before .before .before .if1 .left), sym (c .before .before .before .before .before .is-letter2 .ensures) ∙ not-false _ (c .before .before .before .before .if2 .left), ne-eqb _ _ (c .before .before .if3 .left), sym (c .before .is-block-size .ensures) ∙ not-true _ (c .if4 .taken))
+returns-4 c = simp (sym (c .before .before .before .before .before .before .before .before .is-letter .ensures) ∙ not-false _ (c .before .before .before .before .before .before .before .if1 .left), sym (c .before .before .before .before .before .is-letter2 .ensures) ∙ not-false _ (c .before .before .before .before .if2 .left), ne-eqb _ _ (c .before .before .if3 .left), sym (c .before .is-block-size .ensures) ∙ not-true _ (c .if4 .taken), and-false)
 
 is-uuid-requires : tie.Need-is-uuid-requires
 is-uuid-requires c κs = search needs
 
 returns-5 : tie.Need-returns-5
 unfolding callerRight
-returns-5 c = simp (sym (c .before .before .before .before .before .before .before .before .before .before .is-letter .ensures) ∙ not-false _ (c .before .before .before .before .before .before .before .before .before .if1 .left), sym (c .before .before .before .before .before .before .before .is-letter2 .ensures) ∙ not-false _ (c .before .before .before .before .before .before .if2 .left), ne-eqb _ _ (c .before .before .before .before .if3 .left), sym (c .before .before .before .is-block-size .ensures) ∙ not-false _ (c .before .before .if4 .left), sym (c .before .is-uuid .ensures) ∙ not-true _ (c .if5 .taken))
+returns-5 c = simp (sym (c .before .before .before .before .before .before .before .before .before .before .is-letter .ensures) ∙ not-false _ (c .before .before .before .before .before .before .before .before .before .if1 .left), sym (c .before .before .before .before .before .before .before .is-letter2 .ensures) ∙ not-false _ (c .before .before .before .before .before .before .if2 .left), ne-eqb _ _ (c .before .before .before .before .if3 .left), sym (c .before .before .before .is-block-size .ensures) ∙ not-false _ (c .before .before .if4 .left), sym (c .before .is-uuid .ensures) ∙ not-true _ (c .if5 .taken), and-false)
 
 returns-6 : tie.Need-returns-6
 returns-6 c = sym (caller-last (given (c .before .before .before .before .before .before .before .before .before .before .before .before .before .before .before .args .uuid .now) (c .before .before .before .before .before .before .before .before .before .before .before .before .before .before .before .args .volume)) (c .before .before .before .before .before .before .before .before .before .before .before .before .before .before .before .args .letter) (sym (c .before .before .before .before .before .before .before .before .before .before .before .before .is-letter .ensures) ∙ not-false _ (c .before .before .before .before .before .before .before .before .before .before .before .if1 .left)) (sym (c .before .before .before .before .before .before .before .before .before .is-letter2 .ensures) ∙ not-false _ (c .before .before .before .before .before .before .before .before .if2 .left)) (ne-eqb _ _ (c .before .before .before .before .before .before .if3 .left)) (sym (c .before .before .before .before .before .is-block-size .ensures) ∙ not-false _ (c .before .before .before .before .if4 .left)) (sym (c .before .before .before .is-uuid .ensures) ∙ not-false _ (c .before .before .if5 .left)) ∙ ap (λ (b : Bool). b || eqb (c .before .before .before .before .before .before .before .before .before .before .before .before .before .before .before .args .letter) (c .before .before .before .before .before .before .before .before .before .before .before .before .before .before .before .args .volume .other)) (eq-eqb _ _ (c .if6 .taken)))
