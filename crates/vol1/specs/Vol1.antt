@@ -3,11 +3,12 @@ use mathlib.Core.Bool.{Bool, _&&_}
 use mathlib.Core.List.{List, _++_}
 use Prim.Native.Nat.{ℕ}
 use lib.Dec.{eqb}
-use lib.ListN.{length, take, drop}
+use lib.ListN.{length, take, drop, replicate}
 use Rattle.refusals.specs.Refusals.{Answer, refused, answer, require}
 use Rattle.refusals.specs.declared.Refusal.the-variants as is
 use Rattle.slices.specs.Slices.{within, every, same}
 use Rattle.slices.specs.Words.{bytes}
+use Rattle.slices.specs.Writers.{stored}
 use Rattle.vol1.specs.declared.Vol1Read.{Vol1Read}
 use Rattle.vol1.specs.declared.Vol1Read.the-variants.{Good, Refused}
 
@@ -33,6 +34,10 @@ ownerAt = 37
 
 abbrev pub ownerLength : ℕ
 ownerLength = 14
+
+-- an array of n bytes into which a field was put: where the field has n bytes, it is the field
+abbrev pub inArray : ℕ → List ℕ → List ℕ
+inArray n field = stored 0 field (replicate n 0)
 
 -- the fields of a block
 abbrev pub identifierIn : List ℕ → List ℕ
