@@ -10,8 +10,7 @@ ghost use mathlib.Core.Bool.{_&&_};
 ghost use mathlib.Core.List.{[], _∷_};
 ghost use Prim.Native.Nat.{_≤_};
 ghost use lib.ListN.{length, take};
-ghost use Rattle.xml.specs.Machine.{form};
-ghost use Rattle.label.specs.Label.{isFormed};
+ghost use Rattle.xml.specs.Machine.{inForm};
 ghost use Rattle.quantities.specs.Letters.{isLetter};
 ghost use Rattle.values.specs.Values.{isCreator, isTime, isUuid};
 ghost use Rattle.writing.specs.Writing.{Adds, Composes, Writes};
@@ -187,7 +186,7 @@ fn are_numbers(g: Given) -> bool
 // Writes the first n bytes of a text that is in the XML form to the front of out.
 fn deliver(out: &mut [u8], text: &[u8], n: usize) -> Written
     requires { ⌜ n ≤ length (now text) ⌝ }
-    ensures { λ r. ⌜ Writes (isFormed (form (take n (now (text .entry))))) (take n (now (text .entry))) (now (out .entry)) (now (out .exit)) r ⌝ }
+    ensures { λ r. ⌜ Writes (inForm (take n (now (text .entry)))) (take n (now (text .entry))) (now (out .entry)) (now (out .exit)) r ⌝ }
 {
     let part = &text[0..n];
     let Checked::Good = xml::check(part) else {
