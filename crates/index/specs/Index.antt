@@ -7,7 +7,7 @@ use Prim.Native.Nat.{ℕ, _-_}
 use lib.Dec.{eqb, leb}
 use lib.ListN.{length}
 use Rattle.refusals.specs.Refusals.{Answer, refused, answer, require, andThen}
-use Rattle.refusals.specs.declared.Refusal.the-variants.{Caller, TooMany, Form, Structure, Version, Value, Foreign, Extents, Location}
+use Rattle.refusals.specs.declared.Refusal.the-variants.{Caller, TooMany, Structure, Version, Value, Foreign, Extents, Location}
 use Rattle.slices.specs.Slices.{every, same}
 use Rattle.slices.specs.Words.{bytes}
 use Rattle.quantities.specs.Letters.{isLetter}
@@ -15,7 +15,7 @@ use Rattle.quantities.specs.Sizes.{isBlockSize}
 use Rattle.quantities.specs.Places.{Place}
 use Rattle.quantities.specs.declared.BlockNumber.{BlockNumber}
 use Rattle.xml.specs.Tree.{Head, Forest, none as noElement, node}
-use Rattle.xml.specs.Machine.{Outcome, good, broken, form}
+use Rattle.xml.specs.Machine.{requireForm}
 use Rattle.elements.specs.Reading.{rowAt, isRow, partAt}
 use Rattle.values.specs.Values as is
 use Rattle.extents.specs.Rows.{Row}
@@ -141,16 +141,12 @@ callerRight g letter =
     isLetter (g .first) && isLetter (g .other) && not (eqb (g .first) (g .other)) && isBlockSize (g .size) && is.isUuid (g .uuid)
     && (eqb letter (g .first) || eqb letter (g .other))
 
-abbrev pub isGood : Outcome → Bool
-isGood good = true
-isGood (broken u) = false
-
 -- an index's text, at a partition letter and the number of its first block
 unfoldable pub indexOf : Given → ℕ → ℕ → List ℕ → Answer Index
 indexOf g letter block text =
     require (callerRight g letter) Caller
     (require (leb (length text) 1048576) TooMany
-    (require (isGood (form text)) Form
+    (requireForm text
     (rootRead g letter block (rowAt text 38))))
 
 -- what the survey of an index's children tells; of more than 4,096 entries or 1,024 extents only that
