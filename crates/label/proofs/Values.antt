@@ -6,8 +6,6 @@ use mathlib.Core.Option.{Option, some, none as nothing}
 use Prim.Native.Nat.{ℕ, _<_, _≤_}
 use Rattle.refusals.specs.Refusals.{Answer, refused, answer, require, orRefuse}
 use Rattle.refusals.specs.declared.Refusal.the-variants.{Form, Structure, Value, Version, TooMany}
-use Rattle.slices.specs.Slices.{same}
-use Rattle.slices.specs.Words.{bytes}
 use Rattle.quantities.specs.Sizes.{isBlockSize}
 use borrow.Author.Tests.{le-leb, lt-leb}
 use lib.ListN.{length}
@@ -16,7 +14,7 @@ use Rattle.xml.specs.Tree.{Head, Forest, none, node}
 use Rattle.elements.specs.Reading.{rowAt}
 use Rattle.texts.specs.Decoded.{decoded}
 use Rattle.values.specs.Values.{number, boolean, letter, version, isTime, isUuid, isCreator}
-use Rattle.label.specs.Label.{Label, Texts, isShaped, textsIn, lettersFit, labelFrom, rootOf, firstOf, labelOf}
+use Rattle.label.specs.Label.{Label, Texts, isShaped, textsIn, lettersFit, labelFrom, isRoot, rootOf, firstOf, labelOf}
 use Rattle.label.specs.Parts.{Three, fitting, sized}
 
 pub texts-same : {c c′ t t′ u u′ : List ℕ} → c ≡ c′ → t ≡ t′ → u ≡ u′
@@ -100,11 +98,11 @@ module _ (release : ℕ) (t : Texts) where
         the-label e x y z p q r = rw (p, q, r, in-parts, e₁, e₂, e)
 
 module _ (h : Head) (f : Forest) where
-  pub no-root : (same (h .name) (bytes "ltfslabel") && same (h .key) (bytes "version")) ≡ false → refused Structure ≡ rootOf h f
+  pub no-root : isRoot h ≡ false → refused Structure ≡ rootOf h f
   unfolding rootOf
   no-root e = rw e
 
-  module _ (e₀ : (same (h .name) (bytes "ltfslabel") && same (h .key) (bytes "version")) ≡ true) where
+  module _ (e₀ : isRoot h ≡ true) where
     pub no-version : version (h .value) ≡ nothing → refused Version ≡ rootOf h f
     unfolding rootOf
     no-version e = rw (e₀, e)

@@ -94,10 +94,13 @@ labelFrom release t =
     (orRefuse (boolean (t .compression)) Value (λ c.
     answer (record { release = release; creator = decoded (t .creator); time = t .time; uuid = t .uuid; location = l; indexLetter = i; dataLetter = d; blockSize = b; compression = c })))))))))
 
+abbrev pub isRoot : Head → Bool
+isRoot h = same (h .name) (bytes "ltfslabel") && same (h .key) (bytes "version")
+
 -- 5 for the root and its attribute, 7, the rest of 5, then the values
 unfoldable pub rootOf : Head → Forest → Answer Label
 rootOf h f =
-    require (same (h .name) (bytes "ltfslabel") && same (h .key) (bytes "version")) Structure
+    require (isRoot h) Structure
     (orRefuse (version (h .value)) Version (λ r. require (isShaped f) Structure (labelFrom r (textsIn f))))
 
 unfoldable pub firstOf : Forest → Answer Label

@@ -4,11 +4,13 @@ use mathlib.Core.List.{List, [], _∷_, _++_}
 use Prim.Native.Nat.{ℕ}
 use lib.Dec.{eqb}
 use Rattle.slices.specs.Words.{bytes}
+use Rattle.slices.specs.declared.Written.{Written}
 use Rattle.quantities.specs.Letters.{isLetter}
 use Rattle.quantities.specs.Sizes.{isBlockSize}
 use Rattle.digits.specs.Decimal.{short}
 use Rattle.xml.specs.Bytes.{declaration}
 use Rattle.values.specs.Values.{isCreator, isTime, isUuid}
+use Rattle.writing.specs.Writing.{Composes, Writes}
 use Rattle.label.specs.Label.{Label, lettersFit}
 use Rattle.label_writer.specs.Characters.{isCharacters}
 use Rattle.label_writer.specs.declared.Given.{Given}
@@ -73,3 +75,10 @@ isLawful f = (isCreator (f .creator) && isTime (f .time) && isUuid (f .uuid)) &&
 -- and the creator is UTF-8 in XML 1.0's characters
 unfoldable pub isGiven : Label → Bool
 isGiven f = isLawful f && isCharacters (f .creator)
+
+-- a label's text, put together at the front of a buffer that has room for it; and written there where the label may be
+abbrev pub ComposesText : Label → List ℕ → List ℕ → ℕ → Type 0
+ComposesText f = Composes (textOf f)
+
+abbrev pub WritesText : Label → List ℕ → List ℕ → Written → Type 0
+WritesText f = Writes (isGiven f) (textOf f)

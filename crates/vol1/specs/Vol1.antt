@@ -9,6 +9,8 @@ use Rattle.refusals.specs.declared.Refusal.the-variants as is
 use Rattle.slices.specs.Slices.{within, every, same}
 use Rattle.slices.specs.Words.{bytes}
 use Rattle.slices.specs.Writers.{stored}
+use Rattle.slices.specs.declared.Written.{Written}
+use Rattle.writing.specs.Writing.{Writes}
 use Rattle.vol1.specs.declared.Vol1Read.{Vol1Read}
 use Rattle.vol1.specs.declared.Vol1Read.the-variants.{Good, Refused}
 
@@ -64,3 +66,7 @@ meansVol1 s (Refused r) = refused r
 -- fields that a caller gives: in their lengths, and ASCII
 unfoldable pub areFields : List ℕ → List ℕ → Bool
 areFields identifier owner = eqb (length identifier) identifierLength && eqb (length owner) ownerLength && isPrinted identifier && isPrinted owner
+
+-- the block of such fields, written to the front of a buffer
+abbrev pub WritesBlock : List ℕ → List ℕ → List ℕ → List ℕ → Written → Type 0
+WritesBlock identifier owner = Writes (areFields identifier owner) (vol1 identifier owner)

@@ -3,8 +3,7 @@ use refusals::Refusal;
 use slices::Written;
 use writing::add;
 ghost use mathlib.Core.Path.{_≡_};
-ghost use Rattle.writing.specs.Writing.{Writes};
-ghost use Rattle.vol1.specs.Vol1.{identifierLength, ownerLength, inArray, vol1, isPrinted, areFields, vol1Of, meansVol1};
+ghost use Rattle.vol1.specs.Vol1.{identifierLength, ownerLength, inArray, vol1, isPrinted, areFields, WritesBlock, vol1Of, meansVol1};
 
 // A VOL1 label, as the block that it is.
 pub struct Vol1 {
@@ -145,7 +144,7 @@ fn are_fields(identifier: &[u8], owner: &[u8]) -> bool
 
 // Writes the VOL1 label of an identifier and an owner to the front of out.
 pub fn write_vol1(out: &mut [u8], identifier: &[u8], owner: &[u8]) -> Written
-    ensures { λ r. ⌜ Writes (areFields (now (identifier .entry)) (now (owner .entry))) (vol1 (now (identifier .entry)) (now (owner .entry))) (now (out .entry)) (now (out .exit)) r ⌝ }
+    ensures { λ r. ⌜ WritesBlock (now (identifier .entry)) (now (owner .entry)) (now (out .entry)) (now (out .exit)) r ⌝ }
 {
     if !are_fields(identifier, owner) {
         return Written::Refused(Refusal::Caller);
