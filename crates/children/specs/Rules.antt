@@ -1,14 +1,23 @@
--- A table of rules for the children of an element, written as bytes: each child's name is followed by a mark that says what the child may hold, `=` a
--- value, `/` children, `*` anything.
+-- The rules for the children of an element: the name of each, and a mark that says what the child may hold, `=` (61) a value, `/` (47) children, `*` (42)
+-- anything. A table of them is written as bytes, each name with its mark behind it.
 use mathlib.Core.Bool.{Bool, cond, not, _||_}
 use mathlib.Core.List.{List, [], _∷_}
 use Prim.Native.Nat.{ℕ, suc}
+use Prim.Native.String.{String}
 use lib.Dec.{eqb}
 use Rattle.slices.specs.Slices.{same}
+use Rattle.slices.specs.Words.{bytes}
 
 pub record Rule : Type 0 where
   pub name : List ℕ
   pub mark : ℕ
+
+-- a child with a value, and one with children
+abbrev pub withValue : String → Rule
+withValue name = record { name = bytes name; mark = 61 }
+
+abbrev pub withChildren : String → Rule
+withChildren name = record { name = bytes name; mark = 47 }
 
 unfoldable pub isMark : ℕ → Bool
 isMark b = eqb b 61 || eqb b 47 || eqb b 42
@@ -21,6 +30,7 @@ unfoldable pub longer : ℕ → List Rule → List Rule
 longer b [] = []
 longer b (r ∷ rs) = record { name = b ∷ r .name; mark = r .mark } ∷ rs
 
+-- the rules of a table
 unfoldable pub rules : List ℕ → List Rule
 rules [] = []
 rules (b ∷ s) = cond (isMark b) (record { name = []; mark = b } ∷ rules s) (longer b (rules s))

@@ -13,14 +13,14 @@ use Rattle.slices.specs.Words.{bytes}
 use Rattle.quantities.specs.Letters.{isLetter}
 use Rattle.quantities.specs.Sizes.{isBlockSize}
 use Rattle.xml.specs.Tree.{Head, Forest, none as noElement, node}
-use Rattle.xml.specs.Machine.{form}
+use Rattle.xml.specs.Machine.{inForm}
 use Rattle.elements.specs.Reading.{rowAt, isRow}
 use Rattle.values.specs.Values as is
 use Rattle.index_names.specs.Sorts.{index, file}
 use Rattle.index_values.specs.Elements.{Element, elements, textIn, rowIn}
 use Rattle.index_values.specs.Entries.{numberSaid, many, entriesOf}
 use Rattle.index_values.specs.Tests.{Given}
-use Rattle.index.specs.Index.{Told, isTrue, said, told, toldBy, headed, structured, bounded, allValued, allOwn, allLawful, standsAt, placeIn, locationIn, filesOf, fileOf, fileCount, childrenRead, tagRead, rootRead, callerRight, indexOf, isGood}
+use Rattle.index.specs.Index.{Told, isTrue, said, told, toldBy, headed, structured, bounded, allValued, allOwn, allLawful, standsAt, placeIn, locationIn, filesOf, fileOf, fileCount, childrenRead, tagRead, rootRead, callerRight, indexOf}
 
 pub caller-last : (g : Given) (letter : ℕ) → isLetter (g .first) ≡ true → isLetter (g .other) ≡ true → eqb (g .first) (g .other) ≡ false
     → isBlockSize (g .size) ≡ true → is.isUuid (g .uuid) ≡ true
@@ -130,11 +130,11 @@ module _ (g : Given) (letter block : ℕ) (text : List ℕ) where
     index-15 b = sym (rw (a, b))
 
     module _ (b : leb (length text) 1048576 ≡ true) where
-      pub index-4 : isGood (form text) ≡ false → refused Form ≡ toldBy (indexOf g letter block text)
+      pub index-4 : inForm text ≡ false → refused Form ≡ toldBy (indexOf g letter block text)
       unfolding indexOf
       index-4 c = sym (rw (a, b, c))
 
-      pub index-read : isGood (form text) ≡ true → toldBy (rootRead g letter block (rowAt text 38)) ≡ toldBy (indexOf g letter block text)
+      pub index-read : inForm text ≡ true → toldBy (rootRead g letter block (rowAt text 38)) ≡ toldBy (indexOf g letter block text)
       unfolding indexOf
       index-read c = sym (rw (a, b, c))
 

@@ -7,7 +7,7 @@ use Prim.Native.Nat.{ℕ, _-_}
 use lib.Dec.{eqb, leb}
 use lib.ListN.{length}
 use Rattle.refusals.specs.Refusals.{Answer, refused, answer, require, andThen}
-use Rattle.refusals.specs.declared.Refusal.the-variants.{Caller, TooMany, Form, Structure, Version, Value, Foreign, Extents, Location}
+use Rattle.refusals.specs.declared.Refusal.the-variants.{Caller, TooMany, Structure, Version, Value, Foreign, Extents, Location}
 use Rattle.slices.specs.Slices.{every, same}
 use Rattle.slices.specs.Words.{bytes}
 use Rattle.quantities.specs.Letters.{areLetters}
@@ -15,7 +15,7 @@ use Rattle.quantities.specs.Sizes.{isBlockSize}
 use Rattle.quantities.specs.Places.{Place}
 use Rattle.quantities.specs.declared.BlockNumber.{BlockNumber}
 use Rattle.xml.specs.Tree.{Head, Forest, none as noElement, node}
-use Rattle.xml.specs.Machine.{Outcome, good, broken, form}
+use Rattle.xml.specs.Machine.{requireForm}
 use Rattle.elements.specs.Reading.{rowAt, isRow, partAt}
 use Rattle.values.specs.Values as is
 use Rattle.extents.specs.Rows.{Row}
@@ -140,10 +140,6 @@ unfoldable pub callerRight : Given → ℕ → Bool
 callerRight g letter =
     areLetters (g .first) (g .other) letter && isBlockSize (g .size) && is.isUuid (g .uuid)
 
-abbrev pub isGood : Outcome → Bool
-isGood good = true
-isGood (broken u) = false
-
 -- the longest text of an index
 abbrev pub maxText : ℕ
 maxText = 1048576
@@ -153,7 +149,7 @@ unfoldable pub indexOf : Given → ℕ → ℕ → List ℕ → Answer Index
 indexOf g letter block text =
     require (callerRight g letter) Caller
     (require (leb (length text) maxText) TooMany
-    (require (isGood (form text)) Form
+    (requireForm text
     (rootRead g letter block (rowAt text 38))))
 
 -- what the survey of an index's children tells; of more than 4,096 entries or 1,024 extents only that

@@ -1,7 +1,7 @@
 -- What holds of a text that is read as an index without refusal: it is in the XML form, its root, its structure and its values are right,
 -- its extents are lawful, and what it says is what its children say.
 use mathlib.Core.Path.{_≡_, refl, ap, sym, _∙_}
-use mathlib.Core.Bool.{Bool, true, false, _&&_, false≢true}
+use mathlib.Core.Bool.{Bool, true, false, _&&_}
 use mathlib.Core.List.{List}
 use Prim.Native.Nat.{ℕ}
 use native.Mathlib.Omega.{arith}
@@ -15,8 +15,8 @@ use Rattle.slices.specs.Words.{bytes}
 use Rattle.slices.proofs.Booleans.{and-left, and-right}
 use Rattle.xml.specs.Tree.{Head, Forest, none, node}
 use Rattle.xml.specs.Form.{Reads}
-use Rattle.xml.specs.Machine.{Outcome, good, broken, form}
-use Rattle.xml.proofs.Form.{form-reads}
+use Rattle.xml.specs.Machine.{inForm, requireForm}
+use Rattle.xml.proofs.Form.{form-reads, in-form}
 use Rattle.elements.specs.Reading.{rowAt}
 use Rattle.elements.proofs.Roots.{root-row}
 use Rattle.values.specs.Values as is
@@ -25,7 +25,7 @@ use Rattle.index_values.specs.Elements.{elements}
 use Rattle.index.specs.Structure.{complete, rightly}
 use Rattle.index_values.specs.Entries.{orZero}
 use Rattle.index_values.specs.Tests.{Given, isSome}
-use Rattle.index.specs.Index.{Index, said, structured, bounded, allValued, allOwn, allLawful, standsAt, locationIn, childrenRead, tagRead, rootRead, callerRight, isGood, indexOf}
+use Rattle.index.specs.Index.{Index, said, structured, bounded, allValued, allOwn, allLawful, standsAt, locationIn, childrenRead, tagRead, rootRead, callerRight, indexOf}
 
 pub record Accepted (g : Given) (letter : ℕ) (text : List ℕ) (x : Index) : Type 0 where
   pub caller : callerRight g letter ≡ true
@@ -44,10 +44,6 @@ module _ {A : Type 0} (r : Refusal) (next : Answer A) (x : A) where
   passed : (b : Bool) → require b r next ≡ answer x → (b ≡ true) × (next ≡ answer x)
   passed true e = (refl, e)
   passed false e = let z : _≡_ {A = ℕ} 0 1 = cc in absurd (omega arith)
-
-is-good : (o : Outcome) → isGood o ≡ true → o ≡ good
-is-good good e = refl
-is-good (broken u) e = absurd (false≢true e)
 
 module _ (g : Given) (letter block : ℕ) (x : Index) where
   children-accepted : (release : ℕ) (k : Forest) → childrenRead g letter block release k ≡ answer x → (structured k ≡ true) × (allValued (elements index k) ≡ true) × (allLawful g (elements index k) ≡ true) × (x ≡ said release k)
@@ -96,9 +92,9 @@ pub accepted : (g : Given) (letter block : ℕ) (text : List ℕ) (x : Index) �
 unfolding indexOf
 accepted g letter block text x e =
     let a2 = rootRead g letter block (rowAt text 38) in
-    let a1 = require (isGood (form text)) Form a2 in
+    let a1 = requireForm text a2 in
     let p0 = passed Caller (require (leb (length text) 1048576) TooMany a1) x (callerRight g letter) e in
     let p1 = passed TooMany a1 x (leb (length text) 1048576) (p0 .1) in
-    let p2 = passed Form a2 x (isGood (form text)) (p1 .1) in
-    let (h, k, r) = form-reads text (is-good (form text) (p2 .0)) in
+    let p2 = passed Form a2 x (inForm text) (p1 .1) in
+    let (h, k, r) = form-reads text (in-form text (p2 .0)) in
     root-accepted g letter block x text h k (p0 .0) r (ap (rootRead g letter block) (sym (root-row r)) ∙ p2 .1)

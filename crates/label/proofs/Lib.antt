@@ -1,3 +1,4 @@
+pub mod Tables
 pub mod Shape
 pub mod Places
 pub mod Values

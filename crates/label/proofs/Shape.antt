@@ -10,7 +10,6 @@ use Rattle.slices.specs.Words.{bytes}
 use Rattle.slices.proofs.Booleans.{and-left, and-right}
 use Rattle.xml.specs.Tree.{Forest}
 use Rattle.elements.specs.Reading.{headAt, childrenAt}
-use Rattle.children.specs.Rules.{isMark, rules, longer}
 use Rattle.children.specs.Children.{lawful}
 use Rattle.children.specs.Rows.{Seated}
 use Rattle.children.proofs.Found.{found-text, found-children}
@@ -25,11 +24,11 @@ module _ {s : List ℕ} {f X Y : Forest} {okA okP okQ : Bool} {a p q : List ℕ}
     (ex : X ≡ childrenAt s (getD a 3 0)) (P : Seated s ofLocation 1 (X) okP p)
     (ey : Y ≡ childrenAt s (getD a 4 0)) (Q : Seated s ofPartitions 2 (Y) okQ q) where
   location-row : okA ≡ true → inside "location" f ≡ X
-  unfolding rules longer bytes isMark same
+  unfolding bytes same
   location-row t = found-children A t 3 (omega arith) refl ∙ sym ex
 
   partitions-row : okA ≡ true → inside "partitions" f ≡ Y
-  unfolding rules longer bytes isMark same
+  unfolding bytes same
   partitions-row t = found-children A t 4 (omega arith) refl ∙ sym ey
 
   pub shaped : (okA && okP && okQ) ≡ isShaped f
@@ -65,7 +64,7 @@ module _ {s : List ℕ} {f X Y : Forest} {okA okP okQ : Bool} {a p q : List ℕ}
           compression = headAt s (getD a 6 0) .text;
         })
         (textsIn f)
-    unfolding textsIn rules longer bytes isMark same
+    unfolding textsIn bytes same
     found =
         same-texts
         (sym (found-text A all 0 (omega arith) refl))

@@ -4,19 +4,17 @@ use mathlib.Core.Bool.{Bool, true, false, cond, _&&_}
 use mathlib.Core.List.{List}
 use mathlib.Core.Option.{Option, some, none as nothing}
 use Prim.Native.Nat.{ℕ, _<_, _≤_}
-use Rattle.refusals.specs.Refusals.{Answer, refused, answer, require}
+use Rattle.refusals.specs.Refusals.{Answer, refused, answer, require, orRefuse}
 use Rattle.refusals.specs.declared.Refusal.the-variants.{Form, Structure, Value, Version, TooMany}
-use Rattle.slices.specs.Slices.{same}
-use Rattle.slices.specs.Words.{bytes}
 use Rattle.quantities.specs.Sizes.{isBlockSize}
 use borrow.Author.Tests.{le-leb, lt-leb}
 use lib.ListN.{length}
-use Rattle.xml.specs.Machine.{form}
+use Rattle.xml.specs.Machine.{inForm}
 use Rattle.xml.specs.Tree.{Head, Forest, none, node}
 use Rattle.elements.specs.Reading.{rowAt}
 use Rattle.texts.specs.Decoded.{decoded}
 use Rattle.values.specs.Values.{number, boolean, letter, version, isTime, isUuid, isCreator}
-use Rattle.label.specs.Label.{Label, Texts, isShaped, textsIn, told, lettersFit, labelFrom, rootOf, firstOf, isFormed, labelOf}
+use Rattle.label.specs.Label.{Label, Texts, isShaped, textsIn, lettersFit, labelFrom, isRoot, rootOf, firstOf, labelOf}
 use Rattle.label.specs.Parts.{Three, fitting, sized}
 
 pub texts-same : {c c′ t t′ u u′ : List ℕ} → c ≡ c′ → t ≡ t′ → u ≡ u′
@@ -28,23 +26,23 @@ letters-same p q r = cc
 
 -- the letters are told together
 letters-together : (a b c : Option ℕ) (next : ℕ → ℕ → ℕ → Answer Label)
-    → told a Value (λ l. told b Value (λ i. told c Value (λ d. require (lettersFit l i d) Value (next l i d))))
-    ≡ told (fitting a b c) Value (λ x. next (x .location) (x .indexLetter) (x .dataLetter))
+    → orRefuse a Value (λ l. orRefuse b Value (λ i. orRefuse c Value (λ d. require (lettersFit l i d) Value (next l i d))))
+    ≡ orRefuse (fitting a b c) Value (λ x. next (x .location) (x .indexLetter) (x .dataLetter))
 letters-together nothing b c next = refl
 letters-together (some l) nothing c next = refl
 letters-together (some l) (some i) nothing next = refl
 letters-together (some l) (some i) (some d) next = go (lettersFit l i d)
   where
-    go : (t : Bool) → require t Value (next l i d) ≡ told (cond t (some (record { location = l; indexLetter = i; dataLetter = d })) nothing) Value (λ (x : Three). next (x .location) (x .indexLetter) (x .dataLetter))
+    go : (t : Bool) → require t Value (next l i d) ≡ orRefuse (cond t (some (record { location = l; indexLetter = i; dataLetter = d })) nothing) Value (λ (x : Three). next (x .location) (x .indexLetter) (x .dataLetter))
     go true = refl
     go false = refl
 
 -- and so is the block size
-size-together : (a : Option ℕ) (next : ℕ → Answer Label) → told a Value (λ b. require (isBlockSize b) Value (next b)) ≡ told (sized a) Value next
+size-together : (a : Option ℕ) (next : ℕ → Answer Label) → orRefuse a Value (λ b. require (isBlockSize b) Value (next b)) ≡ orRefuse (sized a) Value next
 size-together nothing next = refl
 size-together (some b) next = go (isBlockSize b)
   where
-    go : (t : Bool) → require t Value (next b) ≡ told (cond t (some b) nothing) Value next
+    go : (t : Bool) → require t Value (next b) ≡ orRefuse (cond t (some b) nothing) Value next
     go true = refl
     go false = refl
 
@@ -56,8 +54,8 @@ module _ (release : ℕ) (t : Texts) where
   -- the values behind the letters
   abbrev behind : Option ℕ → ℕ → ℕ → ℕ → Answer Label
   behind size l i d =
-      told size Value (λ b.
-      told (boolean (t .compression)) Value (λ c.
+      orRefuse size Value (λ b.
+      orRefuse (boolean (t .compression)) Value (λ c.
       answer (record { release = release; creator = decoded (t .creator); time = t .time; uuid = t .uuid; location = l; indexLetter = i; dataLetter = d; blockSize = b; compression = c })))
 
   abbrev letters : Option Three
@@ -67,19 +65,19 @@ module _ (release : ℕ) (t : Texts) where
   size = sized (number (t .blockSize))
 
   module _ (e₀ : (isCreator (decoded (t .creator)) && isTime (t .time) && isUuid (t .uuid)) ≡ true) where
-    in-parts : labelFrom release t ≡ told letters Value (λ (x : Three). behind size (x .location) (x .indexLetter) (x .dataLetter))
+    in-parts : labelFrom release t ≡ orRefuse letters Value (λ (x : Three). behind size (x .location) (x .indexLetter) (x .dataLetter))
     unfolding labelFrom
     in-parts =
         rw e₀
         (letters-together (letter (t .location)) (letter (t .indexLetter)) (letter (t .dataLetter)) (λ l i d.
-        told (number (t .blockSize)) Value (λ b.
+        orRefuse (number (t .blockSize)) Value (λ b.
         require (isBlockSize b) Value
-        (told (boolean (t .compression)) Value (λ c.
+        (orRefuse (boolean (t .compression)) Value (λ c.
         answer (record { release = release; creator = decoded (t .creator); time = t .time; uuid = t .uuid; location = l; indexLetter = i; dataLetter = d; blockSize = b; compression = c }))))) ∙ go letters)
       where
         go : (x : Option Three)
-            → told x Value (λ (y : Three). told (number (t .blockSize)) Value (λ b. require (isBlockSize b) Value (behind (some b) (y .location) (y .indexLetter) (y .dataLetter))))
-            ≡ told x Value (λ (y : Three). behind size (y .location) (y .indexLetter) (y .dataLetter))
+            → orRefuse x Value (λ (y : Three). orRefuse (number (t .blockSize)) Value (λ b. require (isBlockSize b) Value (behind (some b) (y .location) (y .indexLetter) (y .dataLetter))))
+            ≡ orRefuse x Value (λ (y : Three). behind size (y .location) (y .indexLetter) (y .dataLetter))
         go nothing = refl
         go (some y) = size-together (number (t .blockSize)) (λ b. behind (some b) (y .location) (y .indexLetter) (y .dataLetter))
 
@@ -100,11 +98,11 @@ module _ (release : ℕ) (t : Texts) where
         the-label e x y z p q r = rw (p, q, r, in-parts, e₁, e₂, e)
 
 module _ (h : Head) (f : Forest) where
-  pub no-root : (same (h .name) (bytes "ltfslabel") && same (h .key) (bytes "version")) ≡ false → refused Structure ≡ rootOf h f
+  pub no-root : isRoot h ≡ false → refused Structure ≡ rootOf h f
   unfolding rootOf
   no-root e = rw e
 
-  module _ (e₀ : (same (h .name) (bytes "ltfslabel") && same (h .key) (bytes "version")) ≡ true) where
+  module _ (e₀ : isRoot h ≡ true) where
     pub no-version : version (h .value) ≡ nothing → refused Version ≡ rootOf h f
     unfolding rootOf
     no-version e = rw (e₀, e)
@@ -124,11 +122,11 @@ module _ (s : List ℕ) where
   too-long h = rw (lt-leb _ _ h)
 
   module _ (h : length s ≤ 4096) where
-    pub unformed : isFormed (form s) ≡ false → refused Form ≡ labelOf s
+    pub unformed : inForm s ≡ false → refused Form ≡ labelOf s
     unfolding labelOf
     unformed e = rw (le-leb _ _ h, e)
 
-    module _ (e : isFormed (form s) ≡ true) where
+    module _ (e : inForm s ≡ true) where
       pub no-first : rowAt s 38 ≡ none → refused Structure ≡ labelOf s
       unfolding labelOf firstOf
       no-first z = rw (le-leb _ _ h, e, z)

@@ -1,24 +1,22 @@
 -- The LTFS label (01, LTFS label; 002, 6.1.2): what a label says, and the label that a text is. Each class of refusals is a test of the whole
 -- text, in document 01's order.
-use mathlib.Core.Bool.{Bool, true, false, _&&_}
-use mathlib.Core.List.{List}
-use mathlib.Core.Option.{Option, some, none as nothing}
+use mathlib.Core.Bool.{Bool, _&&_}
+use mathlib.Core.List.{List, [], _∷_}
 use Prim.Native.Nat.{ℕ}
 use Prim.Native.String.{String}
 use lib.Dec.{leb}
 use lib.ListN.{length}
-use Rattle.refusals.specs.Refusals.{Answer, refused, answer, require}
-use Rattle.refusals.specs.declared.Refusal.{Refusal}
-use Rattle.refusals.specs.declared.Refusal.the-variants.{Form, Structure, Value, Version, TooMany}
+use Rattle.refusals.specs.Refusals.{Answer, refused, answer, require, orRefuse}
+use Rattle.refusals.specs.declared.Refusal.the-variants.{Structure, Value, Version, TooMany}
 use Rattle.slices.specs.Slices.{same}
 use Rattle.slices.specs.Words.{bytes}
 use Rattle.quantities.specs.Letters.{isOneOf}
 use Rattle.quantities.specs.Sizes.{isBlockSize}
-use Rattle.xml.specs.Machine.{Outcome, good, broken, form}
+use Rattle.xml.specs.Machine.{requireForm}
 use Rattle.xml.specs.Tree.{Head, Forest, none, node}
 use Rattle.elements.specs.Reading.{rowAt}
 use Rattle.texts.specs.Decoded.{decoded}
-use Rattle.children.specs.Rules.{Rule, rules}
+use Rattle.children.specs.Rules.{Rule, withValue, withChildren}
 use Rattle.children.specs.Children.{lawful, only, textOf, childrenOf}
 use Rattle.values.specs.Values.{number, boolean, letter, version, isTime, isUuid, isCreator}
 
@@ -47,13 +45,15 @@ pub record Texts : Type 0 where
 
 -- the children of the root, of a location and of the partitions
 abbrev pub ofRoot : List Rule
-ofRoot = rules (bytes "creator=formattime=volumeuuid=location/partitions/blocksize=compression=")
+ofRoot =
+    withValue "creator" ∷ withValue "formattime" ∷ withValue "volumeuuid" ∷ withChildren "location" ∷ withChildren "partitions"
+    ∷ withValue "blocksize" ∷ withValue "compression" ∷ []
 
 abbrev pub ofLocation : List Rule
-ofLocation = rules (bytes "partition=")
+ofLocation = withValue "partition" ∷ []
 
 abbrev pub ofPartitions : List Rule
-ofPartitions = rules (bytes "index=data=")
+ofPartitions = withValue "index" ∷ withValue "data" ∷ []
 
 abbrev pub inside : String → Forest → Forest
 inside name f = childrenOf (only (bytes name) f)
@@ -78,12 +78,6 @@ textsIn f =
       compression = value "compression" f;
     }
 
-module _ {A B : Type 0} where
-  -- what is said, and what follows from it; or the refusal
-  abbrev pub told : Option A → Refusal → (A → Answer B) → Answer B
-  told (some a) r next = next a
-  told nothing r next = refused r
-
 -- the letters are different, and the location is one of them
 unfoldable pub lettersFit : ℕ → ℕ → ℕ → Bool
 lettersFit l i d = isOneOf i d l
@@ -92,29 +86,28 @@ lettersFit l i d = isOneOf i d l
 unfoldable pub labelFrom : ℕ → Texts → Answer Label
 labelFrom release t =
     require (isCreator (decoded (t .creator)) && isTime (t .time) && isUuid (t .uuid)) Value
-    (told (letter (t .location)) Value (λ l.
-    told (letter (t .indexLetter)) Value (λ i.
-    told (letter (t .dataLetter)) Value (λ d.
+    (orRefuse (letter (t .location)) Value (λ l.
+    orRefuse (letter (t .indexLetter)) Value (λ i.
+    orRefuse (letter (t .dataLetter)) Value (λ d.
     require (lettersFit l i d) Value
-    (told (number (t .blockSize)) Value (λ b.
+    (orRefuse (number (t .blockSize)) Value (λ b.
     require (isBlockSize b) Value
-    (told (boolean (t .compression)) Value (λ c.
+    (orRefuse (boolean (t .compression)) Value (λ c.
     answer (record { release = release; creator = decoded (t .creator); time = t .time; uuid = t .uuid; location = l; indexLetter = i; dataLetter = d; blockSize = b; compression = c })))))))))
+
+abbrev pub isRoot : Head → Bool
+isRoot h = same (h .name) (bytes "ltfslabel") && same (h .key) (bytes "version")
 
 -- 5 for the root and its attribute, 7, the rest of 5, then the values
 unfoldable pub rootOf : Head → Forest → Answer Label
 rootOf h f =
-    require (same (h .name) (bytes "ltfslabel") && same (h .key) (bytes "version")) Structure
-    (told (version (h .value)) Version (λ r. require (isShaped f) Structure (labelFrom r (textsIn f))))
+    require (isRoot h) Structure
+    (orRefuse (version (h .value)) Version (λ r. require (isShaped f) Structure (labelFrom r (textsIn f))))
 
 unfoldable pub firstOf : Forest → Answer Label
 firstOf none = refused Structure
 firstOf (node h k f) = rootOf h k
 
-unfoldable pub isFormed : Outcome → Bool
-isFormed good = true
-isFormed (broken n) = false
-
 -- the label that a text is: 15, 4, then the root
 unfoldable pub labelOf : List ℕ → Answer Label
-labelOf s = require (leb (length s) 4096) TooMany (require (isFormed (form s)) Form (firstOf (rowAt s 38)))
+labelOf s = require (leb (length s) 4096) TooMany (requireForm s (firstOf (rowAt s 38)))

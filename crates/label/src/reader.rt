@@ -9,13 +9,11 @@ use values::Version;
 use xml::Checked;
 ghost use mathlib.Core.Path.{_≡_};
 ghost use mathlib.Core.Bool.{_&&_};
-ghost use Rattle.slices.specs.Slices as slices;
-ghost use Rattle.slices.specs.Words.{bytes};
 ghost use Rattle.elements.specs.Reading.{headAt, childrenAt};
 ghost use Rattle.texts.specs.Decoded.{decoded};
 ghost use Rattle.digits.specs.Decimal.{valueOf};
 ghost use Rattle.values.specs.Values.{number, letter, isCreator, isTime, isUuid};
-ghost use Rattle.label.specs.Label.{lettersFit, labelFrom, rootOf, labelOf};
+ghost use Rattle.label.specs.Label.{lettersFit, labelFrom, isRoot, rootOf, labelOf};
 ghost use Rattle.label.specs.Parts.{sized, fitting, lettersOf};
 ghost use Rattle.label.specs.Reading.{textsAt, Finds, ReadsLabel};
 
@@ -194,7 +192,7 @@ fn read_values(text: &[u8], p: Places, release: u64) -> Label
 
 // Whether the root at n has its name and its attribute.
 fn is_root(text: &[u8], n: usize) -> bool
-    ensures { λ r. ⌜ r ≡ (slices.same (headAt (now (text .entry)) n .name) (bytes "ltfslabel") && slices.same (headAt (now (text .entry)) n .key) (bytes "version")) ⌝ }
+    ensures { λ r. ⌜ r ≡ isRoot (headAt (now (text .entry)) n) ⌝ }
 {
     if !elements::name_is(text, n, b"ltfslabel") {
         return false;

@@ -1,8 +1,8 @@
--- A lawful label's text is in the XML form exactly where its creator is UTF-8 in XML 1.0's characters.
+-- A lawful label's text is in the XML form exactly where its creator is UTF-8 in XML 1.0's characters: the writer checks the form of what it composed.
 use mathlib.Core.Path.{_≡_, refl, ap, _∙_, sym, subst}
 use mathlib.Core.Bool.{Bool, true, false, cond, _||_, false≢true}
 use mathlib.Core.List.{List, [], _∷_, _++_, append-assoc}
-use mathlib.Core.Logic.{_⊎_, inl, inr, _↔_}
+use mathlib.Core.Logic.{_⊎_, inl, inr}
 use Prim.Native.Nat.{ℕ, _+_, _/_, _%_, _<_}
 use native.Mathlib.Omega.{arith}
 use borrow.Author.Tests.{ne-eqb, eqb-true, eqb-false, not-true}
@@ -16,15 +16,17 @@ use Rattle.xml.specs.Bytes.{declaration, isSpace, isLetter, isNameByte}
 use Rattle.xml.specs.Tree.{Forest, none, node, isNot}
 use Rattle.xml.specs.Grammar.{Spaces, NameBytes, Name, Char, Text, Entity, amp, lt, gt, quot, apos, isChar, utf8, Value, Quoted, Equals, Attribute, Start, End, Elements, Document}
 use Rattle.xml.specs.Form.{Lawful}
-use Rattle.xml.specs.Machine.{Outcome, good, broken, form}
-use Rattle.xml.proofs.Form.{form-reads, same-form}
+use Rattle.xml.specs.Machine.{good, form, isGood, inForm}
+use Rattle.xml.proofs.Form.{form-reads, same-form, in-form}
 use Rattle.xml.proofs.Utf8.{ascii}
 use Rattle.xml.proofs.Written.{leaf, branch}
 use Rattle.texts.specs.Decoded.{decodedBehind, decoded}
 use Rattle.elements.proofs.Roots.{root-row}
 use Rattle.texts.proofs.Entities.{entityByte, decoded-entity, decoded-plain}
-use Rattle.label.specs.Label.{Label, isFormed}
-use Rattle.label_writer.specs.Text.{escape, escaped, word, texts, letters, numbers, opening, closing, textOf, isLawful, Characters, isGiven}
+use Rattle.label.specs.Label.{Label}
+use Rattle.label_writer.specs.Text.{escape, escaped, word, texts, letters, numbers, opening, closing, textOf, isLawful, isGiven}
+use Rattle.label_writer.specs.Characters.{isCharacters, Characters}
+use Rattle.label_writer.proofs.Characters.{are-characters}
 use Rattle.label_writer.proofs.Escaping.{escaped-append, decoded-escaped}
 use Rattle.label_writer.proofs.Fields.{Rules, in-rules}
 use Rattle.label_writer.proofs.Plain.{plain-text, spaces-plain, letter-plain, word-plain, short-plain, time-plain, uuid-plain}
@@ -215,18 +217,6 @@ module _ (f : Label) (ok : Rules f) (chars : Characters (f .creator)) where
 
 -- ---- the theorem
 
-good-formed : (s : List ℕ) → form s ≡ good → isFormed (form s) ≡ true
-unfolding isFormed
-good-formed s e = rw e
-
-formed-good : (s : List ℕ) → isFormed (form s) ≡ true → form s ≡ good
-unfolding isFormed
-formed-good s = go (form s)
-  where
-    go : (o : Outcome) → isFormed o ≡ true → o ≡ good
-    go good e = refl
-    go (broken u) e = absurd (false≢true e)
-
 creator-read : (f : Label) → Rules f → form (textOf f) ≡ good → Characters (f .creator)
 creator-read f ok e =
     let (h, k, r) = form-reads (textOf f) e in
@@ -240,14 +230,22 @@ creator-read f ok e =
     go (inl (z, x)) = decoded-characters x
     go (inr x) = decoded-characters (plain-text _ (spaces-plain x))
 
--- the fields that a caller gives may be written exactly where each is in its rule and the creator is UTF-8 in XML 1.0's characters
-pub given-characters : (f : Label) → (isGiven f ≡ true) ↔ ((isLawful f ≡ true) × Characters (f .creator))
+creator-derived : (f : Label) → Rules f → Characters (f .creator) → inForm (textOf f) ≡ true
+unfolding inForm
+creator-derived f ok x = ap isGood (same-form (textOf f) .1 (node rootHead (children f) none, text-derived f ok x))
+
+pub formed-characters : (f : Label) → isLawful f ≡ true → inForm (textOf f) ≡ isCharacters (f .creator)
+formed-characters f l =
+    same-tests (inForm (textOf f)) (isCharacters (f .creator))
+    (λ e. are-characters (f .creator) .1 (creator-read f (in-rules f l) (in-form (textOf f) e)))
+    (λ e. creator-derived f (in-rules f l) (are-characters (f .creator) .0 e))
+  where
+    same-tests : (a b : Bool) → (a ≡ true → b ≡ true) → (b ≡ true → a ≡ true) → a ≡ b
+    same-tests true b p q = sym (p refl)
+    same-tests false true p q = q refl
+    same-tests false false p q = refl
+
+-- lawful fields may be written exactly where their text is in the form
+pub given-formed : (f : Label) → isLawful f ≡ true → isGiven f ≡ inForm (textOf f)
 unfolding isGiven
-given-characters f = (
-  λ e.
-      let l = and-left (isLawful f) (isFormed (form (textOf f))) e in
-      (l, creator-read f (in-rules f l) (formed-good (textOf f) (and-right (isLawful f) (isFormed (form (textOf f))) e))),
-  λ x.
-      and-both (isLawful f) (isFormed (form (textOf f))) (x .0)
-      (good-formed (textOf f) (same-form (textOf f) .1 (node rootHead (children f) none, text-derived f (in-rules f (x .0)) (x .1)))),
-)
+given-formed f l = rw l (sym (formed-characters f l))

@@ -4,10 +4,9 @@ use mathlib.Core.Bool.{Bool, true, false, _&&_}
 use Rattle.slices.proofs.Booleans.{and-left, and-right}
 use Rattle.quantities.specs.Letters.{isLetter}
 use Rattle.quantities.specs.Sizes.{isBlockSize}
-use Rattle.xml.specs.Machine.{form}
 use Rattle.values.specs.Values.{isCreator, isTime, isUuid}
-use Rattle.label.specs.Label.{Label, lettersFit, isFormed}
-use Rattle.label_writer.specs.Text.{textOf, areNumbers, isLawful, isGiven}
+use Rattle.label.specs.Label.{Label, lettersFit}
+use Rattle.label_writer.specs.Text.{areNumbers, isLawful, isGiven}
 
 module _ (f : Label) where
   abbrev texts : Bool
@@ -27,10 +26,6 @@ module _ (f : Label) where
   pub lawful : texts ≡ true → numbers ≡ true → isLawful f ≡ true
   unfolding isLawful
   lawful e g = rw (e, g)
-
-  pub given-formed : isLawful f ≡ true → isGiven f ≡ isFormed (form (textOf f))
-  unfolding isGiven
-  given-formed e = rw e
 
 -- each field in its rule
 pub record Rules (f : Label) : Type 0 where

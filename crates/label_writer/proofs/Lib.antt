@@ -4,4 +4,5 @@ pub mod Fields
 pub mod Plain
 pub mod Elements
 pub mod RoundTrip
+pub mod Characters
 pub mod Creators

@@ -18,22 +18,23 @@ use Rattle.digits.specs.Runs as runs
 use Rattle.digits.specs.Decimal as decimal
 use Rattle.digits.proofs.Numbers.{number-short}
 use Rattle.xml.specs.Tree.{none}
-use Rattle.xml.specs.Machine.{form}
 use Rattle.elements.specs.Reading.{isRow}
 use Rattle.texts.specs.Decoded.{decoded}
-use Rattle.children.specs.Rules.{isMark, rules, longer, placeOf, markOf}
+use Rattle.children.specs.Rules.{placeOf, markOf}
 use Rattle.children.specs.Children.{holds, allKnown, pick, atMostOne, below, lawful, only, textOf as textOfFirst, childrenOf}
 use Rattle.values.specs.Values.{number, boolean, letter, version, isCreator, isTime, isUuid}
 use Rattle.label_writer.specs.declared.Given.{Given}
-use Rattle.label.specs.Label.{Label, Texts, isShaped, textsIn, isFormed, labelFrom, labelOf}
+use Rattle.label.specs.Label.{Label, Texts, isShaped, textsIn, labelFrom, labelOf}
 use Rattle.label.specs.Parts.{fitting, sized}
 use Rattle.label.specs.Reading.{means}
+use Rattle.label_writer.specs.Characters.{isCharacters}
 use Rattle.label_writer.specs.Text.{escaped, word, textOf, labelOfGiven, isLawful, isGiven}
 use Rattle.writing.specs.Writing.{Writes}
 use Rattle.writing.proofs.Given.{Rereads, rereads}
 use Rattle.label_writer.proofs.Escaping.{decoded-escaped}
 use Rattle.label_writer.proofs.Lengths.{text-length}
 use Rattle.label_writer.proofs.Fields.{Rules, in-rules}
+use Rattle.label_writer.proofs.Creators.{given-formed}
 use Rattle.label.proofs.Values.{the-label, the-root, the-first}
 use Rattle.label_writer.proofs.Elements.{rootHead, children, text-row}
 
@@ -53,7 +54,7 @@ unfolding version same bytes decimal.number decimal.isNumber decimal.plain runs.
 version-says = refl
 
 children-shaped : (f : Label) → isShaped (children f) ≡ true
-unfolding isShaped lawful rules longer isMark bytes same allKnown holds markOf placeOf pick atMostOne below isRow only childrenOf
+unfolding isShaped lawful bytes same allKnown holds markOf placeOf pick atMostOne below isRow only childrenOf
 children-shaped f = refl
 
 -- the texts that were written
@@ -106,9 +107,9 @@ values-read f ok =
 pub text-reads : (f : Label) → isGiven f ≡ true → f .release ≡ 1 → labelOf (textOf f) ≡ answer f
 unfolding isGiven same bytes
 text-reads f given e =
-    let l : isLawful f ≡ true = and-left (isLawful f) (isFormed (form (textOf f))) given in
+    let l : isLawful f ≡ true = and-left (isLawful f) (isCharacters (f .creator)) given in
     let ok = in-rules f l in
-    sym (the-first (textOf f) (text-length f l) (and-right (isLawful f) (isFormed (form (textOf f))) given) rootHead (children f) none (text-row f ok))
+    sym (the-first (textOf f) (text-length f l) (sym (given-formed f l) ∙ given) rootHead (children f) none (text-row f ok))
     ∙ sym (the-root rootHead (children f) refl version-says (children-shaped f))
     ∙ ap (labelFrom 1) (children-texts f)
     ∙ values-read f ok

@@ -1,18 +1,18 @@
 -- The text of a label (01, LTFS label, Written form), and when the fields that a caller gives may be written.
-use mathlib.Core.Path.{_≡_}
-use mathlib.Core.Bool.{Bool, true, false, cond, _&&_}
+use mathlib.Core.Bool.{Bool, cond, _&&_}
 use mathlib.Core.List.{List, [], _∷_, _++_}
 use Prim.Native.Nat.{ℕ}
 use lib.Dec.{eqb}
 use Rattle.slices.specs.Words.{bytes}
+use Rattle.slices.specs.declared.Written.{Written}
 use Rattle.quantities.specs.Letters.{isLetter}
 use Rattle.quantities.specs.Sizes.{isBlockSize}
 use Rattle.digits.specs.Decimal.{short}
 use Rattle.xml.specs.Bytes.{declaration}
-use Rattle.xml.specs.Grammar.{isChar, utf8}
-use Rattle.xml.specs.Machine.{form}
 use Rattle.values.specs.Values.{isCreator, isTime, isUuid}
-use Rattle.label.specs.Label.{Label, lettersFit, isFormed}
+use Rattle.writing.specs.Writing.{Composes, Writes}
+use Rattle.label.specs.Label.{Label, lettersFit}
+use Rattle.label_writer.specs.Characters.{isCharacters}
 use Rattle.label_writer.specs.declared.Given.{Given}
 
 -- `&`, `<` and `>` are escaped
@@ -72,11 +72,13 @@ areNumbers location index other blockSize = isLetter location && isLetter index 
 unfoldable pub isLawful : Label → Bool
 isLawful f = (isCreator (f .creator) && isTime (f .time) && isUuid (f .uuid)) && areNumbers (f .location) (f .indexLetter) (f .dataLetter) (f .blockSize)
 
--- UTF-8 in XML 1.0's characters
-pub data Characters : List ℕ → Type 0 where
-  end : Characters []
-  more : (c : ℕ) {s t : List ℕ} → isChar c ≡ true → s ≡ utf8 c ++ t → Characters t → Characters s
-
--- and the creator is UTF-8 in XML 1.0's characters, as all else in the text is: the text is in the XML form (proofs/Creators: the same as `Characters (f .creator)`)
+-- and the creator is UTF-8 in XML 1.0's characters
 unfoldable pub isGiven : Label → Bool
-isGiven f = isLawful f && isFormed (form (textOf f))
+isGiven f = isLawful f && isCharacters (f .creator)
+
+-- a label's text, put together at the front of a buffer that has room for it; and written there where the label may be
+abbrev pub ComposesText : Label → List ℕ → List ℕ → ℕ → Type 0
+ComposesText f = Composes (textOf f)
+
+abbrev pub WritesText : Label → List ℕ → List ℕ → Written → Type 0
+WritesText f = Writes (isGiven f) (textOf f)

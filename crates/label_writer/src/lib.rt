@@ -10,12 +10,11 @@ ghost use mathlib.Core.Bool.{_&&_};
 ghost use mathlib.Core.List.{[], _∷_};
 ghost use Prim.Native.Nat.{_≤_};
 ghost use lib.ListN.{length, take};
-ghost use Rattle.xml.specs.Machine.{form};
-ghost use Rattle.label.specs.Label.{isFormed};
+ghost use Rattle.xml.specs.Machine.{inForm};
 ghost use Rattle.quantities.specs.Letters.{isLetter};
 ghost use Rattle.values.specs.Values.{isCreator, isTime, isUuid};
-ghost use Rattle.writing.specs.Writing.{Adds, Composes, Writes};
-ghost use Rattle.label_writer.specs.Text.{escape, escaped, word, texts, letters, numbers, textOf, labelOfGiven, areNumbers, isGiven};
+ghost use Rattle.writing.specs.Writing.{Adds, Writes};
+ghost use Rattle.label_writer.specs.Text.{escape, escaped, word, texts, letters, numbers, labelOfGiven, areNumbers, ComposesText, WritesText};
 
 // The fields of a label that are numbers: its letters, its block size, and whether it is compressed.
 pub struct Given {
@@ -113,7 +112,7 @@ fn add_numbers(out: &mut [u8], from: usize, size: u64, compression: bool) -> usi
 
 // Writes the text of a label to the front of a buffer that has room for it.
 fn compose(out: &mut [u8], creator: &[u8], time: &[u8], uuid: &[u8], g: Given) -> usize
-    ensures { λ r. ⌜ Composes (textOf (labelOfGiven (now (creator .entry)) (now (time .entry)) (now (uuid .entry)) g)) (now (out .entry)) (now (out .exit)) r ⌝ }
+    ensures { λ r. ⌜ ComposesText (labelOfGiven (now (creator .entry)) (now (time .entry)) (now (uuid .entry)) g) (now (out .entry)) (now (out .exit)) r ⌝ }
 {
     let mut at = add(
         out,
@@ -187,7 +186,7 @@ fn are_numbers(g: Given) -> bool
 // Writes the first n bytes of a text that is in the XML form to the front of out.
 fn deliver(out: &mut [u8], text: &[u8], n: usize) -> Written
     requires { ⌜ n ≤ length (now text) ⌝ }
-    ensures { λ r. ⌜ Writes (isFormed (form (take n (now (text .entry))))) (take n (now (text .entry))) (now (out .entry)) (now (out .exit)) r ⌝ }
+    ensures { λ r. ⌜ Writes (inForm (take n (now (text .entry)))) (take n (now (text .entry))) (now (out .entry)) (now (out .exit)) r ⌝ }
 {
     let part = &text[0..n];
     let Checked::Good = xml::check(part) else {
@@ -198,7 +197,7 @@ fn deliver(out: &mut [u8], text: &[u8], n: usize) -> Written
 
 // Writes an LTFS label of version 2.0.1 to the front of out.
 pub fn write(out: &mut [u8], creator: &[u8], time: &[u8], uuid: &[u8], g: Given) -> Written
-    ensures { λ r. ⌜ Writes (isGiven (labelOfGiven (now (creator .entry)) (now (time .entry)) (now (uuid .entry)) g)) (textOf (labelOfGiven (now (creator .entry)) (now (time .entry)) (now (uuid .entry)) g)) (now (out .entry)) (now (out .exit)) r ⌝ }
+    ensures { λ r. ⌜ WritesText (labelOfGiven (now (creator .entry)) (now (time .entry)) (now (uuid .entry)) g) (now (out .entry)) (now (out .exit)) r ⌝ }
 {
     if !are_texts(creator, time, uuid) {
         return Written::Refused(Refusal::Caller);

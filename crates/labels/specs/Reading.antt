@@ -15,7 +15,7 @@ use Rattle.labels.specs.declared.Step.{Step}
 use Rattle.labels.specs.declared.Step.the-variants.{Past, Other}
 use Rattle.labels.specs.declared.Laid.{Laid}
 use Rattle.labels.specs.declared.Laid.the-variants.{Blocks, Otherwise}
-use Rattle.labels.specs.Labels.{isLaid, bytesAt}
+use Rattle.labels.specs.Labels.{isLaid, bytesAt, labelsIn}
 
 -- past a block, with its length; or something else stands there
 abbrev pub pastBlock : Entry → Step
@@ -37,6 +37,10 @@ layoutOf t = cond (isLaid t) (Blocks (length (bytesAt t 0)) (length (bytesAt t 2
 
 abbrev pub LaysOut : List ℕ → Laid → Type 0
 LaysOut l r = (s : List ℕ) (t : Tape) → Encodes l s t → r ≡ layoutOf t
+
+-- what the labels of two lists with their stores say, with places in the index store
+abbrev pub ReadsLabels : List ℕ → List ℕ → List ℕ → List ℕ → Label → Type 0
+ReadsLabels il is dl ds = ReadsLabel is (labelsIn il is dl ds)
 
 -- a span of the n bytes that begin `by` bytes into a store, as a span of the store
 abbrev pub Moves : ℕ → ℕ → Span → Span → Type 0

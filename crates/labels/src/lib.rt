@@ -9,9 +9,9 @@ use vol1::Vol1Read;
 ghost use mathlib.Core.Path.{_≡_};
 ghost use Prim.Native.Nat.{_+_, _≤_};
 ghost use Rattle.tape.specs.Reading.{entryAt};
-ghost use Rattle.label.specs.Reading.{means, ReadsLabel};
-ghost use Rattle.labels.specs.Labels.{labelsFrom, labelsIn};
-ghost use Rattle.labels.specs.Reading.{pastBlock, pastMark, LaysOut, Moves, MovesLabel};
+ghost use Rattle.label.specs.Reading.{means};
+ghost use Rattle.labels.specs.Labels.{labelsFrom};
+ghost use Rattle.labels.specs.Reading.{pastBlock, pastMark, LaysOut, Moves, MovesLabel, ReadsLabels};
 
 // The element asked for: its bytes, and the place of the next entry; or another one.
 enum Step {
@@ -133,7 +133,7 @@ fn read_sides(v: &[u8], s: &[u8], w: &[u8], t: &[u8]) -> Label
 
 // The labels of a volume: what the index side's label says, its spans being places in the index store.
 pub fn check(index_list: &[u8], index_store: &[u8], data_list: &[u8], data_store: &[u8]) -> Label
-    ensures { λ r. ⌜ ReadsLabel (now («index_store» .entry)) (labelsIn (now («index_list» .entry)) (now («index_store» .entry)) (now («data_list» .entry)) (now («data_store» .entry))) r ⌝ }
+    ensures { λ r. ⌜ ReadsLabels (now («index_list» .entry)) (now («index_store» .entry)) (now («data_list» .entry)) (now («data_store» .entry)) r ⌝ }
 {
     let Checked::Elements(_) = tape::check(index_list, index_store) else {
         return Label::Refused(Refusal::List);

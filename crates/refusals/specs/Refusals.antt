@@ -2,6 +2,7 @@
 use mathlib.Core.Path.{_≡_}
 use mathlib.Core.Bool.{Bool, true, false}
 use mathlib.Core.List.{List, []}
+use mathlib.Core.Option.{Option, some, none}
 use Prim.Native.Nat.{ℕ}
 use Rattle.refusals.specs.declared.Refusal.{Refusal}
 use Rattle.refusals.specs.declared.Refusal.the-variants as is
@@ -43,6 +44,11 @@ module _ {A B : Type 0} where
   abbrev pub andThen : Answer A → (A → Answer B) → Answer B
   andThen (refused r) next = refused r
   andThen (answer a) next = next a
+
+  -- refused with r where there is no value; else what follows from it
+  abbrev pub orRefuse : Option A → Refusal → (A → Answer B) → Answer B
+  orRefuse (some a) r next = next a
+  orRefuse none r next = refused r
 
 -- the number that an answer shows: a refusal's, or 0
 abbrev pub shownNumber : {A : Type 0} → Answer A → ℕ

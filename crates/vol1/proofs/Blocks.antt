@@ -4,19 +4,21 @@ use mathlib.Core.Bool.{Bool, true, false, _&&_}
 use mathlib.Core.List.{List, _++_, append-assoc}
 use Prim.Native.Nat.{ℕ, _+_}
 use native.Mathlib.Omega.{arith}
-use borrow.Author.Tests.{eq-eqb, ne-eqb, eqb-true}
+use borrow.Author.Tests.{eq-eqb, ne-eqb, eqb-true, le-leb}
 use lib.Dec.{eqb}
-use lib.ListN.{length, take, drop, length-append, length-take, length-drop}
+use lib.ListN.{length, take, drop, replicate, length-append, length-take, length-drop, length-replicate}
 use lib.Seq.{take-at, drop-at}
 use Rattle.refusals.specs.Refusals.{refused, answer}
 use Rattle.refusals.specs.declared.Refusal.the-variants as is
 use Rattle.slices.specs.Slices.{same}
 use Rattle.slices.specs.Words.{bytes}
+use Rattle.slices.specs.Writers.{stored}
 use Rattle.slices.specs.declared.Written.the-variants.{To}
 use Rattle.slices.proofs.Booleans.{and-left, and-right}
 use Rattle.slices.proofs.Equal.{same-refl}
-use Rattle.vol1.specs.Vol1.{identifierAt, identifierLength, ownerAt, ownerLength, vol1, identifierIn, ownerIn, isPrinted, vol1Of, meansVol1, areFields}
+use Rattle.vol1.specs.Vol1.{identifierAt, identifierLength, ownerAt, ownerLength, inArray, vol1, identifierIn, ownerIn, isPrinted, vol1Of, meansVol1, areFields}
 use Rattle.writing.specs.Writing.{Writes}
+use Rattle.writing.proofs.Adding.{all-written}
 use Rattle.writing.proofs.Given.{Rereads, rereads}
 
 -- eight pieces, the second and the sixth given
@@ -49,6 +51,13 @@ module _ (i o : List ℕ) (h : length i ≡ identifierLength) (g : length o ≡ 
       sixth (bytes "VOL1" ++ i ++ bytes "L" ++ bytes "             " ++ bytes "LTFS         ") o (bytes "                            ") (bytes "4")
       (front (bytes "VOL1") i (bytes "L") (bytes "             ") (bytes "LTFS         ") refl h refl refl refl) g
 
+-- a field in its length fills its array
+in-array : (n : ℕ) (field : List ℕ) → length field ≡ n → inArray n field ≡ field
+unfolding stored
+in-array n field e =
+    let z : length field ≡ length (replicate {A = ℕ} n 0) = e ∙ sym (length-replicate {A = ℕ} n 0) in
+    rw (le-leb (0 + length field) (length (replicate {A = ℕ} n 0)) (omega arith)) (all-written field (replicate n 0) z)
+
 -- the fields of a block are in their lengths, so that the block made of them is their VOL1 label
 module _ (s : List ℕ) (h : length s ≡ 80) where
   identifier-length : length (identifierIn s) ≡ identifierLength
@@ -57,9 +66,10 @@ module _ (s : List ℕ) (h : length s ≡ 80) where
   owner-length : length (ownerIn s) ≡ ownerLength
   owner-length = omega (arith, length-take ownerLength (drop ownerAt s), length-drop ownerAt s)
 
-  pub own-block : {i o b : List ℕ} → i ≡ identifierIn s → o ≡ ownerIn s → (length i ≡ identifierLength → length o ≡ ownerLength → b ≡ vol1 i o)
+  pub own-block : {i o b : List ℕ} → i ≡ identifierIn s → o ≡ ownerIn s → b ≡ vol1 (inArray identifierLength i) (inArray ownerLength o)
       → b ≡ vol1 (identifierIn s) (ownerIn s)
-  own-block p q made = made (ap length p ∙ identifier-length) (ap length q ∙ owner-length) ∙ ap₂ vol1 p q
+  own-block {i} {o} p q made =
+      made ∙ ap₂ vol1 (in-array identifierLength i (ap length p ∙ identifier-length) ∙ p) (in-array ownerLength o (ap length q ∙ owner-length) ∙ q)
 
 module _ (s : List ℕ) where
   pub other-length : (length s ≡ 80 → ⊥) → refused is.Vol1 ≡ vol1Of s
@@ -88,13 +98,16 @@ module _ (i o : List ℕ) (ok : areFields i o ≡ true) where
   abbrev lengths : Bool
   lengths = eqb (length i) identifierLength && eqb (length o) ownerLength
 
-  pub given-identifier : length i ≡ identifierLength
+  given-identifier : length i ≡ identifierLength
   unfolding areFields
   given-identifier = eqb-true _ _ (and-left _ _ (and-left lengths (isPrinted i) (and-left (lengths && isPrinted i) (isPrinted o) ok)))
 
-  pub given-owner : length o ≡ ownerLength
+  given-owner : length o ≡ ownerLength
   unfolding areFields
   given-owner = eqb-true _ _ (and-right (eqb (length i) identifierLength) _ (and-left lengths (isPrinted i) (and-left (lengths && isPrinted i) (isPrinted o) ok)))
+
+  pub given-block : {b : List ℕ} → b ≡ vol1 (inArray identifierLength i) (inArray ownerLength o) → b ≡ vol1 i o
+  given-block made = made ∙ ap₂ vol1 (in-array identifierLength i given-identifier) (in-array ownerLength o given-owner)
 
   -- a block of given fields reads as them
   pub vol1-reads : vol1Of (vol1 i o) ≡ answer (record { identifier = i; owner = o })

@@ -3,11 +3,14 @@ use mathlib.Core.Bool.{Bool, _&&_}
 use mathlib.Core.List.{List, _++_}
 use Prim.Native.Nat.{ℕ}
 use lib.Dec.{eqb}
-use lib.ListN.{length, take, drop}
+use lib.ListN.{length, take, drop, replicate}
 use Rattle.refusals.specs.Refusals.{Answer, refused, answer, require}
 use Rattle.refusals.specs.declared.Refusal.the-variants as is
 use Rattle.slices.specs.Slices.{within, every, same}
 use Rattle.slices.specs.Words.{bytes}
+use Rattle.slices.specs.Writers.{stored}
+use Rattle.slices.specs.declared.Written.{Written}
+use Rattle.writing.specs.Writing.{Writes}
 use Rattle.vol1.specs.declared.Vol1Read.{Vol1Read}
 use Rattle.vol1.specs.declared.Vol1Read.the-variants.{Good, Refused}
 
@@ -34,6 +37,10 @@ ownerAt = 37
 abbrev pub ownerLength : ℕ
 ownerLength = 14
 
+-- an array of n bytes into which a field was put: where the field has n bytes, it is the field
+abbrev pub inArray : ℕ → List ℕ → List ℕ
+inArray n field = stored 0 field (replicate n 0)
+
 -- the fields of a block
 abbrev pub identifierIn : List ℕ → List ℕ
 identifierIn s = take identifierLength (drop identifierAt s)
@@ -59,3 +66,7 @@ meansVol1 s (Refused r) = refused r
 -- fields that a caller gives: in their lengths, and ASCII
 unfoldable pub areFields : List ℕ → List ℕ → Bool
 areFields identifier owner = eqb (length identifier) identifierLength && eqb (length owner) ownerLength && isPrinted identifier && isPrinted owner
+
+-- the block of such fields, written to the front of a buffer
+abbrev pub WritesBlock : List ℕ → List ℕ → List ℕ → List ℕ → Written → Type 0
+WritesBlock identifier owner = Writes (areFields identifier owner) (vol1 identifier owner)

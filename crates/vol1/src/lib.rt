@@ -3,9 +3,7 @@ use refusals::Refusal;
 use slices::Written;
 use writing::add;
 ghost use mathlib.Core.Path.{_≡_};
-ghost use lib.ListN.{length};
-ghost use Rattle.writing.specs.Writing.{Writes};
-ghost use Rattle.vol1.specs.Vol1.{identifierLength, ownerLength, vol1, isPrinted, areFields, vol1Of, meansVol1};
+ghost use Rattle.vol1.specs.Vol1.{identifierLength, ownerLength, inArray, vol1, isPrinted, areFields, WritesBlock, vol1Of, meansVol1};
 
 // A VOL1 label, as the block that it is.
 pub struct Vol1 {
@@ -54,8 +52,8 @@ impl Vol1 {
     pub const VERSION: [u8; 1] = [52];
 
     // The label of an identifier and an owner.
-    pub fn new(identifier: &[u8], owner: &[u8]) -> Self
-        ensures { λ r. ⌜ (length (now (identifier .entry)) ≡ identifierLength → length (now (owner .entry)) ≡ ownerLength → r .block ≡ vol1 (now (identifier .entry)) (now (owner .entry))) ⌝ }
+    pub fn new(identifier: &[u8; Vol1::IDENTIFIER_LENGTH], owner: &[u8; Vol1::OWNER_LENGTH]) -> Self
+        ensures { λ r. ⌜ r .block ≡ vol1 (now (identifier .entry)) (now (owner .entry)) ⌝ }
     {
         let label = Vol1::LABEL;
         let accessibility = Vol1::ACCESSIBILITY;
@@ -74,6 +72,17 @@ impl Vol1 {
         add(&mut block, Vol1::VERSION_AT, &version);
         Vol1 { block }
     }
+}
+
+// The label of fields whose lengths were looked at: an array of the field's length holds each.
+fn label_of(identifier: &[u8], owner: &[u8]) -> Vol1
+    ensures { λ r. ⌜ r .block ≡ vol1 (inArray identifierLength (now (identifier .entry))) (inArray ownerLength (now (owner .entry))) ⌝ }
+{
+    let mut first = [0u8; Vol1::IDENTIFIER_LENGTH];
+    let mut second = [0u8; Vol1::OWNER_LENGTH];
+    slices::put(&mut first, 0, identifier);
+    slices::put(&mut second, 0, owner);
+    Vol1::new(&first, &second)
 }
 
 // Whether each byte is ASCII 32 to 126.
@@ -103,7 +112,7 @@ pub fn read_vol1(block: &[u8]) -> Vol1Read
     }
     let identifier = slices::part(block, Vol1::IDENTIFIER_AT, Vol1::IDENTIFIER_LENGTH);
     let owner = slices::part(block, Vol1::OWNER_AT, Vol1::OWNER_LENGTH);
-    let own = Vol1::new(identifier, owner);
+    let own = label_of(identifier, owner);
     let bytes = own.block;
     if !slices::same(block, &bytes) {
         return Vol1Read::Refused(Refusal::Vol1);
@@ -135,12 +144,12 @@ fn are_fields(identifier: &[u8], owner: &[u8]) -> bool
 
 // Writes the VOL1 label of an identifier and an owner to the front of out.
 pub fn write_vol1(out: &mut [u8], identifier: &[u8], owner: &[u8]) -> Written
-    ensures { λ r. ⌜ Writes (areFields (now (identifier .entry)) (now (owner .entry))) (vol1 (now (identifier .entry)) (now (owner .entry))) (now (out .entry)) (now (out .exit)) r ⌝ }
+    ensures { λ r. ⌜ WritesBlock (now (identifier .entry)) (now (owner .entry)) (now (out .entry)) (now (out .exit)) r ⌝ }
 {
     if !are_fields(identifier, owner) {
         return Written::Refused(Refusal::Caller);
     }
-    let label = Vol1::new(identifier, owner);
+    let label = label_of(identifier, owner);
     let block = label.block;
     slices::put(out, 0, &block)
 }

@@ -14,18 +14,18 @@ use Rattle.slices.proofs.Equal.{same-eq}
 use Rattle.slices.proofs.Writers.{placed-short}
 use Rattle.digits.specs.Runs.{digits, firstFrom, width}
 use Rattle.digits.specs.Decimal.{short}
-use Rattle.xml.specs.Bytes.{declaration, isSpace, isLetter, isNameByte}
-use Rattle.xml.specs.Machine.{reads, char, inText, inside, tagEnd, outside, leave, innermost, noText, step, ended, run, form}
+use Rattle.xml.specs.Grammar.{isChar, utf8}
 use Rattle.values.specs.Values.{fits, inForm, inRanges, isTime, isUuid, isCreator}
-use Rattle.label.specs.Label.{Label, lettersFit, isFormed}
-use Rattle.label_writer.specs.Text.{escape, escaped, word, texts, letters, numbers, opening, closing, textOf, areNumbers, isLawful, isGiven}
+use Rattle.label.specs.Label.{Label, lettersFit}
+use Rattle.label_writer.specs.Characters.{following, codePoint, isCharacter, charactersBehind, isCharacters}
+use Rattle.label_writer.specs.Text.{escape, escaped, word, textOf, areNumbers, isLawful, isGiven}
 use Rattle.writing.specs.Writing.{answered}
 use Rattle.label_writer.proofs.Fields.{in-rules}
 use Rattle.label_writer.proofs.Lengths.{length-text, time-length, uuid-length}
 use Rattle.worked.specs.Cases.{isBench, sample, refuses, benchLength, benchShort}
 
 pub one : isBench sample ≡ true
-unfolding isBench sample isGiven isLawful areNumbers isCreator isTime isUuid inForm fits inRanges lettersFit every same bytes escaped escape texts letters numbers opening closing textOf declaration short width firstFrom digits word isFormed form run step reads char inText inside tagEnd outside leave innermost noText ended isSpace isLetter isNameByte
+unfolding isBench sample isGiven isLawful areNumbers isCreator isTime isUuid inForm fits inRanges lettersFit every same bytes escaped escape charactersBehind isCharacter codePoint following isChar utf8
 one = refl
 
 size : length (short 524288) ≡ 6
@@ -59,7 +59,7 @@ module _ (f : Label) (ok : isBench f ≡ true) where
       let e : escaped (f .creator) ≡ f .creator = same-eq _ _ (and-right (isGiven f && four) plain q) in
       let b : f .blockSize ≡ 524288 = eqb-true _ _ (and-right (isGiven f && four && plain) sized p) in
       let c : f .compression ≡ true = and-right (isGiven f && four && plain && sized) (f .compression) ok in
-      let r = in-rules f (and-left (isLawful f) (isFormed (form (textOf f))) given) in
+      let r = in-rules f (and-left (isLawful f) (isCharacters (f .creator)) given) in
       omega (
         arith,
         length-text f,

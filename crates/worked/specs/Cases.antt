@@ -6,7 +6,7 @@ use Prim.Native.String.{String}
 use lib.Dec.{eqb, ltb}
 use lib.ListN.{length}
 use Rattle.refusals.specs.declared.Refusal.the-variants.{Value}
-use Rattle.refusals.specs.Refusals.{Answer, refused, answer, numberOf, shownNumber}
+use Rattle.refusals.specs.Refusals.{Answer, refused, answer, orRefuse, numberOf, shownNumber}
 use Rattle.slices.specs.Slices.{same}
 use Rattle.slices.specs.Words.{bytes}
 use Rattle.slices.specs.declared.Written.{Written}
@@ -17,7 +17,7 @@ use Rattle.extents.specs.Lawful.{lawful}
 use Rattle.extents.specs.Map.{Place, stored, unstored, byteMap}
 use Rattle.tape.specs.Tape.{Tape, mark, block, list}
 use Rattle.constructs.specs.Constructs.{Construct, standing}
-use Rattle.label.specs.Label.{Label, told}
+use Rattle.label.specs.Label.{Label}
 use Rattle.label_writer.specs.Text.{escaped, textOf, isGiven}
 use Rattle.writing.specs.Writing.{answered}
 
@@ -37,7 +37,7 @@ indexAt n B vol1 label index = ltb B (length index) || standsAt n (standing B (f
 
 -- a number's text as a reader takes it, 6 for none
 abbrev pub numberIn : String → Answer ℕ
-numberIn s = told (number (bytes s)) Value answer
+numberIn s = orRefuse (number (bytes s)) Value answer
 
 abbrev pub says : ℕ → Answer ℕ → Bool
 says n (refused r) = false

@@ -1,18 +1,18 @@
 -- `write` meets its contract: 14 for a field, else the text is composed and delivered.
 use mathlib.Core.Path.{_≡_, sym, subst, _∙_}
 use borrow.Author.Tests.{not-true, not-false}
-use Rattle.label.specs.Label.{isFormed}
 use native.Mathlib.Omega.{arith}
 use mathlib.Core.Bool.{Bool, true}
 use mathlib.Core.List.{List}
 use Prim.Native.Nat.{ℕ, _≤_}
 use lib.ListN.{length, take, replicate}
-use Rattle.xml.specs.Machine.{form}
+use Rattle.xml.specs.Machine.{inForm}
 use Rattle.writing.specs.Writing.{Writes}
 use Rattle.label_writer.specs.Text.{textOf, labelOfGiven, isLawful, isGiven}
 use Rattle.writing.proofs.Given.{writes-not}
 use Rattle.label_writer.proofs.Lengths.{text-length}
-use Rattle.label_writer.proofs.Fields.{unlawful-texts, unlawful-numbers, lawful, given-formed}
+use Rattle.label_writer.proofs.Fields.{unlawful-texts, unlawful-numbers, lawful}
+use Rattle.label_writer.proofs.Creators.{given-formed}
 use Rattle.writing.proofs.Adding.{front-text}
 use borrow.Author.Needs.{needs}
 use Rattle.label_writer.proofs.write.Statement.{statement}
@@ -69,7 +69,7 @@ returns-3 c =
     let fits : length (textOf f) ≤ 4096 = text-length f ok in
     let part : take (c .before .before .before .before .before .before .compose .result) (c .before .before .before .before .before .before .compose .last .0) ≡ textOf f = front-text (textOf f) b (c .before .before .before .before .before .before .compose .last .0) (c .before .before .before .before .before .before .compose .result) fits h e in
     subst (λ (t : Bool). Writes t (textOf f) (c .before .before .before .before .before .before .before .before .before .before .before .before .before .before .before .before .args .out .now) (c .before .before .deliver .last .0) (c .before .before .deliver .result)) (sym (given-formed f ok))
-    (subst (λ (w : List ℕ). Writes (isFormed (form w)) w (c .before .before .before .before .before .before .before .before .before .before .before .before .before .before .before .before .args .out .now) (c .before .before .deliver .last .0) (c .before .before .deliver .result)) part (c .before .before .deliver .ensures))
+    (subst (λ (w : List ℕ). Writes (inForm w) w (c .before .before .before .before .before .before .before .before .before .before .before .before .before .before .before .before .args .out .now) (c .before .before .deliver .last .0) (c .before .before .deliver .result)) part (c .before .before .deliver .ensures))
 
 pub write-spec : {M : Type 1} → statement M
 write-spec =

@@ -17,8 +17,8 @@ part-requires c κs = search needs
 part-requires-2 : tie.Need-part-requires-2
 part-requires-2 c κs = search needs
 
-new-requires : tie.Need-new-requires
-new-requires c κs = search needs
+label-of-requires : tie.Need-label-of-requires
+label-of-requires c κs = search needs
 
 slice-aggregate-same : tie.Need-slice-aggregate-same
 slice-aggregate-same c = search needs
@@ -31,7 +31,7 @@ returns-2 c =
     let s = c .before .before .before .before .before .before .before .before .before .args .block .now in
     let h = c .before .before .before .before .before .before .before .if1 .left in
     let e : slices.same s (vol1 (identifierIn s) (ownerIn s)) ≡ c .before .same .result
-    = ap (slices.same s) (sym (own-block s h (c .before .before .before .before .before .before .part .ensures) (c .before .before .before .before .before .part2 .ensures) (c .before .before .before .before .new .ensures))) ∙ sym (c .before .same .ensures) in
+    = ap (slices.same s) (sym (own-block s h (c .before .before .before .before .before .before .part .ensures) (c .before .before .before .before .before .part2 .ensures) (c .before .before .before .before .label-of .ensures))) ∙ sym (c .before .same .ensures) in
     other-constants s h (e ∙ not-true _ (c .if2 .taken))
 
 is-printed-requires : tie.Need-is-printed-requires
@@ -42,7 +42,7 @@ returns-3 c =
     let s = c .before .before .before .before .before .before .before .before .before .before .before .args .block .now in
     let h = c .before .before .before .before .before .before .before .before .before .if1 .left in
     let e : slices.same s (vol1 (identifierIn s) (ownerIn s)) ≡ c .before .before .before .same .result
-    = ap (slices.same s) (sym (own-block s h (c .before .before .before .before .before .before .before .before .part .ensures) (c .before .before .before .before .before .before .before .part2 .ensures) (c .before .before .before .before .before .before .new .ensures))) ∙ sym (c .before .before .before .same .ensures) in
+    = ap (slices.same s) (sym (own-block s h (c .before .before .before .before .before .before .before .before .part .ensures) (c .before .before .before .before .before .before .before .part2 .ensures) (c .before .before .before .before .before .before .label-of .ensures))) ∙ sym (c .before .before .before .same .ensures) in
     identifier-unprinted s h (e ∙ not-false _ (c .before .before .if2 .left)) (ap isPrinted (sym (c .before .before .before .before .before .before .before .before .part .ensures)) ∙ sym (c .before .is-printed .ensures) ∙ not-true _ (c .if3 .taken))
 
 is-printed-requires-2 : tie.Need-is-printed-requires-2
@@ -53,7 +53,7 @@ returns-4 c =
     let s = c .before .before .before .before .before .before .before .before .before .before .before .before .before .args .block .now in
     let h = c .before .before .before .before .before .before .before .before .before .before .before .if1 .left in
     let e : slices.same s (vol1 (identifierIn s) (ownerIn s)) ≡ c .before .before .before .before .before .same .result
-    = ap (slices.same s) (sym (own-block s h (c .before .before .before .before .before .before .before .before .before .before .part .ensures) (c .before .before .before .before .before .before .before .before .before .part2 .ensures) (c .before .before .before .before .before .before .before .before .new .ensures))) ∙ sym (c .before .before .before .before .before .same .ensures) in
+    = ap (slices.same s) (sym (own-block s h (c .before .before .before .before .before .before .before .before .before .before .part .ensures) (c .before .before .before .before .before .before .before .before .before .part2 .ensures) (c .before .before .before .before .before .before .before .before .label-of .ensures))) ∙ sym (c .before .before .before .before .before .same .ensures) in
     owner-unprinted s h (e ∙ not-false _ (c .before .before .before .before .if2 .left)) (ap isPrinted (sym (c .before .before .before .before .before .before .before .before .before .before .part .ensures)) ∙ sym (c .before .before .before .is-printed .ensures) ∙ not-false _ (c .before .before .if3 .left))
     (ap isPrinted (sym (c .before .before .before .before .before .before .before .before .before .part2 .ensures)) ∙ sym (c .before .is-printed2 .ensures) ∙ not-true _ (c .if4 .taken))
 
@@ -62,7 +62,7 @@ returns-5 c =
     let s = c .before .before .before .before .before .before .before .before .before .before .before .before .before .args .block .now in
     let h = c .before .before .before .before .before .before .before .before .before .before .before .if1 .left in
     let e : slices.same s (vol1 (identifierIn s) (ownerIn s)) ≡ c .before .before .before .before .before .same .result
-    = ap (slices.same s) (sym (own-block s h (c .before .before .before .before .before .before .before .before .before .before .part .ensures) (c .before .before .before .before .before .before .before .before .before .part2 .ensures) (c .before .before .before .before .before .before .before .before .new .ensures))) ∙ sym (c .before .before .before .before .before .same .ensures) in
+    = ap (slices.same s) (sym (own-block s h (c .before .before .before .before .before .before .before .before .before .before .part .ensures) (c .before .before .before .before .before .before .before .before .before .part2 .ensures) (c .before .before .before .before .before .before .before .before .label-of .ensures))) ∙ sym (c .before .before .before .before .before .same .ensures) in
     the-vol1 s h (e ∙ not-false _ (c .before .before .before .before .if2 .left)) (ap isPrinted (sym (c .before .before .before .before .before .before .before .before .before .before .part .ensures)) ∙ sym (c .before .before .before .is-printed .ensures) ∙ not-false _ (c .before .before .if3 .left))
     (ap isPrinted (sym (c .before .before .before .before .before .before .before .before .before .part2 .ensures)) ∙ sym (c .before .is-printed2 .ensures) ∙ not-false _ (c .if4 .left))
 
@@ -73,7 +73,7 @@ read-vol1-spec =
     returns
     part-requires
     part-requires-2
-    new-requires
+    label-of-requires
     slice-aggregate-same
     same-requires
     returns-2

@@ -7,7 +7,7 @@ use Prim.Native.Nat.{ℕ}
 use Rattle.slices.specs.Writers.{Puts}
 use Rattle.vol1.specs.Vol1.{vol1, areFields}
 use Rattle.writing.proofs.Given.{writes, writes-not}
-use Rattle.vol1.proofs.Blocks.{given-identifier, given-owner}
+use Rattle.vol1.proofs.Blocks.{given-block}
 use borrow.Author.Needs.{needs}
 use Rattle.vol1.proofs.write_vol1.Statement.{statement}
 use Rattle.vol1.proofs.write_vol1.Tie as tie
@@ -18,8 +18,8 @@ are-fields-requires c κs = search needs
 returns : tie.Need-returns
 returns c = writes-not _ _ _ (sym (c .before .are-fields .ensures) ∙ not-true _ (c .if1 .taken))
 
-new-requires : tie.Need-new-requires
-new-requires c κs = search needs
+label-of-requires : tie.Need-label-of-requires
+label-of-requires c κs = search needs
 
 slice-aggregate-put : tie.Need-slice-aggregate-put
 slice-aggregate-put c = search needs
@@ -35,7 +35,7 @@ returns-2 c =
     let i = c .before .before .before .before .before .before .before .before .before .before .before .before .args .identifier .now in
     let o = c .before .before .before .before .before .before .before .before .before .before .before .before .args .owner .now in
     let ok : areFields i o ≡ true = sym (c .before .before .before .before .before .before .before .before .are-fields .ensures) ∙ not-false _ (c .before .before .before .before .before .before .before .if1 .left) in
-    let e = c .before .before .before .before .before .before .new .ensures (given-identifier i o ok) (given-owner i o ok) in
+    let e = given-block i o ok (c .before .before .before .before .before .before .label-of .ensures) in
     writes (areFields i o) (vol1 i o) (c .before .before .before .before .before .before .before .before .before .before .before .before .args .out .now) (c .before .before .put .last .0) (c .before .before .put .result) ok
     (subst (λ (w : List ℕ). Puts 0 w (c .before .before .before .before .before .before .before .before .before .before .before .before .args .out .now) (c .before .before .put .last .0) (c .before .before .put .result)) e (c .before .before .put .ensures))
 
@@ -45,7 +45,7 @@ write-vol1-spec =
     (tie.spec
     are-fields-requires
     returns
-    new-requires
+    label-of-requires
     slice-aggregate-put
     put-requires
     same-length

@@ -1,9 +1,8 @@
 -- `read_index` meets its contract: what the caller gives, the length, the form, then the root.
 use mathlib.Core.Path.{ap, sym, _∙_}
 use borrow.Author.Tests.{le-leb, lt-leb, not-true, not-false}
-use Rattle.xml.specs.Machine.{outcomeOf}
+use Rattle.xml.specs.Machine.{isGood, inForm, outcomeOf}
 use Rattle.index_values.specs.Tests.{given}
-use Rattle.index.specs.Index.{isGood}
 use Rattle.index.proofs.Answers.{index-14, index-15, index-4, index-read}
 use borrow.Author.Needs.{needs}
 use Rattle.index.proofs.read.read_index.Statement.{statement}
@@ -31,9 +30,11 @@ read-root-requires : tie.Need-read-root-requires
 read-root-requires c κs = sym (c .before .before .check .ensures) ∙ ap outcomeOf (c .enum-told2 .given .1)
 
 returns-3 : tie.Need-returns-3
+unfolding inForm
 returns-3 c = index-4 (given (c .before .before .before .before .before .before .before .before .args .uuid .now) (c .before .before .before .before .before .before .before .before .args .volume)) (c .before .before .before .before .before .before .before .before .args .letter) (c .before .before .before .before .before .before .before .before .args .block .0) (c .before .before .before .before .before .before .before .before .args .text .now) (sym (c .before .before .before .before .before .is-caller-right .ensures) ∙ not-false _ (c .before .before .before .before .if1 .left)) (le-leb _ _ (c .before .before .before .if2 .left)) (ap isGood (sym (c .before .before .check .ensures) ∙ ap outcomeOf (c .enum-told .given .1)))
 
 returns-4 : tie.Need-returns-4
+unfolding inForm
 returns-4 c = c .read-root .ensures ∙ index-read (given (c .before .before .before .before .before .before .before .before .before .args .uuid .now) (c .before .before .before .before .before .before .before .before .before .args .volume)) (c .before .before .before .before .before .before .before .before .before .args .letter) (c .before .before .before .before .before .before .before .before .before .args .block .0) (c .before .before .before .before .before .before .before .before .before .args .text .now) (sym (c .before .before .before .before .before .before .is-caller-right .ensures) ∙ not-false _ (c .before .before .before .before .before .if1 .left)) (le-leb _ _ (c .before .before .before .before .if2 .left)) (ap isGood (sym (c .before .before .before .check .ensures) ∙ ap outcomeOf (c .before .enum-told2 .given .1)))
 
 pub read-index-spec : {M : Type 1} → statement M

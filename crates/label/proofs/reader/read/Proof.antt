@@ -1,8 +1,7 @@
 -- `read` meets its contract: the length, the form, and the root.
 use mathlib.Core.Path.{_≡_, ap, sym, subst, _∙_}
-use Rattle.label.specs.Label.{isFormed}
 use mathlib.Core.Bool.{true, false}
-use Rattle.xml.specs.Machine.{form, outcomeOf}
+use Rattle.xml.specs.Machine.{isGood, inForm, outcomeOf}
 use Rattle.elements.specs.Reading.{NextChild}
 use Rattle.elements.specs.declared.tags.Child.the-variants.{Done, At}
 use Rattle.label.proofs.Values.{too-long, unformed, no-first, the-first}
@@ -24,9 +23,9 @@ enum-told-2 : tie.Need-enum-told-2
 enum-told-2 c = search needs
 
 returns-2 : tie.Need-returns-2
-unfolding isFormed
+unfolding inForm
 returns-2 c =
-    let f : isFormed (form (c .before .before .before .before .before .args .text .now)) ≡ false = ap isFormed (sym (c .before .before .check .ensures) ∙ ap outcomeOf (c .enum-told2 .given .1)) in
+    let f : inForm (c .before .before .before .before .before .args .text .now) ≡ false = ap isGood (sym (c .before .before .check .ensures) ∙ ap outcomeOf (c .enum-told2 .given .1)) in
     refuses (unformed (c .before .before .before .before .before .args .text .now) (c .before .before .before .if1 .left) f)
 
 next-child-requires : tie.Need-next-child-requires
@@ -42,18 +41,18 @@ read-root-requires : tie.Need-read-root-requires
 read-root-requires c κs = search needs
 
 returns-3 : tie.Need-returns-3
-unfolding isFormed
+unfolding inForm
 returns-3 c =
     let s = c .before .before .before .before .before .before .before .before .args .text .now in
-    let f : isFormed (form s) ≡ true = ap isFormed (sym (c .before .before .before .before .before .check .ensures) ∙ ap outcomeOf (c .before .before .before .enum-told .given .1)) in
+    let f : inForm s ≡ true = ap isGood (sym (c .before .before .before .before .before .check .ensures) ∙ ap outcomeOf (c .before .before .before .enum-told .given .1)) in
     let e : NextChild s 38 Done = subst (NextChild s 38) (c .enum-told3 .given .1) (c .before .before .next-child .ensures) in
     refuses (no-first s (c .before .before .before .before .before .before .if1 .left) f e)
 
 returns-4 : tie.Need-returns-4
-unfolding isFormed
+unfolding inForm
 returns-4 c =
     let s = c .before .before .before .before .before .before .before .before .before .before .args .text .now in
-    let f : isFormed (form s) ≡ true = ap isFormed (sym (c .before .before .before .before .before .before .before .check .ensures) ∙ ap outcomeOf (c .before .before .before .before .before .enum-told .given .1)) in
+    let f : inForm s ≡ true = ap isGood (sym (c .before .before .before .before .before .before .before .check .ensures) ∙ ap outcomeOf (c .before .before .before .before .before .enum-told .given .1)) in
     let g = c .before .before .n .given in
     let q : NextChild s 38 (At (g .0 .0) (g .0 .1 .0)) = subst (NextChild s 38) (g .1) (c .before .before .before .before .next-child .ensures) in
     reads-as (the-first s (c .before .before .before .before .before .before .before .before .if1 .left) f _ _ _ (q .row)) (c .read-root .ensures)

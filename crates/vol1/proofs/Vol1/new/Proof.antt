@@ -80,9 +80,10 @@ add-requires-8 c κs = search needs
 returns : tie.Need-returns
 unfolding vol1 bytes
 returns c =
-    λ h g.
     let i = c .before .before .before .before .before .before .before .before .before .before .before .before .before .before .before .before .before .before .before .before .before .before .before .before .before .before .before .before .before .before .before .before .args .identifier .now in
     let o = c .before .before .before .before .before .before .before .before .before .before .before .before .before .before .before .before .before .before .before .before .before .before .before .before .before .before .before .before .before .before .before .before .args .owner .now in
+    let h : length i ≡ 6 = c .before .before .before .before .before .before .before .before .before .before .before .before .before .before .before .before .before .before .before .before .before .before .before .before .before .before .add-arg .given .0 in
+    let g : length o ≡ 14 = c .before .before .before .before .before .before .before .before .before .before .add-arg2 .given .0 in
     let b : List ℕ = replicate 80 0 in
     let w₁ : List ℕ = bytes "VOL1" in
     let w₂ = w₁ ++ i in
@@ -99,11 +100,11 @@ returns c =
     let n₆ : 51 ≡ length w₆ = omega (arith, length-append w₅ o) in
     let n₇ : 79 ≡ length w₇ = omega (arith, length-append w₆ (bytes "                            ")) in
     let n₈ : 80 ≡ length w₈ = omega (arith, length-append w₇ (bytes "4")) in
-    let s₁ = c .before .before .before .before .before .before .before .before .before .before .before .before .before .before .before .before .before .before .before .before .before .before .before .before .before .before .before .add .ensures .added .run b [] (omega arith) (nothing-yet b) refl in
-    let s₂ = c .before .before .before .before .before .before .before .before .before .before .before .before .before .before .before .before .before .before .before .before .before .before .before .before .add2 .ensures .added .run b w₁ (fits w₂ n₂ (omega arith)) (s₁ .0) refl in
-    let s₃ = c .before .before .before .before .before .before .before .before .before .before .before .before .before .before .before .before .before .before .before .before .add3 .ensures .added .run b w₂ (fits w₃ n₃ (omega arith)) (s₂ .0) n₂ in
-    let s₄ = c .before .before .before .before .before .before .before .before .before .before .before .before .before .before .before .before .add4 .ensures .added .run b w₃ (fits w₄ n₄ (omega arith)) (s₃ .0) n₃ in
-    let s₅ = c .before .before .before .before .before .before .before .before .before .before .before .before .add5 .ensures .added .run b w₄ (fits w₅ n₅ (omega arith)) (s₄ .0) n₄ in
+    let s₁ = c .before .before .before .before .before .before .before .before .before .before .before .before .before .before .before .before .before .before .before .before .before .before .before .before .before .before .before .before .before .add .ensures .added .run b [] (omega arith) (nothing-yet b) refl in
+    let s₂ = c .before .before .before .before .before .before .before .before .before .before .before .before .before .before .before .before .before .before .before .before .before .before .before .before .before .add2 .ensures .added .run b w₁ (fits w₂ n₂ (omega arith)) (s₁ .0) refl in
+    let s₃ = c .before .before .before .before .before .before .before .before .before .before .before .before .before .before .before .before .before .before .before .before .before .add3 .ensures .added .run b w₂ (fits w₃ n₃ (omega arith)) (s₂ .0) n₂ in
+    let s₄ = c .before .before .before .before .before .before .before .before .before .before .before .before .before .before .before .before .before .add4 .ensures .added .run b w₃ (fits w₄ n₄ (omega arith)) (s₃ .0) n₃ in
+    let s₅ = c .before .before .before .before .before .before .before .before .before .before .before .before .before .add5 .ensures .added .run b w₄ (fits w₅ n₅ (omega arith)) (s₄ .0) n₄ in
     let s₆ = c .before .before .before .before .before .before .before .before .before .add6 .ensures .added .run b w₅ (fits w₆ n₆ (omega arith)) (s₅ .0) n₅ in
     let s₇ = c .before .before .before .before .before .add7 .ensures .added .run b w₆ (fits w₇ n₇ (omega arith)) (s₆ .0) n₆ in
     let s₈ = c .before .add8 .ensures .added .run b w₇ (fits w₈ n₈ (omega arith)) (s₇ .0) n₇ in
