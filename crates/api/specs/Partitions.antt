@@ -1,4 +1,5 @@
 -- What is shown of a partition's elements: fronts that are kept, the place of a block.
+use mathlib.Core.Path.{_≡_}
 use mathlib.Core.Bool.{not}
 use mathlib.Core.List.{List, [], _∷_}
 use Prim.Native.Nat.{ℕ}
@@ -6,9 +7,10 @@ use Rattle.refusals.specs.declared.Refusal.the-variants.{Caller}
 use Rattle.refusals.specs.Refusals.{Answer, answer, require, andThen}
 use Rattle.quantities.specs.Sizes.{isBlockSize}
 use Rattle.tape.specs.Tape.{Tape}
-use Rattle.tape.specs.Answers.{tapeIn, Lengths, lengths, keeping, Place}
+use Rattle.tape.specs.Answers.{tapeIn, Lengths, lengths, keeping, Place, placeOf}
 use Rattle.constructs.specs.Constructs.{standing}
-use Rattle.api.specs.Outputs.{bit}
+use Rattle.constructs.specs.Tables.{tableAfter}
+use Rattle.api.specs.Outputs.{Shown, one, bit}
 use lib.ListN.{length}
 
 -- how many bytes of the list and of the store n elements keep
@@ -22,6 +24,10 @@ fronts f = f .list ∷ f .store ∷ []
 abbrev pub place : Place → List ℕ
 place p = bit (not (p .onIndex)) ∷ p .from ∷ p .size ∷ []
 
+-- where the block with a letter and a number lies, on a volume with those letters
+abbrev pub LocatesOut : List ℕ → List ℕ → List ℕ → List ℕ → ℕ → ℕ → ℕ → ℕ → ℕ → List ℕ → Type 0
+LocatesOut il is dl ds index other letter number = Shown 3 place (placeOf index other letter number (tapeIn il is) (tapeIn dl ds))
+
 -- the elements of a partition that is asked for its constructs: 14 for the block size, then 1
 abbrev pub sizedIn : ℕ → List ℕ → List ℕ → Answer Tape
 sizedIn B l s = require (isBlockSize B) Caller (tapeIn l s)
@@ -29,3 +35,8 @@ sizedIn B l s = require (isBlockSize B) Caller (tapeIn l s)
 -- how many constructs stand
 abbrev pub standingCount : ℕ → List ℕ → List ℕ → Answer ℕ
 standingCount B l s = andThen (sizedIn B l s) (λ t. answer (length (standing B t)))
+
+-- their number, and the table that they were put into
+pub record ListsConstructs (B : ℕ) (l s before after : List ℕ) (returned told : ℕ) : Type 0 where
+  pub answers : Shown 1 one (standingCount B l s) returned (one told)
+  pub table : after ≡ tableAfter B before (sizedIn B l s)
