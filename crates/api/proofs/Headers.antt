@@ -3,83 +3,71 @@ use mathlib.Core.Path.{_≡_, refl, subst, sym, ap, _∙_}
 use mathlib.Core.Bool.{Bool, true, false, cond}
 use mathlib.Core.List.{List, [], _∷_}
 use mathlib.Core.Option.{none, some}
-use Prim.Native.Nat.{ℕ, _+_, _-_, _<_, _≤_, min}
+use Prim.Native.Nat.{ℕ, _-_, min}
 use native.Mathlib.Omega.{arith}
-use lib.ListN.{length, take, drop, getD, length-take, length-drop}
+use lib.ListN.{length, drop, length-take, length-drop}
 use Rattle.refusals.specs.Refusals.{Answer, refused, answer, andThen}
-use Rattle.slices.proofs.Parts.{cut-none, cut-rest}
-use Rattle.elements.specs.Reading.{partAt}
-use Rattle.elements.specs.declared.heads.Span.{Span}
+use Rattle.quantities.specs.Places.{Place}
 use Rattle.constructs.specs.declared.Place.{Place as Spot}
-use Rattle.index.specs.Index.{Index, File, Told as Header, told, toldBy, saying}
-use Rattle.index.specs.declared.read.Header.{Header as Read}
+use Rattle.index.specs.Index.{Index, File, Summary, summary, summaryIn, Definite, ReadsIndex}
+use Rattle.index.specs.declared.read.Header.{Header}
 use Rattle.index.specs.declared.read.Read.the-variants.{Found}
 use Rattle.index_files.specs.Asked.{Shown as Head, shown as headOf, fileSaid, nameInside}
-use Rattle.index_files.specs.Filling.{countSaid, counted, Puts, SaysFile, TellsPart}
+use Rattle.index_files.specs.Filling.{countSaid, counted, Puts, SaysFile}
 use Rattle.index_files.specs.declared.asked.FileHead.{FileHead}
 use Rattle.index_files.specs.declared.asked.FileRead.the-variants as file
 use Rattle.index_files.specs.declared.filling.Filled.{Filled}
-use Rattle.volume.specs.Steps.{textIn}
-use Rattle.volume.specs.Chosen.{Told·Construct, chosenBy}
-use Rattle.volume.specs.declared.chosen.Chosen.the-variants as chosenIs
-use Rattle.api.specs.Outputs.{Told, Shown, bit, one, CutOff}
-use Rattle.api.specs.Indexes.{backNumbers, SaysHeader, SaysIndex, SaysConstruct, toldOf, headerNumbers, constructOf, howMany, FillsOut}
-use Rattle.api.proofs.Showing.{told as tells}
 use Rattle.index_files.proofs.Mapped.{mapped}
+use Rattle.volume.specs.Steps.{textIn}
+use Rattle.volume.specs.Chosen.{Indexed, indexedIn, Lies, Chooses}
+use Rattle.volume.specs.declared.chosen.Chosen.the-variants as chosenIs
+use Rattle.api.specs.Outputs.{Told, Shown, bit, one}
+use Rattle.api.specs.Indexes.{backNumbers, SaysHeader, SaysIndex, SaysConstruct, headerNumbers, constructNumbers, howMany, FillsOut}
+use Rattle.api.proofs.Showing.{told as tells}
 
-back-numbers : (b : Bool) (l k : ℕ) → bit b ∷ cond b l 0 ∷ cond b k 0 ∷ [] ≡ backNumbers (cond b (some (record { letter = l; block = k })) none)
-back-numbers true l k = refl
-back-numbers false l k = refl
+back-numbers : (b : Bool) (l k : ℕ) → (b ≡ false → _≡_ {A = Place} (record { letter = l; block = k }) (record { letter = 0; block = 0 }))
+    → bit b ∷ l ∷ k ∷ [] ≡ backNumbers (cond b (some (record { letter = l; block = k })) none)
+back-numbers true l k z = refl
+back-numbers false l k z = ap (λ (p : Place). 0 ∷ p .letter ∷ p .block ∷ []) (z refl)
 
--- the time of a header, at a place that was cut off
-told-part : (s : List ℕ) (w r : Span) (out : List ℕ) (k : ℕ) → CutOff (length s) w r → getD out k 0 ≡ r .from → getD out (k + 1) 0 ≡ r .len
-    → TellsPart s out k (partAt s w)
-told-part s w r out k c f n = record { part = rw (f, n) (c .same s refl); inside = rw (f, n) (c .inside) }
-
-says-header : (s : List ℕ) (h : Read) (time : Span) → CutOff (length s) (h .time) time → SaysHeader s (toldOf s h) (headerNumbers h time)
-says-header s h time c =
+says-header : (s : List ℕ) (h : Header) → Definite s h → SaysHeader s (summaryIn s h) (headerNumbers h)
+says-header s h d =
     record {
       release = refl;
       generation = refl;
-      updatetime = told-part s (h .time) time (headerNumbers h time) 2 c refl refl;
+      updatetime = record { part = refl; inside = d .time };
       letter = refl;
       block = refl;
-      back = back-numbers (h .back) (h .«back_letter») (h .«back_block» .0);
+      back = back-numbers (h .back) (h .«back_letter») (h .«back_block» .0) (d .noBack);
       allowpolicyupdate = refl;
       highestfileuid = refl;
       directories = refl;
       files = refl;
     }
 
-pub says-index : (s : List ℕ) (a : Answer Index) (h : Read) (time : Span) {out : List ℕ} → saying s (Found h) ≡ toldBy a → CutOff (length s) (h .time) time
-    → out ≡ headerNumbers h time → Told 13 (SaysIndex s) a 0 out
-says-index s a h time {out} e c q =
-    let (x, g, p) = mapped told a _ e in
-    tells x g (subst (λ (o : List ℕ). SaysIndex s x o) (sym q) (subst (λ (t : Header). SaysHeader s t (headerNumbers h time)) p (says-header s h time c)))
+pub says-index : (s : List ℕ) (a : Answer Index) (h : Header) {out : List ℕ} → ReadsIndex s a (Found h) → out ≡ headerNumbers h → Told 13 (SaysIndex s) a 0 out
+says-index s a h {out} w q =
+    let (x, g, p) = mapped summary a _ (w .answers) in
+    tells x g (subst (λ (o : List ℕ). SaysIndex s x o) (sym q) (subst (λ (t : Summary). SaysHeader s t (headerNumbers h)) p (says-header s h (w .header))))
 
--- a construct's text and its time, each at a place that was cut off
-module _ (p : Spot) (h : Read) (text time : Span) where
-  abbrev pub constructNumbers : List ℕ
-  constructNumbers = p .first ∷ p .end ∷ text .from ∷ text .len ∷ headerNumbers h time
+says-place : (s : List ℕ) (p : Spot) (h : Header) → Lies s p h → SaysConstruct s (indexedIn s p h) (constructNumbers p h)
+says-place s p h i =
+    record {
+      first = refl;
+      end = refl;
+      from = refl;
+      length = sym (length-take (p .to - p .from) (drop (p .from) s) ∙ whole);
+      text = record { part = refl; inside = i .text };
+      header = says-header (textIn s p) h (i .header);
+    }
+  where
+    whole : min (p .to - p .from) (length (drop (p .from) s)) ≡ p .to - p .from
+    whole = omega (arith, length-drop (p .from) s, i .text)
 
-  pub says-place : (s : List ℕ) → CutOff (length s) (record { from = p .from; len = p .to - p .from }) text → CutOff (text .len) (h .time) time
-      → SaysConstruct s (constructOf s p h) constructNumbers
-  says-place s c d =
-      let e : partAt s text ≡ textIn s p = c .same s refl in
-      let n : length (textIn s p) ≡ text .len = ap length (sym e) ∙ length-take (text .len) (drop (text .from) s) ∙ short in
-      record {
-        first = refl;
-        end = refl;
-        text = told-part s (record { from = p .from; len = p .to - p .from }) text constructNumbers 2 c refl refl;
-        header = says-header (textIn s p) h time (subst (λ (k : ℕ). CutOff k (h .time) time) (sym n) d);
-      }
-    where
-      short : min (text .len) (length (drop (text .from) s)) ≡ text .len
-      short = omega (arith, length-drop (text .from) s, c .inside)
-
-pub says-construct : (s : List ℕ) (a : Answer Told·Construct) (p : Spot) (h : Read) {out : List ℕ} → chosenBy s (chosenIs.Found p h) ≡ a
-    → SaysConstruct s (constructOf s p h) out → Told 17 (SaysConstruct s) a 0 out
-says-construct s a p h e q = tells (constructOf s p h) e q
+pub says-construct : (s : List ℕ) (a : Answer Indexed) (p : Spot) (h : Header) {out : List ℕ} → Chooses s a (chosenIs.Found p h)
+    → out ≡ constructNumbers p h → Told 17 (SaysConstruct s) a 0 out
+says-construct s a p h w q =
+    tells (indexedIn s p h) (w .answers) (subst (λ (o : List ℕ). SaysConstruct s (indexedIn s p h) o) (sym q) (says-place s p h (w .inside)))
 
 pub says-file : (s : List ℕ) (a : Answer File) (h : FileHead) → fileSaid s (file.Found h) ≡ andThen a (λ f. answer (headOf f)) → nameInside s (file.Found h)
     → Told 4 (SaysFile s) a 0 (h .length .0 ∷ h .name .from ∷ h .name .len ∷ h .rows ∷ [])
@@ -102,22 +90,3 @@ module _ {A : Type 0} where
       → Puts holds a before after r → Shown 1 one (countSaid r) returned (one told) → FillsOut holds a before after returned told
   fills-out {a = a} {returned = returned} {told = told} p s =
       record { answers = shown-counted a (subst (λ (n : Answer ℕ). Shown 1 one n returned (one told)) (p .says) s); stored = p .stored }
-
--- a place cut off at the end: past it, what is left, or as it is
-module _ (w : Span) (end : ℕ) where
-  pub past-end : end < w .from → CutOff end w (record { from = end; len = 0 })
-  past-end h =
-      record {
-        same = λ s n. let z : length s - length s ≡ 0 = omega arith in subst (λ (k : ℕ). take 0 (drop k s) ≡ partAt s w) n (subst (λ (k : ℕ). take k (drop (length s) s) ≡ partAt s w) z (cut-none s (w .from) (w .len) (omega (arith, n))));
-        inside = omega arith;
-      }
-
-  pub left-over : w .from ≤ end → end - w .from < w .len → CutOff end w (record { from = w .from; len = end - w .from })
-  left-over i h =
-      record {
-        same = λ s n. subst (λ (k : ℕ). take (k - w .from) (drop (w .from) s) ≡ partAt s w) n (cut-rest s (w .from) (w .len) (omega (arith, n)));
-        inside = omega arith;
-      }
-
-  pub as-it-is : w .from ≤ end → w .len ≤ end - w .from → CutOff end w w
-  as-it-is i h = record { same = λ s n. refl; inside = omega arith }

@@ -4,41 +4,43 @@ use mathlib.Core.Bool.{Bool, true, false}
 use mathlib.Core.List.{List, [], _∷_}
 use Prim.Native.Nat.{ℕ, zero, suc, _≤_}
 use native.Mathlib.Omega.{arith}
-use borrow.Author.Tests.{leb-true}
-use lib.Dec.{leb}
+use lib.Dec.{leb, eqb}
 use lib.ListN.{length, take, drop, getD, length-drop}
 use Rattle.refusals.specs.Refusals.{Answer, answer}
 use Rattle.slices.specs.Slices.{written}
 use Rattle.slices.proofs.Booleans.{and-right}
-use Rattle.slices.proofs.Writers.{stored-whole}
+use Rattle.slices.specs.declared.Written.{Written}
+use Rattle.slices.specs.declared.Written.the-variants.{To, Refused}
+use Rattle.slices.proofs.Writers.{reached}
 use Rattle.slices.proofs.Writing.{part-written}
 use Rattle.elements.specs.Reading.{Spans}
+use Rattle.writing.specs.Writing.{Writes}
 use Rattle.vol1.specs.Vol1.{Fields, areFields, vol1}
 use Rattle.vol1.proofs.Blocks.{given-identifier, given-owner, identifier-vol1, owner-vol1, vol1-reads}
 use Rattle.label.specs.Label.{Label}
 use Rattle.label_writer.specs.Text.{textOf, isGiven}
 use Rattle.label_writer.proofs.RoundTrip.{text-reads}
-use Rattle.api.specs.Outputs.{Shown, Told, WritesOut, Stores}
+use Rattle.api.specs.Outputs.{Shown, Told, one, writtenLength, WritesOut, Stores}
 use Rattle.api.specs.Labels.{vol1Places, SaysLabel, ReadAsVol1, ReadAsLabel, WritesVol1, WritesLabel, isWritable}
+use Rattle.api.proofs.Showing.{not-zero}
 
-module _ (w before after : List ℕ) (n : ℕ) where
-  room : WritesOut true w before after 0 n → leb (length w) (length before) ≡ true
-  room p = go (leb (length w) (length before)) refl
-    where
-      go : (t : Bool) → leb (length w) (length before) ≡ t → leb (length w) (length before) ≡ true
-      go true e = e
-      go false e = let z : _≡_ {A = ℕ} 0 10 = p .answers .refusal ∙ rw e in absurd (omega arith)
-
-  -- what is not refused was written whole
-  wrote-all : (given : Bool) → WritesOut given w before after 0 n → (given ≡ true) × (take n after ≡ w)
-  wrote-all true p =
-      let e = room p in
-      let h = leb-true (length w) (length before) e in
-      let l : n ∷ [] ≡ length w ∷ [] = p .answers .holds ∙ rw e in
-      let m : n ≡ length w = cc in
-      let part : take (length w) (drop 0 (written 0 w before)) ≡ w = part-written 0 w before (omega arith) in
-      (refl, ap₂ take m (p .holds ∙ stored-whole 0 w before (omega arith)) ∙ part)
-  wrote-all false p = let e = p .answers .refusal in absurd (omega arith)
+-- what is not refused was written whole
+wrote-all : (w before after : List ℕ) (n : ℕ) (given : Bool) → WritesOut given w before after 0 n → (given ≡ true) × (take n after ≡ w)
+wrote-all w before after n given p = go given (p .written) (p .writes) (p .shows)
+  where
+    go : (given : Bool) (a : Written) → Writes given w before after a → Shown 1 one (writtenLength a) 0 (one n) → (given ≡ true) × (take n after ≡ w)
+    go given (Refused r) q s =
+        let e : eqb 0 0 ≡ false = ap (λ (k : ℕ). eqb k 0) (s .refusal) ∙ not-zero r in
+        let z : _≡_ {A = ℕ} 0 1 = cc in
+        absurd (omega arith)
+    go true (To m) q s =
+        let (h, e, z) = reached 0 w before after m (record { answers = q .answers; holds = q .holds }) in
+        let l : n ∷ [] ≡ m ∷ [] = s .holds in
+        let k : n ≡ m = cc in
+        let f : n ≡ length w = omega arith in
+        let part : take (length w) (drop 0 (written 0 w before)) ≡ w = part-written 0 w before (omega arith) in
+        (refl, ap₂ take f z ∙ part)
+    go false (To m) q s = let e = q .answers in let z : _≡_ {A = ℕ} 0 1 = cc in absurd (omega arith)
 
 stores : (given : Bool) (w : List ℕ) (reads : List ℕ → Type 0) (before after : List ℕ) (r n : ℕ) → (given ≡ true → reads w) → WritesOut given w before after r n
     → Stores given w reads before after r n

@@ -1,11 +1,35 @@
 -- What a function shows of a callee's answer: a value's numbers, or a refusal's number and zeros.
 use mathlib.Core.Path.{_≡_, refl, subst}
+use mathlib.Core.Bool.{false}
 use mathlib.Core.List.{List}
 use Prim.Native.Nat.{ℕ}
+use lib.Dec.{eqb}
 use lib.ListN.{replicate}
 use Rattle.refusals.specs.declared.Refusal.{Refusal}
+use Rattle.refusals.specs.declared.Refusal.the-variants as is
 use Rattle.refusals.specs.Refusals.{Answer, refused, answer, numberOf}
 use Rattle.api.specs.Outputs.{Shown, Told}
+
+-- no refusal has the number 0
+pub not-zero : (r : Refusal) → eqb (numberOf r) 0 ≡ false
+not-zero is.List = refl
+not-zero is.Missing = refl
+not-zero is.Vol1 = refl
+not-zero is.Form = refl
+not-zero is.Structure = refl
+not-zero is.Value = refl
+not-zero is.Version = refl
+not-zero is.Foreign = refl
+not-zero is.Layout = refl
+not-zero is.Short = refl
+not-zero is.Extents = refl
+not-zero is.Location = refl
+not-zero is.NoCut = refl
+not-zero is.Caller = refl
+not-zero is.TooMany = refl
+not-zero is.Labels = refl
+not-zero is.EndOfVolume = refl
+not-zero is.BlockCount = refl
 
 module _ {A : Type 0} {n : ℕ} {a : Answer A} where
   pub shown : {show : A → List ℕ} (v : A) → answer v ≡ a → Shown n show a 0 (show v)

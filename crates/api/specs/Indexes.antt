@@ -1,25 +1,18 @@
 -- What is shown of an index: its header, its files, their rows.
 use mathlib.Core.Path.{_≡_}
-use mathlib.Core.Bool.{cond}
 use mathlib.Core.List.{List, [], _∷_}
 use mathlib.Core.Option.{Option, none, some}
-use Prim.Native.Nat.{ℕ}
+use Prim.Native.Nat.{ℕ, _-_}
 use lib.ListN.{length, take, drop, getD}
 use Rattle.refusals.specs.Refusals.{Answer}
 use Rattle.quantities.specs.Places.{Place}
-use Rattle.elements.specs.Reading.{partAt}
-use Rattle.elements.specs.declared.heads.Span.{Span}
-use Rattle.index.specs.Index.{Index, Told, told, indexOf, placeOf, backOf}
+use Rattle.index.specs.Index.{Index, Summary, summary, indexOf}
 use Rattle.index.specs.declared.read.Header.{Header}
-use Rattle.index_files.specs.Filling.{TellsPart, Stored}
+use Rattle.index_files.specs.Asked.{fileIn}
+use Rattle.index_files.specs.Filling.{TellsPart, Stored, SaysFile, rowsFor, filesFor, allRowsFor, HoldsRows, HoldsFiles}
 use Rattle.constructs.specs.declared.Place.{Place as Spot}
-use Rattle.volume.specs.Steps.{textIn}
-use Rattle.volume.specs.Chosen.{Told·Construct, chosenIn}
-use Rattle.api.specs.Outputs.{Shown, bit, one}
-
--- the index that a text is: of the volume with that UUID, those letters and that block size, at a partition letter and a block number
-abbrev pub indexIn : List ℕ → List ℕ → ℕ → ℕ → ℕ → ℕ → ℕ → Answer Index
-indexIn s uuid index other size letter block = indexOf (record { uuid = uuid; first = index; other = other; size = size }) letter block s
+use Rattle.volume.specs.Chosen.{Indexed, chosenIn}
+use Rattle.api.specs.Outputs.{Told, Shown, bit, one}
 
 -- whether there is a back pointer, its letter, its block
 abbrev pub backNumbers : Option Place → List ℕ
@@ -28,58 +21,41 @@ backNumbers (some p) = 1 ∷ p .letter ∷ p .block ∷ []
 
 -- thirteen numbers say what an index says: the R of its version, its generation, the place of its update time in s and its length, its location's
 -- letter and block, its back pointer, the policy's boolean, the highest file UID, and how many directories and files it has
-pub record SaysHeader (s : List ℕ) (x : Told) (out : List ℕ) : Type 0 where
-  pub release : getD out 0 0 ≡ x .release
-  pub generation : getD out 1 0 ≡ x .generation
-  pub updatetime : TellsPart s out 2 (x .updatetime)
-  pub letter : getD out 4 0 ≡ x .location .letter
-  pub block : getD out 5 0 ≡ x .location .block
-  pub back : take 3 (drop 6 out) ≡ backNumbers (x .back)
-  pub allowpolicyupdate : getD out 9 0 ≡ bit (x .allowpolicyupdate)
-  pub highestfileuid : getD out 10 0 ≡ x .highestfileuid
-  pub directories : getD out 11 0 ≡ x .directories
+pub record SaysHeader (s : List ℕ) (x : Summary) (out : List ℕ) : Type 0 where
+  pub release : getD out 0 0 ≡ x .heading .release
+  pub generation : getD out 1 0 ≡ x .heading .generation
+  pub updatetime : TellsPart s out 2 (x .heading .updatetime)
+  pub letter : getD out 4 0 ≡ x .heading .location .letter
+  pub block : getD out 5 0 ≡ x .heading .location .block
+  pub back : take 3 (drop 6 out) ≡ backNumbers (x .heading .back)
+  pub allowpolicyupdate : getD out 9 0 ≡ bit (x .heading .allowpolicyupdate)
+  pub highestfileuid : getD out 10 0 ≡ x .heading .highestfileuid
+  pub directories : getD out 11 0 ≡ x .heading .directories
   pub files : getD out 12 0 ≡ x .files
 
 abbrev pub SaysIndex : List ℕ → Index → List ℕ → Type 0
-SaysIndex s x out = SaysHeader s (told x) out
+SaysIndex s x out = SaysHeader s (summary x) out
 
--- seventeen numbers say where a construct lies and what its index says: its first block, the elements through its closing mark, the place of its text in
--- s and its length; then the thirteen of its index, whose places are in that text
-pub record SaysConstruct (s : List ℕ) (c : Told·Construct) (out : List ℕ) : Type 0 where
+-- seventeen numbers say where a construct lies and what its index says: its first block, the elements through its closing mark, where its text begins
+-- in the store s and its length; then the thirteen of its index, whose places are in that text
+pub record SaysConstruct (s : List ℕ) (c : Indexed) (out : List ℕ) : Type 0 where
   pub first : getD out 0 0 ≡ c .construct .first
   pub end : getD out 1 0 ≡ c .construct .upTo
+  pub from : getD out 2 0 ≡ c .from
+  pub length : getD out 3 0 ≡ lib.ListN.length (c .construct .text)
   pub text : TellsPart s out 2 (c .construct .text)
-  pub header : SaysHeader (c .construct .text) (c .told) (drop 4 out)
+  pub header : SaysHeader (c .construct .text) (c .summary) (drop 4 out)
 
--- the index of a construct of a partition, by its number
-abbrev pub constructIn : List ℕ → List ℕ → List ℕ → ℕ → ℕ → ℕ → ℕ → ℕ → Answer Told·Construct
-constructIn l s uuid index other size letter number = chosenIn (record { uuid = uuid; first = index; other = other; size = size }) letter number l s
-
--- what a header that a reader read says of a text
-abbrev pub toldOf : List ℕ → Header → Told
-toldOf s h =
-    record {
-      release = h .release;
-      generation = h .generation .0;
-      updatetime = partAt s (h .time);
-      location = placeOf (h .letter) (h .block);
-      back = backOf h;
-      allowpolicyupdate = h .allow;
-      highestfileuid = h .highest;
-      directories = h .directories;
-      files = h .files;
-    }
-
--- it in numbers, its time at that place
-abbrev pub headerNumbers : Header → Span → List ℕ
-headerNumbers h time =
-    h .release ∷ h .generation .0 ∷ time .from ∷ time .len ∷ h .letter ∷ h .block .0
-    ∷ bit (h .back) ∷ cond (h .back) (h .«back_letter») 0 ∷ cond (h .back) (h .«back_block» .0) 0
+-- a header that a reader read, in numbers
+abbrev pub headerNumbers : Header → List ℕ
+headerNumbers h =
+    h .release ∷ h .generation .0 ∷ h .time .from ∷ h .time .len ∷ h .letter ∷ h .block .0
+    ∷ bit (h .back) ∷ h .«back_letter» ∷ h .«back_block» .0
     ∷ bit (h .allow) ∷ h .highest ∷ h .directories ∷ h .files ∷ []
 
--- a construct that was found in a store, with its header
-abbrev pub constructOf : List ℕ → Spot → Header → Told·Construct
-constructOf s p h = record { construct = record { first = p .first; upTo = p .end; text = textIn s p }; told = toldOf (textIn s p) h }
+-- that of a construct that was found in a store, with its place
+abbrev pub constructNumbers : Spot → Header → List ℕ
+constructNumbers p h = p .first ∷ p .end ∷ p .from ∷ (p .to - p .from) ∷ headerNumbers h
 
 module _ {A : Type 0} where
   -- how many there are
@@ -90,3 +66,30 @@ module _ {A : Type 0} where
   pub record FillsOut (holds : List A → List ℕ → List ℕ → Type 0) (a : Answer (List A)) (before after : List ℕ) (returned told : ℕ) : Type 0 where
     pub answers : Shown 1 howMany a returned (one told)
     pub stored : Stored holds a before after
+
+-- the volume with that UUID, those letters and that block size
+module _ (uuid : List ℕ) (index other size : ℕ) where
+  -- the index that a text is, at a partition letter and a block number: its header, a file by its number, the rows of a file, all files, all rows
+  module _ (s : List ℕ) (letter block : ℕ) where
+    abbrev pub indexIn : Answer Index
+    indexIn = indexOf (record { uuid = uuid; first = index; other = other; size = size }) letter block s
+
+    abbrev pub ReadsIndexOut : ℕ → List ℕ → Type 0
+    ReadsIndexOut = Told 13 (SaysIndex s) indexIn
+
+    abbrev pub ReadsFileOut : ℕ → ℕ → List ℕ → Type 0
+    ReadsFileOut file = Told 4 (SaysFile s) (fileIn file indexIn)
+
+    abbrev pub FillsRows : ℕ → List ℕ → List ℕ → ℕ → ℕ → Type 0
+    FillsRows file rows = FillsOut HoldsRows (rowsFor (length rows) (fileIn file indexIn)) rows
+
+    abbrev pub FillsFiles : List ℕ → List ℕ → ℕ → ℕ → Type 0
+    FillsFiles files = FillsOut (HoldsFiles s) (filesFor (length files) indexIn) files
+
+    abbrev pub FillsAllRows : List ℕ → List ℕ → ℕ → ℕ → Type 0
+    FillsAllRows rows = FillsOut HoldsRows (allRowsFor (length rows) indexIn) rows
+
+  -- the index of a construct of a partition, by its number
+  abbrev pub ReadsConstructOut : List ℕ → List ℕ → ℕ → ℕ → ℕ → List ℕ → Type 0
+  ReadsConstructOut l s letter number =
+      Told 17 (SaysConstruct s) (chosenIn (record { uuid = uuid; first = index; other = other; size = size }) letter number l s)

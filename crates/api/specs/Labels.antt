@@ -11,6 +11,7 @@ use Rattle.vol1.specs.Vol1.{Fields, identifierAt, identifierLength, ownerAt, ow
 use Rattle.label.specs.Label.{Label, labelOf}
 use Rattle.label_writer.specs.Text.{isGiven, labelOfGiven, textOf}
 use Rattle.label.specs.declared.reader.Fields.{Fields as Read}
+use Rattle.labels.specs.Labels.{labelsIn}
 use Rattle.index_files.specs.Filling.{partTold, TellsPart}
 use Rattle.api.specs.Outputs.{Shown, Told, Stores, bit}
 
@@ -54,6 +55,10 @@ pub record SaysLabel (s : List ℕ) (f : Label) (out : List ℕ) : Type 0 where
 -- what the reader of a label answers of a text
 abbrev pub ReadsLabelOut : List ℕ → ℕ → List ℕ → Type 0
 ReadsLabelOut s = Told 12 (SaysLabel s) (labelOf s)
+
+-- the labels of a volume: what the index side's label says, its places being in the index store
+abbrev pub ReadsLabelsOut : List ℕ → List ℕ → List ℕ → List ℕ → ℕ → List ℕ → Type 0
+ReadsLabelsOut il is dl ds = Told 12 (SaysLabel is) (labelsIn il is dl ds)
 
 -- it reads the text as that label
 abbrev pub ReadAsLabel : Label → List ℕ → Type 0

@@ -1,4 +1,5 @@
 -- What is shown of a partition's elements: fronts that are kept, the place of a block.
+use mathlib.Core.Path.{_≡_}
 use mathlib.Core.Bool.{not}
 use mathlib.Core.List.{List, [], _∷_}
 use Prim.Native.Nat.{ℕ}
@@ -8,7 +9,8 @@ use Rattle.quantities.specs.Sizes.{isBlockSize}
 use Rattle.tape.specs.Tape.{Tape}
 use Rattle.tape.specs.Answers.{tapeIn, Lengths, lengths, keeping, Place, placeOf, blockOf, Holds}
 use Rattle.constructs.specs.Constructs.{standing}
-use Rattle.api.specs.Outputs.{Shown, bit}
+use Rattle.constructs.specs.Tables.{tableAfter}
+use Rattle.api.specs.Outputs.{Shown, one, bit}
 use lib.ListN.{length}
 
 -- how many bytes of the list and of the store n elements keep
@@ -34,3 +36,8 @@ sizedIn B l s = require (isBlockSize B) Caller (tapeIn l s)
 -- how many constructs stand
 abbrev pub standingCount : ℕ → List ℕ → List ℕ → Answer ℕ
 standingCount B l s = andThen (sizedIn B l s) (λ t. answer (length (standing B t)))
+
+-- their number, and the table that they were put into
+pub record ListsConstructs (B : ℕ) (l s before after : List ℕ) (returned told : ℕ) : Type 0 where
+  pub answers : Shown 1 one (standingCount B l s) returned (one told)
+  pub table : after ≡ tableAfter B before (sizedIn B l s)

@@ -1,15 +1,14 @@
 -- What is shown of a volume: its verdict and the rescue's cut, with demand 3.
 use mathlib.Core.Path.{_≡_}
-use mathlib.Core.Bool.{cond}
 use mathlib.Core.List.{List, [], _∷_}
 use mathlib.Core.Option.{Option, none, some}
 use Prim.Native.Nat.{ℕ}
-use lib.Dec.{eqb}
 use lib.ListN.{getD}
 use Rattle.verdict.specs.Verdict.{Break}
 use Rattle.verdict.specs.Rescue.{Cut}
-use Rattle.volume.specs.Volume.{verdictIn, rescueIn}
-use Rattle.volume.specs.Answers.{VerdictOwes, RescueOwes}
+use Rattle.volume.specs.Volume.{verdictIn}
+use Rattle.volume.specs.Answers.{VerdictOwes, rescued, Rescues}
+use Rattle.volume.specs.declared.answers.Rescue.{Rescue}
 use Rattle.api.specs.Outputs.{Shown}
 
 -- which of the five breaks, 0 for none, and its number
@@ -21,20 +20,6 @@ breakNumbers (some b) = b .which ∷ b .number ∷ []
 abbrev pub cutNumbers : Cut → List ℕ
 cutNumbers a = a .indexConstruct ∷ a .dataConstruct ∷ a .indexKept ∷ a .dataKept ∷ a .generation ∷ []
 
--- the cut that five numbers tell, if none is refused
-abbrev pub cutTold : ℕ → List ℕ → Option Cut
-cutTold returned out =
-    cond (eqb returned 0)
-    (some
-    (record {
-      indexConstruct = getD out 0 0;
-      dataConstruct = getD out 1 0;
-      indexKept = getD out 2 0;
-      dataKept = getD out 3 0;
-      generation = getD out 4 0;
-    }))
-    none
-
 -- no break: 0 is returned, and 0 for which it is
 abbrev pub NoBreak : ℕ → List ℕ → Type 0
 NoBreak returned out = (returned ≡ 0) × (getD out 0 0 ≡ 0)
@@ -44,6 +29,8 @@ pub record JudgesOut (il is dl ds : List ℕ) (returned : ℕ) (out : List ℕ) 
   pub answers : Shown 2 breakNumbers (verdictIn il is dl ds) returned out
   pub demand : VerdictOwes il is dl ds (NoBreak returned out)
 
+-- the rescue's answer, which keeps demand 3, and how it is shown
 pub record RescuesOut (il is dl ds : List ℕ) (returned : ℕ) (out : List ℕ) : Type 0 where
-  pub answers : Shown 5 cutNumbers (rescueIn il is dl ds) returned out
-  pub demand : RescueOwes il is dl ds (cutTold returned out)
+  pub rescue : Rescue
+  pub rescues : Rescues il is dl ds rescue
+  pub shows : Shown 5 cutNumbers (rescued rescue) returned out

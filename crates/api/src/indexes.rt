@@ -1,9 +1,6 @@
 // Indexes: an index's text read, its files, and their rows.
 use crate::numbers::flag;
-use crate::numbers::inside;
-use crate::numbers::present;
 use constructs::Place;
-use elements::Span;
 use index::Header;
 use index::Read;
 use index_files::FileRead;
@@ -12,28 +9,23 @@ use index_values::Volume;
 use quantities::BlockNumber;
 use volume::Chosen;
 ghost use mathlib.Core.Path.{_≡_};
-ghost use mathlib.Core.List.{List};
-ghost use Prim.Native.Nat.{ℕ};
-ghost use lib.ListN.{length};
-ghost use Rattle.index_files.specs.Asked.{fileIn};
-ghost use Rattle.index_files.specs.Filling.{countSaid, SaysFile, rowsFor, filesFor, allRowsFor, HoldsRows, HoldsFiles};
-ghost use Rattle.api.specs.Outputs.{Shown, Told, one};
-ghost use Rattle.api.specs.Indexes.{indexIn, constructIn, headerNumbers, constructOf, SaysIndex, SaysConstruct, FillsOut};
+ghost use Rattle.index_files.specs.Filling.{countSaid};
+ghost use Rattle.api.specs.Outputs.{Shown, one};
+ghost use Rattle.api.specs.Indexes.{headerNumbers, constructNumbers, ReadsIndexOut, ReadsFileOut, FillsRows, FillsFiles, FillsAllRows, ReadsConstructOut};
 
-// A header, its update time at that place.
-fn in_numbers(h: Header, time: Span) -> [u64; 13]
-    ensures { λ r. ⌜ r ≡ headerNumbers h time ⌝ }
+fn in_numbers(h: Header) -> [u64; 13]
+    ensures { λ r. ⌜ r ≡ headerNumbers h ⌝ }
 {
     [
         h.release,
         h.generation.0,
-        time.from as u64,
-        time.len as u64,
+        h.time.from as u64,
+        h.time.len as u64,
         h.letter as u64,
         h.block.0,
         flag(h.back),
-        present(h.back, h.back_letter as u64),
-        present(h.back, h.back_block.0),
+        h.back_letter as u64,
+        h.back_block.0,
         flag(h.allow),
         h.highest,
         h.directories,
@@ -54,7 +46,8 @@ pub extern "C" fn klapouzen_read_index(
     block: u64,
     out: &mut [u64; 13],
 ) -> u64
-    ensures { λ r. ⌜ Told 13 (SaysIndex (now (text .entry))) (indexIn (now (text .entry)) (now (uuid .entry)) «index_letter» «data_letter» «block_size» letter block) r (now (out .exit)) ⌝ }
+    ensures { λ r. ⌜ ReadsIndexOut (now (uuid .entry)) «index_letter» «data_letter» «block_size» (now (text .entry)) letter block
+        r (now (out .exit)) ⌝ }
 {
     let volume = Volume {
         first: index_letter,
@@ -63,8 +56,7 @@ pub extern "C" fn klapouzen_read_index(
     };
     match index::read_index(text, uuid, volume, letter, BlockNumber(block)) {
         Read::Found(h) => {
-            let time = inside(h.time, text.len());
-            *out = in_numbers(h, time);
+            *out = in_numbers(h);
             0
         }
         Read::Refused(r) => {
@@ -87,7 +79,8 @@ pub extern "C" fn klapouzen_read_file(
     file: u64,
     out: &mut [u64; 4],
 ) -> u64
-    ensures { λ r. ⌜ Told 4 (SaysFile (now (text .entry))) (fileIn file (indexIn (now (text .entry)) (now (uuid .entry)) «index_letter» «data_letter» «block_size» letter block)) r (now (out .exit)) ⌝ }
+    ensures { λ r. ⌜ ReadsFileOut (now (uuid .entry)) «index_letter» «data_letter» «block_size» (now (text .entry)) letter block file
+        r (now (out .exit)) ⌝ }
 {
     let volume = Volume {
         first: index_letter,
@@ -136,7 +129,8 @@ pub extern "C" fn klapouzen_read_rows(
     rows: &mut [u64],
     count: &mut u64,
 ) -> u64
-    ensures { λ r. ⌜ FillsOut HoldsRows (rowsFor (length (now (rows .entry))) (fileIn file (indexIn (now (text .entry)) (now (uuid .entry)) «index_letter» «data_letter» «block_size» letter block))) (now (rows .entry)) (now (rows .exit)) r (now (count .exit)) ⌝ }
+    ensures { λ r. ⌜ FillsRows (now (uuid .entry)) «index_letter» «data_letter» «block_size» (now (text .entry)) letter block file
+        (now (rows .entry)) (now (rows .exit)) r (now (count .exit)) ⌝ }
 {
     let volume = Volume {
         first: index_letter,
@@ -160,7 +154,8 @@ pub extern "C" fn klapouzen_read_files(
     files: &mut [u64],
     count: &mut u64,
 ) -> u64
-    ensures { λ r. ⌜ FillsOut (HoldsFiles (now (text .entry))) (filesFor (length (now (files .entry))) (indexIn (now (text .entry)) (now (uuid .entry)) «index_letter» «data_letter» «block_size» letter block)) (now (files .entry)) (now (files .exit)) r (now (count .exit)) ⌝ }
+    ensures { λ r. ⌜ FillsFiles (now (uuid .entry)) «index_letter» «data_letter» «block_size» (now (text .entry)) letter block
+        (now (files .entry)) (now (files .exit)) r (now (count .exit)) ⌝ }
 {
     let volume = Volume {
         first: index_letter,
@@ -184,7 +179,8 @@ pub extern "C" fn klapouzen_read_all_rows(
     rows: &mut [u64],
     count: &mut u64,
 ) -> u64
-    ensures { λ r. ⌜ FillsOut HoldsRows (allRowsFor (length (now (rows .entry))) (indexIn (now (text .entry)) (now (uuid .entry)) «index_letter» «data_letter» «block_size» letter block)) (now (rows .entry)) (now (rows .exit)) r (now (count .exit)) ⌝ }
+    ensures { λ r. ⌜ FillsAllRows (now (uuid .entry)) «index_letter» «data_letter» «block_size» (now (text .entry)) letter block
+        (now (rows .entry)) (now (rows .exit)) r (now (count .exit)) ⌝ }
 {
     let volume = Volume {
         first: index_letter,
@@ -195,22 +191,16 @@ pub extern "C" fn klapouzen_read_all_rows(
     counted(filled, count)
 }
 
-// A construct's place in a store that long, and its header.
-fn in_place(p: Place, h: Header, end: usize) -> [u64; 17]
-    ensures { λ r. ⌜ ((s : List ℕ) → length s ≡ end → SaysConstruct s (constructOf s p h) r) ⌝ }
+// A construct's place in a store, and its header.
+fn in_place(p: Place, h: Header) -> [u64; 17]
+    ensures { λ r. ⌜ r ≡ constructNumbers p h ⌝ }
 {
-    let whole = Span {
-        from: p.from,
-        len: volume::between(p.from, p.to),
-    };
-    let text = inside(whole, end);
-    let time = inside(h.time, text.len);
-    let a = in_numbers(h, time);
+    let a = in_numbers(h);
     [
         p.first as u64,
         p.end as u64,
-        text.from as u64,
-        text.len as u64,
+        p.from as u64,
+        volume::between(p.from, p.to) as u64,
         a[0],
         a[1],
         a[2],
@@ -240,7 +230,8 @@ pub extern "C" fn klapouzen_index(
     number: u64,
     out: &mut [u64; 17],
 ) -> u64
-    ensures { λ r. ⌜ Told 17 (SaysConstruct (now (store .entry))) (constructIn (now (list .entry)) (now (store .entry)) (now (uuid .entry)) «index_letter» «data_letter» «block_size» letter number) r (now (out .exit)) ⌝ }
+    ensures { λ r. ⌜ ReadsConstructOut (now (uuid .entry)) «index_letter» «data_letter» «block_size» (now (list .entry)) (now (store .entry))
+        letter number r (now (out .exit)) ⌝ }
 {
     let letters = Volume {
         first: index_letter,
@@ -249,7 +240,7 @@ pub extern "C" fn klapouzen_index(
     };
     match volume::read_construct(list, store, uuid, letters, letter, number) {
         Chosen::Found(p, h) => {
-            *out = in_place(p, h, store.len());
+            *out = in_place(p, h);
             0
         }
         Chosen::Refused(r) => {

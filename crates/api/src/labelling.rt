@@ -8,9 +8,7 @@ use slices::Written;
 use vol1::Vol1;
 use vol1::Vol1Read;
 ghost use mathlib.Core.Path.{_≡_};
-ghost use Rattle.labels.specs.Labels.{labelsIn};
-ghost use Rattle.api.specs.Outputs.{Told};
-ghost use Rattle.api.specs.Labels.{labelNumbers, SaysLabel, givenLabel, ReadsVol1Out, WritesVol1, ReadsLabelOut, WritesLabel};
+ghost use Rattle.api.specs.Labels.{labelNumbers, givenLabel, ReadsVol1Out, WritesVol1, ReadsLabelOut, ReadsLabelsOut, WritesLabel};
 
 fn in_numbers(f: Fields) -> [u64; 12]
     ensures { λ r. ⌜ r ≡ labelNumbers f ⌝ }
@@ -106,7 +104,8 @@ pub extern "C" fn klapouzen_write_label(
     compression: u64,
     length: &mut u64,
 ) -> u64
-    ensures { λ r. ⌜ WritesLabel compression (givenLabel (now (creator .entry)) (now (time .entry)) (now (uuid .entry)) location «index_letter» «data_letter» «block_size» compression) (now (out .entry)) (now (out .exit)) r (now (length .exit)) ⌝ }
+    ensures { λ r. ⌜ WritesLabel compression (givenLabel (now (creator .entry)) (now (time .entry)) (now (uuid .entry))
+        location «index_letter» «data_letter» «block_size» compression) (now (out .entry)) (now (out .exit)) r (now (length .exit)) ⌝ }
 {
     if 1 < compression {
         *length = 0;
@@ -140,7 +139,8 @@ pub extern "C" fn klapouzen_check_labels(
     data_store: &[u8],
     out: &mut [u64; 12],
 ) -> u64
-    ensures { λ r. ⌜ Told 12 (SaysLabel (now («index_store» .entry))) (labelsIn (now («index_list» .entry)) (now («index_store» .entry)) (now («data_list» .entry)) (now («data_store» .entry))) r (now (out .exit)) ⌝ }
+    ensures { λ r. ⌜ ReadsLabelsOut (now («index_list» .entry)) (now («index_store» .entry)) (now («data_list» .entry)) (now («data_store» .entry))
+        r (now (out .exit)) ⌝ }
 {
     match labels::check(index_list, index_store, data_list, data_store) {
         Label::Says(f) => {

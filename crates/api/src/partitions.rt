@@ -5,11 +5,9 @@ use refusals::Refusal;
 use tape::Checked;
 use tape::Kept;
 use tape::Located;
-ghost use mathlib.Core.Path.{_≡_};
 ghost use Rattle.tape.specs.Answers.{elementCount};
-ghost use Rattle.constructs.specs.Tables.{tableAfter};
 ghost use Rattle.api.specs.Outputs.{Shown, one};
-ghost use Rattle.api.specs.Partitions.{keptOf, fronts, ShowsPlace, sizedIn, standingCount};
+ghost use Rattle.api.specs.Partitions.{keptOf, fronts, ShowsPlace, ListsConstructs};
 
 // The number of elements of a partition.
 #[no_mangle]
@@ -58,7 +56,8 @@ pub extern "C" fn klapouzen_block(
     number: u64,
     out: &mut [u64; 3],
 ) -> u64
-    ensures { λ r. ⌜ ShowsPlace «index_letter» «data_letter» letter number (now («index_list» .entry)) (now («index_store» .entry)) (now («data_list» .entry)) (now («data_store» .entry)) r (now (out .exit)) ⌝ }
+    ensures { λ r. ⌜ ShowsPlace «index_letter» «data_letter» letter number (now («index_list» .entry)) (now («index_store» .entry))
+        (now («data_list» .entry)) (now («data_store» .entry)) r (now (out .exit)) ⌝ }
 {
     match tape::find_block(
         index_list,
@@ -94,7 +93,8 @@ pub extern "C" fn klapouzen_constructs(
     table: &mut [u32; 87380],
     count: &mut u64,
 ) -> u64
-    ensures { λ r. ⌜ Shown 1 one (standingCount «block_size» (now (list .entry)) (now (store .entry))) r (one (now (count .exit))) × (now (table .exit) ≡ tableAfter «block_size» (now (table .entry)) (sizedIn «block_size» (now (list .entry)) (now (store .entry)))) ⌝ }
+    ensures { λ r. ⌜ ListsConstructs «block_size» (now (list .entry)) (now (store .entry))
+        (now (table .entry)) (now (table .exit)) r (now (count .exit)) ⌝ }
 {
     if !quantities::is_block_size(block_size) {
         *count = 0;

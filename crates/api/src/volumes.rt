@@ -12,7 +12,8 @@ pub extern "C" fn klapouzen_verdict(
     data_store: &[u8],
     out: &mut [u64; 2],
 ) -> u64
-    ensures { λ r. ⌜ JudgesOut (now («index_list» .entry)) (now («index_store» .entry)) (now («data_list» .entry)) (now («data_store» .entry)) r (now (out .exit)) ⌝ }
+    ensures { λ r. ⌜ JudgesOut (now («index_list» .entry)) (now («index_store» .entry)) (now («data_list» .entry)) (now («data_store» .entry))
+        r (now (out .exit)) ⌝ }
 {
     match volume::find_break(index_list, index_store, data_list, data_store) {
         Verdict::Consistent => {
@@ -39,7 +40,8 @@ pub extern "C" fn klapouzen_rescue(
     data_store: &[u8],
     out: &mut [u64; 5],
 ) -> u64
-    ensures { λ r. ⌜ RescuesOut (now («index_list» .entry)) (now («index_store» .entry)) (now («data_list» .entry)) (now («data_store» .entry)) r (now (out .exit)) ⌝ }
+    ensures { λ r. ⌜ RescuesOut (now («index_list» .entry)) (now («index_store» .entry)) (now («data_list» .entry)) (now («data_store» .entry))
+        r (now (out .exit)) ⌝ }
 {
     match volume::find_cut(index_list, index_store, data_list, data_store) {
         Rescue::Cut(k) => {

@@ -9,7 +9,8 @@ ghost use Rattle.bench_lines.specs.Lines.{bounded, linesIn};
 
 // Whether each file is within its bound.
 fn is_bounded(index_list: &[u8], index_store: &[u8], data_list: &[u8], data_store: &[u8]) -> bool
-    ensures { λ r. ⌜ r ≡ bounded (now («index_list» .entry)) (now («index_store» .entry)) (now («data_list» .entry)) (now («data_store» .entry)) ⌝ }
+    ensures { λ r. ⌜ r ≡ bounded (now («index_list» .entry)) (now («index_store» .entry))
+        (now («data_list» .entry)) (now («data_store» .entry)) ⌝ }
 {
     if 4096 < index_list.len() {
         return false;
@@ -31,7 +32,8 @@ pub fn write(
     data_store: &[u8],
     out: &mut [u8],
 ) -> Written
-    ensures { λ r. ⌜ Puts 0 (linesIn (now («index_list» .entry)) (now («index_store» .entry)) (now («data_list» .entry)) (now («data_store» .entry))) (now (out .entry)) (now (out .exit)) r ⌝ }
+    ensures { λ r. ⌜ Puts 0 (linesIn (now («index_list» .entry)) (now («index_store» .entry)) (now («data_list» .entry)) (now («data_store» .entry)))
+        (now (out .entry)) (now (out .exit)) r ⌝ }
 {
     let mut text = [0u8; 256];
     if !is_bounded(index_list, index_store, data_list, data_store) {

@@ -1,17 +1,20 @@
 -- The order of the classes, class by class, and the header that is handed out.
-use mathlib.Core.Path.{_≡_, refl, ap, sym, _∙_}
+use mathlib.Core.Path.{_≡_, refl, ap, sym, subst, _∙_}
 use mathlib.Core.Bool.{Bool, true, false, cond, _||_, and-true}
 use mathlib.Core.List.{List, [], _∷_}
 use mathlib.Core.Option.{some, none}
 use Prim.Native.Nat.{ℕ, suc, _-_}
 use lib.Dec.{eqb, leb}
 use lib.ListN.{length}
-use Rattle.refusals.specs.Refusals.{Answer, refused, answer}
+use native.Mathlib.Omega.{arith}
+use Rattle.refusals.specs.declared.Refusal.{Refusal}
+use Rattle.refusals.specs.Refusals.{Answer, refused, answer, andThen}
 use Rattle.refusals.specs.declared.Refusal.the-variants.{Caller, TooMany, Form, Structure, Version, Value, Foreign, Extents, Location}
 use Rattle.slices.specs.Slices.{same}
 use Rattle.slices.specs.Words.{bytes}
 use Rattle.quantities.specs.Letters.{isLetter}
 use Rattle.quantities.specs.Sizes.{isBlockSize}
+use Rattle.quantities.specs.Places.{Place}
 use Rattle.xml.specs.Tree.{Head, Forest, none as noElement, node}
 use Rattle.xml.specs.Machine.{inForm}
 use Rattle.elements.specs.Reading.{rowAt, isRow}
@@ -20,7 +23,12 @@ use Rattle.index_names.specs.Sorts.{index, file}
 use Rattle.index_values.specs.Elements.{Element, elements, textIn, rowIn}
 use Rattle.index_values.specs.Entries.{numberSaid, many, entriesOf}
 use Rattle.index_values.specs.Tests.{Given}
-use Rattle.index.specs.Index.{Told, isTrue, said, told, toldBy, headed, structured, bounded, allValued, allOwn, allLawful, standsAt, placeIn, locationIn, filesOf, fileOf, fileCount, childrenRead, tagRead, rootRead, callerRight, indexOf}
+use Rattle.index_values.proofs.Seated.{no-number}
+use Rattle.index_rows.specs.Places.{Placed}
+use Rattle.index.specs.declared.read.Header.{Header}
+use Rattle.index.specs.declared.read.Read.{Read}
+use Rattle.index.specs.declared.read.Read.the-variants.{Found, Refused}
+use Rattle.index.specs.Index.{Index, Summary, ReadsIndex, HeaderOf, headingOf, indexWith, summaryOf, isTrue, structured, bounded, allValued, allOwn, allLawful, standsAt, placeIn, locationIn, filesOf, fileOf, fileCount, childrenRead, tagRead, rootRead, callerRight, indexOf}
 
 pub caller-last : (g : Given) (letter : ℕ) → isLetter (g .first) ≡ true → isLetter (g .other) ≡ true → eqb (g .first) (g .other) ≡ false
     → isBlockSize (g .size) ≡ true → is.isUuid (g .uuid) ≡ true
@@ -29,38 +37,39 @@ unfolding callerRight
 caller-last g letter a b c d e = rw (a, b, c, d, e, and-true, and-true)
 
 module _ (g : Given) (letter block release : ℕ) (k : Forest) where
-  pub children-5 : structured k ≡ false → refused Structure ≡ toldBy (childrenRead g letter block release k)
+  pub children-5 : structured k ≡ false → childrenRead g letter block release k ≡ refused Structure
   unfolding childrenRead
-  children-5 a = sym (rw a)
+  children-5 a = rw a
 
   module _ (a : structured k ≡ true) where
-    pub children-15 : bounded (elements index k) ≡ false → refused TooMany ≡ toldBy (childrenRead g letter block release k)
+    pub children-15 : bounded (elements index k) ≡ false → childrenRead g letter block release k ≡ refused TooMany
     unfolding childrenRead
-    children-15 b = sym (rw (a, b))
+    children-15 b = rw (a, b)
 
     module _ (b : bounded (elements index k) ≡ true) where
-      pub children-6 : allValued (elements index k) ≡ false → refused Value ≡ toldBy (childrenRead g letter block release k)
+      pub children-6 : allValued (elements index k) ≡ false → childrenRead g letter block release k ≡ refused Value
       unfolding childrenRead
-      children-6 c = sym (rw (a, b, c))
+      children-6 c = rw (a, b, c)
 
       module _ (c : allValued (elements index k) ≡ true) where
-        pub children-8 : allOwn g (elements index k) ≡ false → refused Foreign ≡ toldBy (childrenRead g letter block release k)
+        pub children-8 : allOwn g (elements index k) ≡ false → childrenRead g letter block release k ≡ refused Foreign
         unfolding childrenRead
-        children-8 d = sym (rw (a, b, c, d))
+        children-8 d = rw (a, b, c, d)
 
         module _ (d : allOwn g (elements index k) ≡ true) where
-          pub children-11 : allLawful g (elements index k) ≡ false → refused Extents ≡ toldBy (childrenRead g letter block release k)
+          pub children-11 : allLawful g (elements index k) ≡ false → childrenRead g letter block release k ≡ refused Extents
           unfolding childrenRead
-          children-11 e = sym (rw (a, b, c, d, e))
+          children-11 e = rw (a, b, c, d, e)
 
           module _ (e : allLawful g (elements index k) ≡ true) where
-            pub children-12 : standsAt letter block (locationIn k) ≡ false → refused Location ≡ toldBy (childrenRead g letter block release k)
+            pub children-12 : standsAt letter block (locationIn k) ≡ false → childrenRead g letter block release k ≡ refused Location
             unfolding childrenRead
-            children-12 f = sym (rw (a, b, c, d, e, f))
+            children-12 f = rw (a, b, c, d, e, f)
 
-            pub children-read : standsAt letter block (locationIn k) ≡ true → answer (told (said release k)) ≡ toldBy (childrenRead g letter block release k)
+            pub children-read : standsAt letter block (locationIn k) ≡ true
+                → childrenRead g letter block release k ≡ answer (indexWith release k)
             unfolding childrenRead
-            children-read f = sym (rw (a, b, c, d, e, f))
+            children-read f = rw (a, b, c, d, e, f)
 
 files-length : (l : List Element) → length (filesOf l) ≡ fileCount l
 unfolding filesOf many
@@ -71,91 +80,104 @@ files-length (e ∷ l) = go (eqb (e .sort) file) (files-length l)
     go true i = ap suc i
     go false i = i
 
-pub headed-told : (release : ℕ) (k : Forest) (entries files : ℕ) → entries ≡ entriesOf (elements index k) → files ≡ fileCount (elements index k)
-    → headed release k entries files ≡ told (said release k)
-headed-told release k entries files e f =
-    ap (λ (n : ℕ). headed release k n files) e ∙ ap (headed release k (entriesOf (elements index k))) f
-    ∙ ap (λ (n : ℕ). put n) (sym (files-length (elements index k)))
-  where
-    put : ℕ → Told
-    put n =
-        record {
-          release = release;
-          generation = told (said release k) .generation;
-          updatetime = told (said release k) .updatetime;
-          location = told (said release k) .location;
-          back = told (said release k) .back;
-          allowpolicyupdate = told (said release k) .allowpolicyupdate;
-          highestfileuid = told (said release k) .highestfileuid;
-          directories = entriesOf (elements index k) - fileCount (elements index k);
-          files = n;
-        }
+module _ {s : List ℕ} {a : Answer Index} where
+  pub reads-refused : {r : Refusal} → a ≡ refused r → ReadsIndex s a (Refused r)
+  reads-refused {r} e = record { answers = ap summaryOf (sym e); header = tt }
+
+  pub same-read : {b : Answer Index} {r : Read} → ReadsIndex s a r → a ≡ b → ReadsIndex s b r
+  same-read {r = r} w e = subst (λ (x : Answer Index). ReadsIndex s x r) e w
+
+  -- an index whose children are those of the header
+  pub reads-children : {t : List ℕ} {h : Header} (release entries files : ℕ) (k : Forest) → HeaderOf s t release entries files h → Placed s index k t
+      → entries ≡ entriesOf (elements index k) → files ≡ fileCount (elements index k)
+      → a ≡ answer (indexWith release k) → ReadsIndex s a (Found h)
+  reads-children release entries files k w p e f q =
+      record {
+        answers =
+            ap answer (w .heading k p e f ∙ ap (λ (n : ℕ). record { heading = headingOf release k; files = n }) (sym (files-length (elements index k))))
+            ∙ ap summaryOf (sym q);
+        header = w .definite;
+      }
 
 module _ (g : Given) (letter block : ℕ) (f : Forest) where
-  pub root-none : f ≡ noElement → refused Structure ≡ toldBy (rootRead g letter block f)
+  pub root-none : f ≡ noElement → rootRead g letter block f ≡ refused Structure
   unfolding rootRead
-  root-none e = sym (ap (λ (f : Forest). toldBy (rootRead g letter block f)) e)
+  root-none e = ap (rootRead g letter block) e
 
-  pub root-tag : (h : Head) (k r : Forest) → f ≡ node h k r → toldBy (tagRead g letter block h k) ≡ toldBy (rootRead g letter block f)
+  pub root-tag : (h : Head) (k r : Forest) → f ≡ node h k r → tagRead g letter block h k ≡ rootRead g letter block f
   unfolding rootRead
-  root-tag h k r e = sym (ap (λ (f : Forest). toldBy (rootRead g letter block f)) e)
+  root-tag h k r e = sym (ap (rootRead g letter block) e)
 
 module _ (g : Given) (letter block : ℕ) (h : Head) (k : Forest) where
-  pub root-name : same (h .name) (bytes "ltfsindex") ≡ false → refused Structure ≡ toldBy (tagRead g letter block h k)
+  pub root-name : same (h .name) (bytes "ltfsindex") ≡ false → tagRead g letter block h k ≡ refused Structure
   unfolding tagRead
-  root-name a = sym (rw a)
+  root-name a = rw a
 
   module _ (a : same (h .name) (bytes "ltfsindex") ≡ true) where
-    pub root-key : same (h .key) (bytes "version") ≡ false → refused Structure ≡ toldBy (tagRead g letter block h k)
+    pub root-key : same (h .key) (bytes "version") ≡ false → tagRead g letter block h k ≡ refused Structure
     unfolding tagRead
-    root-key b = sym (rw (a, b))
+    root-key b = rw (a, b)
 
     module _ (b : same (h .key) (bytes "version") ≡ true) where
-      pub root-version : is.version (h .value) ≡ none → refused Version ≡ toldBy (tagRead g letter block h k)
+      pub root-version : is.version (h .value) ≡ none → tagRead g letter block h k ≡ refused Version
       unfolding tagRead
-      root-version c = sym (rw (a, b, c))
+      root-version c = rw (a, b, c)
 
-      pub root-read : (release : ℕ) → is.version (h .value) ≡ some release → toldBy (childrenRead g letter block release k) ≡ toldBy (tagRead g letter block h k)
+      pub root-read : (release : ℕ) → is.version (h .value) ≡ some release → childrenRead g letter block release k ≡ tagRead g letter block h k
       unfolding tagRead
       root-read release c = sym (rw (a, b, c))
 
 module _ (g : Given) (letter block : ℕ) (text : List ℕ) where
-  pub index-14 : callerRight g letter ≡ false → refused Caller ≡ toldBy (indexOf g letter block text)
+  pub index-14 : callerRight g letter ≡ false → indexOf g letter block text ≡ refused Caller
   unfolding indexOf
-  index-14 a = sym (rw a)
+  index-14 a = rw a
 
   module _ (a : callerRight g letter ≡ true) where
-    pub index-15 : leb (length text) 1048576 ≡ false → refused TooMany ≡ toldBy (indexOf g letter block text)
+    pub index-15 : leb (length text) 1048576 ≡ false → indexOf g letter block text ≡ refused TooMany
     unfolding indexOf
-    index-15 b = sym (rw (a, b))
+    index-15 b = rw (a, b)
 
     module _ (b : leb (length text) 1048576 ≡ true) where
-      pub index-4 : inForm text ≡ false → refused Form ≡ toldBy (indexOf g letter block text)
+      pub index-4 : inForm text ≡ false → indexOf g letter block text ≡ refused Form
       unfolding indexOf
-      index-4 c = sym (rw (a, b, c))
+      index-4 c = rw (a, b, c)
 
-      pub index-read : inForm text ≡ true → toldBy (rootRead g letter block (rowAt text 38)) ≡ toldBy (indexOf g letter block text)
+      pub index-read : inForm text ≡ true → rootRead g letter block (rowAt text 38) ≡ indexOf g letter block text
       unfolding indexOf
       index-read c = sym (rw (a, b, c))
 
-pub headed-parts : (release : ℕ) (k : Forest) (entries files generation highest directories : ℕ) (time : List ℕ) (letter block letter₂ block₂ : ℕ) (back allow : Bool)
+-- without a back pointer its letter and its block are 0
+no-back : (f : Forest) → isRow f ≡ false → placeIn f ≡ record { letter = 0; block = 0 }
+unfolding isRow textIn is.letter
+no-back noElement e = rw no-number
+no-back (node h k r) e = let z : _≡_ {A = ℕ} 0 1 = cc in absurd (omega arith)
+
+pub no-back-at : (f : Forest) (back : Bool) (letter block : ℕ) → back ≡ isRow f → letter ≡ placeIn f .letter → block ≡ placeIn f .block → back ≡ false
+    → _≡_ {A = Place} (record { letter = letter; block = block }) (record { letter = 0; block = 0 })
+no-back-at f back letter block b l n e = rw (l, n) (no-back f (sym b ∙ e))
+
+pub same-heading : (release : ℕ) (k : Forest) (entries files generation highest directories : ℕ) (time : List ℕ) (letter block letter₂ block₂ : ℕ) (back allow : Bool)
+    → entries ≡ entriesOf (elements index k) → files ≡ fileCount (elements index k)
     → generation ≡ numberSaid (textIn (bytes "generationnumber") k) → time ≡ textIn (bytes "updatetime") k → letter ≡ locationIn k .letter → block ≡ locationIn k .block
     → back ≡ isRow (rowIn (bytes "previousgenerationlocation") k)
     → letter₂ ≡ placeIn (rowIn (bytes "previousgenerationlocation") k) .letter → block₂ ≡ placeIn (rowIn (bytes "previousgenerationlocation") k) .block
     → allow ≡ isTrue (is.boolean (textIn (bytes "allowpolicyupdate") k)) → highest ≡ numberSaid (textIn (bytes "highestfileuid") k)
     → directories ≡ entries - files
-    → _≡_ {A = Answer Told}
-    (answer
+    → _≡_ {A = Summary}
     (record {
-      release = release;
-      generation = generation;
-      updatetime = time;
-      location = record { letter = letter; block = block };
-      back = cond back (some (record { letter = letter₂; block = block₂ })) none;
-      allowpolicyupdate = allow;
-      highestfileuid = highest;
-      directories = directories;
+      heading =
+          record {
+            release = release;
+            generation = generation;
+            updatetime = time;
+            location = record { letter = letter; block = block };
+            back = cond back (some (record { letter = letter₂; block = block₂ })) none;
+            allowpolicyupdate = allow;
+            highestfileuid = highest;
+            directories = directories;
+          };
       files = files;
-    }))
-    (answer (headed release k entries files))
-headed-parts release k entries files generation highest directories time letter block letter₂ block₂ back allow a b c d e f g h i j = rw (a, b, c, d, e, f, g, h, i, j)
+    })
+    (record { heading = headingOf release k; files = fileCount (elements index k) })
+same-heading release k entries files generation highest directories time letter block letter₂ block₂ back allow m n a b c d e f g h i j =
+    rw (a, b, c, d, e, f, g, h, i, j, m, n)

@@ -1,4 +1,4 @@
--- An index's text (01, Index and Refusal numbers): what it is refused for, in the order of the classes, and what it says.
+-- An index's text (01, Index and Refusal numbers): what it is refused for, in the order of the classes, and what it holds.
 use mathlib.Core.Path.{_≡_}
 use mathlib.Core.Bool.{Bool, true, false, cond, _&&_}
 use mathlib.Core.List.{List, [], _∷_}
@@ -16,7 +16,7 @@ use Rattle.quantities.specs.Places.{Place}
 use Rattle.quantities.specs.declared.BlockNumber.{BlockNumber}
 use Rattle.xml.specs.Tree.{Head, Forest, none as noElement, node}
 use Rattle.xml.specs.Machine.{requireForm}
-use Rattle.elements.specs.Reading.{rowAt, isRow, partAt}
+use Rattle.elements.specs.Reading.{rowAt, isRow, partAt, Inside}
 use Rattle.values.specs.Values as is
 use Rattle.extents.specs.Rows.{Row}
 use Rattle.index_names.specs.Sorts.{index, file}
@@ -37,7 +37,8 @@ pub record File : Type 0 where
   pub name : List ℕ
   pub rows : List Row
 
-pub record Index : Type 0 where
+-- what an index says besides its files; the root is among its directories
+pub record Heading : Type 0 where
   pub release : ℕ
   pub generation : ℕ
   pub updatetime : List ℕ
@@ -46,6 +47,9 @@ pub record Index : Type 0 where
   pub allowpolicyupdate : Bool
   pub highestfileuid : ℕ
   pub directories : ℕ
+
+pub record Index : Type 0 where
+  pub heading : Heading
   pub files : List File
 
 -- what a location says
@@ -74,9 +78,9 @@ abbrev pub isTrue : Option Bool → Bool
 isTrue none = false
 isTrue (some b) = b
 
--- what an index with that release and those children says
-abbrev pub said : ℕ → Forest → Index
-said release k =
+-- the heading of an index with that release and those children
+abbrev pub headingOf : ℕ → Forest → Heading
+headingOf release k =
     record {
       release = release;
       generation = numberSaid (textIn (bytes "generationnumber") k);
@@ -86,8 +90,10 @@ said release k =
       allowpolicyupdate = isTrue (is.boolean (textIn (bytes "allowpolicyupdate") k));
       highestfileuid = numberSaid (textIn (bytes "highestfileuid") k);
       directories = entriesOf (elements index k) - fileCount (elements index k);
-      files = filesOf (elements index k);
     }
+
+abbrev pub indexWith : ℕ → Forest → Index
+indexWith release k = record { heading = headingOf release k; files = filesOf (elements index k) }
 
 -- 5, of all but the root's own tag: the index's children, and every element below
 unfoldable pub structured : Forest → Bool
@@ -122,7 +128,7 @@ childrenRead g letter block release k =
     (require (allOwn g (elements index k)) Foreign
     (require (allLawful g (elements index k)) Extents
     (require (standsAt letter block (locationIn k)) Location
-    (answer (said release k)))))))
+    (answer (indexWith release k)))))))
 
 -- 5 for the root's name and its one attribute, then 7 for its value, then the rest
 unfoldable pub tagRead : Given → ℕ → ℕ → Head → Forest → Answer Index
@@ -162,34 +168,16 @@ pub record Surveyed (g : Given) (k : Forest) (sums : Sums) : Type 0 where
   pub entries : sums .few ≡ true → sums .entries ≡ entriesOf (elements index k)
   pub files : sums .few ≡ true → sums .files ≡ fileCount (elements index k)
 
--- the header that a read hands out: all but the files, which are counted
-pub record Told : Type 0 where
-  pub release : ℕ
-  pub generation : ℕ
-  pub updatetime : List ℕ
-  pub location : Place
-  pub back : Option Place
-  pub allowpolicyupdate : Bool
-  pub highestfileuid : ℕ
-  pub directories : ℕ
+-- what a read hands out of an index: its heading, and how many files it has
+pub record Summary : Type 0 where
+  pub heading : Heading
   pub files : ℕ
 
-abbrev pub told : Index → Told
-told x =
-    record {
-      release = x .release;
-      generation = x .generation;
-      updatetime = x .updatetime;
-      location = x .location;
-      back = x .back;
-      allowpolicyupdate = x .allowpolicyupdate;
-      highestfileuid = x .highestfileuid;
-      directories = x .directories;
-      files = length (x .files);
-    }
+abbrev pub summary : Index → Summary
+summary x = record { heading = x .heading; files = length (x .files) }
 
-abbrev pub toldBy : Answer Index → Answer Told
-toldBy a = andThen a (λ x. answer (told x))
+abbrev pub summaryOf : Answer Index → Answer Summary
+summaryOf a = andThen a (λ x. answer (summary x))
 
 abbrev pub placeOf : ℕ → BlockNumber → Place
 placeOf l b = record { letter = l; block = b .0 }
@@ -197,38 +185,44 @@ placeOf l b = record { letter = l; block = b .0 }
 abbrev pub backOf : Header → Option Place
 backOf h = cond (h .back) (some (placeOf (h .«back_letter») (h .«back_block»))) none
 
--- what a read says of a text
-abbrev pub saying : List ℕ → Read → Answer Told
-saying s (Found h) =
-    answer
-    (record {
-      release = h .release;
-      generation = h .generation .0;
-      updatetime = partAt s (h .time);
-      location = placeOf (h .letter) (h .block);
-      back = backOf h;
-      allowpolicyupdate = h .allow;
-      highestfileuid = h .highest;
-      directories = h .directories;
-      files = h .files;
-    })
-saying s (Refused r) = refused r
-
--- the header of an index with those children, of which so many are entries and so many of those files
-abbrev pub headed : ℕ → Forest → ℕ → ℕ → Told
-headed release k entries files =
+-- what a reader's header means of a text
+abbrev pub summaryIn : List ℕ → Header → Summary
+summaryIn s h =
     record {
-      release = release;
-      generation = numberSaid (textIn (bytes "generationnumber") k);
-      updatetime = textIn (bytes "updatetime") k;
-      location = locationIn k;
-      back = backIn k;
-      allowpolicyupdate = isTrue (is.boolean (textIn (bytes "allowpolicyupdate") k));
-      highestfileuid = numberSaid (textIn (bytes "highestfileuid") k);
-      directories = entries - files;
-      files = files;
+      heading =
+          record {
+            release = h .release;
+            generation = h .generation .0;
+            updatetime = partAt s (h .time);
+            location = placeOf (h .letter) (h .block);
+            back = backOf h;
+            allowpolicyupdate = h .allow;
+            highestfileuid = h .highest;
+            directories = h .directories;
+          };
+      files = h .files;
     }
 
--- the header of any index whose children stand at places t of the text s
-abbrev pub Heads : List ℕ → List ℕ → ℕ → ℕ → ℕ → Header → Type 0
-Heads s t release entries files r = (k : Forest) → Placed s index k t → saying s (Found r) ≡ answer (headed release k entries files)
+abbrev pub means : List ℕ → Read → Answer Summary
+means s (Found h) = answer (summaryIn s h)
+means s (Refused r) = refused r
+
+-- what that leaves open: the update time lies in the text, and without a back pointer its letter and its block are 0
+pub record Definite (s : List ℕ) (h : Header) : Type 0 where
+  pub time : Inside s (h .time .from) (h .time .len)
+  pub noBack : h .back ≡ false → placeOf (h .«back_letter») (h .«back_block») ≡ record { letter = 0; block = 0 }
+
+abbrev pub definite : List ℕ → Read → Type 0
+definite s (Found h) = Definite s h
+definite s (Refused r) = Unit {0}
+
+-- what is read of a text s that is that index, or is refused
+pub record ReadsIndex (s : List ℕ) (a : Answer Index) (r : Read) : Type 0 where
+  pub answers : means s r ≡ summaryOf a
+  pub header : definite s r
+
+-- the header of any index whose children stand at places t of the text s, with so many entries, so many of them files
+pub record HeaderOf (s t : List ℕ) (release entries files : ℕ) (h : Header) : Type 0 where
+  pub heading : (k : Forest) → Placed s index k t → entries ≡ entriesOf (elements index k) → files ≡ fileCount (elements index k)
+      → summaryIn s h ≡ record { heading = headingOf release k; files = fileCount (elements index k) }
+  pub definite : Definite s h

@@ -17,10 +17,10 @@ ghost use Rattle.xml.specs.Form.{height};
 ghost use Rattle.xml.specs.Machine.{good, form};
 ghost use Rattle.elements.specs.Reading.{rowAt, headAt, childrenAt, isRow};
 ghost use Rattle.index_values.specs.Tests.{given};
-ghost use Rattle.index.specs.Index.{isTrue, placeIn, standsAt, callerRight, Heads, childrenRead, tagRead, rootRead, indexOf, toldBy, saying};
+ghost use Rattle.index.specs.Index.{isTrue, placeIn, standsAt, callerRight, HeaderOf, ReadsIndex, childrenRead, tagRead, rootRead, indexOf};
 
 // What an index says besides its files: the R of its version 2.0.R; its generation; where the update time stands in its text; its location;
-// its back pointer, if it has one; whether the policy may be updated; the highest fileuid; how many directories, with the root, and files it has.
+// its back pointer, or zeros if it has none; whether the policy may be updated; the highest fileuid; how many directories, with the root, and files it has.
 pub struct Header {
     pub release: u64,
     pub generation: Generation,
@@ -115,7 +115,7 @@ fn has_row(text: &[u8], at: usize) -> bool
 // The header of an index whose children have those places.
 fn head_from(text: &[u8], places: &[usize; 16], release: u64, entries: u64, files: u64) -> Header
     requires { ⌜ files ≤ entries ⌝ }
-    ensures { λ r. ⌜ Heads (now (text .entry)) (now (places .entry)) release entries files r ⌝ }
+    ensures { λ r. ⌜ HeaderOf (now (text .entry)) (now (places .entry)) release entries files r ⌝ }
 {
     let here = index_rows::row_at(text, places[4]);
     let back = index_rows::row_at(text, places[9]);
@@ -146,7 +146,7 @@ fn read_children(
     block: u64,
 ) -> Read
     requires { ⌜ (at ≤ length (now text)) × (height (rowAt (now text) at) ≤ 64) ⌝ }
-    ensures { λ r. ⌜ saying (now (text .entry)) r ≡ toldBy (childrenRead (given (now (uuid .entry)) volume) letter block release (rowAt (now (text .entry)) at)) ⌝ }
+    ensures { λ r. ⌜ ReadsIndex (now (text .entry)) (childrenRead (given (now (uuid .entry)) volume) letter block release (rowAt (now (text .entry)) at)) r ⌝ }
 {
     let found = survey::survey(text, uuid, at, volume);
     let s = found.sums;
@@ -175,7 +175,7 @@ fn read_children(
 // The index whose root's tag is at n.
 fn read_tag(text: &[u8], uuid: &[u8], n: usize, volume: Volume, letter: u8, block: u64) -> Read
     requires { ⌜ height (childrenAt (now text) n) ≤ 64 ⌝ }
-    ensures { λ r. ⌜ saying (now (text .entry)) r ≡ toldBy (tagRead (given (now (uuid .entry)) volume) letter block (headAt (now (text .entry)) n) (childrenAt (now (text .entry)) n)) ⌝ }
+    ensures { λ r. ⌜ ReadsIndex (now (text .entry)) (tagRead (given (now (uuid .entry)) volume) letter block (headAt (now (text .entry)) n) (childrenAt (now (text .entry)) n)) r ⌝ }
 {
     if !elements::name_is(text, n, b"ltfsindex") {
         return Read::Refused(Refusal::Structure);
@@ -195,7 +195,7 @@ fn read_tag(text: &[u8], uuid: &[u8], n: usize, volume: Volume, letter: u8, bloc
 // The index whose text is in the XML form.
 fn read_root(text: &[u8], uuid: &[u8], volume: Volume, letter: u8, block: u64) -> Read
     requires { ⌜ form (now text) ≡ good ⌝ }
-    ensures { λ r. ⌜ saying (now (text .entry)) r ≡ toldBy (rootRead (given (now (uuid .entry)) volume) letter block (rowAt (now (text .entry)) 38)) ⌝ }
+    ensures { λ r. ⌜ ReadsIndex (now (text .entry)) (rootRead (given (now (uuid .entry)) volume) letter block (rowAt (now (text .entry)) 38)) r ⌝ }
 {
     match elements::next_tag(text, 38) {
         Tag::End => Read::Refused(Refusal::Structure),
@@ -207,7 +207,7 @@ fn read_root(text: &[u8], uuid: &[u8], volume: Volume, letter: u8, block: u64) -
 
 // An index's text, of the volume with that UUID, letters and block size, at a partition letter and the number of its first block.
 pub fn read_index(text: &[u8], uuid: &[u8], volume: Volume, letter: u8, block: BlockNumber) -> Read
-    ensures { λ r. ⌜ saying (now (text .entry)) r ≡ toldBy (indexOf (given (now (uuid .entry)) volume) letter (block .0) (now (text .entry))) ⌝ }
+    ensures { λ r. ⌜ ReadsIndex (now (text .entry)) (indexOf (given (now (uuid .entry)) volume) letter (block .0) (now (text .entry))) r ⌝ }
 {
     if !is_caller_right(uuid, volume, letter) {
         return Read::Refused(Refusal::Caller);

@@ -25,7 +25,7 @@ use Rattle.index_values.specs.Elements.{elements}
 use Rattle.index.specs.Structure.{complete, rightly}
 use Rattle.index_values.specs.Entries.{orZero}
 use Rattle.index_values.specs.Tests.{Given, isSome}
-use Rattle.index.specs.Index.{Index, said, structured, bounded, allValued, allOwn, allLawful, standsAt, locationIn, childrenRead, tagRead, rootRead, callerRight, indexOf}
+use Rattle.index.specs.Index.{Index, indexWith, structured, bounded, allValued, allOwn, allLawful, standsAt, locationIn, childrenRead, tagRead, rootRead, callerRight, indexOf}
 
 pub record Accepted (g : Given) (letter : ℕ) (text : List ℕ) (x : Index) : Type 0 where
   pub caller : callerRight g letter ≡ true
@@ -37,7 +37,7 @@ pub record Accepted (g : Given) (letter : ℕ) (text : List ℕ) (x : Index) : T
   pub right : every rightly (elements index kids) ≡ true
   pub valued : allValued (elements index kids) ≡ true
   pub lawful : allLawful g (elements index kids) ≡ true
-  pub says : x ≡ said release kids
+  pub says : x ≡ indexWith release kids
 
 module _ {A : Type 0} (r : Refusal) (next : Answer A) (x : A) where
   -- a check was passed, where an answer was given
@@ -46,11 +46,11 @@ module _ {A : Type 0} (r : Refusal) (next : Answer A) (x : A) where
   passed false e = let z : _≡_ {A = ℕ} 0 1 = cc in absurd (omega arith)
 
 module _ (g : Given) (letter block : ℕ) (x : Index) where
-  children-accepted : (release : ℕ) (k : Forest) → childrenRead g letter block release k ≡ answer x → (structured k ≡ true) × (allValued (elements index k) ≡ true) × (allLawful g (elements index k) ≡ true) × (x ≡ said release k)
+  children-accepted : (release : ℕ) (k : Forest) → childrenRead g letter block release k ≡ answer x → (structured k ≡ true) × (allValued (elements index k) ≡ true) × (allLawful g (elements index k) ≡ true) × (x ≡ indexWith release k)
   unfolding childrenRead
   children-accepted release k e =
       let l = elements index k in
-      let a6 : Answer Index = answer (said release k) in
+      let a6 : Answer Index = answer (indexWith release k) in
       let a5 = require (standsAt letter block (locationIn k)) Location a6 in
       let a4 = require (allLawful g l) Extents a5 in
       let a3 = require (allOwn g l) Foreign a4 in
@@ -62,7 +62,7 @@ module _ (g : Given) (letter block : ℕ) (x : Index) where
       let p3 = passed Foreign a4 x (allOwn g l) (p2 .1) in
       let p4 = passed Extents a5 x (allLawful g l) (p3 .1) in
       let p5 = passed Location a6 x (standsAt letter block (locationIn k)) (p4 .1) in
-      let z : answer (said release k) ≡ answer x = p5 .1 in
+      let z : answer (indexWith release k) ≡ answer x = p5 .1 in
       (p0 .0, p2 .0, p4 .0, same-answer z)
     where
       same-answer : {y : Index} → answer y ≡ answer x → x ≡ y

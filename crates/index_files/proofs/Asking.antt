@@ -10,7 +10,7 @@ use Rattle.refusals.specs.declared.Refusal.the-variants.{Missing}
 use Rattle.xml.specs.Tree.{Forest}
 use Rattle.elements.specs.Reading.{leftAt, rowAt, FirstOf}
 use Rattle.index_values.specs.Tests.{Given, rowsIn}
-use Rattle.index.specs.Index.{Index, File, Told, told, fileOf, toldBy, indexOf}
+use Rattle.index.specs.Index.{Index, File, Summary, summary, summaryOf, fileOf, indexOf}
 use Rattle.index_files.specs.Files.{filesLeft, filesFrom}
 use Rattle.index_files.specs.Asked.{nth, fileIn, Shown, shown, HeadOf}
 use Rattle.index_files.specs.declared.asked.FileHead.{FileHead}
@@ -37,23 +37,23 @@ module _ {A : Type 0} where
   nth-map f zero (x ∷ l) = refl
   nth-map f (suc k) (x ∷ l) = nth-map f k l
 
--- what follows from the files of an index, by what reading it said
+-- what follows from the files of an index, by what is read of it
 module _ (g : Given) (letter block : ℕ) (text : List ℕ) where
   module _ {B : Type 0} (next : List File → Answer B) where
-    pub index-refused : (r : Refusal) → refused r ≡ toldBy (indexOf g letter block text) → refused r ≡ andThen (indexOf g letter block text) (λ x. next (x .files))
-    index-refused r e = ap (λ (a : Answer Index). andThen a (λ x. next (x .files))) (mapped-refused told (indexOf g letter block text) r e)
+    pub index-refused : (r : Refusal) → refused r ≡ summaryOf (indexOf g letter block text) → refused r ≡ andThen (indexOf g letter block text) (λ x. next (x .files))
+    index-refused r e = ap (λ (a : Answer Index). andThen a (λ x. next (x .files))) (mapped-refused summary (indexOf g letter block text) r e)
 
-    pub index-found : (t : Told) → answer t ≡ toldBy (indexOf g letter block text) → next (filesFrom text 38) ≡ andThen (indexOf g letter block text) (λ x. next (x .files))
+    pub index-found : (t : Summary) → answer t ≡ summaryOf (indexOf g letter block text) → next (filesFrom text 38) ≡ andThen (indexOf g letter block text) (λ x. next (x .files))
     index-found t e =
-        let (x, w, z) = mapped told (indexOf g letter block text) t e in
+        let (x, w, z) = mapped summary (indexOf g letter block text) t e in
         ap next (files-left g letter block text x (sym w)) ∙ ap (λ (a : Answer Index). andThen a (λ x. next (x .files))) w
 
-  pub files-counted : (t : Told) → answer t ≡ toldBy (indexOf g letter block text) → t .files ≡ length (filesFrom text 38)
+  pub files-counted : (t : Summary) → answer t ≡ summaryOf (indexOf g letter block text) → t .files ≡ length (filesFrom text 38)
   files-counted t e =
-      let (x, w, z) = mapped told (indexOf g letter block text) t e in
-      ap (λ (h : Told). h .files) z ∙ sym (ap length (files-left g letter block text x (sym w)))
+      let (x, w, z) = mapped summary (indexOf g letter block text) t e in
+      ap (λ (h : Summary). h .files) z ∙ sym (ap length (files-left g letter block text x (sym w)))
 
-  pub file-found : (k : ℕ) (t : Told) → answer t ≡ toldBy (indexOf g letter block text)
+  pub file-found : (k : ℕ) (t : Summary) → answer t ≡ summaryOf (indexOf g letter block text)
       → andThen (nth k (filesLeft (leftAt text 38))) (λ c. answer (fileOf c)) ≡ fileIn k (indexOf g letter block text)
   file-found k t e = sym (nth-map fileOf k (filesLeft (leftAt text 38))) ∙ index-found (nth k) t e
 

@@ -1,14 +1,16 @@
 -- What is found by name in a row is what is found by number, by the place of the first element of that number.
 use mathlib.Core.Path.{_≡_, refl, ap, sym, _∙_}
 use mathlib.Core.Bool.{Bool, true, false, cond, _||_}
-use mathlib.Core.List.{List}
+use mathlib.Core.List.{List, []}
 use Prim.Native.Nat.{ℕ, _<_}
 use native.Mathlib.Omega.{arith}
 use borrow.Author.Tests.{eqb-true}
 use lib.Dec.{eqb}
 use lib.ListN.{length, getD}
-use Rattle.slices.specs.Slices.{same}
+use Rattle.slices.specs.Slices.{same, every}
 use Rattle.slices.specs.Words.{bytes}
+use Rattle.digits.specs.Decimal.{number, isNumber, plain}
+use Rattle.values.specs.Values as is
 use Rattle.xml.specs.Tree.{Forest, none, node}
 use Rattle.children.specs.Children.{textOf, childrenOf}
 use Rattle.children.specs.Rows.{seat}
@@ -119,3 +121,8 @@ module _ (s : List ℕ) (f : Forest) (t : List ℕ) (placed : Placed s index f t
   pub back-placed : rowIn (bytes "previousgenerationlocation") f ≡ childrenOf (seat s (getD t 9 0))
   unfolding names indexNames bytes ruled same
   back-placed = row-placed index 9 (bytes "previousgenerationlocation") (λ n. number-own indexNames 9 n refl) s f t placed (omega arith)
+
+-- what is not there says no number
+pub no-number : numberSaid [] ≡ 0
+unfolding is.number number isNumber plain every
+no-number = refl

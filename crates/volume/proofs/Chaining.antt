@@ -21,40 +21,40 @@ use Rattle.verdict.proofs.Orders.{firsts, firsts-suffix, firsts-next, firsts-al
 use Rattle.index_values.specs.Tests.{Given}
 use Rattle.index.specs.Index.{indexOf}
 use Rattle.volume.specs.Volume.{soundly, volumeWith}
-use Rattle.volume.specs.Steps.{Told, told, toldBy, joined, textIn, Located, Listed, lastGeneration, Links, LinksAt, Generations, Chains, ChainsOf}
+use Rattle.volume.specs.Steps.{Link, linkOf, briefLink, joined, textIn, Located, Listed, lastGeneration, Links, LinksAt, Generations, Chains, ChainsOf}
 use Rattle.volume.specs.declared.sound.Brief.{Brief}
 use Rattle.volume.specs.declared.chains.Linked.{Linked}
 use Rattle.volume.proofs.Briefs.{joined-follows}
 
-abbrev generationTold : Option Told → ℕ
-generationTold none = 0
-generationTold (some t) = t .generation
+abbrev linkGeneration : Option Link → ℕ
+linkGeneration none = 0
+linkGeneration (some t) = t .generation
 
-abbrev beginsTold : Option Told → Bool
-beginsTold none = false
-beginsTold (some t) = isNone (t .back)
+abbrev linkBegins : Option Link → Bool
+linkBegins none = false
+linkBegins (some t) = isNone (t .back)
 
-generation-told : (o : Option Index) → generationTold (told o) ≡ generationOf o
-generation-told none = refl
-generation-told (some x) = refl
+generation-linked : (o : Option Index) → linkGeneration (linkOf o) ≡ generationOf o
+generation-linked none = refl
+generation-linked (some x) = refl
 
-begins-told : (v : Volume) (o : Option Index) → beginsTold (told o) ≡ begins v o
-begins-told v none = refl
-begins-told v (some x) = refl
+begins-linked : (v : Volume) (o : Option Index) → linkBegins (linkOf o) ≡ begins v o
+begins-linked v none = refl
+begins-linked v (some x) = refl
 
-begins-by : (b : Brief) → b .sound ≡ true → beginsTold (toldBy b) ≡ not (b .back)
+begins-by : (b : Brief) → b .sound ≡ true → linkBegins (briefLink b) ≡ not (b .back)
 begins-by b e = rw e (split (λ k. isNone {A = Place} (cond k (some (record { letter = b .letter; block = b .block .0 })) none) ≡ not k) (b .back) (λ u. refl) (λ u. refl))
 
--- the generation that is told of a sound index
-pub told-generation : (o : Option Index) (b : Brief) → toldBy b ≡ told o → b .sound ≡ true → b .generation .0 ≡ generationOf o
-told-generation o b e f =
-    let z : generationTold (toldBy b) ≡ b .generation .0 = rw f in
-    sym z ∙ ap generationTold e ∙ generation-told o
+-- the generation of a sound index
+pub link-generation : (o : Option Index) (b : Brief) → briefLink b ≡ linkOf o → b .sound ≡ true → b .generation .0 ≡ generationOf o
+link-generation o b e f =
+    let z : linkGeneration (briefLink b) ≡ b .generation .0 = rw f in
+    sym z ∙ ap linkGeneration e ∙ generation-linked o
 
 -- what joins a construct is sound
-pub joined-sound : (b : Brief) (letter first generation : ℕ) → joined (toldBy b) letter first generation ≡ true → b .sound ≡ true
+pub joined-sound : (b : Brief) (letter first generation : ℕ) → joined (briefLink b) letter first generation ≡ true → b .sound ≡ true
 joined-sound b letter first generation =
-    split (λ k. b .sound ≡ k → joined (toldBy b) letter first generation ≡ true → b .sound ≡ true) (b .sound)
+    split (λ k. b .sound ≡ k → joined (briefLink b) letter first generation ≡ true → b .sound ≡ true) (b .sound)
     (λ u e h. e)
     (λ u e h. let z : _≡_ {A = Bool} false true = rw e at h in let y : _≡_ {A = ℕ} 0 1 = cc in absurd (omega arith)) refl
 
@@ -77,63 +77,63 @@ module _ (v : Volume) where
   unfolding chainBreak
   last-sound c cs h = chained-sound c cs (unless-none (chained v c cs) (length cs) (orElse-none (chainBreak v cs) _ h .1))
 
-  module _ (c : Construct) (b : Brief) (e : toldBy b ≡ told (readData v c)) where
+  module _ (c : Construct) (b : Brief) (e : briefLink b ≡ linkOf (readData v c)) where
     -- the first construct
     pub links-unsound : (g : Generation) → b .sound ≡ false → Links v c [] (record { ok = false; generation = g })
     links-unsound g f =
         record {
-          chained = let z : beginsTold (toldBy b) ≡ false = rw f in sym (sym (begins-told v (readData v c)) ∙ ap beginsTold (sym e) ∙ z);
+          chained = let z : linkBegins (briefLink b) ≡ false = rw f in sym (sym (begins-linked v (readData v c)) ∙ ap linkBegins (sym e) ∙ z);
           generation = λ h. let y : _≡_ {A = ℕ} 0 1 = cc in absurd (omega arith);
         }
 
     pub links-first : b .sound ≡ true → Links v c [] (record { ok = not (b .back); generation = b .generation })
     links-first f =
-        record { chained = sym (begins-by b f) ∙ ap beginsTold e ∙ begins-told v (readData v c); generation = λ h. told-generation (readData v c) b e f }
+        record { chained = sym (begins-by b f) ∙ ap linkBegins e ∙ begins-linked v (readData v c); generation = λ h. link-generation (readData v c) b e f }
 
     -- one behind others
     pub links-behind : (p : Construct) (ps : List Construct) (first before : ℕ) (ok : Bool) → chainBreak v (p ∷ ps) ≡ none → first ≡ p .first
-        → lastGeneration v (p ∷ ps) ≡ before → ok ≡ joined (toldBy b) (v .dataLetter) first before → Links v c (p ∷ ps) (record { ok = ok; generation = b .generation })
+        → lastGeneration v (p ∷ ps) ≡ before → ok ≡ joined (briefLink b) (v .dataLetter) first before → Links v c (p ∷ ps) (record { ok = ok; generation = b .generation })
     links-behind p ps first before ok whole at gen j =
         let y = last-sound p ps whole in
         let g : before ≡ y .0 .generation = sym gen ∙ ap generationOf (y .1) in
         record {
           chained = rw (at, g, e) at j ∙ joined-follows v (readData v c) p (readData v p) (y .0) (y .1);
-          generation = λ h. told-generation (readData v c) b e (joined-sound b (v .dataLetter) first before (sym j ∙ h));
+          generation = λ h. link-generation (readData v c) b e (joined-sound b (v .dataLetter) first before (sym j ∙ h));
         }
 
 -- what is read of a construct at its place in the store
-pub told-located : (g : Given) (s : List ℕ) (letter : ℕ) (p : Spot) (t : List ℕ) (b : Brief) → t ≡ textIn s p → toldBy b ≡ told (soundly (indexOf g letter (p .first) t))
-    → (c : Construct) → Located s p c → toldBy b ≡ told (volumeWith g .read letter (c .first) (c .text))
-told-located g s letter p t b f r c w =
-    r ∙ ap (λ (x : ℕ). told (soundly (indexOf g letter x t))) (w .first) ∙ ap (λ (x : List ℕ). told (soundly (indexOf g letter (c .first) x))) (f ∙ w .text)
+pub link-located : (g : Given) (s : List ℕ) (letter : ℕ) (p : Spot) (t : List ℕ) (b : Brief) → t ≡ textIn s p → briefLink b ≡ linkOf (soundly (indexOf g letter (p .first) t))
+    → (c : Construct) → Located s p c → briefLink b ≡ linkOf (volumeWith g .read letter (c .first) (c .text))
+link-located g s letter p t b f r c w =
+    r ∙ ap (λ (x : ℕ). linkOf (soundly (indexOf g letter x t))) (w .first) ∙ ap (λ (x : List ℕ). linkOf (soundly (indexOf g letter (c .first) x))) (f ∙ w .text)
 
 -- construct k lies at the place that the table has for it
 pub located-at : (s table : List ℕ) (k : ℕ) (p : Spot) (c : Construct) (cs : List Construct) → p ≡ placeIn table k → Located s (placeIn table (length cs)) c → length cs ≡ k → Located s p c
 located-at s table k p c cs e l n = subst (λ (x : Spot). Located s x c) (sym (e ∙ ap (placeIn table) (sym n))) l
 
-pub told-at : (g : Given) (s table : List ℕ) (letter k : ℕ) (p : Spot) (t : List ℕ) (b : Brief) → p ≡ placeIn table k → t ≡ textIn s p
-    → toldBy b ≡ told (soundly (indexOf g letter (p .first) t))
+pub link-placed : (g : Given) (s table : List ℕ) (letter k : ℕ) (p : Spot) (t : List ℕ) (b : Brief) → p ≡ placeIn table k → t ≡ textIn s p
+    → briefLink b ≡ linkOf (soundly (indexOf g letter (p .first) t))
     → (c : Construct) (cs : List Construct) → Located s (placeIn table (length cs)) c → length cs ≡ k
-    → toldBy b ≡ told (volumeWith g .read letter (c .first) (c .text))
-told-at g s table letter k p t b e f r c cs l n = told-located g s letter p t b f r c (located-at s table k p c cs e l n)
+    → briefLink b ≡ linkOf (volumeWith g .read letter (c .first) (c .text))
+link-placed g s table letter k p t b e f r c cs l n = link-located g s letter p t b f r c (located-at s table k p c cs e l n)
 
 module _ (v : Volume) (s table : List ℕ) (k before : ℕ) (b : Brief)
-    (told-of : (c : Construct) (cs : List Construct) → Located s (placeIn table (length cs)) c → length cs ≡ k → toldBy b ≡ told (readData v c)) where
+    (link-of : (c : Construct) (cs : List Construct) → Located s (placeIn table (length cs)) c → length cs ≡ k → briefLink b ≡ linkOf (readData v c)) where
   pub at-unsound : (g : Generation) → k ≡ 0 → b .sound ≡ false → LinksAt v s table k before (record { ok = false; generation = g })
-  at-unsound g z f ds l c [] suf n whole gen = links-unsound v c b (told-of c [] (l c [] suf) n) g f
+  at-unsound g z f ds l c [] suf n whole gen = links-unsound v c b (link-of c [] (l c [] suf) n) g f
   at-unsound g z f ds l c (p ∷ ps) suf n whole gen = absurd (omega arith)
 
   pub at-first : k ≡ 0 → b .sound ≡ true → LinksAt v s table k before (record { ok = not (b .back); generation = b .generation })
-  at-first z f ds l c [] suf n whole gen = links-first v c b (told-of c [] (l c [] suf) n) f
+  at-first z f ds l c [] suf n whole gen = links-first v c b (link-of c [] (l c [] suf) n) f
   at-first z f ds l c (p ∷ ps) suf n whole gen = absurd (omega arith)
 
-  pub at-behind : (k ≡ 0 → ⊥) → (q : Spot) (ok : Bool) → q ≡ placeIn table (k - 1) → ok ≡ joined (toldBy b) (v .dataLetter) (q .first) before
+  pub at-behind : (k ≡ 0 → ⊥) → (q : Spot) (ok : Bool) → q ≡ placeIn table (k - 1) → ok ≡ joined (briefLink b) (v .dataLetter) (q .first) before
       → LinksAt v s table k before (record { ok = ok; generation = b .generation })
   at-behind z q ok e j ds l c [] suf n whole gen = absurd (z (sym n))
   at-behind z q ok e j ds l c (p ∷ ps) suf n whole gen =
       let m : k - 1 ≡ length ps = omega arith in
       let w : Located s q p = subst (λ (x : Spot). Located s x p) (sym (e ∙ ap (placeIn table) m)) (l p ps (suffix-trans (there (here refl)) suf)) in
-      links-behind v c b (told-of c (p ∷ ps) (l c (p ∷ ps) suf) n) p ps (q .first) before ok whole (w .first) gen j
+      links-behind v c b (link-of c (p ∷ ps) (l c (p ∷ ps) suf) n) p ps (q .first) before ok whole (w .first) gen j
 
 -- the chain so far: the first k constructs have no break, the table has their generations, and the last one's is at hand
 pub record ChainAt (v : Volume) (ds : List Construct) (table : List ℕ) (k before : ℕ) : Type 0 where

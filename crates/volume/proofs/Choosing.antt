@@ -2,7 +2,7 @@
 use mathlib.Core.Path.{_≡_, refl, sym, ap, subst, _∙_}
 use mathlib.Core.Bool.{true, false}
 use mathlib.Core.List.{List, [], _∷_}
-use Prim.Native.Nat.{ℕ, _≤_, _<_}
+use Prim.Native.Nat.{ℕ, _-_, _≤_, _<_}
 use native.Mathlib.Omega.{arith}
 use borrow.Author.Tests.{eq-eqb, ne-eqb}
 use lib.ListN.{length}
@@ -10,24 +10,25 @@ use Rattle.refusals.specs.declared.Refusal.{Refusal}
 use Rattle.refusals.specs.declared.Refusal.the-variants.{Caller, Missing}
 use Rattle.refusals.specs.Refusals.{Answer, refused, answer, require, andThen}
 use Rattle.tape.specs.Tape.{Tape}
-use Rattle.tape.specs.Answers.{tapeIn}
+use Rattle.tape.specs.Answers.{tapeIn, bytesBefore}
 use Rattle.tape.proofs.Encoding.{Bytes}
 use Rattle.constructs.specs.Constructs.{Construct, standing}
-use Rattle.constructs.specs.Tables.{placeIn, Scans, scannedCount}
+use Rattle.constructs.specs.Tables.{placeIn, Scans, scannedCount, tableAfter}
 use Rattle.constructs.specs.declared.Place.{Place as Spot}
 use Rattle.constructs.specs.declared.Scanned.{Scanned}
 use Rattle.constructs.proofs.Suffixes.{Suffix, here, there, suffix-length, nil-suffix}
-use Rattle.index.specs.Index.{Told, toldBy, saying, callerRight, indexOf}
+use Rattle.elements.specs.Reading.{Spans}
+use Rattle.index.specs.Index.{Summary, summaryOf, summaryIn, Definite, ReadsIndex, callerRight, indexOf}
 use Rattle.index_values.specs.Tests.{Given}
 use Rattle.index.specs.declared.read.Header.{Header}
 use Rattle.index.specs.declared.read.Read.the-variants as readIs
 use Rattle.verdict.proofs.Orders.{firsts}
-use Rattle.volume.specs.Steps.{textIn, Located}
-use Rattle.volume.specs.Chosen.{constructAt, readAt, chosenIn, chosenBy, ReadsPlace}
+use Rattle.volume.specs.Steps.{textIn, spotOf}
+use Rattle.volume.specs.Chosen.{Indexed, constructAt, readAt, chosenIn, Chooses, ReadsPlace}
 use Rattle.volume.specs.declared.chosen.Chosen.{Chosen}
 use Rattle.volume.specs.declared.chosen.Chosen.the-variants as chosenIs
 use Rattle.volume.proofs.Chaining.{next-first, firsts-length}
-use Rattle.volume.proofs.Partitions.{lists-of}
+use Rattle.volume.proofs.Partitions.{lists-of, spot-of, spot-spans}
 use Rattle.volume.proofs.Answering.{read-tape}
 
 at-missing : (k : ℕ) (ds : List Construct) → length ds ≤ k → constructAt k ds ≡ refused Missing
@@ -44,33 +45,54 @@ at-suffix k {c} {cs} {ds = d ∷ ds} (here q) n =
     rw (eq-eqb (length ds) k (ap length (sym y) ∙ n), ← z)
 at-suffix k {c} {cs} {ds = d ∷ ds} (there s) n = rw (ne-eqb (length ds) k (λ e. omega (arith, suffix-length s))) (at-suffix k s n)
 
-module _ (g : Given) (letter : ℕ) (s : List ℕ) (p : Spot) (t : List ℕ) (is-text : t ≡ textIn s p) where
-  pub place-found : (h : Header) → saying t (readIs.Found h) ≡ toldBy (indexOf g letter (p .first) t) → ReadsPlace g letter s p (chosenIs.Found p h)
-  place-found h e c w =
-      let q : saying (textIn s p) (readIs.Found h) ≡ toldBy (indexOf g letter (c .first) (c .text))
-      = ap (λ (x : List ℕ). saying x (readIs.Found h)) (sym is-text) ∙ e ∙ ap (λ (x : ℕ). toldBy (indexOf g letter x t)) (w .first)
-      ∙ ap (λ (x : List ℕ). toldBy (indexOf g letter (c .first) x)) (is-text ∙ w .text) in
-      ap (λ (a : Answer Told). andThen a (λ x. answer (record { construct = record { first = p .first; upTo = p .end; text = textIn s p }; told = x }))) q
-      ∙ rw (w .first, w .end, w .text)
+module _ (g : Given) (letter : ℕ) (s : List ℕ) (p : Spot) (x : List ℕ) (is-text : x ≡ textIn s p) where
+  index-at : (t : Tape) (c : Construct) → p ≡ spotOf t c → textIn s p ≡ c .text → indexOf g letter (p .first) x ≡ indexOf g letter (c .first) (c .text)
+  index-at t c at e = ap (λ (n : ℕ). indexOf g letter n x) (ap (λ (q : Spot). q .first) at) ∙ ap (indexOf g letter (c .first)) (is-text ∙ e)
 
-  pub place-refused : (r : Refusal) → refused r ≡ toldBy (indexOf g letter (p .first) t) → ReadsPlace g letter s p (chosenIs.Refused r)
-  place-refused r e c w =
-      let q : refused r ≡ toldBy (indexOf g letter (c .first) (c .text))
-      = e ∙ ap (λ (x : ℕ). toldBy (indexOf g letter x t)) (w .first) ∙ ap (λ (x : List ℕ). toldBy (indexOf g letter (c .first) x)) (is-text ∙ w .text) in
-      ap (λ (a : Answer Told). andThen a (λ x. answer (record { construct = c; told = x }))) q
+  pub place-found : (h : Header) → ReadsIndex x (indexOf g letter (p .first) x) (readIs.Found h) → ReadsPlace g letter s p (chosenIs.Found p h)
+  place-found h w t c at lies =
+      let q : answer (summaryIn (textIn s p) h) ≡ summaryOf (indexOf g letter (c .first) (c .text))
+      = ap (λ (y : List ℕ). answer (summaryIn y h)) (sym is-text) ∙ w .answers ∙ ap summaryOf (index-at t c at (lies .part)) in
+      let at-first : p .first ≡ c .first = ap (λ (q : Spot). q .first) at in
+      let at-end : p .end ≡ c .upTo = ap (λ (q : Spot). q .end) at in
+      let at-from : p .from ≡ bytesBefore t (c .first) = ap (λ (q : Spot). q .from) at in
+      record {
+        answers =
+            ap
+            (λ (a : Answer Summary).
+            andThen a (λ y. answer (record { construct = record { first = p .first; upTo = p .end; text = textIn s p }; from = p .from; summary = y })))
+            q
+            ∙ same at-first at-end (lies .part) at-from;
+        inside = record { text = lies .inside; header = subst (λ (y : List ℕ). Definite y h) is-text (w .header) };
+      }
+    where
+      same : {first end from : ℕ} {text : List ℕ} → first ≡ c .first → end ≡ c .upTo → text ≡ c .text → from ≡ bytesBefore t (c .first)
+          → andThen (summaryOf (indexOf g letter (c .first) (c .text)))
+          (λ y. answer (record { construct = record { first = first; upTo = end; text = text }; from = from; summary = y }))
+          ≡ readAt g letter t c
+      same a b d e = rw (a, b, d, e)
+
+  pub place-refused : (r : Refusal) → ReadsIndex x (indexOf g letter (p .first) x) (readIs.Refused r) → ReadsPlace g letter s p (chosenIs.Refused r)
+  place-refused r w t c at lies =
+      record {
+        answers =
+            ap (λ (a : Answer Summary). andThen a (λ y. answer (record { construct = c; from = bytesBefore t (c .first); summary = y })))
+            (w .answers ∙ ap summaryOf (index-at t c at (lies .part)));
+        inside = tt;
+      }
 
 module _ (g : Given) (letter k : ℕ) (l s : List ℕ) where
-  pub chosen-caller : callerRight g letter ≡ false → refused Caller ≡ chosenIn g letter k l s
+  pub chosen-caller : callerRight g letter ≡ false → Chooses s (chosenIn g letter k l s) (chosenIs.Refused Caller)
   unfolding chosenIn
-  chosen-caller e = rw e
+  chosen-caller e = record { answers = rw e; inside = tt }
 
   module _ (right : callerRight g letter ≡ true) (before after : List ℕ) (sc : Scanned) (w : Scans (g .size) l s before after sc) where
-    pub chosen-list : (r : Refusal) → scannedCount sc ≡ refused r → refused r ≡ chosenIn g letter k l s
+    pub chosen-list : (r : Refusal) → scannedCount sc ≡ refused r → Chooses s (chosenIn g letter k l s) (chosenIs.Refused r)
     unfolding chosenIn
-    chosen-list r e = go (tapeIn l s) (sym e ∙ w .answers)
+    chosen-list r e = record { answers = go (tapeIn l s) (sym e ∙ w .answers); inside = tt }
       where
         go : (a : Answer Tape) → refused r ≡ andThen a (λ t. answer (length (standing (g .size) t)))
-            → refused r ≡ require (callerRight g letter) Caller (andThen a (λ t. andThen (constructAt k (standing (g .size) t)) (readAt g letter)))
+            → refused r ≡ require (callerRight g letter) Caller (andThen a (λ t. andThen (constructAt k (standing (g .size) t)) (readAt g letter t)))
         go (refused q) x = let z : r ≡ q = cc in rw (right, z)
         go (answer t) x = let z : _≡_ {A = ℕ} 0 1 = cc in absurd (omega arith)
 
@@ -82,20 +104,25 @@ module _ (g : Given) (letter k : ℕ) (l s : List ℕ) where
         go (answer t) y x = (t, y)
 
     module _ (bytes : Bytes l) (room : length before ≡ 87380) (n : ℕ) (e : scannedCount sc ≡ answer n) where
-      pub chosen-missing : n ≤ k → refused Missing ≡ chosenIn g letter k l s
+      pub chosen-missing : n ≤ k → Chooses s (chosenIn g letter k l s) (chosenIs.Refused Missing)
       unfolding chosenIn
       chosen-missing h =
           let t = tape-of n e in
           let a = lists-of (g .size) l s before after sc n w e (t .0) (read-tape l s (t .0) bytes (t .1)) room in
-          rw (right, t .1, at-missing k (standing (g .size) (t .0)) (omega (arith, a .0)))
+          record { answers = rw (right, t .1, at-missing k (standing (g .size) (t .0)) (omega (arith, a .0))); inside = tt }
 
-      pub chosen-found : k < n → (p : Spot) → p ≡ placeIn after k → (r : Chosen) → ReadsPlace g letter s p r → chosenBy s r ≡ chosenIn g letter k l s
+      pub chosen-found : k < n → (p : Spot) → p ≡ placeIn after k → (r : Chosen) → ReadsPlace g letter s p r → Chooses s (chosenIn g letter k l s) r
       unfolding chosenIn
       chosen-found h p at r d =
           let t = tape-of n e in
-          let ds = standing (g .size) (t .0) in
-          let a = lists-of (g .size) l s before after sc n w e (t .0) (read-tape l s (t .0) bytes (t .1)) room in
+          let en = read-tape l s (t .0) bytes (t .1) in
+          let a = lists-of (g .size) l s before after sc n w e (t .0) en room in
           let x = next-first (standing (g .size) (t .0)) k (omega (arith, a .0)) in
           let m = firsts-length (standing (g .size) (t .0)) k (omega (arith, a .0)) in
-          let q : Located s p (x .0) = subst (λ (y : Spot). Located s y (x .0)) (sym (at ∙ ap (placeIn after) (sym m))) (a .1 (x .0) (firsts k (standing (g .size) (t .0))) (x .2)) in
-          d (x .0) q ∙ sym (rw (right, t .1, at-suffix k (x .2) m))
+          let table : after ≡ tableAfter (g .size) before (answer (t .0)) = w .holds ∙ ap (tableAfter (g .size) before) (t .1) in
+          let q : p ≡ spotOf (t .0) (x .0)
+          = at ∙ ap (placeIn after) (sym m) ∙ ap (λ (y : List ℕ). placeIn y (length (firsts k (standing (g .size) (t .0))))) table
+          ∙ spot-of (g .size) l s (t .0) en before room (x .0) (firsts k (standing (g .size) (t .0))) (x .2) in
+          let lies : Spans s (p .from) (p .to - p .from) (x .0 .text)
+          = subst (λ (y : Spot). Spans s (y .from) (y .to - y .from) (x .0 .text)) (sym q) (spot-spans (g .size) l s (t .0) en (x .0) (firsts k (standing (g .size) (t .0))) (x .2)) in
+          subst (λ (y : Answer Indexed). Chooses s y r) (sym (rw (right, t .1, at-suffix k (x .2) m))) (d (t .0) (x .0) q lies)

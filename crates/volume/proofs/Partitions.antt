@@ -14,6 +14,8 @@ use Rattle.tape.specs.Tape.{Tape, Encodes, store}
 use Rattle.tape.specs.Answers.{tapeIn, bytesBefore, orRefused, counted}
 use Rattle.tape.specs.declared.Checked.{Checked}
 use Rattle.tape.proofs.Encoding.{read-encoded}
+use Rattle.tape.proofs.Passing.{bytes-within}
+use Rattle.elements.specs.Reading.{Spans}
 use Rattle.constructs.specs.Constructs.{Construct, standing, dataLengths}
 use Rattle.constructs.specs.Tables.{placeIn, Scans, scannedCount, tableAfter}
 use Rattle.constructs.specs.Reach.{reaches, Reaches, reachAfter}
@@ -25,7 +27,7 @@ use Rattle.constructs.proofs.Texts.{table-at, text-at, texts-standing}
 use Rattle.constructs.proofs.Fronts.{Below, below-first}
 use Rattle.verdict.specs.Verdict.{endsWith}
 use Rattle.verdict.specs.Rescue.{through}
-use Rattle.volume.specs.Steps.{Located, Listed, ListsOf, ReachesOf, EndsAt, FillsOf}
+use Rattle.volume.specs.Steps.{spotOf, Located, Listed, ListsOf, ReachesOf, EndsAt, FillsOf}
 
 same-answer : {A : Type 0} (a b : A) → answer a ≡ answer b → a ≡ b
 same-answer a b e = cc
@@ -39,9 +41,9 @@ module _ (B : ℕ) (l s : List ℕ) (t : Tape) (e : Encodes l s t) where
   few = omega (arith, standing-few B t, e .elements)
 
   -- a construct's four numbers
-  spot-of : (T : List ℕ) → length T ≡ 87380 → (c : Construct) (cs : List Construct) → Suffix (c ∷ cs) (standing B t)
+  pub spot-of : (T : List ℕ) → length T ≡ 87380 → (c : Construct) (cs : List Construct) → Suffix (c ∷ cs) (standing B t)
       → placeIn (tableAfter B T (answer t)) (length cs)
-      ≡ record { first = c .first; end = c .upTo; from = bytesBefore t (c .first); to = bytesBefore t (c .upTo - 1) }
+      ≡ spotOf t c
   spot-of T n c cs suf =
       let k : length cs < 21845 = omega (arith, suffix-length suf, few) in
       let at = table-at t T (omega (arith, few)) suf in
@@ -49,12 +51,19 @@ module _ (B : ℕ) (l s : List ℕ) (t : Tape) (e : Encodes l s t) where
       let a : getD (tableAfter B T (answer t)) (length cs * 4) 0 ≡ c .first = ap (λ (x : ℕ). getD (tableAfter B T (answer t)) x 0) z ∙ at 0 (omega arith) in
       rw (lt-leb 21845 (length cs) k, a, at 1 (omega arith), at 2 (omega arith), at 3 (omega arith))
 
+  -- its text lies there in the store
+  pub spot-spans : (c : Construct) (cs : List Construct) → Suffix (c ∷ cs) (standing B t)
+      → Spans s (bytesBefore t (c .first)) (bytesBefore t (c .upTo - 1) - bytesBefore t (c .first)) (c .text)
+  spot-spans c cs suf =
+      let x : c .text ≡ take (bytesBefore t (c .upTo - 1) - bytesBefore t (c .first)) (drop (bytesBefore t (c .first)) (store t)) = text-at t suf (texts-standing B t) in
+      record {
+        part = ap (λ (y : List ℕ). take (bytesBefore t (c .upTo - 1) - bytesBefore t (c .first)) (drop (bytesBefore t (c .first)) y)) (e .stores) ∙ sym x;
+        inside = omega (arith, bytes-within t (c .first), bytes-within t (c .upTo - 1), ap length (e .stores));
+      }
+
   listed : (T : List ℕ) → length T ≡ 87380 → Listed s (tableAfter B T (answer t)) (standing B t)
   listed T n c cs suf =
-      let p = spot-of T n c cs suf in
-      let x : c .text ≡ take (bytesBefore t (c .upTo - 1) - bytesBefore t (c .first)) (drop (bytesBefore t (c .first)) (store t)) = text-at t suf (texts-standing B t) in
-      subst (λ (q : Spot). Located s q c) (sym p)
-      (record { first = refl; end = refl; text = ap (λ (y : List ℕ). take (bytesBefore t (c .upTo - 1) - bytesBefore t (c .first)) (drop (bytesBefore t (c .first)) y)) (e .stores) ∙ sym x })
+      subst (λ (q : Spot). Located s q c) (sym (spot-of T n c cs suf)) (record { first = refl; end = refl; text = spot-spans c cs suf .part })
 
 -- a scan for constructs that answers n
 pub lists-of : (B : ℕ) (l s before after : List ℕ) (r : Scanned) (n : ℕ) → Scans B l s before after r → scannedCount r ≡ answer n → ListsOf B l s before after n
@@ -97,14 +106,14 @@ module _ (B : ℕ) (l s before after : List ℕ) (r : Checked) (w : Reaches B l 
 
 -- whether the last construct of a table ends with the last element
 pub ends-none : (table : List ℕ) (n count : ℕ) → n ≡ 0 → EndsAt table n count false
-ends-none table n count z = record { told = go }
+ends-none table n count z = record { ends = go }
   where
     go : (s : List ℕ) (t : Tape) (ds : List Construct) → Listed s table ds → n ≡ length ds → count ≡ length t → false ≡ endsWith t ds
     go s t [] l e f = refl
     go s t (c ∷ cs) l e f = absurd (omega arith)
 
 pub ends-last : (table : List ℕ) (n count : ℕ) (p : Spot) (b : Bool) → (n ≡ 0 → ⊥) → p ≡ placeIn table (n - 1) → b ≡ eqb (p .end) count → EndsAt table n count b
-ends-last table n count p b z at q = record { told = go }
+ends-last table n count p b z at q = record { ends = go }
   where
     go : (s : List ℕ) (t : Tape) (ds : List Construct) → Listed s table ds → n ≡ length ds → count ≡ length t → b ≡ endsWith t ds
     go s t [] l e f = absurd (z e)
@@ -120,7 +129,7 @@ pub fills-of : (B : ℕ) (l s before table empty reach : List ℕ) (n count : �
 fills-of B l s before table empty reach n count b x y z t e h k =
     let p = x t e h in
     let q = y t e k in
-    (record { number = p .0; listed = p .1; reaches = q .1 }, z .told s t (standing B t) (p .1) (p .0) (q .0))
+    (record { number = p .0; listed = p .1; reaches = q .1 }, z .ends s t (standing B t) (p .1) (p .0) (q .0))
 
 -- no construct of a partition begins past its end
 pub through-past : (n k : ℕ) (ds : List Construct) → Below n ds → n ≤ k → through k ds ≡ []

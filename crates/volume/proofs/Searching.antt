@@ -18,11 +18,11 @@ use Rattle.verdict.specs.Rescue.{blockOf, target, generationOf, through, cutAt,
 use Rattle.verdict.specs.Partners.{beginnings}
 use Rattle.verdict.proofs.Chains.{through-suffix, good-suffix}
 use Rattle.verdict.proofs.Orders.{firsts}
-use Rattle.volume.specs.Steps.{Told, told, toldBy, backTold, joined, Located, Listed, Generations, BeginsOf, cutIs}
+use Rattle.volume.specs.Steps.{Link, linkOf, briefLink, briefBack, joined, Located, Listed, Generations, BeginsOf, cutIs}
 use Rattle.volume.specs.declared.sound.Brief.{Brief}
 use Rattle.volume.specs.declared.search.Kept.{Kept}
 use Rattle.volume.proofs.Briefs.{joined-follows}
-use Rattle.volume.proofs.Chaining.{next-first, firsts-none, firsts-length, last-sound, told-generation, joined-sound}
+use Rattle.volume.proofs.Chaining.{next-first, firsts-none, firsts-length, last-sound, link-generation, joined-sound}
 
 -- the table has the first k constructs
 abbrev pub BeginsAt : List ℕ → ℕ → List ℕ → List ℕ → ℕ → Type 0
@@ -54,24 +54,24 @@ unfolding follows
 alone-follows v x d none e = refl
 alone-follows v x d (some y) e = rw e
 
-abbrev backIn : Option Told → Option Place
+abbrev backIn : Option Link → Option Place
 backIn none = none
 backIn (some t) = t .back
 
-back-told : (b : Brief) (x : Index) → toldBy b ≡ told (some x) → backTold b ≡ x .back
-back-told b x e =
-    split (λ k. b .sound ≡ k → backTold b ≡ x .back) (b .sound)
-    (λ u f. let z : backIn (toldBy b) ≡ backTold b = rw f in sym z ∙ ap backIn e)
+link-back : (b : Brief) (x : Index) → briefLink b ≡ linkOf (some x) → briefBack b ≡ x .back
+link-back b x e =
+    split (λ k. b .sound ≡ k → briefBack b ≡ x .back) (b .sound)
+    (λ u f. let z : backIn (briefLink b) ≡ briefBack b = rw f in sym z ∙ ap backIn e)
     (λ u f. let z : _≡_ {A = ℕ} 0 1 = cc (rw f at e) in absurd (omega arith)) refl
 
--- an index follows nothing, or the block that it points at is the one that is told
-block-told : (v : Volume) (o : Option Index) (b : Brief) → toldBy b ≡ told o → ((d : Construct) (p : Option Index) → follows v o d p ≡ false) ⊎ (target o ≡ b .block .0)
+-- an index follows nothing, or the block that it points at is that of the link
+link-block : (v : Volume) (o : Option Index) (b : Brief) → briefLink b ≡ linkOf o → ((d : Construct) (p : Option Index) → follows v o d p ≡ false) ⊎ (target o ≡ b .block .0)
 unfolding follows
-block-told v none b e = inl (λ d p. refl)
-block-told v (some x) b e =
+link-block v none b e = inl (λ d p. refl)
+link-block v (some x) b e =
     split (λ k. b .back ≡ k → ((d : Construct) (p : Option Index) → follows v (some x) d p ≡ false) ⊎ (target (some x) ≡ b .block .0)) (b .back)
-    (λ u f. let z : blockOf (backTold b) ≡ b .block .0 = rw f in inr (ap blockOf (sym (back-told b x e)) ∙ z))
-    (λ u f. let z : backTold b ≡ none = rw f in inl (λ d p. alone-follows v x d p (sym (back-told b x e) ∙ z))) refl
+    (λ u f. let z : blockOf (briefBack b) ≡ b .block .0 = rw f in inr (ap blockOf (sym (link-back b x e)) ∙ z))
+    (λ u f. let z : briefBack b ≡ none = rw f in inl (λ d p. alone-follows v x d p (sym (link-back b x e) ∙ z))) refl
 
 no-length : {A : Type 0} (l : List A) → length l ≡ 0 → l ≡ []
 no-length [] e = refl
@@ -119,10 +119,10 @@ module _ (v : Volume) (li ld : List ℕ) (c : Construct) (bs : List Construct) w
   attempt-not [] h = refl
   attempt-not (d ∷ ds) h = rw (h d (readData v d))
 
-  module _ (ds : List Construct) (b : Brief) (e : toldBy b ≡ told (readIndex v c)) where
+  module _ (ds : List Construct) (b : Brief) (e : briefLink b ≡ linkOf (readIndex v c)) where
     -- no construct of the chain begins where it points
     pub try-nowhere : length (through (b .block .0) ds) ≡ 0 → attempt v li ld c bs (through (target (readIndex v c)) ds) ≡ none
-    try-nowhere z = go (block-told v (readIndex v c) b e)
+    try-nowhere z = go (link-block v (readIndex v c) b e)
       where
         go : ((d : Construct) (p : Option Index) → follows v (readIndex v c) d p ≡ false) ⊎ (target (readIndex v c) ≡ b .block .0)
             → attempt v li ld c bs (through (target (readIndex v c)) ds) ≡ none
@@ -130,24 +130,24 @@ module _ (v : Volume) (li ld : List ℕ) (c : Construct) (bs : List Construct) w
         go (inr q) = ap (λ (k : ℕ). attempt v li ld c bs (through k ds)) q ∙ ap (attempt v li ld c bs) (no-length (through (b .block .0) ds) z)
 
     module _ (gens s td : List ℕ) (j : ℕ) (p : Partner v ds gens s td (b .block .0) j) (at generation : ℕ) (f : at ≡ p .one .first) (g : generation ≡ p .index .generation) where
-      follows-by : joined (toldBy b) (v .dataLetter) at generation ≡ follows v (readIndex v c) (p .one) (readData v (p .one))
+      follows-by : joined (briefLink b) (v .dataLetter) at generation ≡ follows v (readIndex v c) (p .one) (readData v (p .one))
       follows-by = rw (e, f, g) (joined-follows v (readIndex v c) (p .one) (readData v (p .one)) (p .index) (p .reads))
 
       through-target : target (readIndex v c) ≡ b .block .0 → through (target (readIndex v c)) ds ≡ p .one ∷ p .before
       through-target q = ap (λ (k : ℕ). through k ds) q ∙ p .is
 
       -- it does not follow the one that does
-      pub try-apart : joined (toldBy b) (v .dataLetter) at generation ≡ false → attempt v li ld c bs (through (target (readIndex v c)) ds) ≡ none
-      try-apart n = go (block-told v (readIndex v c) b e)
+      pub try-apart : joined (briefLink b) (v .dataLetter) at generation ≡ false → attempt v li ld c bs (through (target (readIndex v c)) ds) ≡ none
+      try-apart n = go (link-block v (readIndex v c) b e)
         where
           go : ((d : Construct) (p : Option Index) → follows v (readIndex v c) d p ≡ false) ⊎ (target (readIndex v c) ≡ b .block .0)
               → attempt v li ld c bs (through (target (readIndex v c)) ds) ≡ none
           go (inl h) = attempt-not (through (target (readIndex v c)) ds) h
           go (inr q) = ap (attempt v li ld c bs) (through-target q) ∙ rw (sym follows-by ∙ n)
 
-      module _ (n : joined (toldBy b) (v .dataLetter) at generation ≡ true) where
+      module _ (n : joined (briefLink b) (v .dataLetter) at generation ≡ true) where
         found-there : through (target (readIndex v c)) ds ≡ p .one ∷ p .before
-        found-there = go (block-told v (readIndex v c) b e)
+        found-there = go (link-block v (readIndex v c) b e)
           where
             go : ((d : Construct) (p : Option Index) → follows v (readIndex v c) d p ≡ false) ⊎ (target (readIndex v c) ≡ b .block .0)
                 → through (target (readIndex v c)) ds ≡ p .one ∷ p .before
@@ -167,5 +167,5 @@ module _ (v : Volume) (li ld : List ℕ) (c : Construct) (bs : List Construct) w
         pub try-cut : (k : Kept) → k .«index_construct» ≡ length bs → k .«data_construct» ≡ j - 1 → k .«index_kept» ≡ c .upTo → k .«data_kept» ≡ p .one .upTo
             → k .generation .0 ≡ b .generation .0 → cutIs k ≡ cutAt v c bs (p .one) (p .before)
         try-cut k a₁ a₂ a₃ a₄ a₅ =
-            let x : b .generation .0 ≡ generationOf (readIndex v c) = told-generation (readIndex v c) b e (joined-sound b (v .dataLetter) at generation n) in
+            let x : b .generation .0 ≡ generationOf (readIndex v c) = link-generation (readIndex v c) b e (joined-sound b (v .dataLetter) at generation n) in
             rw (a₁, a₂, a₃, a₄, a₅, x, p .number)

@@ -19,24 +19,24 @@ use Rattle.verdict.specs.Verdict.{Index, Volume, readIndex, badFileIn}
 use Rattle.verdict.specs.Rescue.{cutAmong}
 use Rattle.verdict.proofs.Orders.{firsts, firsts-all, search-on, search-found}
 use Rattle.volume.specs.Volume.{soundly, volumeWith}
-use Rattle.volume.specs.Steps.{told, toldBy, joined, textIn, Located, ReachTable, Ready, lostFile, Loses, Fitting, apart, losing, fitting, cutIs, Tries, Searches}
+use Rattle.volume.specs.Steps.{linkOf, briefLink, joined, textIn, Located, ReachTable, Ready, lostFile, Loses, Fitting, apart, losing, fitting, cutIs, Tries, Searches}
 use Rattle.volume.specs.declared.sound.Brief.{Brief}
 use Rattle.volume.specs.declared.lost.Lost.{Lost}
 use Rattle.volume.specs.declared.search.Kept.{Kept}
 use Rattle.volume.specs.declared.search.Tried.{Tried}
 use Rattle.volume.specs.declared.search.Tried.the-variants.{Fits, Fails}
-use Rattle.volume.proofs.Chaining.{told-at, located-at, next-first, firsts-none, firsts-length, joined-sound}
+use Rattle.volume.proofs.Chaining.{link-placed, located-at, next-first, firsts-none, firsts-length, joined-sound}
 use Rattle.volume.proofs.Searching.{Partner, partner, try-nowhere, try-apart, try-lost, try-fits, try-cut}
 use Rattle.volume.proofs.Extents.{lost-same}
 
--- an index of which something is told reads
-sound-answer : (a : Answer text.Index) (b : Brief) → toldBy b ≡ told (soundly a) → b .sound ≡ true → (x : text.Index) × (a ≡ answer x)
+-- an index that has a link reads
+sound-answer : (a : Answer text.Index) (b : Brief) → briefLink b ≡ linkOf (soundly a) → b .sound ≡ true → (x : text.Index) × (a ≡ answer x)
 sound-answer (refused r) b e f = let z : _≡_ {A = ℕ} 0 1 = cc (rw f at e) in absurd (omega arith)
 sound-answer (answer x) b e f = (x, refl)
 
 -- of an index that reads: by the tables and by the definition the same file is lost
 pub lost-located : (u : List ℕ) (w : Letters) (is ds : List ℕ) (li ld ri rd : List ℕ) (here there : Spot) (t : List ℕ) (b : Brief) (c d : Construct)
-    → t ≡ textIn is here → toldBy b ≡ told (soundly (indexOf (given u w) (w .first) (here .first) t)) → Located is here c → Located ds there d
+    → t ≡ textIn is here → briefLink b ≡ linkOf (soundly (indexOf (given u w) (w .first) (here .first) t)) → Located is here c → Located ds there d
     → ReachTable (w .size) li ri → ReachTable (w .size) ld rd → c .upTo ≤ length li → d .upTo ≤ length ld
     → (lost : Lost) → Loses t w ri (here .end) rd (there .end) lost → b .sound ≡ true
     → badFileIn (volumeWith (given u w)) (readIndex (volumeWith (given u w)) c) (take (c .upTo) li) (take (d .upTo) ld) ≡ lostFile lost
@@ -52,15 +52,15 @@ lost-located u w is ds li ld ri rd here there t b c d is-text reads p q hi hd fi
     ∙ ap (λ (y : ℕ). badFileIn (volumeWith (given u w)) (readIndex (volumeWith (given u w)) c) (take (c .upTo) li) (take y ld)) (q .end))
 
 module _ (u : List ℕ) (w : Letters) (is ti : List ℕ) (k : ℕ) (td gens begins ri rd : List ℕ) (here : Spot) (t : List ℕ) (b : Brief)
-    (at-here : here ≡ placeIn ti k) (is-text : t ≡ textIn is here) (reads : toldBy b ≡ told (soundly (indexOf (given u w) (w .first) (here .first) t))) where
+    (at-here : here ≡ placeIn ti k) (is-text : t ≡ textIn is here) (reads : briefLink b ≡ linkOf (soundly (indexOf (given u w) (w .first) (here .first) t))) where
   v : Volume
   v = volumeWith (given u w)
 
   module _ (cs ds : List Construct) (li ld : List ℕ) (r : Ready v is ti td gens begins ri rd cs ds li ld) (c : Construct) (bs : List Construct)
       (suf : Suffix (c ∷ bs) cs) (n : length bs ≡ k) where
-    told-here : toldBy b ≡ told (readIndex v c)
+    link-here : briefLink b ≡ linkOf (readIndex v c)
     unfolding v
-    told-here = told-at (given u w) is ti (w .first) k here t b at-here is-text reads c bs (r .index c bs suf) n
+    link-here = link-placed (given u w) is ti (w .first) k here t b at-here is-text reads c bs (r .index c bs suf) n
 
     located-here : Located is here c
     located-here = located-at is ti k here c bs at-here (r .index c bs suf) n
@@ -83,24 +83,24 @@ module _ (u : List ℕ) (w : Letters) (is ti : List ℕ) (k : ℕ) (td gens begi
   pub tries-nowhere : getD begins (b .block .0) 0 ≡ 0 → Tries (given u w) w is ti k td gens begins ri rd Fails
   unfolding v
   tries-nowhere z cs ds li ld r c bs suf n =
-      sym (try-nowhere (volumeWith (given u w)) li ld c bs ds b (told-here cs ds li ld r c bs suf n) (sym (r .partners (b .block .0)) ∙ z))
+      sym (try-nowhere (volumeWith (given u w)) li ld c bs ds b (link-here cs ds li ld r c bs suf n) (sym (r .partners (b .block .0)) ∙ z))
 
   module _ (j : ℕ) (at-begin : getD begins (b .block .0) 0 ≡ j) (some-one : j ≡ 0 → ⊥) (there : Spot) (at-there : there ≡ placeIn td (j - 1))
       (generation : ℕ) (is-generation : generation ≡ getD gens (j - 1) 0) where
-    tries-apart : joined (toldBy b) (w .other) (there .first) generation ≡ false → Tries (given u w) w is ti k td gens begins ri rd Fails
+    tries-apart : joined (briefLink b) (w .other) (there .first) generation ≡ false → Tries (given u w) w is ti k td gens begins ri rd Fails
     unfolding v
     tries-apart f cs ds li ld r c bs suf n =
         let p = there-is cs ds li ld r c bs suf n j at-begin some-one in
-        sym (try-apart (volumeWith (given u w)) li ld c bs ds b (told-here cs ds li ld r c bs suf n) gens (r .ds-store) td j p (there .first) generation
+        sym (try-apart (volumeWith (given u w)) li ld c bs ds b (link-here cs ds li ld r c bs suf n) gens (r .ds-store) td j p (there .first) generation
         (located-there cs ds li ld r c bs suf n j at-begin some-one there at-there .first) (is-generation ∙ p .generation) f)
 
-    module _ (f : joined (toldBy b) (w .other) (there .first) generation ≡ true) (lost : Lost) (l : Loses t w ri (here .end) rd (there .end) lost) where
+    module _ (f : joined (briefLink b) (w .other) (there .first) generation ≡ true) (lost : Lost) (l : Loses t w ri (here .end) rd (there .end) lost) where
       tries-lost : (m : ℕ) → lostFile lost ≡ some m → Tries (given u w) w is ti k td gens begins ri rd Fails
       unfolding v
       tries-lost m e cs ds li ld r c bs suf n =
           let p = there-is cs ds li ld r c bs suf n j at-begin some-one in
           let s = joined-sound b (w .other) (there .first) generation f in
-          sym (try-lost (volumeWith (given u w)) li ld c bs ds b (told-here cs ds li ld r c bs suf n) gens (r .ds-store) td j p (there .first) generation
+          sym (try-lost (volumeWith (given u w)) li ld c bs ds b (link-here cs ds li ld r c bs suf n) gens (r .ds-store) td j p (there .first) generation
           (located-there cs ds li ld r c bs suf n j at-begin some-one there at-there .first) (is-generation ∙ p .generation) f m
           (lost-here cs ds li ld r c bs suf n j at-begin some-one there at-there lost l s ∙ e))
 
@@ -112,9 +112,9 @@ module _ (u : List ℕ) (w : Letters) (is ti : List ℕ) (k : ℕ) (td gens begi
           let q = located-there cs ds li ld r c bs suf n j at-begin some-one there at-there in
           let h = located-here cs ds li ld r c bs suf n in
           let s = joined-sound b (w .other) (there .first) generation f in
-          ap some (try-cut (volumeWith (given u w)) li ld c bs ds b (told-here cs ds li ld r c bs suf n) gens (r .ds-store) td j p (there .first) generation
+          ap some (try-cut (volumeWith (given u w)) li ld c bs ds b (link-here cs ds li ld r c bs suf n) gens (r .ds-store) td j p (there .first) generation
           (q .first) (is-generation ∙ p .generation) f a (a₁ ∙ sym n) a₂ (a₃ ∙ h .end) (a₄ ∙ q .end) a₅)
-          ∙ sym (try-fits (volumeWith (given u w)) li ld c bs ds b (told-here cs ds li ld r c bs suf n) gens (r .ds-store) td j p (there .first) generation
+          ∙ sym (try-fits (volumeWith (given u w)) li ld c bs ds b (link-here cs ds li ld r c bs suf n) gens (r .ds-store) td j p (there .first) generation
           (q .first) (is-generation ∙ p .generation) f
           (lost-here cs ds li ld r c bs suf n j at-begin some-one there at-there lost l s ∙ e))
 

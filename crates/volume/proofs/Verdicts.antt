@@ -18,17 +18,17 @@ use Rattle.index_values.specs.Tests.{given}
 use Rattle.index_values.specs.declared.tests.Volume.{Volume as Letters}
 use Rattle.verdict.specs.Verdict.{Index, Volume, numbered, endsWith, readIndex, readData, follows, chainBreak, verdict}
 use Rattle.volume.specs.Volume.{soundly, volumeWith}
-use Rattle.volume.specs.Steps.{told, toldBy, joined, textIn, Located, lostFile, Loses, breakOf, lastBreak, JudgesLast}
+use Rattle.volume.specs.Steps.{linkOf, briefLink, joined, textIn, Located, lostFile, Loses, breakOf, lastBreak, JudgesLast}
 use Rattle.volume.specs.declared.sound.Brief.{Brief}
 use Rattle.volume.specs.declared.lost.Lost.{Lost}
 use Rattle.volume.specs.declared.judge.Judgement.{Judgement}
 use Rattle.volume.specs.declared.judge.Judgement.the-variants as judgementIs
 use Rattle.volume.proofs.Briefs.{joined-follows}
-use Rattle.volume.proofs.Chaining.{told-located, joined-sound}
+use Rattle.volume.proofs.Chaining.{link-located, joined-sound}
 use Rattle.volume.proofs.Trying.{lost-located}
 
 module _ (u : List ℕ) (w : Letters) (is ti : List ℕ) (k : ℕ) (td : List ℕ) (j generation : ℕ) (ri rd : List ℕ) (here there : Spot) (t : List ℕ) (b : Brief)
-    (at-here : here ≡ placeIn ti k) (is-text : t ≡ textIn is here) (reads : toldBy b ≡ told (soundly (indexOf (given u w) (w .first) (here .first) t)))
+    (at-here : here ≡ placeIn ti k) (is-text : t ≡ textIn is here) (reads : briefLink b ≡ linkOf (soundly (indexOf (given u w) (w .first) (here .first) t)))
     (at-there : there ≡ placeIn td j) where
   abbrev v : Volume
   v = volumeWith (given u w)
@@ -41,17 +41,17 @@ module _ (u : List ℕ) (w : Letters) (is ti : List ℕ) (k : ℕ) (td : List �
     located-there : Located ds there d
     located-there = subst (λ (x : Spot). Located ds x d) (sym at-there) ld
 
-    follows-by : joined (toldBy b) (w .other) (there .first) generation ≡ follows v (readIndex v c) d (readData v d)
+    follows-by : joined (briefLink b) (w .other) (there .first) generation ≡ follows v (readIndex v c) d (readData v d)
     follows-by =
-        rw (told-located (given u w) is (w .first) here t b is-text reads c located-here, located-there .first, g)
+        rw (link-located (given u w) is (w .first) here t b is-text reads c located-here, located-there .first, g)
         (joined-follows v (readIndex v c) d (readData v d) y r)
 
   -- the index partition's last index does not follow the data partition's last
-  pub judges-apart : joined (toldBy b) (w .other) (there .first) generation ≡ false → JudgesLast (given u w) is ti k td j generation ri rd (judgementIs.Broken 4 k)
+  pub judges-apart : joined (briefLink b) (w .other) (there .first) generation ≡ false → JudgesLast (given u w) is ti k td j generation ri rd (judgementIs.Broken 4 k)
   judges-apart f ds c d li ld lc lcd y r g hi hd ei ed = rw (sym (follows-by ds c d lc lcd y r g) ∙ f)
 
   -- it does; then the lowest file with an extent that is lost
-  module _ (f : joined (toldBy b) (w .other) (there .first) generation ≡ true) (lost : Lost) (l : Loses t w ri (here .end) rd (there .end) lost) where
+  module _ (f : joined (briefLink b) (w .other) (there .first) generation ≡ true) (lost : Lost) (l : Loses t w ri (here .end) rd (there .end) lost) where
     pub judges-lost : (a : Judgement) → breakOf a ≡ numbered 5 (lostFile lost) → JudgesLast (given u w) is ti k td j generation ri rd a
     judges-lost a e ds c d li ld lc lcd y r g hi hd ei ed =
         let s = joined-sound b (w .other) (there .first) generation f in

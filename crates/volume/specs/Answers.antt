@@ -37,11 +37,11 @@ module _ (il is dl ds : List ℕ) where
     pub dataTape : tapeIn dl ds ≡ answer d
     pub agree : labels i d ≡ some v
 
-  -- what demand 3 asks of the cut that is told, if one is
+  -- what demand 3 asks of the cut that is answered, if one is
   abbrev pub RescueOwes : Option Cut → Type 0
-  RescueOwes told = (i d : Tape) (v : Volume) → Premises i d v → Demand3 labels v i d told
+  RescueOwes cut = (i d : Tape) (v : Volume) → Premises i d v → Demand3 labels v i d cut
 
-  -- what it asks of the verdict, noBreak being that none is told
+  -- what it asks of the verdict, noBreak being that none is answered
   abbrev pub VerdictOwes : Type 0 → Type 0
   VerdictOwes noBreak = (i d : Tape) (v : Volume) → Premises i d v → Verdict3 labels v i d noBreak (cutOf (rescueIn il is dl ds))
 

@@ -15,6 +15,7 @@ use Rattle.index.specs.Index.{indexOf}
 use Rattle.index_values.specs.Tests.{Given}
 use Rattle.index_values.specs.declared.tests.Volume.{Volume as Letters}
 use Rattle.tape.specs.Tape.{Tape, Encodes, maxElements}
+use Rattle.tape.specs.Answers.{bytesBefore}
 use Rattle.constructs.specs.Constructs.{Construct, standing, dataLengths}
 use Rattle.constructs.specs.Tables.{placeIn, tableLength}
 use Rattle.constructs.specs.Reach.{reaches, liesBy}
@@ -40,6 +41,10 @@ use Rattle.volume.specs.declared.chains.Linked.{Linked}
 abbrev pub textIn : List ℕ → Spot → List ℕ
 textIn s p = take (p .to - p .from) (drop (p .from) s)
 
+-- the spot of a construct of a tape: its text begins behind the bytes of the blocks before it, and ends before its closing mark
+abbrev pub spotOf : Tape → Construct → Spot
+spotOf t c = record { first = c .first; end = c .upTo; from = bytesBefore t (c .first); to = bytesBefore t (c .upTo - 1) }
+
 -- a construct lies at a spot of the store
 pub record Located (s : List ℕ) (p : Spot) (c : Construct) : Type 0 where
   pub first : p .first ≡ c .first
@@ -50,23 +55,23 @@ pub record Located (s : List ℕ) (p : Spot) (c : Construct) : Type 0 where
 abbrev pub Listed : List ℕ → List ℕ → List Construct → Type 0
 Listed s table ds = (c : Construct) (cs : List Construct) → Suffix (c ∷ cs) ds → Located s (placeIn table (length cs)) c
 
--- what is told of an index besides its files: nothing where it is not sound
-pub record Told : Type 0 where
+-- how an index stands in the chain: its generation and its back pointer; none of an index that is not sound
+pub record Link : Type 0 where
   pub generation : ℕ
   pub back : Option Place
 
-abbrev pub told : Option Index → Option Told
-told none = none
-told (some x) = some (record { generation = x .generation; back = x .back })
+abbrev pub linkOf : Option Index → Option Link
+linkOf none = none
+linkOf (some x) = some (record { generation = x .generation; back = x .back })
 
-abbrev pub backTold : Brief → Option Place
-backTold b = cond (b .back) (some (record { letter = b .letter; block = b .block .0 })) none
+abbrev pub briefBack : Brief → Option Place
+briefBack b = cond (b .back) (some (record { letter = b .letter; block = b .block .0 })) none
 
-abbrev pub toldBy : Brief → Option Told
-toldBy b = cond (b .sound) (some (record { generation = b .generation .0; back = backTold b })) none
+abbrev pub briefLink : Brief → Option Link
+briefLink b = cond (b .sound) (some (record { generation = b .generation .0; back = briefBack b })) none
 
 -- a sound index points at a construct of that partition with that first block, and has no lower generation
-abbrev pub joined : Option Told → ℕ → ℕ → ℕ → Bool
+abbrev pub joined : Option Link → ℕ → ℕ → ℕ → Bool
 joined none letter first generation = false
 joined (some x) letter first generation = isAt (x .back) letter first && leb generation (x .generation)
 
@@ -124,10 +129,10 @@ Loses t w ri ki rd kd r =
 -- whether an index that has the text t and says b follows the construct at there, and by the tables its extents all lie on the ki elements
 -- of its partition and on those of the other up to that construct's end
 pub data Fitting (t : List ℕ) (b : Brief) (w : Letters) (ki : ℕ) (there : Spot) (generation : ℕ) (ri rd : List ℕ) (r : Bool) : Type 0 where
-  apart : r ≡ false → joined (toldBy b) (w .other) (there .first) generation ≡ false → Fitting t b w ki there generation ri rd r
-  losing : (l : Lost) (m : ℕ) → r ≡ false → joined (toldBy b) (w .other) (there .first) generation ≡ true → Loses t w ri ki rd (there .end) l
+  apart : r ≡ false → joined (briefLink b) (w .other) (there .first) generation ≡ false → Fitting t b w ki there generation ri rd r
+  losing : (l : Lost) (m : ℕ) → r ≡ false → joined (briefLink b) (w .other) (there .first) generation ≡ true → Loses t w ri ki rd (there .end) l
       → lostFile l ≡ some m → Fitting t b w ki there generation ri rd r
-  fitting : (l : Lost) → r ≡ true → joined (toldBy b) (w .other) (there .first) generation ≡ true → Loses t w ri ki rd (there .end) l
+  fitting : (l : Lost) → r ≡ true → joined (briefLink b) (w .other) (there .first) generation ≡ true → Loses t w ri ki rd (there .end) l
       → lostFile l ≡ none → Fitting t b w ki there generation ri rd r
 
 -- a table of how far data blocks reach, by the lengths of a partition's data blocks
@@ -186,7 +191,7 @@ ReachesOf B l s before after n =
 
 -- a table's last construct of n ends with the last of so many elements
 pub record EndsAt (table : List ℕ) (n count : ℕ) (r : Bool) : Type 0 where
-  pub told : (s : List ℕ) (t : Tape) (ds : List Construct) → Listed s table ds → n ≡ length ds → count ≡ length t → r ≡ endsWith t ds
+  pub ends : (s : List ℕ) (t : Tape) (ds : List Construct) → Listed s table ds → n ≡ length ds → count ≡ length t → r ≡ endsWith t ds
 
 -- the tables of a partition: its n standing constructs, and how far data blocks reach
 pub record Held (B : ℕ) (s : List ℕ) (t : Tape) (table : List ℕ) (n : ℕ) (reach : List ℕ) : Type 0 where

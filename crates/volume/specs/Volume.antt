@@ -22,7 +22,7 @@ rowsOfEach (f ∷ fs) = f .rows ∷ rowsOfEach fs
 
 -- what the verdict asks of an index
 abbrev pub asked : text.Index → Index
-asked x = record { generation = x .generation; back = x .back; files = rowsOfEach (x .files) }
+asked x = record { generation = x .heading .generation; back = x .heading .back; files = rowsOfEach (x .files) }
 
 -- sound: it reads without refusal
 abbrev pub soundly : Answer text.Index → Option Index

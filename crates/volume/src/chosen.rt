@@ -8,9 +8,8 @@ use index::Read;
 use index_values::Volume;
 use quantities::BlockNumber;
 use refusals::Refusal;
-ghost use mathlib.Core.Path.{_≡_};
 ghost use Rattle.index_values.specs.Tests.{given};
-ghost use Rattle.volume.specs.Chosen.{chosenIn, chosenBy, ReadsPlace};
+ghost use Rattle.volume.specs.Chosen.{chosenIn, Chooses, ReadsPlace};
 
 // Where the construct lies, and its index's header, whose places are those of the text; or a refusal.
 pub enum Chosen {
@@ -38,7 +37,7 @@ pub fn read_construct(
     letter: u8,
     k: u64,
 ) -> Chosen
-    ensures { λ r. ⌜ chosenBy (now (store .entry)) r ≡ chosenIn (given (now (uuid .entry)) volume) letter k (now (list .entry)) (now (store .entry)) ⌝ }
+    ensures { λ r. ⌜ Chooses (now (store .entry)) (chosenIn (given (now (uuid .entry)) volume) letter k (now (list .entry)) (now (store .entry))) r ⌝ }
 {
     if !index::is_caller_right(uuid, volume, letter) {
         return Chosen::Refused(Refusal::Caller);

@@ -9,7 +9,7 @@ ghost use Prim.Native.Nat.{_-_};
 ghost use Rattle.index_values.specs.Tests.{given};
 ghost use Rattle.index.specs.Index.{indexOf};
 ghost use Rattle.volume.specs.Volume.{soundly};
-ghost use Rattle.volume.specs.Steps.{told, toldBy, joined, textIn};
+ghost use Rattle.volume.specs.Steps.{linkOf, briefLink, joined, textIn};
 
 // Whether an index is sound; if so, its generation, and its back pointer if it has one.
 pub struct Brief {
@@ -22,7 +22,7 @@ pub struct Brief {
 
 // The index at a partition letter and the number of its first block.
 pub fn read_brief(text: &[u8], uuid: &[u8], volume: Volume, letter: u8, block: BlockNumber) -> Brief
-    ensures { λ r. ⌜ toldBy r ≡ told (soundly (indexOf (given (now (uuid .entry)) volume) letter (block .0) (now (text .entry)))) ⌝ }
+    ensures { λ r. ⌜ briefLink r ≡ linkOf (soundly (indexOf (given (now (uuid .entry)) volume) letter (block .0) (now (text .entry)))) ⌝ }
 {
     match index::read_index(text, uuid, volume, letter, block) {
         Read::Refused(_) => Brief {
@@ -48,7 +48,7 @@ pub fn read_brief(text: &[u8], uuid: &[u8], volume: Volume, letter: u8, block: B
 
 // Whether an index points at a construct of the data partition and has no lower generation than its index.
 pub fn joins(b: Brief, letter: u8, first: BlockNumber, generation: Generation) -> bool
-    ensures { λ r. ⌜ r ≡ joined (toldBy b) letter (first .0) (generation .0) ⌝ }
+    ensures { λ r. ⌜ r ≡ joined (briefLink b) letter (first .0) (generation .0) ⌝ }
 {
     if !b.sound {
         return false;
@@ -84,7 +84,7 @@ pub fn text_at(store: &[u8], place: Place) -> &[u8]
 
 // The index of the construct at a place of the store, in the partition with that letter.
 pub fn brief_at(store: &[u8], uuid: &[u8], volume: Volume, letter: u8, place: Place) -> Brief
-    ensures { λ r. ⌜ toldBy r ≡ told (soundly (indexOf (given (now (uuid .entry)) volume) letter (place .first) (textIn (now (store .entry)) place))) ⌝ }
+    ensures { λ r. ⌜ briefLink r ≡ linkOf (soundly (indexOf (given (now (uuid .entry)) volume) letter (place .first) (textIn (now (store .entry)) place))) ⌝ }
 {
     read_brief(
         text_at(store, place),

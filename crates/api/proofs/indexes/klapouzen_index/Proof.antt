@@ -1,8 +1,8 @@
 -- `klapouzen_index` meets its contract: the construct's place and its index's header, in numbers.
 use Rattle.api.proofs.Headers.{says-construct}
 use Rattle.api.proofs.Showing.{not-told}
-use Rattle.volume.specs.Chosen.{chosenBy}
-use mathlib.Core.Path.{refl, sym, ap, _∙_}
+use Rattle.volume.specs.Chosen.{chosenBy, Chooses}
+use mathlib.Core.Path.{sym, subst, ap, _∙_}
 use borrow.Author.Needs.{needs}
 use Rattle.api.proofs.indexes.klapouzen_index.Statement.{statement}
 use Rattle.api.proofs.indexes.klapouzen_index.Tie as tie
@@ -23,10 +23,10 @@ number-requires : tie.Need-number-requires
 number-requires c κs = search needs
 
 returns : tie.Need-returns
-returns c = says-construct (c .before .before .before .before .before .before .before .before .args .store .now) _ (c .before .before .p .given .0 .0) (c .before .before .p .given .0 .1 .0) (ap (chosenBy (c .before .before .before .before .before .before .before .before .args .store .now)) (sym (c .before .before .p .given .1)) ∙ c .before .before .before .before .read-construct .ensures) (c .in-place .ensures (c .before .before .before .before .before .before .before .before .args .store .now) refl)
+returns c = says-construct (c .before .before .before .before .before .before .before .before .args .store .now) _ (c .before .before .p .given .0 .0) (c .before .before .p .given .0 .1 .0) (subst (Chooses (c .before .before .before .before .before .before .before .before .args .store .now) _) (c .before .before .p .given .1) (c .before .before .before .before .read-construct .ensures)) (c .in-place .ensures)
 
 returns-2 : tie.Need-returns-2
-returns-2 c = not-told (c .before .before .before .r .given .0 .0) (ap (chosenBy (c .before .before .before .before .before .before .before .before .before .args .store .now)) (sym (c .before .before .before .r .given .1)) ∙ c .before .before .before .before .before .read-construct .ensures) (c .number .ensures)
+returns-2 c = not-told (c .before .before .before .r .given .0 .0) (ap (chosenBy (c .before .before .before .before .before .before .before .before .before .args .store .now)) (sym (c .before .before .before .r .given .1)) ∙ c .before .before .before .before .before .read-construct .ensures .answers) (c .number .ensures)
 
 pub klapouzen-index-spec : {M : Type 1} → statement M
 klapouzen-index-spec =

@@ -1,6 +1,6 @@
 -- `klapouzen_read_index` meets its contract: what the reader answers, in numbers.
-use mathlib.Core.Path.{sym, _∙_, ap}
-use Rattle.index.specs.Index.{saying, told}
+use mathlib.Core.Path.{sym, subst, _∙_, ap}
+use Rattle.index.specs.Index.{means, summary, ReadsIndex}
 use Rattle.api.proofs.Showing.{not-told}
 use Rattle.index_files.proofs.Mapped.{mapped-refused}
 use Rattle.api.proofs.Headers.{says-index}
@@ -14,9 +14,6 @@ read-index-requires c κs = search needs
 enum-known-h : tie.Need-enum-known-h
 enum-known-h c = search needs
 
-inside-requires : tie.Need-inside-requires
-inside-requires c κs = search needs
-
 in-numbers-requires : tie.Need-in-numbers-requires
 in-numbers-requires c κs = search needs
 
@@ -27,10 +24,10 @@ number-requires : tie.Need-number-requires
 number-requires c κs = search needs
 
 returns : tie.Need-returns
-returns c = says-index (c .before .before .before .before .before .before .before .before .args .text .now) _ (c .before .before .before .h .given .0 .0) (c .before .inside .result) (ap (saying (c .before .before .before .before .before .before .before .before .args .text .now)) (sym (c .before .before .before .h .given .1)) ∙ c .before .before .before .before .before .read-index .ensures) (c .before .inside .ensures) (c .in-numbers .ensures)
+returns c = says-index (c .before .before .before .before .before .before .before .args .text .now) _ (c .before .before .h .given .0 .0) (subst (ReadsIndex (c .before .before .before .before .before .before .before .args .text .now) _) (c .before .before .h .given .1) (c .before .before .before .before .read-index .ensures)) (c .in-numbers .ensures)
 
 returns-2 : tie.Need-returns-2
-returns-2 c = not-told (c .before .before .before .r .given .0 .0) (mapped-refused told _ _ (ap (saying (c .before .before .before .before .before .before .before .before .args .text .now)) (sym (c .before .before .before .r .given .1)) ∙ c .before .before .before .before .before .read-index .ensures)) (c .number .ensures)
+returns-2 c = not-told (c .before .before .before .r .given .0 .0) (mapped-refused summary _ _ (ap (means (c .before .before .before .before .before .before .before .before .args .text .now)) (sym (c .before .before .before .r .given .1)) ∙ c .before .before .before .before .before .read-index .ensures .answers)) (c .number .ensures)
 
 pub klapouzen-read-index-spec : {M : Type 1} → statement M
 klapouzen-read-index-spec =
@@ -38,7 +35,6 @@ klapouzen-read-index-spec =
     (tie.spec
     read-index-requires
     enum-known-h
-    inside-requires
     in-numbers-requires
     enum-known-r
     number-requires

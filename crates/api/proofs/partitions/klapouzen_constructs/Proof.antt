@@ -19,7 +19,7 @@ returns : tie.Need-returns
 returns c =
     let a = c .before .before .before .before .before .args in
     let e = sym (c .before .before .is-block-size .ensures) ∙ not-true _ (c .before .if1 .taken) in
-    (not-shown Caller (unsized-count (a .block-size) (a .list .now) (a .store .now) e) (c .number .ensures), unsized-table (a .block-size) (a .list .now) (a .store .now) (a .table .now) e)
+    record { answers = not-shown Caller (unsized-count (a .block-size) (a .list .now) (a .store .now) e) (c .number .ensures); table = unsized-table (a .block-size) (a .list .now) (a .store .now) (a .table .now) e }
 
 scan-requires : tie.Need-scan-requires
 scan-requires c κs = search needs
@@ -37,13 +37,13 @@ returns-2 : tie.Need-returns-2
 returns-2 c =
     let a = c .before .before .before .before .before .before .before .before .before .args in
     let e = sym (c .before .before .before .before .before .before .is-block-size .ensures) ∙ not-false _ (c .before .before .before .before .before .if1 .left) in
-    (shown (c .before .n .given .0 .0) (ap scannedCount (sym (c .before .n .given .1)) ∙ c .before .before .before .scan .ensures .answers ∙ sized-count (a .block-size) (a .list .now) (a .store .now) e), c .before .before .before .scan .ensures .holds ∙ sized-table (a .block-size) (a .list .now) (a .store .now) (a .table .now) e)
+    record { answers = shown (c .before .n .given .0 .0) (ap scannedCount (sym (c .before .n .given .1)) ∙ c .before .before .before .scan .ensures .answers ∙ sized-count (a .block-size) (a .list .now) (a .store .now) e); table = c .before .before .before .scan .ensures .holds ∙ sized-table (a .block-size) (a .list .now) (a .store .now) (a .table .now) e }
 
 returns-3 : tie.Need-returns-3
 returns-3 c =
     let a = c .before .before .before .before .before .before .before .before .before .before .args in
     let e = sym (c .before .before .before .before .before .before .before .is-block-size .ensures) ∙ not-false _ (c .before .before .before .before .before .before .if1 .left) in
-    (not-shown (c .before .before .r .given .0 .0) (ap scannedCount (sym (c .before .before .r .given .1)) ∙ c .before .before .before .before .scan .ensures .answers ∙ sized-count (a .block-size) (a .list .now) (a .store .now) e) (c .number2 .ensures), c .before .before .before .before .scan .ensures .holds ∙ sized-table (a .block-size) (a .list .now) (a .store .now) (a .table .now) e)
+    record { answers = not-shown (c .before .before .r .given .0 .0) (ap scannedCount (sym (c .before .before .r .given .1)) ∙ c .before .before .before .before .scan .ensures .answers ∙ sized-count (a .block-size) (a .list .now) (a .store .now) e) (c .number2 .ensures); table = c .before .before .before .before .scan .ensures .holds ∙ sized-table (a .block-size) (a .list .now) (a .store .now) (a .table .now) e }
 
 pub klapouzen-constructs-spec : {M : Type 1} → statement M
 klapouzen-constructs-spec =

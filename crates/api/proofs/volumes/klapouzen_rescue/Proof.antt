@@ -1,7 +1,7 @@
 -- `klapouzen_rescue` meets its contract: the cut in numbers, and demand 3 of them.
-use mathlib.Core.Path.{sym, _∙_, ap}
-use Rattle.volume.specs.Answers.{rescued}
-use Rattle.api.proofs.Demands.{rescues-out}
+use mathlib.Core.Path.{refl, subst}
+use Rattle.volume.specs.Answers.{Rescues}
+use Rattle.volume.specs.declared.answers.Rescue.the-variants.{Cut, Refused}
 use Rattle.api.proofs.Showing.{shown, not-shown}
 use borrow.Author.Needs.{needs}
 use Rattle.api.proofs.volumes.klapouzen_rescue.Statement.{statement}
@@ -20,10 +20,10 @@ number-requires : tie.Need-number-requires
 number-requires c κs = search needs
 
 returns : tie.Need-returns
-returns c = rescues-out (shown _ (ap rescued (sym (c .before .before .k .given .1)) ∙ c .before .before .before .before .find-cut .ensures .answers))
+returns c = record { rescue = Cut (c .before .before .k .given .0 .0); rescues = subst (Rescues _ _ _ _) (c .before .before .k .given .1) (c .before .before .before .before .find-cut .ensures); shows = shown _ refl }
 
 returns-2 : tie.Need-returns-2
-returns-2 c = rescues-out (not-shown (c .before .before .before .r .given .0 .0) (ap rescued (sym (c .before .before .before .r .given .1)) ∙ c .before .before .before .before .before .find-cut .ensures .answers) (c .number .ensures))
+returns-2 c = record { rescue = Refused (c .before .before .before .r .given .0 .0); rescues = subst (Rescues _ _ _ _) (c .before .before .before .r .given .1) (c .before .before .before .before .before .find-cut .ensures); shows = not-shown (c .before .before .before .r .given .0 .0) refl (c .number .ensures) }
 
 pub klapouzen-rescue-spec : {M : Type 1} → statement M
 klapouzen-rescue-spec =

@@ -4,11 +4,11 @@ use mathlib.Core.List.{List}
 use Prim.Native.Nat.{ℕ}
 use native.Mathlib.Omega.{arith}
 use Rattle.xml.specs.Tree.{Forest}
-use Rattle.elements.specs.Reading.{isRow}
+use Rattle.elements.specs.Reading.{isRow, rowAt}
 use Rattle.values.specs.Values as is
 use Rattle.index_values.specs.Entries.{numberSaid}
 use Rattle.index.specs.Index.{isTrue, placeIn}
-use Rattle.index.proofs.Answers.{headed-parts}
+use Rattle.index.proofs.Answers.{same-heading, no-back-at}
 use Rattle.index_values.proofs.Seated.{generation-placed, updatetime-placed, location-placed, allow-placed, highest-placed, back-placed}
 use borrow.Author.Needs.{needs}
 use Rattle.index.proofs.read.head_from.Statement.{statement}
@@ -72,19 +72,28 @@ sub-t35 : tie.Need-sub-t35
 sub-t35 c = omega (arith, c .before .before .before .before .before .before .before .before .before .before .before .before .before .before .before .before .before .before .before .pre)
 
 returns : tie.Need-returns
-returns c k p =
-    let s = c .before .before .before .before .before .before .before .before .before .before .before .before .before .before .before .before .before .before .before .args .text .now in
-    let t = c .before .before .before .before .before .before .before .before .before .before .before .before .before .before .before .before .before .before .before .args .places .now in
-    let here = c .before .before .before .before .before .before .before .before .before .before .before .before .before .before .before .before .row-at .ensures .0 ∙ sym (location-placed s k t p) in
-    let back = c .before .before .before .before .before .before .before .before .before .before .before .before .before .before .row-at2 .ensures .0 ∙ sym (back-placed s k t p) in
-    headed-parts (c .before .before .before .before .before .before .before .before .before .before .before .before .before .before .before .before .before .before .before .args .release) k (c .before .before .before .before .before .before .before .before .before .before .before .before .before .before .before .before .before .before .before .args .entries) (c .before .before .before .before .before .before .before .before .before .before .before .before .before .before .before .before .before .before .before .args .files) (c .before .before .before .before .before .before .before .before .before .before .before .before .number-placed .result) (c .number-placed2 .result) _ _ (c .before .before .before .before .before .before .before .before .before .letter-named .result) (c .before .before .before .before .before .before .before .before .block-named .result .0) (c .before .before .before .before .before .before .letter-named2 .result) (c .before .before .before .before .before .block-named2 .result .0) (c .before .before .before .before .before .before .before .has-row .result) (c .before .before .is-true .result)
-    (c .before .before .before .before .before .before .before .before .before .before .before .before .number-placed .ensures ∙ ap numberSaid (sym (generation-placed s k t p)))
-    (c .before .before .before .before .before .before .before .before .before .before .span-at .ensures .part ∙ sym (updatetime-placed s k t p))
-    (c .before .before .before .before .before .before .before .before .before .letter-named .ensures ∙ ap (λ (f : Forest). placeIn f .letter) here) (c .before .before .before .before .before .before .before .before .block-named .ensures ∙ ap (λ (f : Forest). placeIn f .block) here)
-    (c .before .before .before .before .before .before .before .has-row .ensures ∙ ap isRow back)
-    (c .before .before .before .before .before .before .letter-named2 .ensures ∙ ap (λ (f : Forest). placeIn f .letter) back) (c .before .before .before .before .before .block-named2 .ensures ∙ ap (λ (f : Forest). placeIn f .block) back)
-    (c .before .before .is-true .ensures ∙ ap (λ (x : List ℕ). isTrue (is.boolean x)) (c .before .before .before .text-at .ensures ∙ sym (allow-placed s k t p)))
-    (c .number-placed2 .ensures ∙ ap numberSaid (sym (highest-placed s k t p))) refl
+returns c =
+    record {
+      heading = λ k p e f.
+          let s = c .before .before .before .before .before .before .before .before .before .before .before .before .before .before .before .before .before .before .before .args .text .now in
+          let t = c .before .before .before .before .before .before .before .before .before .before .before .before .before .before .before .before .before .before .before .args .places .now in
+          let here = c .before .before .before .before .before .before .before .before .before .before .before .before .before .before .before .before .row-at .ensures .0 ∙ sym (location-placed s k t p) in
+          let back = c .before .before .before .before .before .before .before .before .before .before .before .before .before .before .row-at2 .ensures .0 ∙ sym (back-placed s k t p) in
+          same-heading (c .before .before .before .before .before .before .before .before .before .before .before .before .before .before .before .before .before .before .before .args .release) k (c .before .before .before .before .before .before .before .before .before .before .before .before .before .before .before .before .before .before .before .args .entries) (c .before .before .before .before .before .before .before .before .before .before .before .before .before .before .before .before .before .before .before .args .files) (c .before .before .before .before .before .before .before .before .before .before .before .before .number-placed .result) (c .number-placed2 .result) _ _ (c .before .before .before .before .before .before .before .before .before .letter-named .result) (c .before .before .before .before .before .before .before .before .block-named .result .0) (c .before .before .before .before .before .before .letter-named2 .result) (c .before .before .before .before .before .block-named2 .result .0) (c .before .before .before .before .before .before .before .has-row .result) (c .before .before .is-true .result)
+          e f
+          (c .before .before .before .before .before .before .before .before .before .before .before .before .number-placed .ensures ∙ ap numberSaid (sym (generation-placed s k t p)))
+          (c .before .before .before .before .before .before .before .before .before .before .span-at .ensures .part ∙ sym (updatetime-placed s k t p))
+          (c .before .before .before .before .before .before .before .before .before .letter-named .ensures ∙ ap (λ (f : Forest). placeIn f .letter) here) (c .before .before .before .before .before .before .before .before .block-named .ensures ∙ ap (λ (f : Forest). placeIn f .block) here)
+          (c .before .before .before .before .before .before .before .has-row .ensures ∙ ap isRow back)
+          (c .before .before .before .before .before .before .letter-named2 .ensures ∙ ap (λ (f : Forest). placeIn f .letter) back) (c .before .before .before .before .before .block-named2 .ensures ∙ ap (λ (f : Forest). placeIn f .block) back)
+          (c .before .before .is-true .ensures ∙ ap (λ (x : List ℕ). isTrue (is.boolean x)) (c .before .before .before .text-at .ensures ∙ sym (allow-placed s k t p)))
+          (c .number-placed2 .ensures ∙ ap numberSaid (sym (highest-placed s k t p))) refl;
+      definite =
+          record {
+            time = c .before .before .before .before .before .before .before .before .before .before .span-at .ensures .inside;
+            noBack = no-back-at (rowAt (c .before .before .before .before .before .before .before .before .before .before .before .before .before .before .before .before .before .before .before .args .text .now) (c .before .before .before .before .before .before .before .before .before .before .before .before .before .before .row-at2 .result)) (c .before .before .before .before .before .before .before .has-row .result) (c .before .before .before .before .before .before .letter-named2 .result) (c .before .before .before .before .before .block-named2 .result .0) (c .before .before .before .before .before .before .before .has-row .ensures) (c .before .before .before .before .before .before .letter-named2 .ensures) (c .before .before .before .before .before .block-named2 .ensures);
+          };
+    }
 
 pub head-from-spec : {M : Type 1} → statement M
 head-from-spec =

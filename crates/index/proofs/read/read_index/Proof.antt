@@ -3,7 +3,7 @@ use mathlib.Core.Path.{ap, sym, _∙_}
 use borrow.Author.Tests.{le-leb, lt-leb, not-true, not-false}
 use Rattle.xml.specs.Machine.{isGood, inForm, outcomeOf}
 use Rattle.index_values.specs.Tests.{given}
-use Rattle.index.proofs.Answers.{index-14, index-15, index-4, index-read}
+use Rattle.index.proofs.Answers.{reads-refused, same-read, index-14, index-15, index-4, index-read}
 use borrow.Author.Needs.{needs}
 use Rattle.index.proofs.read.read_index.Statement.{statement}
 use Rattle.index.proofs.read.read_index.Tie as tie
@@ -12,10 +12,10 @@ is-caller-right-requires : tie.Need-is-caller-right-requires
 is-caller-right-requires c κs = search needs
 
 returns : tie.Need-returns
-returns c = index-14 (given (c .before .before .before .before .args .uuid .now) (c .before .before .before .before .args .volume)) (c .before .before .before .before .args .letter) (c .before .before .before .before .args .block .0) (c .before .before .before .before .args .text .now) (sym (c .before .is-caller-right .ensures) ∙ not-true _ (c .if1 .taken))
+returns c = reads-refused (index-14 (given (c .before .before .before .before .args .uuid .now) (c .before .before .before .before .args .volume)) (c .before .before .before .before .args .letter) (c .before .before .before .before .args .block .0) (c .before .before .before .before .args .text .now) (sym (c .before .is-caller-right .ensures) ∙ not-true _ (c .if1 .taken)))
 
 returns-2 : tie.Need-returns-2
-returns-2 c = index-15 (given (c .before .before .before .before .before .args .uuid .now) (c .before .before .before .before .before .args .volume)) (c .before .before .before .before .before .args .letter) (c .before .before .before .before .before .args .block .0) (c .before .before .before .before .before .args .text .now) (sym (c .before .before .is-caller-right .ensures) ∙ not-false _ (c .before .if1 .left)) (lt-leb _ _ (c .if2 .taken))
+returns-2 c = reads-refused (index-15 (given (c .before .before .before .before .before .args .uuid .now) (c .before .before .before .before .before .args .volume)) (c .before .before .before .before .before .args .letter) (c .before .before .before .before .before .args .block .0) (c .before .before .before .before .before .args .text .now) (sym (c .before .before .is-caller-right .ensures) ∙ not-false _ (c .before .if1 .left)) (lt-leb _ _ (c .if2 .taken)))
 
 check-requires : tie.Need-check-requires
 check-requires c κs = search needs
@@ -31,11 +31,11 @@ read-root-requires c κs = sym (c .before .before .check .ensures) ∙ ap outcom
 
 returns-3 : tie.Need-returns-3
 unfolding inForm
-returns-3 c = index-4 (given (c .before .before .before .before .before .before .before .before .args .uuid .now) (c .before .before .before .before .before .before .before .before .args .volume)) (c .before .before .before .before .before .before .before .before .args .letter) (c .before .before .before .before .before .before .before .before .args .block .0) (c .before .before .before .before .before .before .before .before .args .text .now) (sym (c .before .before .before .before .before .is-caller-right .ensures) ∙ not-false _ (c .before .before .before .before .if1 .left)) (le-leb _ _ (c .before .before .before .if2 .left)) (ap isGood (sym (c .before .before .check .ensures) ∙ ap outcomeOf (c .enum-told .given .1)))
+returns-3 c = reads-refused (index-4 (given (c .before .before .before .before .before .before .before .before .args .uuid .now) (c .before .before .before .before .before .before .before .before .args .volume)) (c .before .before .before .before .before .before .before .before .args .letter) (c .before .before .before .before .before .before .before .before .args .block .0) (c .before .before .before .before .before .before .before .before .args .text .now) (sym (c .before .before .before .before .before .is-caller-right .ensures) ∙ not-false _ (c .before .before .before .before .if1 .left)) (le-leb _ _ (c .before .before .before .if2 .left)) (ap isGood (sym (c .before .before .check .ensures) ∙ ap outcomeOf (c .enum-told .given .1))))
 
 returns-4 : tie.Need-returns-4
 unfolding inForm
-returns-4 c = c .read-root .ensures ∙ index-read (given (c .before .before .before .before .before .before .before .before .before .args .uuid .now) (c .before .before .before .before .before .before .before .before .before .args .volume)) (c .before .before .before .before .before .before .before .before .before .args .letter) (c .before .before .before .before .before .before .before .before .before .args .block .0) (c .before .before .before .before .before .before .before .before .before .args .text .now) (sym (c .before .before .before .before .before .before .is-caller-right .ensures) ∙ not-false _ (c .before .before .before .before .before .if1 .left)) (le-leb _ _ (c .before .before .before .before .if2 .left)) (ap isGood (sym (c .before .before .before .check .ensures) ∙ ap outcomeOf (c .before .enum-told2 .given .1)))
+returns-4 c = same-read (c .read-root .ensures) (index-read (given (c .before .before .before .before .before .before .before .before .before .args .uuid .now) (c .before .before .before .before .before .before .before .before .before .args .volume)) (c .before .before .before .before .before .before .before .before .before .args .letter) (c .before .before .before .before .before .before .before .before .before .args .block .0) (c .before .before .before .before .before .before .before .before .before .args .text .now) (sym (c .before .before .before .before .before .before .is-caller-right .ensures) ∙ not-false _ (c .before .before .before .before .before .if1 .left)) (le-leb _ _ (c .before .before .before .before .if2 .left)) (ap isGood (sym (c .before .before .before .check .ensures) ∙ ap outcomeOf (c .before .enum-told2 .given .1))))
 
 pub read-index-spec : {M : Type 1} → statement M
 read-index-spec =

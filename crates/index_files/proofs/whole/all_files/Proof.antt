@@ -2,7 +2,7 @@
 use mathlib.Core.Path.{ap, sym, _∙_}
 use native.Mathlib.Omega.{arith}
 use lib.ListN.{length}
-use Rattle.index.specs.Index.{saying}
+use Rattle.index.specs.Index.{means}
 use Rattle.index_values.specs.Tests.{given}
 use Rattle.index_files.specs.Files.{filesFrom}
 use Rattle.index_files.specs.Filling.{fitting}
@@ -25,7 +25,7 @@ returns : tie.Need-returns
 returns c =
     let a = c .before .before .before .before .before .before .before .before .before .args in
     let g = given (a .uuid .now) (a .volume) in
-    let t = ap (saying (a .text .now)) (sym (c .before .before .before .h .given .1)) ∙ c .before .before .before .before .before .read-index .ensures in
+    let t = ap (means (a .text .now)) (sym (c .before .before .before .h .given .1)) ∙ c .before .before .before .before .before .read-index .ensures .answers in
     put-as (index-found g (a .letter) (a .block .0) (a .text .now) (fitting 4 (length (a .out .now))) _ t)
     (put-short 4 (filesFrom (a .text .now) 38) (c .before .before .before .h .given .0 .0 .files) (a .out .now) (files-counted g (a .letter) (a .block .0) (a .text .now) _ t) (omega (arith, c .if1 .taken)))
 
@@ -33,14 +33,14 @@ write-files-requires : tie.Need-write-files-requires
 write-files-requires c κs =
     let a = c .before .before .before .before .before .before .before .before .before .before .args in
     let g = given (a .uuid .now) (a .volume) in
-    let t = ap (saying (a .text .now)) (sym (c .before .before .before .before .h .given .1)) ∙ c .before .before .before .before .before .before .read-index .ensures in
+    let t = ap (means (a .text .now)) (sym (c .before .before .before .before .h .given .1)) ∙ c .before .before .before .before .before .before .read-index .ensures .answers in
     omega (arith, c .before .if1 .left, files-counted g (a .letter) (a .block .0) (a .text .now) _ t)
 
 returns-2 : tie.Need-returns-2
 returns-2 c =
     let a = c .before .before .before .before .before .before .before .args in
     let g = given (a .uuid .now) (a .volume) in
-    put-refused (a .out .now) (c .before .r .given .0 .0) (index-refused g (a .letter) (a .block .0) (a .text .now) (fitting 4 (length (a .out .now))) (c .before .r .given .0 .0) (ap (saying (a .text .now)) (sym (c .before .r .given .1)) ∙ c .before .before .before .read-index .ensures))
+    put-refused (a .out .now) (c .before .r .given .0 .0) (index-refused g (a .letter) (a .block .0) (a .text .now) (fitting 4 (length (a .out .now))) (c .before .r .given .0 .0) (ap (means (a .text .now)) (sym (c .before .r .given .1)) ∙ c .before .before .before .read-index .ensures .answers))
 
 same-length : tie.Need-same-length
 same-length c = search needs
@@ -49,7 +49,7 @@ returns-3 : tie.Need-returns-3
 returns-3 c =
     let a = c .before .before .before .before .before .before .before .before .before .before .before .before .before .args in
     let g = given (a .uuid .now) (a .volume) in
-    let t = ap (saying (a .text .now)) (sym (c .before .before .before .before .before .before .before .h .given .1)) ∙ c .before .before .before .before .before .before .before .before .before .read-index .ensures in
+    let t = ap (means (a .text .now)) (sym (c .before .before .before .before .before .before .before .h .given .1)) ∙ c .before .before .before .before .before .before .before .before .before .read-index .ensures .answers in
     put-as (index-found g (a .letter) (a .block .0) (a .text .now) (fitting 4 (length (a .out .now))) _ t)
     (put-all 4 (filesFrom (a .text .now) 38) (c .before .before .before .before .before .before .before .h .given .0 .0 .files) (a .out .now) (files-counted g (a .letter) (a .block .0) (a .text .now) _ t) (omega (arith, c .before .before .before .before .if1 .left)) _ (c .before .before .write-files .ensures))
 

@@ -1,8 +1,8 @@
 -- `read_place` meets its contract.
 use Rattle.volume.proofs.Choosing.{place-found, place-refused}
 use Rattle.index_values.specs.Tests.{given}
-use Rattle.index.specs.Index.{saying}
-use mathlib.Core.Path.{sym, ap, _∙_}
+use Rattle.index.specs.Index.{ReadsIndex}
+use mathlib.Core.Path.{subst}
 use borrow.Author.Needs.{needs}
 use Rattle.volume.proofs.chosen.read_place.Statement.{statement}
 use Rattle.volume.proofs.chosen.read_place.Tie as tie
@@ -20,10 +20,10 @@ enum-known-r : tie.Need-enum-known-r
 enum-known-r c = search needs
 
 returns : tie.Need-returns
-returns c = place-found (given (c .before .before .before .before .before .before .before .args .uuid .now) (c .before .before .before .before .before .before .before .args .volume)) (c .before .before .before .before .before .before .before .args .letter) (c .before .before .before .before .before .before .before .args .store .now) (c .before .before .before .before .before .before .before .args .place) (c .before .before .before .before .text-at .result .now) (c .before .before .before .before .text-at .ensures) (c .before .h .given .0 .0) (ap (saying (c .before .before .before .before .text-at .result .now)) (sym (c .before .h .given .1)) ∙ c .before .before .before .read-index .ensures)
+returns c = place-found (given (c .before .before .before .before .before .before .before .args .uuid .now) (c .before .before .before .before .before .before .before .args .volume)) (c .before .before .before .before .before .before .before .args .letter) (c .before .before .before .before .before .before .before .args .store .now) (c .before .before .before .before .before .before .before .args .place) (c .before .before .before .before .text-at .result .now) (c .before .before .before .before .text-at .ensures) (c .before .h .given .0 .0) (subst (ReadsIndex (c .before .before .before .before .text-at .result .now) _) (c .before .h .given .1) (c .before .before .before .read-index .ensures))
 
 returns-2 : tie.Need-returns-2
-returns-2 c = place-refused (given (c .before .before .before .before .before .before .before .args .uuid .now) (c .before .before .before .before .before .before .before .args .volume)) (c .before .before .before .before .before .before .before .args .letter) (c .before .before .before .before .before .before .before .args .store .now) (c .before .before .before .before .before .before .before .args .place) (c .before .before .before .before .text-at .result .now) (c .before .before .before .before .text-at .ensures) (c .before .r .given .0 .0) (ap (saying (c .before .before .before .before .text-at .result .now)) (sym (c .before .r .given .1)) ∙ c .before .before .before .read-index .ensures)
+returns-2 c = place-refused (given (c .before .before .before .before .before .before .before .args .uuid .now) (c .before .before .before .before .before .before .before .args .volume)) (c .before .before .before .before .before .before .before .args .letter) (c .before .before .before .before .before .before .before .args .store .now) (c .before .before .before .before .before .before .before .args .place) (c .before .before .before .before .text-at .result .now) (c .before .before .before .before .text-at .ensures) (c .before .r .given .0 .0) (subst (ReadsIndex (c .before .before .before .before .text-at .result .now) _) (c .before .r .given .1) (c .before .before .before .read-index .ensures))
 
 pub read-place-spec : {M : Type 1} → statement M
 read-place-spec =
