@@ -51,5 +51,10 @@ pub record Scans (B : ℕ) (l s before after : List ℕ) (r : Scanned) : Type 0 
 -- the construct with number k of a table
 abbrev pub placeIn : List ℕ → ℕ → Place
 placeIn table k =
-    cond (leb maxConstructs k) (record { first = 0; end = 0; from = 0; to = 0 })
-    (record { first = getD table (k * 4) 0; end = getD table (k * 4 + 1) 0; from = getD table (k * 4 + 2) 0; to = getD table (k * 4 + 3) 0 })
+    cond (leb maxConstructs k) (record { first = record { 0 = 0 }; end = 0; from = 0; to = 0 })
+    (record {
+      first = record { 0 = getD table (k * 4) 0 };
+      end = getD table (k * 4 + 1) 0;
+      from = getD table (k * 4 + 2) 0;
+      to = getD table (k * 4 + 3) 0;
+    })

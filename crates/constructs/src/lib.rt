@@ -7,6 +7,7 @@ ghost use mathlib.Core.List.{[], _∷_};
 
 pub mod reach;
 
+use quantities::BlockNumber;
 use refusals::Refusal;
 use tape::Checked;
 use tape::Entry;
@@ -188,7 +189,7 @@ pub fn scan(list: &[u8], store: &[u8], block_size: usize, table: &mut [u32; NUMB
 
 // Where a construct lies: its first block, the elements through its closing mark, and where its text begins and ends in the store.
 pub struct Place {
-    pub first: usize,
+    pub first: BlockNumber,
     pub end: usize,
     pub from: usize,
     pub to: usize,
@@ -206,7 +207,7 @@ pub fn construct(table: &[u32; NUMBERS], k: usize) -> Place
 {
     if CONSTRUCTS <= k {
         return Place {
-            first: 0,
+            first: BlockNumber(0),
             end: 0,
             from: 0,
             to: 0,
@@ -214,7 +215,7 @@ pub fn construct(table: &[u32; NUMBERS], k: usize) -> Place
     }
     let i = k * 4;
     Place {
-        first: wide(table[i]),
+        first: BlockNumber(wide(table[i]) as u64),
         end: wide(table[i + 1]),
         from: wide(table[i + 2]),
         to: wide(table[i + 3]),

@@ -1,4 +1,6 @@
 // How far data blocks reach from each element of a partition on.
+use quantities::BlockNumber;
+use quantities::ByteCount;
 use refusals::Refusal;
 use tape::Checked;
 use tape::Entry;
@@ -143,22 +145,29 @@ fn blocks_before(bytes: u64, size: u64) -> u64
 }
 
 // Whether an extent lies on the first kept elements of a partition, by its table: count bytes from an offset in a first block on.
-pub fn lies(table: &[u32], block_size: u64, kept: u64, first: u64, offset: u64, count: u64) -> bool
-    ensures { λ r. ⌜ r ≡ liesBy (now (table .entry)) «block_size» kept first offset count ⌝ }
+pub fn lies(
+    table: &[u32],
+    block_size: u64,
+    kept: u64,
+    first: BlockNumber,
+    offset: ByteCount,
+    count: ByteCount,
+) -> bool
+    ensures { λ r. ⌜ r ≡ liesBy (now (table .entry)) «block_size» kept (first .0) (offset .0) (count .0) ⌝ }
 {
-    let most = entry(table, first);
-    if 4294967296 <= offset {
+    let most = entry(table, first.0);
+    if 4294967296 <= offset.0 {
         return false;
     }
-    if 4294967296 <= count {
+    if 4294967296 <= count.0 {
         return false;
     }
-    let bytes = offset + count;
+    let bytes = offset.0 + count.0;
     if most < bytes {
         return false;
     }
-    if kept <= first {
+    if kept <= first.0 {
         return false;
     }
-    blocks_before(bytes, block_size) < kept - first
+    blocks_before(bytes, block_size) < kept - first.0
 }

@@ -62,9 +62,9 @@ fn ends_by(start: u64, count: u64, limit: u64) -> bool
 }
 
 // Whether the row at a place is lawful by itself.
-fn row_lawful(rows: &[u64], at: usize, length: u64, block_size: u64) -> bool
+fn row_lawful(rows: &[u64], at: usize, length: ByteCount, block_size: u64) -> bool
     requires { ⌜ at + 5 ≤ lib.ListN.length (now rows) ⌝ }
-    ensures { λ r. ⌜ r ≡ is.rowLawful length «block_size» (rowAt (now (rows .entry)) at) ⌝ }
+    ensures { λ r. ⌜ r ≡ is.rowLawful (length .0) «block_size» (rowAt (now (rows .entry)) at) ⌝ }
 {
     let offset = rows[at + 2];
     let count = rows[at + 3];
@@ -74,7 +74,7 @@ fn row_lawful(rows: &[u64], at: usize, length: u64, block_size: u64) -> bool
     if block_size <= offset {
         return false;
     }
-    if !ends_by(rows[at + 4], count, length) {
+    if !ends_by(rows[at + 4], count, length.0) {
         return false;
     }
     let last = spot(offset, count - 1, block_size);
@@ -82,8 +82,8 @@ fn row_lawful(rows: &[u64], at: usize, length: u64, block_size: u64) -> bool
 }
 
 // Whether each row is lawful by itself.
-fn each_lawful(rows: &[u64], length: u64, block_size: u64) -> bool
-    ensures { λ r. ⌜ r ≡ is.eachLawful length «block_size» (rowsOf (now (rows .entry))) ⌝ }
+fn each_lawful(rows: &[u64], length: ByteCount, block_size: u64) -> bool
+    ensures { λ r. ⌜ r ≡ is.eachLawful (length .0) «block_size» (rowsOf (now (rows .entry))) ⌝ }
 {
     let mut i: usize = 0;
     while i < rows.len() / 5 {
@@ -154,8 +154,8 @@ fn apart(rows: &[u64]) -> bool
 }
 
 // Whether the rows of a file are lawful for its length and a block size.
-pub fn lawful(rows: &[u64], length: u64, block_size: u64) -> bool
-    ensures { λ r. ⌜ r ≡ is.lawful length «block_size» (rowsOf (now (rows .entry))) ⌝ }
+pub fn lawful(rows: &[u64], length: ByteCount, block_size: u64) -> bool
+    ensures { λ r. ⌜ r ≡ is.lawful (length .0) «block_size» (rowsOf (now (rows .entry))) ⌝ }
 {
     if !each_lawful(rows, length, block_size) {
         return false;
@@ -178,15 +178,15 @@ fn each_lettered(rows: &[u64]) -> bool
 }
 
 // Whether the row at a place has a file position.
-fn holds(rows: &[u64], at: usize, position: u64) -> bool
+fn holds(rows: &[u64], at: usize, position: ByteCount) -> bool
     requires { ⌜ at + 5 ≤ length (now rows) ⌝ }
-    ensures { λ r. ⌜ r ≡ is.inRow position (rowAt (now (rows .entry)) at) ⌝ }
+    ensures { λ r. ⌜ r ≡ is.inRow (position .0) (rowAt (now (rows .entry)) at) ⌝ }
 {
     let start = rows[at + 4];
-    if position < start {
+    if position.0 < start {
         return false;
     }
-    position - start < rows[at + 3]
+    position.0 - start < rows[at + 3]
 }
 
 fn narrow(letter: u64) -> u8
@@ -197,18 +197,18 @@ fn narrow(letter: u64) -> u8
 }
 
 // Where the byte at a position is, by lawful rows.
-fn find(rows: &[u64], length: u64, block_size: u64, position: u64) -> ByteAt
-    requires { ⌜ (lettered (rowsOf (now rows)) ≡ true) × (is.eachLawful length «block_size» (rowsOf (now rows)) ≡ true) ⌝ }
-    ensures { λ r. ⌜ saying r ≡ require (ltb position length) Missing (answer (placeOf «block_size» position (rowsOf (now (rows .entry))))) ⌝ }
+fn find(rows: &[u64], length: ByteCount, block_size: u64, position: ByteCount) -> ByteAt
+    requires { ⌜ (lettered (rowsOf (now rows)) ≡ true) × (is.eachLawful (length .0) «block_size» (rowsOf (now rows)) ≡ true) ⌝ }
+    ensures { λ r. ⌜ saying r ≡ require (ltb (position .0) (length .0)) Missing (answer (placeOf «block_size» (position .0) (rowsOf (now (rows .entry))))) ⌝ }
 {
-    if length <= position {
+    if length.0 <= position.0 {
         return ByteAt::Refused(Refusal::Missing);
     }
     let mut i: usize = 0;
     while i < rows.len() / 5 {
         let at = i * 5;
         if holds(rows, at, position) {
-            let past = spot(rows[at + 2], position - rows[at + 4], block_size);
+            let past = spot(rows[at + 2], position.0 - rows[at + 4], block_size);
             return ByteAt::Stored {
                 letter: narrow(rows[at]),
                 block: BlockNumber(rows[at + 1] + past.blocks),
@@ -236,8 +236,8 @@ pub fn byte_at(rows: &[u64], length: ByteCount, block_size: u64, position: ByteC
     if 1024 < rows.len() / 5 {
         return ByteAt::Refused(Refusal::TooMany);
     }
-    if !lawful(rows, length.0, block_size) {
+    if !lawful(rows, length, block_size) {
         return ByteAt::Refused(Refusal::Extents);
     }
-    find(rows, length.0, block_size, position.0)
+    find(rows, length, block_size, position)
 }

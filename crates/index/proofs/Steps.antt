@@ -8,7 +8,7 @@ use borrow.Author.Tests.{eqb-true}
 use lib.Dec.{eqb}
 use Rattle.xml.specs.Tree.{Forest, none}
 use Rattle.elements.specs.Reading.{rowAt, headAt, childrenAt, FirstOf}
-use Rattle.index_names.specs.Sorts.{root, directory, file, holds, sort}
+use Rattle.index_names.specs.Sorts.{root, directory, file, holds}
 use Rattle.index_values.specs.Elements.{numberOf, sortOf}
 use Rattle.index_values.specs.Entries.{isEntry}
 use Rattle.index_values.specs.Tests.{Given}
@@ -49,12 +49,12 @@ module _ (g : Given) (kind : ℕ) (m : List ℕ) (a : All) where
     unfolding sweep
     first-step = ap (λ (f : Forest). sweep g kind m f a) (first .row)
 
-    -- as the code goes past it: its number and sort, what is seen then, and what is gathered behind its start tag
-    module _ (number srt : ℕ) (m′ : List ℕ) (b : Sums) (en : number ≡ numberOf kind (headAt s n)) (es : srt ≡ sort kind number)
-        (em : m′ ≡ marked number m) (eb : b ≡ begun g srt (headAt s n) (childrenAt s n) (a .sums)) where
+    -- as the code goes past it: its sort, what is seen then, and what is gathered behind its start tag
+    module _ (srt : ℕ) (m′ : List ℕ) (b : Sums) (es : srt ≡ sortOf kind (headAt s n)) (em : m′ ≡ marked (numberOf kind (headAt s n)) m)
+        (eb : b ≡ begun g srt (headAt s n) (childrenAt s n) (a .sums)) where
       told : sweep g kind m (rowAt s i) a
           ≡ sweep g kind m′ (rowAt s j) (closed g srt (childrenAt s n) (a .sums .entries) (inside g srt (childrenAt s n) (gathered b (a .uids))))
-      told = first-step ∙ sym (rw (eb, es, em, en))
+      told = first-step ∙ sym (rw (eb, es, em))
 
       pub step-holds : (c : All) → holds srt ≡ true → c ≡ closed g srt (childrenAt s n) (a .sums .entries) (sweep g srt fresh (childrenAt s n) (gathered b (a .uids)))
           → sweep g kind m (rowAt s i) a ≡ sweep g kind m′ (rowAt s j) c

@@ -19,12 +19,10 @@ use Rattle.index_values.specs.Tests.{Given, few}
 use Rattle.index_values.specs.Different.{different}
 use Rattle.index.specs.Sweep.{All, gathered, fresh, sweep, begun, settled, endedSums}
 use Rattle.index.specs.Index.{Surveyed, structured, bounded, allValued, fileCount}
+use Rattle.index.specs.Steps.{start}
 use Rattle.index.specs.declared.walk.Sums.{Sums}
 use Rattle.index.proofs.Counted.{sat, sat-below, done-counts}
 use Rattle.index.proofs.Swept.{structure-law, few-law, values-law, own-law, lawful-law, count-law, uids-law}
-
-abbrev start : Sums
-start = record { structure = true; few = true; values = true; own = true; lawful = true; entries = 0; files = 0 }
 
 sat-few : (n : ℕ) → sat n ≤ 4096 → (n ≤ 4096) × (sat n ≡ n)
 unfolding sat

@@ -1,3 +1,4 @@
 pub mod Structure
 pub mod Sweep
 pub mod Index
+pub mod Steps

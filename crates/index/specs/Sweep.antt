@@ -1,6 +1,5 @@
 -- What one walk over the elements gathers, step by step as the code does it; proofs/ says what that means for the whole text.
-use mathlib.Core.Path.{_≡_}
-use mathlib.Core.Bool.{Bool, true, cond, _&&_, _||_}
+use mathlib.Core.Bool.{Bool, cond, _&&_, _||_}
 use mathlib.Core.List.{List}
 use Prim.Native.Nat.{ℕ, _+_}
 use lib.ListN.{getD, set, replicate}
@@ -11,9 +10,7 @@ use Rattle.index_values.specs.Elements.{numberOf, sortOf}
 use Rattle.children.specs.Children.{below}
 use Rattle.index.specs.Structure.{fits, once}
 use Rattle.index_values.specs.Entries.{isEntry, uidOf}
-use Rattle.index_values.specs.Tests.{Given, given, valued, own, few, lawful}
-use Rattle.index_rows.specs.Places.{Placed}
-use Rattle.index_values.specs.declared.tests.Volume.{Volume}
+use Rattle.index_values.specs.Tests.{Given, valued, own, few, lawful}
 use Rattle.index.specs.declared.walk.Sums.{Sums}
 
 -- numbers and flags, and the fileuids
@@ -87,10 +84,6 @@ closed g s c n a =
       sums = settled (few s c) (lawful g s c) (a .sums);
       uids = cond (isEntry s) (set (a .uids) n (uidOf c)) (a .uids);
     }
-
--- the same of an element whose children stand at places t of the text x
-abbrev pub Closes : List ℕ → List ℕ → ℕ → Volume → ℕ → All → All → Type 0
-Closes x t s v n a b = (c : Forest) (u : List ℕ) → (isEntry s ≡ true → Placed x s c t) → b ≡ closed (given u v) s c n a
 
 -- the rest of a row in an element of that kind, of which m is seen
 unfoldable pub sweep : Given → ℕ → List ℕ → Forest → All → All

@@ -15,9 +15,10 @@ ghost use lib.ListN.{length};
 ghost use Rattle.values.specs.Values as is;
 ghost use Rattle.xml.specs.Form.{height};
 ghost use Rattle.xml.specs.Machine.{good, form};
-ghost use Rattle.elements.specs.Reading.{rowAt, headAt, childrenAt, isRow};
+ghost use Rattle.elements.specs.Reading.{rowAt, childrenAt, isRow};
 ghost use Rattle.index_values.specs.Tests.{given};
-ghost use Rattle.index.specs.Index.{isTrue, placeIn, standsAt, callerRight, HeaderOf, ReadsIndex, childrenRead, tagRead, rootRead, indexOf};
+ghost use Rattle.index.specs.Index.{isTrue, placeIn, standsAt, callerRight, HeaderOf, ReadsIndex, indexOf};
+ghost use Rattle.index.specs.Steps.{ReadsChildren, ReadsTag, ReadsRoot};
 
 // What an index says besides its files: the R of its version 2.0.R; its generation; where the update time stands in its text; its location;
 // its back pointer, or zeros if it has none; whether the policy may be updated; the highest fileuid; how many directories, with the root, and files it has.
@@ -81,14 +82,14 @@ fn block_named(text: &[u8], at: usize) -> BlockNumber
 }
 
 // Whether the location whose row is at at is that place.
-fn is_place(text: &[u8], at: usize, letter: u8, block: u64) -> bool
-    ensures { λ r. ⌜ r ≡ standsAt letter block (placeIn (rowAt (now (text .entry)) at)) ⌝ }
+fn is_place(text: &[u8], at: usize, letter: u8, block: BlockNumber) -> bool
+    ensures { λ r. ⌜ r ≡ standsAt letter (block .0) (placeIn (rowAt (now (text .entry)) at)) ⌝ }
 {
     if letter_named(text, at) != letter {
         return false;
     }
     let b = block_named(text, at);
-    b.0 == block
+    b.0 == block.0
 }
 
 fn is_true(raw: &[u8]) -> bool
@@ -143,10 +144,10 @@ fn read_children(
     volume: Volume,
     release: u64,
     letter: u8,
-    block: u64,
+    block: BlockNumber,
 ) -> Read
     requires { ⌜ (at ≤ length (now text)) × (height (rowAt (now text) at) ≤ 64) ⌝ }
-    ensures { λ r. ⌜ ReadsIndex (now (text .entry)) (childrenRead (given (now (uuid .entry)) volume) letter block release (rowAt (now (text .entry)) at)) r ⌝ }
+    ensures { λ r. ⌜ ReadsChildren (now (text .entry)) (given (now (uuid .entry)) volume) letter block release at r ⌝ }
 {
     let found = survey::survey(text, uuid, at, volume);
     let s = found.sums;
@@ -173,9 +174,16 @@ fn read_children(
 }
 
 // The index whose root's tag is at n.
-fn read_tag(text: &[u8], uuid: &[u8], n: usize, volume: Volume, letter: u8, block: u64) -> Read
+fn read_tag(
+    text: &[u8],
+    uuid: &[u8],
+    n: usize,
+    volume: Volume,
+    letter: u8,
+    block: BlockNumber,
+) -> Read
     requires { ⌜ height (childrenAt (now text) n) ≤ 64 ⌝ }
-    ensures { λ r. ⌜ ReadsIndex (now (text .entry)) (tagRead (given (now (uuid .entry)) volume) letter block (headAt (now (text .entry)) n) (childrenAt (now (text .entry)) n)) r ⌝ }
+    ensures { λ r. ⌜ ReadsTag (now (text .entry)) (given (now (uuid .entry)) volume) letter block n r ⌝ }
 {
     if !elements::name_is(text, n, b"ltfsindex") {
         return Read::Refused(Refusal::Structure);
@@ -193,9 +201,9 @@ fn read_tag(text: &[u8], uuid: &[u8], n: usize, volume: Volume, letter: u8, bloc
 }
 
 // The index whose text is in the XML form.
-fn read_root(text: &[u8], uuid: &[u8], volume: Volume, letter: u8, block: u64) -> Read
+fn read_root(text: &[u8], uuid: &[u8], volume: Volume, letter: u8, block: BlockNumber) -> Read
     requires { ⌜ form (now text) ≡ good ⌝ }
-    ensures { λ r. ⌜ ReadsIndex (now (text .entry)) (rootRead (given (now (uuid .entry)) volume) letter block (rowAt (now (text .entry)) 38)) r ⌝ }
+    ensures { λ r. ⌜ ReadsRoot (now (text .entry)) (given (now (uuid .entry)) volume) letter block r ⌝ }
 {
     match elements::next_tag(text, 38) {
         Tag::End => Read::Refused(Refusal::Structure),
@@ -217,6 +225,6 @@ pub fn read_index(text: &[u8], uuid: &[u8], volume: Volume, letter: u8, block: B
     }
     match xml::check(text) {
         Checked::Broken(_) => Read::Refused(Refusal::Form),
-        Checked::Good => read_root(text, uuid, volume, letter, block.0),
+        Checked::Good => read_root(text, uuid, volume, letter, block),
     }
 }

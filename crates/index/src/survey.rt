@@ -7,10 +7,8 @@ ghost use Prim.Native.Nat.{_≤_};
 ghost use lib.ListN.{length};
 ghost use Rattle.xml.specs.Form.{height};
 ghost use Rattle.elements.specs.Reading.{rowAt};
-ghost use Rattle.index_names.specs.Sorts.{index};
-ghost use Rattle.index_rows.specs.Places.{Placed};
 ghost use Rattle.index_values.specs.Tests.{given};
-ghost use Rattle.index.specs.Index.{Surveyed};
+ghost use Rattle.index.specs.Steps.{SumsUp, Surveys};
 
 // What is gathered, and the places of the index's children.
 pub struct Gathered {
@@ -18,8 +16,36 @@ pub struct Gathered {
     pub places: [usize; 16],
 }
 
-// What is gathered of the index whose children are the row at at, with tables for fileuids and rows; that the fileuids are all different is
-// one of the values.
+// The sums of a survey, by what the walk gathered, with the fileuids in a table: that they are all different is one of the values. Of more
+// than 4,096 entries only that is told, and the structure.
+fn sum_up(table: &[u64; 4096], s: Sums) -> Sums
+    ensures { λ r. ⌜ SumsUp (now (table .entry)) s r ⌝ }
+{
+    let n = s.entries;
+    if 4096 < n {
+        return Sums {
+            structure: s.structure,
+            few: false,
+            values: false,
+            own: false,
+            lawful: false,
+            entries: 0,
+            files: 0,
+        };
+    }
+    let distinct = index_values::unique(table, n as usize);
+    Sums {
+        structure: s.structure,
+        few: s.few,
+        values: walk::both(s.values, distinct),
+        own: s.own,
+        lawful: s.lawful,
+        entries: n,
+        files: s.files,
+    }
+}
+
+// What is gathered of the index whose children are the row at at, with tables for fileuids and rows.
 fn survey_with(
     text: &[u8],
     uuid: &[u8],
@@ -29,7 +55,7 @@ fn survey_with(
     volume: Volume,
 ) -> Gathered
     requires { ⌜ (at ≤ length (now text)) × (height (rowAt (now text) at) ≤ 64) ⌝ }
-    ensures { λ r. ⌜ Surveyed (given (now (uuid .entry)) volume) (rowAt (now (text .entry)) at) (r .sums) × Placed (now (text .entry)) index (rowAt (now (text .entry)) at) (r .places) ⌝ }
+    ensures { λ r. ⌜ Surveys (given (now (uuid .entry)) volume) (now (text .entry)) at r ⌝ }
 {
     let start = Sums {
         structure: true,
@@ -41,38 +67,15 @@ fn survey_with(
         files: 0,
     };
     let w = walk::walk(text, uuid, table, rows, at, INDEX, 64, volume, start);
-    let s = w.sums;
     let places = w.places;
-    let n = s.entries;
-    if 4096 < n {
-        let sums = Sums {
-            structure: s.structure,
-            few: false,
-            values: false,
-            own: false,
-            lawful: false,
-            entries: 0,
-            files: 0,
-        };
-        return Gathered { sums, places };
-    }
-    let distinct = index_values::unique(table, n as usize);
-    let sums = Sums {
-        structure: s.structure,
-        few: s.few,
-        values: walk::both(s.values, distinct),
-        own: s.own,
-        lawful: s.lawful,
-        entries: n,
-        files: s.files,
-    };
+    let sums = sum_up(table, w.sums);
     Gathered { sums, places }
 }
 
 // What is gathered of the index whose children are the row at at.
 pub fn survey(text: &[u8], uuid: &[u8], at: usize, volume: Volume) -> Gathered
     requires { ⌜ (at ≤ length (now text)) × (height (rowAt (now text) at) ≤ 64) ⌝ }
-    ensures { λ r. ⌜ Surveyed (given (now (uuid .entry)) volume) (rowAt (now (text .entry)) at) (r .sums) × Placed (now (text .entry)) index (rowAt (now (text .entry)) at) (r .places) ⌝ }
+    ensures { λ r. ⌜ Surveys (given (now (uuid .entry)) volume) (now (text .entry)) at r ⌝ }
 {
     let mut table = [0u64; 4096];
     let mut rows = [0u64; 5120];

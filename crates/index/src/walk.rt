@@ -15,9 +15,8 @@ ghost use mathlib.Core.Bool.{cond, _&&_};
 ghost use Prim.Native.Nat.{_≤_, _<_};
 ghost use lib.ListN.{length, set};
 ghost use Rattle.xml.specs.Form.{height};
-ghost use Rattle.elements.specs.Reading.{rowAt, headAt, childrenAt, Behind};
+ghost use Rattle.elements.specs.Reading.{rowAt, headAt, childrenAt};
 ghost use Rattle.elements.specs.Starts.{Shape};
-ghost use Rattle.index_rows.specs.Places.{Placed};
 ghost use Rattle.index_names.specs.Sorts.{holds};
 ghost use Rattle.index_values.specs.Elements.{numberOf};
 ghost use Rattle.index.specs.Structure.{fits, once};
@@ -25,7 +24,8 @@ ghost use Rattle.children.specs.Children.{textOf};
 ghost use Rattle.children.specs.Rows.{seat};
 ghost use Rattle.index_values.specs.Entries.{isEntry, numberSaid};
 ghost use Rattle.index_values.specs.Tests.{given};
-ghost use Rattle.index.specs.Sweep.{gathered, more, fresh, marked, done, endedSums, begun, settled, Closes, sweep};
+ghost use Rattle.index.specs.Sweep.{gathered, more, marked, done, endedSums, begun, settled};
+ghost use Rattle.index.specs.Steps.{Ends, Meets, GoesOn, Closes, ClosesEmpty, Walks};
 
 // What the walk gathers besides the fileuids: whether the structure is right so far, how many directories and files there are, how many
 // of them files.
@@ -106,6 +106,17 @@ fn finish(kind: usize, seen: &[u64; 16], a: Sums) -> Sums
         lawful: a.lawful,
         entries: a.entries,
         files: a.files,
+    }
+}
+
+// What a walk leaves where the row is over and reading goes on at at.
+fn over(at: usize, kind: usize, seen: &[u64; 16], a: Sums, places: [usize; 16]) -> Left
+    ensures { λ r. ⌜ Ends at kind (now (seen .entry)) a places r ⌝ }
+{
+    Left {
+        at,
+        sums: finish(kind, seen, a),
+        places,
     }
 }
 
@@ -206,10 +217,27 @@ fn put_uid(text: &[u8], uids: &mut [u64; 4096], place: usize, entry: bool, at: u
     }
 }
 
-// The end of an element of a sort, with the places of its children, and its number among the entries if it is one.
+// The end of an element of a sort, with what the walk over its children left, and its number among the entries if it is one.
 fn close_element(
     text: &[u8],
-    places: &[usize; 16],
+    w: Left,
+    uids: &mut [u64; 4096],
+    rows: &mut [u64; 5120],
+    sort: usize,
+    volume: Volume,
+    number: u64,
+) -> Sums
+    ensures { λ r. ⌜ Closes (now (text .entry)) (w .places) sort volume number (gathered (w .sums) (now (uids .entry))) (gathered r (now (uids .exit))) ⌝ }
+{
+    let places = w.places;
+    put_uid(text, uids, places[0], is_entry(sort), number);
+    let v = index_values::judge(text, &places, rows, sort, volume);
+    settle(v, w.sums)
+}
+
+// The end of one that has an empty tag.
+fn close_empty(
+    text: &[u8],
     uids: &mut [u64; 4096],
     rows: &mut [u64; 5120],
     sort: usize,
@@ -217,11 +245,10 @@ fn close_element(
     number: u64,
     a: Sums,
 ) -> Sums
-    ensures { λ r. ⌜ Closes (now (text .entry)) (now (places .entry)) sort volume number (gathered a (now (uids .entry))) (gathered r (now (uids .exit))) ⌝ }
+    ensures { λ r. ⌜ ClosesEmpty sort volume number (gathered a (now (uids .entry))) (gathered r (now (uids .exit))) ⌝ }
 {
-    put_uid(text, uids, places[0], is_entry(sort), number);
-    let v = index_values::judge(text, places, rows, sort, volume);
-    settle(v, a)
+    let w = over(0, sort, &[0u64; 16], a, [0usize; 16]);
+    close_element(text, w, uids, rows, sort, volume, number)
 }
 
 // Both.
@@ -242,6 +269,27 @@ fn number_at(text: &[u8], h: Start, kind: usize) -> usize
     index_names::number_in(kind, elements::part(text, h.name))
 }
 
+// An element of such a row is met: its name is seen, its place noted; its sort.
+fn meet(text: &[u8], h: Start, kind: usize, seen: &mut [u64; 16], places: &mut [usize; 16]) -> usize
+    requires { ⌜ Shape (now text) h ⌝ }
+    ensures { λ r. ⌜ Meets (now (text .entry)) kind (h .at) (now (seen .entry)) (now (places .entry)) (now (seen .exit)) (now (places .exit)) r ⌝ }
+{
+    let j = number_at(text, h, kind);
+    mark(seen, j);
+    index_rows::note(places, j, h.at);
+    index_names::sort_in(kind, j)
+}
+
+// Where the row goes on behind an element that is not walked over.
+fn behind(text: &[u8], h: Start) -> usize
+    ensures { λ r. ⌜ GoesOn (now (text .entry)) h r ⌝ }
+{
+    if h.leaf {
+        return h.next;
+    }
+    elements::leave(text, h.at)
+}
+
 // The rest of the element of a kind that is open at at, with depth levels of nesting left.
 pub fn walk(
     text: &[u8],
@@ -255,7 +303,7 @@ pub fn walk(
     sums: Sums,
 ) -> Left
     requires { ⌜ (at ≤ length (now text)) × (height (rowAt (now text) at) ≤ depth) ⌝ }
-    ensures { λ r. ⌜ (gathered (r .sums) (now (uids .exit)) ≡ sweep (given (now (uuid .entry)) volume) kind fresh (rowAt (now (text .entry)) at) (gathered sums (now (uids .entry)))) × Behind (now (text .entry)) at (r .at) × Placed (now (text .entry)) kind (rowAt (now (text .entry)) at) (r .places) ⌝ }
+    ensures { λ r. ⌜ Walks (given (now (uuid .entry)) volume) (now (text .entry)) kind at (gathered sums (now (uids .entry))) (now (uids .exit)) r ⌝ }
 {
     let mut i = at;
     let mut a = sums;
@@ -263,44 +311,21 @@ pub fn walk(
     let mut places = [0usize; 16];
     loop {
         match elements::next_start(text, i) {
-            Next::End => {
-                return Left {
-                    at: text.len(),
-                    sums: finish(kind, &seen, a),
-                    places,
-                };
-            }
-            Next::Close(n) => {
-                return Left {
-                    at: n,
-                    sums: finish(kind, &seen, a),
-                    places,
-                };
-            }
+            Next::End => return over(text.len(), kind, &seen, a, places),
+            Next::Close(n) => return over(n, kind, &seen, a, places),
             Next::Opens(h) => {
-                let j = number_at(text, h, kind);
-                let sort = index_names::sort_in(kind, j);
-                mark(&mut seen, j);
-                index_rows::note(&mut places, j, h.at);
+                let sort = meet(text, h, kind, &mut seen, &mut places);
                 let number = a.entries;
                 a = enter(text, uuid, h, sort, volume, a);
-                if is_open(sort) {
-                    if h.empty {
-                        let b = finish(sort, &[0u64; 16], a);
-                        a = close_element(text, &[0usize; 16], uids, rows, sort, volume, number, b);
-                        i = h.at;
-                    } else {
-                        let w = walk(text, uuid, uids, rows, h.at, sort, depth - 1, volume, a);
-                        let held = w.places;
-                        a = close_element(text, &held, uids, rows, sort, volume, number, w.sums);
-                        i = w.at;
-                    }
+                if !is_open(sort) {
+                    i = behind(text, h);
+                } else if h.empty {
+                    a = close_empty(text, uids, rows, sort, volume, number, a);
+                    i = h.at;
                 } else {
-                    if h.leaf {
-                        i = h.next;
-                    } else {
-                        i = elements::leave(text, h.at);
-                    }
+                    let w = walk(text, uuid, uids, rows, h.at, sort, depth - 1, volume, a);
+                    a = close_element(text, w, uids, rows, sort, volume, number);
+                    i = w.at;
                 }
             }
         }

@@ -3,3 +3,4 @@ pub mod Rows
 pub mod Met
 pub mod Asked
 pub mod Filling
+pub mod Steps

@@ -19,7 +19,7 @@ ghost use Rattle.index_values.specs.Tests.{given, rowsIn};
 ghost use Rattle.index.specs.Index.{indexOf};
 ghost use Rattle.index_files.specs.Files.{filesLeft};
 ghost use Rattle.index_files.specs.Asked.{nth, fileIn, childrenFound, fileFound, HeadOf, ReadsFile};
-ghost use Rattle.index_files.specs.Filling.{fitting, rowsFor, HoldsRows, Puts};
+ghost use Rattle.index_files.specs.Steps.{PutsRows, PutsFileRows};
 
 // The place of a file's tag.
 enum Located {
@@ -148,7 +148,7 @@ pub fn file(
 
 // The rows from at on, into the front of out if it has room for all of them.
 fn put_rows(text: &[u8], at: usize, out: &mut [u64]) -> Filled
-    ensures { λ r. ⌜ Puts HoldsRows (fitting 5 (length (now (out .entry))) (rowsIn (rowAt (now (text .entry)) at))) (now (out .entry)) (now (out .exit)) r ⌝ }
+    ensures { λ r. ⌜ PutsRows (rowsIn (rowAt (now (text .entry)) at)) (now (out .entry)) (now (out .exit)) r ⌝ }
 {
     let n = count_rows(text, at);
     if ((out.len() / 5) as u64) < n {
@@ -168,7 +168,7 @@ pub fn rows(
     k: u64,
     out: &mut [u64],
 ) -> Filled
-    ensures { λ r. ⌜ Puts HoldsRows (rowsFor (length (now (out .entry))) (fileIn k (indexOf (given (now (uuid .entry)) volume) letter (block .0) (now (text .entry))))) (now (out .entry)) (now (out .exit)) r ⌝ }
+    ensures { λ r. ⌜ PutsFileRows (now (text .entry)) (given (now (uuid .entry)) volume) letter block (now (out .entry)) (now (out .exit)) k r ⌝ }
 {
     match locate(text, uuid, volume, letter, block, k) {
         Located::Refused(r) => Filled::Refused(r),

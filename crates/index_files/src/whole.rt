@@ -15,9 +15,9 @@ ghost use Prim.Native.Nat.{_+_, _*_, _≤_};
 ghost use lib.ListN.{length};
 ghost use Rattle.slices.specs.Slices.{written};
 ghost use Rattle.index_values.specs.Tests.{given};
-ghost use Rattle.index.specs.Index.{indexOf};
 ghost use Rattle.index_files.specs.Files.{filesFrom};
-ghost use Rattle.index_files.specs.Filling.{fitting, counted, countSaid, headNumbers, allRows, filesFor, allRowsFor, HoldsFiles, HoldsRows, Puts};
+ghost use Rattle.index_files.specs.Filling.{fitting, counted, countSaid, headNumbers, allRows, HoldsFiles, HoldsRows};
+ghost use Rattle.index_files.specs.Steps.{PutsRows, PutsFiles, PutsAllRows};
 
 // The four numbers of a file, into out from at on.
 fn put_file(out: &mut [u64], at: usize, h: FileHead)
@@ -60,7 +60,7 @@ pub fn all_files(
     block: BlockNumber,
     out: &mut [u64],
 ) -> Filled
-    ensures { λ r. ⌜ Puts (HoldsFiles (now (text .entry))) (filesFor (length (now (out .entry))) (indexOf (given (now (uuid .entry)) volume) letter (block .0) (now (text .entry)))) (now (out .entry)) (now (out .exit)) r ⌝ }
+    ensures { λ r. ⌜ PutsFiles (now (text .entry)) (given (now (uuid .entry)) volume) letter block (now (out .entry)) (now (out .exit)) r ⌝ }
 {
     match index::read_index(text, uuid, volume, letter, block) {
         Read::Refused(r) => Filled::Refused(r),
@@ -120,7 +120,7 @@ fn write_all(text: &[u8], out: &mut [u64])
 
 // The same, if out has room for all of them.
 fn put_all(text: &[u8], out: &mut [u64]) -> Filled
-    ensures { λ r. ⌜ Puts HoldsRows (fitting 5 (length (now (out .entry))) (allRows (filesFrom (now (text .entry)) 38))) (now (out .entry)) (now (out .exit)) r ⌝ }
+    ensures { λ r. ⌜ PutsRows (allRows (filesFrom (now (text .entry)) 38)) (now (out .entry)) (now (out .exit)) r ⌝ }
 {
     match count_all(text, out.len() as u64) {
         Filled::Refused(r) => Filled::Refused(r),
@@ -140,7 +140,7 @@ pub fn all_rows(
     block: BlockNumber,
     out: &mut [u64],
 ) -> Filled
-    ensures { λ r. ⌜ Puts HoldsRows (allRowsFor (length (now (out .entry))) (indexOf (given (now (uuid .entry)) volume) letter (block .0) (now (text .entry)))) (now (out .entry)) (now (out .exit)) r ⌝ }
+    ensures { λ r. ⌜ PutsAllRows (now (text .entry)) (given (now (uuid .entry)) volume) letter block (now (out .entry)) (now (out .exit)) r ⌝ }
 {
     match index::read_index(text, uuid, volume, letter, block) {
         Read::Refused(r) => Filled::Refused(r),

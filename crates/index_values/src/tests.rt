@@ -15,6 +15,7 @@ use index_names::ROOT_UID;
 use index_names::TIME;
 use index_names::UID;
 use index_names::UUID;
+use quantities::ByteCount;
 use values::Boolean;
 use values::Letter;
 ghost use mathlib.Core.Path.{_≡_};
@@ -210,9 +211,9 @@ pub struct Judged {
 }
 
 // Whether the first rows of a table, so many, are lawful.
-fn are_lawful(table: &[u64], count: usize, length: u64, size: u64) -> bool
+fn are_lawful(table: &[u64], count: usize, length: ByteCount, size: u64) -> bool
     requires { ⌜ count * 5 ≤ lib.ListN.length (now table) ⌝ }
-    ensures { λ r. ⌜ r ≡ extents.lawful length size (numbers.rowsOf (take (count * 5) (now (table .entry)))) ⌝ }
+    ensures { λ r. ⌜ r ≡ extents.lawful (length .0) size (numbers.rowsOf (take (count * 5) (now (table .entry)))) ⌝ }
 {
     let e = count * 5;
     extents::lawful(&table[0..e], length, size)
@@ -241,8 +242,8 @@ pub fn judge(
             lawful: false,
         };
     }
-    let size = number_placed(text, places[8]);
-    let good = are_lawful(out, count, size, volume.size);
+    let length = ByteCount(number_placed(text, places[8]));
+    let good = are_lawful(out, count, length, volume.size);
     Judged {
         few: true,
         lawful: good,

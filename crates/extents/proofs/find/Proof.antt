@@ -17,14 +17,14 @@ use Rattle.extents.proofs.find.Statement.{statement}
 use Rattle.extents.proofs.find.Tie as tie
 
 abbrev Inv-loop : tie.InvT-loop
-Inv-loop rows length block-size position i₀ i =
-    (i ≤ lib.ListN.length rows / 5) × (placeOf block-size position (rowsOf rows) ≡ placeOf block-size position (drop i (rowsOf rows)))
+Inv-loop rows block-size position i₀ i =
+    (i ≤ lib.ListN.length rows / 5) × (placeOf block-size (position .0) (rowsOf rows) ≡ placeOf block-size (position .0) (drop i (rowsOf rows)))
 
 abbrev μ-loop : tie.MeasureT-loop
-μ-loop rows length block-size position i₀ i = lib.ListN.length rows / 5 - i
+μ-loop rows block-size position i₀ i = lib.ListN.length rows / 5 - i
 
 returns : tie.Need-returns Inv-loop μ-loop
-returns c = rw (le-ltb (c .before .before .args .position) (c .before .before .args .length) (c .if1 .taken))
+returns c = rw (le-ltb (c .before .before .before .before .args .position .0) (c .before .before .before .before .args .length .0) (c .if1 .taken))
 
 loop-holds : tie.Need-loop-holds Inv-loop μ-loop
 loop-holds c = (omega arith, refl)
@@ -55,21 +55,21 @@ shared-slice-read-spot-2 c = search needs
 
 sub-spot : tie.Need-sub-spot Inv-loop μ-loop
 sub-spot c =
-    let a = c .before .before .before .before .before .before .before .before .args in
-    let l = c .before .before .before .before .before .loop in
+    let a = c .before .before .before .before .before .before .before .before .before .before .before .args in
+    let l = c .before .before .before .before .before .before .loop in
     let s = a .rows .now in
     let r = rowAt s (l .i * 5) in
-    let here : l .i < length s / 5 = c .before .before .before .before .loop-test .taken in
-    in-row (a .position) r (sym (c .before .before .before .holds .ensures) ∙ c .before .before .if2 .taken) .0
+    let here : l .i < length s / 5 = c .before .before .before .before .before .loop-test .taken in
+    in-row (a .position .0) r (sym (c .before .before .before .before .holds .ensures) ∙ c .before .before .before .if2 .taken) .0
 
 spot-requires : tie.Need-spot-requires Inv-loop μ-loop
 spot-requires c κs =
-    let a = c .before .before .before .before .before .before .before .before .args in
-    let l = c .before .before .before .before .before .loop in
+    let a = c .before .before .before .before .before .before .before .before .before .before .before .args in
+    let l = c .before .before .before .before .before .before .loop in
     let s = a .rows .now in
     let r = rowAt s (l .i * 5) in
-    let here : l .i < length s / 5 = c .before .before .before .before .loop-test .taken in
-    inside-block (a .length) (a .block-size) r (each-at (rowLawful (a .length) (a .block-size)) s (l .i) here (c .before .before .before .before .before .before .before .before .pre .1))
+    let here : l .i < length s / 5 = c .before .before .before .before .before .loop-test .taken in
+    inside-block (a .length .0) (a .block-size) r (each-at (rowLawful (a .length .0) (a .block-size)) s (l .i) here (c .before .before .before .before .before .before .before .before .before .before .before .pre .1))
 
 mul-narrow : tie.Need-mul-narrow Inv-loop μ-loop
 mul-narrow c = search needs
@@ -79,12 +79,12 @@ shared-slice-read-narrow c = search needs
 
 narrow-requires : tie.Need-narrow-requires Inv-loop μ-loop
 narrow-requires c κs =
-    let a = c .before .before .before .before .before .before .before .before .before .before .args in
-    let l = c .before .before .before .before .before .before .before .loop in
+    let a = c .before .before .before .before .before .before .before .before .before .before .before .before .before .args in
+    let l = c .before .before .before .before .before .before .before .before .loop in
     let s = a .rows .now in
     let r = rowAt s (l .i * 5) in
-    let here : l .i < length s / 5 = c .before .before .before .before .before .before .loop-test .taken in
-    letter-fits (r .letter) (each-at (λ (q : Row). isLetter (q .letter)) s (l .i) here (c .before .before .before .before .before .before .before .before .before .before .pre .0))
+    let here : l .i < length s / 5 = c .before .before .before .before .before .before .before .loop-test .taken in
+    letter-fits (r .letter) (each-at (λ (q : Row). isLetter (q .letter)) s (l .i) here (c .before .before .before .before .before .before .before .before .before .before .before .before .before .pre .0))
 
 add-t15 : tie.Need-add-t15 Inv-loop μ-loop
 add-t15 c = search needs
@@ -97,25 +97,25 @@ shared-slice-read-t21 c = search needs
 
 add-t17 : tie.Need-add-t17 Inv-loop μ-loop
 add-t17 c =
-    let a = c .before .before .before .before .before .before .before .before .before .before .before .before .before .args in
-    let l = c .before .before .before .before .before .before .before .before .before .before .loop in
+    let a = c .before .before .before .before .before .before .before .before .before .before .before .before .before .before .before .before .args in
+    let l = c .before .before .before .before .before .before .before .before .before .before .before .loop in
     let s = a .rows .now in
     let r = rowAt s (l .i * 5) in
-    let here : l .i < length s / 5 = c .before .before .before .before .before .before .before .before .before .loop-test .taken in
-    let e = each-at (rowLawful (a .length) (a .block-size)) s (l .i) here (c .before .before .before .before .before .before .before .before .before .before .before .before .before .pre .1) in
-    let b = block-of-position (a .length) (a .block-size) r e (a .position) (sym (c .before .before .before .before .before .before .before .before .holds .ensures) ∙ c .before .before .before .before .before .before .before .if2 .taken) in
+    let here : l .i < length s / 5 = c .before .before .before .before .before .before .before .before .before .before .loop-test .taken in
+    let e = each-at (rowLawful (a .length .0) (a .block-size)) s (l .i) here (c .before .before .before .before .before .before .before .before .before .before .before .before .before .before .before .before .pre .1) in
+    let b = block-of-position (a .length .0) (a .block-size) r e (a .position .0) (sym (c .before .before .before .before .before .before .before .before .before .holds .ensures) ∙ c .before .before .before .before .before .before .before .before .if2 .taken) in
     omega (arith, c .before .before .before .before .spot .ensures .0)
 
 returns-2 : tie.Need-returns-2 Inv-loop μ-loop
 returns-2 c =
-    let a = c .before .before .before .before .before .before .before .before .before .before .before .before .before .args in
-    let l = c .before .before .before .before .before .before .before .before .before .before .loop in
+    let a = c .before .before .before .before .before .before .before .before .before .before .before .before .before .before .before .before .args in
+    let l = c .before .before .before .before .before .before .before .before .before .before .before .loop in
     let s = a .rows .now in
     let r = rowAt s (l .i * 5) in
-    let here : l .i < length s / 5 = c .before .before .before .before .before .before .before .before .before .loop-test .taken in
-    let e = placed (a .block-size) (a .position) r _ _ _ (c .before .before .narrow .ensures) (c .before .before .before .before .spot .ensures .0) (c .before .before .before .before .spot .ensures .1) in
-    rw (lt-ltb (a .position) (a .length) (c .before .before .before .before .before .before .before .before .before .before .before .if1 .left))
-    (ap answer (e ∙ sym (l .inv .1 ∙ place-here s (a .block-size) (a .position) (l .i) here (sym (c .before .before .before .before .before .before .before .before .holds .ensures) ∙ c .before .before .before .before .before .before .before .if2 .taken))))
+    let here : l .i < length s / 5 = c .before .before .before .before .before .before .before .before .before .before .loop-test .taken in
+    let e = placed (a .block-size) (a .position .0) r _ _ _ (c .before .before .narrow .ensures) (c .before .before .before .before .spot .ensures .0) (c .before .before .before .before .spot .ensures .1) in
+    rw (lt-ltb (a .position .0) (a .length .0) (c .before .before .before .before .before .before .before .before .before .before .before .before .if1 .left))
+    (ap answer (e ∙ sym (l .inv .1 ∙ place-here s (a .block-size) (a .position .0) (l .i) here (sym (c .before .before .before .before .before .before .before .before .before .holds .ensures) ∙ c .before .before .before .before .before .before .before .before .if2 .taken))))
 
 add-i : tie.Need-add-i Inv-loop μ-loop
 add-i c = search needs
@@ -125,21 +125,21 @@ loop-less c = search needs
 
 loop-again : tie.Need-loop-again Inv-loop μ-loop
 loop-again c =
-    let a = c .before .before .before .before .before .before .args in
+    let a = c .before .before .before .before .before .before .before .before .args in
     let l = c .before .before .before .loop in
     let s = a .rows .now in
     let r = rowAt s (l .i * 5) in
     let here : l .i < length s / 5 = c .before .before .loop-test .taken in
-    (omega arith, l .inv .1 ∙ place-on s (a .block-size) (a .position) (l .i) here (sym (c .before .holds .ensures) ∙ c .if2 .left))
+    (omega arith, l .inv .1 ∙ place-on s (a .block-size) (a .position .0) (l .i) here (sym (c .before .holds .ensures) ∙ c .if2 .left))
 
 returns-3 : tie.Need-returns-3 Inv-loop μ-loop
 returns-3 c =
-    let a = c .before .before .before .before .args in
+    let a = c .before .before .before .before .before .before .args in
     let l = c .before .loop in
     let s = a .rows .now in
     let r = rowAt s (l .i * 5) in
-    rw (lt-ltb (a .position) (a .length) (c .before .before .if1 .left))
-    (ap answer (sym (l .inv .1 ∙ place-end s (a .block-size) (a .position) (l .i) (omega arith))))
+    rw (lt-ltb (a .position .0) (a .length .0) (c .before .before .if1 .left))
+    (ap answer (sym (l .inv .1 ∙ place-end s (a .block-size) (a .position .0) (l .i) (omega arith))))
 
 pub find-spec : {M : Type 1} → statement M
 find-spec =

@@ -20,9 +20,9 @@ shared-slice-read-start c = search needs
 
 returns : tie.Need-returns
 returns c =
-    let a = c .before .before .args in
+    let a = c .before .before .before .args in
     let r = rowAt (a .rows .now) (a .at) in
-    rw (lt-leb (r .fileoffset) (a .position) (c .if1 .taken))
+    rw (lt-leb (r .fileoffset) (a .position .0) (c .if1 .taken))
 
 add-result : tie.Need-add-result
 add-result c = search needs
@@ -35,11 +35,11 @@ shared-slice-read-result c = search needs
 
 returns-2 : tie.Need-returns-2
 returns-2 c =
-    let a = c .before .before .before .args in
+    let a = c .before .before .before .before .before .args in
     let r = rowAt (a .rows .now) (a .at) in
-    let g : r .fileoffset ≤ a .position = c .before .if1 .left in
-    rw (le-leb (r .fileoffset) (a .position) g)
-    (same-leb (suc (a .position - r .fileoffset)) (r .bytecount) (suc (a .position)) (end r) (λ h. omega arith) (λ h. omega arith))
+    let g : r .fileoffset ≤ a .position .0 = c .before .before .if1 .left in
+    rw (le-leb (r .fileoffset) (a .position .0) g)
+    (same-leb (suc (a .position .0 - r .fileoffset)) (r .bytecount) (suc (a .position .0)) (end r) (λ h. omega arith) (λ h. omega arith))
 
 pub holds-spec : {M : Type 1} → statement M
 holds-spec =

@@ -13,26 +13,31 @@ entry-requires c κs = search needs
 
 returns : tie.Need-returns
 returns c =
-    let e = c .before .entry .ensures .0 in
-    let b = c .before .entry .ensures .1 in
-    sym (lies-short (c .before .before .before .args .table .now) (c .before .before .before .args .block-size) (c .before .before .before .args .kept) (c .before .before .before .args .first) (c .before .before .before .args .offset) (c .before .before .before .args .count) (omega arith))
+    let a = c .before .before .before .before .args in
+    let e = c .before .before .entry .ensures .0 in
+    let b = c .before .before .entry .ensures .1 in
+    sym (lies-short (a .table .now) (a .block-size) (a .kept) (a .first .0) (a .offset .0) (a .count .0) (omega arith))
 
 returns-2 : tie.Need-returns-2
 returns-2 c =
-    let e = c .before .before .entry .ensures .0 in
-    let b = c .before .before .entry .ensures .1 in
-    sym (lies-short (c .before .before .before .before .args .table .now) (c .before .before .before .before .args .block-size) (c .before .before .before .before .args .kept) (c .before .before .before .before .args .first) (c .before .before .before .before .args .offset) (c .before .before .before .before .args .count) (omega arith))
+    let a = c .before .before .before .before .before .before .args in
+    let e = c .before .before .before .before .entry .ensures .0 in
+    let b = c .before .before .before .before .entry .ensures .1 in
+    sym (lies-short (a .table .now) (a .block-size) (a .kept) (a .first .0) (a .offset .0) (a .count .0) (omega arith))
 
 add-bytes : tie.Need-add-bytes
 add-bytes c = search needs
 
 returns-3 : tie.Need-returns-3
 returns-3 c =
-    let e = c .before .before .before .entry .ensures .0 in
-    sym (lies-short (c .before .before .before .before .before .args .table .now) (c .before .before .before .before .before .args .block-size) (c .before .before .before .before .before .args .kept) (c .before .before .before .before .before .args .first) (c .before .before .before .before .before .args .offset) (c .before .before .before .before .before .args .count) (omega arith))
+    let a = c .before .before .before .before .before .before .before .before .before .args in
+    let e = c .before .before .before .before .before .before .before .entry .ensures .0 in
+    sym (lies-short (a .table .now) (a .block-size) (a .kept) (a .first .0) (a .offset .0) (a .count .0) (omega arith))
 
 returns-4 : tie.Need-returns-4
-returns-4 c = sym (lies-behind (c .before .before .before .before .before .before .args .table .now) (c .before .before .before .before .before .before .args .block-size) (c .before .before .before .before .before .before .args .kept) (c .before .before .before .before .before .before .args .first) (c .before .before .before .before .before .before .args .offset) (c .before .before .before .before .before .before .args .count) (c .if4 .taken))
+returns-4 c =
+    let a = c .before .before .before .before .before .before .before .before .before .before .before .args in
+    sym (lies-behind (a .table .now) (a .block-size) (a .kept) (a .first .0) (a .offset .0) (a .count .0) (c .if4 .taken))
 
 blocks-before-requires : tie.Need-blocks-before-requires
 blocks-before-requires c κs = search needs
@@ -42,8 +47,9 @@ sub-result c = search needs
 
 returns-5 : tie.Need-returns-5
 returns-5 c =
-    let e = c .before .before .before .before .before .entry .ensures .0 in
-    sym (lies-before (c .before .before .before .before .before .before .before .args .table .now) (c .before .before .before .before .before .before .before .args .block-size) (c .before .before .before .before .before .before .before .args .kept) (c .before .before .before .before .before .before .before .args .first) (c .before .before .before .before .before .before .before .args .offset) (c .before .before .before .before .before .before .before .args .count) (omega arith) (c .before .if4 .left) ∙ ap (λ (k : ℕ). ltb k (c .before .before .before .before .before .before .before .args .kept - c .before .before .before .before .before .before .before .args .first)) (sym (c .blocks-before .ensures .0)))
+    let a = c .before .before .before .before .before .before .before .before .before .before .before .before .before .args in
+    let e = c .before .before .before .before .before .before .before .before .before .before .before .entry .ensures .0 in
+    sym (lies-before (a .table .now) (a .block-size) (a .kept) (a .first .0) (a .offset .0) (a .count .0) (omega arith) (c .before .before .if4 .left) ∙ ap (λ (k : ℕ). ltb k (a .kept - a .first .0)) (sym (c .before .blocks-before .ensures .0)))
 
 pub lies-spec : {M : Type 1} → statement M
 lies-spec =

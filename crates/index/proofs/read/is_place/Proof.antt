@@ -17,7 +17,7 @@ block-named-requires : tie.Need-block-named-requires
 block-named-requires c κs = search needs
 
 returns-2 : tie.Need-returns-2
-returns-2 c = simp (ap (λ (b : ℕ). eqb b (c .before .before .before .before .before .args .letter)) (sym (c .before .before .before .letter-named .ensures)) ∙ eq-eqb _ _ (c .before .before .if1 .left)) (ap (λ (n : ℕ). eqb n (c .before .before .before .before .before .args .block)) (c .before .block-named .ensures))
+returns-2 c = simp (ap (λ (b : ℕ). eqb b (c .before .before .before .before .before .before .args .letter)) (sym (c .before .before .before .before .letter-named .ensures)) ∙ eq-eqb _ _ (c .before .before .before .if1 .left)) (ap (λ (n : ℕ). eqb n (c .before .before .before .before .before .before .args .block .0)) (c .before .before .block-named .ensures))
 
 pub is-place-spec : {M : Type 1} → statement M
 is-place-spec = tie.close (tie.spec letter-named-requires returns block-named-requires returns-2)

@@ -51,27 +51,27 @@ returns : tie.Need-returns
 returns c =
     let s = c .before .before .before .before .before .args .text .now in
     let t : NextTag s 38 (End) = subst (NextTag s 38) (c .enum-told .given .1) (c .before .before .next-tag .ensures) in
-    reads-refused (root-none (given (c .before .before .before .before .before .args .uuid .now) (c .before .before .before .before .before .args .volume)) (c .before .before .before .before .before .args .letter) (c .before .before .before .before .before .args .block) (rowAt s 38) (row-end t))
+    reads-refused (root-none (given (c .before .before .before .before .before .args .uuid .now) (c .before .before .before .before .before .args .volume)) (c .before .before .before .before .before .args .letter) (c .before .before .before .before .before .args .block .0) (rowAt s 38) (row-end t))
 
 returns-2 : tie.Need-returns-2
 returns-2 c =
     let s = c .before .before .before .before .before .args .text .now in
     let t : NextTag s 38 (Close (c .enum-told2 .given .0 .0)) = subst (NextTag s 38) (c .enum-told2 .given .1) (c .before .before .next-tag .ensures) in
-    reads-refused (root-none (given (c .before .before .before .before .before .args .uuid .now) (c .before .before .before .before .before .args .volume)) (c .before .before .before .before .before .args .letter) (c .before .before .before .before .before .args .block) (rowAt s 38) (row-close t))
+    reads-refused (root-none (given (c .before .before .before .before .before .args .uuid .now) (c .before .before .before .before .before .args .volume)) (c .before .before .before .before .before .args .letter) (c .before .before .before .before .before .args .block .0) (rowAt s 38) (row-close t))
 
 returns-3 : tie.Need-returns-3
 returns-3 c =
     let s = c .before .before .before .before .before .before .before .args .text .now in
     let n = c .before .before .n .given .0 .0 in
     let t : NextTag s 38 (Empty n) = subst (NextTag s 38) (c .before .before .n .given .1) (c .before .before .before .before .next-tag .ensures) in
-    same-read (c .read-tag .ensures) (root-tag (given (c .before .before .before .before .before .before .before .args .uuid .now) (c .before .before .before .before .before .before .before .args .volume)) (c .before .before .before .before .before .before .before .args .letter) (c .before .before .before .before .before .before .before .args .block) (rowAt s 38) (headAt s n) (childrenAt s n) _ (node-empty t))
+    same-read (c .read-tag .ensures) (root-tag (given (c .before .before .before .before .before .before .before .args .uuid .now) (c .before .before .before .before .before .before .before .args .volume)) (c .before .before .before .before .before .before .before .args .letter) (c .before .before .before .before .before .before .before .args .block .0) (rowAt s 38) (headAt s n) (childrenAt s n) _ (node-empty t))
 
 returns-4 : tie.Need-returns-4
 returns-4 c =
     let s = c .before .before .before .before .before .before .before .args .text .now in
     let n = c .before .before .n2 .given .0 .0 in
     let t : NextTag s 38 (Open n) = subst (NextTag s 38) (c .before .before .n2 .given .1) (c .before .before .before .before .next-tag .ensures) in
-    same-read (c .read-tag2 .ensures) (root-tag (given (c .before .before .before .before .before .before .before .args .uuid .now) (c .before .before .before .before .before .before .before .args .volume)) (c .before .before .before .before .before .before .before .args .letter) (c .before .before .before .before .before .before .before .args .block) (rowAt s 38) (headAt s n) (childrenAt s n) _ (node-open t))
+    same-read (c .read-tag2 .ensures) (root-tag (given (c .before .before .before .before .before .before .before .args .uuid .now) (c .before .before .before .before .before .before .before .args .volume)) (c .before .before .before .before .before .before .before .args .letter) (c .before .before .before .before .before .before .before .args .block .0) (rowAt s 38) (headAt s n) (childrenAt s n) _ (node-open t))
 
 pub read-root-spec : {M : Type 1} → statement M
 read-root-spec =

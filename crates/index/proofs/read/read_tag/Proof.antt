@@ -28,7 +28,7 @@ returns c =
     let s = c .before .before .before .before .before .args .text .now in
     let g = given (c .before .before .before .before .before .args .uuid .now) (c .before .before .before .before .before .args .volume) in
     let n = c .before .before .before .before .before .args .n in
-    reads-refused (root-name g (c .before .before .before .before .before .args .letter) (c .before .before .before .before .before .args .block) (headAt s n) (childrenAt s n) (sym (c .before .name-is .ensures) ∙ not-true _ (c .if1 .taken)))
+    reads-refused (root-name g (c .before .before .before .before .before .args .letter) (c .before .before .before .before .before .args .block .0) (headAt s n) (childrenAt s n) (sym (c .before .name-is .ensures) ∙ not-true _ (c .if1 .taken)))
 
 key-of-requires : tie.Need-key-of-requires
 key-of-requires c κs = search needs
@@ -45,7 +45,7 @@ returns-2 c =
     let s = c .before .before .before .before .before .before .before .before .before .args .text .now in
     let g = given (c .before .before .before .before .before .before .before .before .before .args .uuid .now) (c .before .before .before .before .before .before .before .before .before .args .volume) in
     let n = c .before .before .before .before .before .before .before .before .before .args .n in
-    reads-refused (root-key g (c .before .before .before .before .before .before .before .before .before .args .letter) (c .before .before .before .before .before .before .before .before .before .args .block) (headAt s n) (childrenAt s n) (sym (c .before .before .before .before .before .name-is .ensures) ∙ not-false _ (c .before .before .before .before .if1 .left)) (ap (λ (k : List ℕ). same k (bytes "version")) (sym (c .before .before .before .key-of .ensures)) ∙ sym (c .before .same .ensures) ∙ not-true _ (c .if2 .taken)))
+    reads-refused (root-key g (c .before .before .before .before .before .before .before .before .before .args .letter) (c .before .before .before .before .before .before .before .before .before .args .block .0) (headAt s n) (childrenAt s n) (sym (c .before .before .before .before .before .name-is .ensures) ∙ not-false _ (c .before .before .before .before .if1 .left)) (ap (λ (k : List ℕ). same k (bytes "version")) (sym (c .before .before .before .key-of .ensures)) ∙ sym (c .before .same .ensures) ∙ not-true _ (c .if2 .taken)))
 
 value-of-requires : tie.Need-value-of-requires
 value-of-requires c κs = search needs
@@ -71,7 +71,7 @@ returns-3 c =
     let s = c .before .before .before .before .before .before .before .before .before .before .before .before .before .args .text .now in
     let g = given (c .before .before .before .before .before .before .before .before .before .before .before .before .before .args .uuid .now) (c .before .before .before .before .before .before .before .before .before .before .before .before .before .args .volume) in
     let n = c .before .before .before .before .before .before .before .before .before .before .before .before .before .args .n in
-    reads-refused (root-version g (c .before .before .before .before .before .before .before .before .before .before .before .before .before .args .letter) (c .before .before .before .before .before .before .before .before .before .before .before .before .before .args .block) (headAt s n) (childrenAt s n) (sym (c .before .before .before .before .before .before .before .before .before .name-is .ensures) ∙ not-false _ (c .before .before .before .before .before .before .before .before .if1 .left)) (ap (λ (k : List ℕ). same k (bytes "version")) (sym (c .before .before .before .before .before .before .before .key-of .ensures)) ∙ sym (c .before .before .before .before .before .same .ensures) ∙ not-false _ (c .before .before .before .before .if2 .left)) (ap is.version (sym (c .before .before .before .value-of .ensures)) ∙ sym (c .before .before .read-version .ensures) ∙ ap is.versionOf (c .enum-told .given .1)))
+    reads-refused (root-version g (c .before .before .before .before .before .before .before .before .before .before .before .before .before .args .letter) (c .before .before .before .before .before .before .before .before .before .before .before .before .before .args .block .0) (headAt s n) (childrenAt s n) (sym (c .before .before .before .before .before .before .before .before .before .name-is .ensures) ∙ not-false _ (c .before .before .before .before .before .before .before .before .if1 .left)) (ap (λ (k : List ℕ). same k (bytes "version")) (sym (c .before .before .before .before .before .before .before .key-of .ensures)) ∙ sym (c .before .before .before .before .before .same .ensures) ∙ not-false _ (c .before .before .before .before .if2 .left)) (ap is.version (sym (c .before .before .before .value-of .ensures)) ∙ sym (c .before .before .read-version .ensures) ∙ ap is.versionOf (c .enum-told .given .1)))
 
 returns-4 : tie.Need-returns-4
 unfolding bytes
@@ -80,8 +80,8 @@ returns-4 c =
     let g = given (c .before .before .before .before .before .before .before .before .before .before .before .before .before .before .before .before .args .uuid .now) (c .before .before .before .before .before .before .before .before .before .before .before .before .before .before .before .before .args .volume) in
     let n = c .before .before .before .before .before .before .before .before .before .before .before .before .before .before .before .before .args .n in
     same-read (c .read-children .ensures)
-    (ap (λ (k : Forest). childrenRead g (c .before .before .before .before .before .before .before .before .before .before .before .before .before .before .before .before .args .letter) (c .before .before .before .before .before .before .before .before .before .before .before .before .before .before .before .before .args .block) (c .before .before .before .release .given .0 .0) k) (c .before .first-child .ensures .row)
-    ∙ root-read g (c .before .before .before .before .before .before .before .before .before .before .before .before .before .before .before .before .args .letter) (c .before .before .before .before .before .before .before .before .before .before .before .before .before .before .before .before .args .block) (headAt s n) (childrenAt s n) (sym (c .before .before .before .before .before .before .before .before .before .before .before .before .name-is .ensures) ∙ not-false _ (c .before .before .before .before .before .before .before .before .before .before .before .if1 .left)) (ap (λ (k : List ℕ). same k (bytes "version")) (sym (c .before .before .before .before .before .before .before .before .before .before .key-of .ensures)) ∙ sym (c .before .before .before .before .before .before .before .before .same .ensures) ∙ not-false _ (c .before .before .before .before .before .before .before .if2 .left)) (c .before .before .before .release .given .0 .0) (ap is.version (sym (c .before .before .before .before .before .before .value-of .ensures)) ∙ sym (c .before .before .before .before .before .read-version .ensures) ∙ ap is.versionOf (c .before .before .before .release .given .1)))
+    (ap (λ (k : Forest). childrenRead g (c .before .before .before .before .before .before .before .before .before .before .before .before .before .before .before .before .args .letter) (c .before .before .before .before .before .before .before .before .before .before .before .before .before .before .before .before .args .block .0) (c .before .before .before .release .given .0 .0) k) (c .before .first-child .ensures .row)
+    ∙ root-read g (c .before .before .before .before .before .before .before .before .before .before .before .before .before .before .before .before .args .letter) (c .before .before .before .before .before .before .before .before .before .before .before .before .before .before .before .before .args .block .0) (headAt s n) (childrenAt s n) (sym (c .before .before .before .before .before .before .before .before .before .before .before .before .name-is .ensures) ∙ not-false _ (c .before .before .before .before .before .before .before .before .before .before .before .if1 .left)) (ap (λ (k : List ℕ). same k (bytes "version")) (sym (c .before .before .before .before .before .before .before .before .before .before .key-of .ensures)) ∙ sym (c .before .before .before .before .before .before .before .before .same .ensures) ∙ not-false _ (c .before .before .before .before .before .before .before .if2 .left)) (c .before .before .before .release .given .0 .0) (ap is.version (sym (c .before .before .before .before .before .before .value-of .ensures)) ∙ sym (c .before .before .before .before .before .read-version .ensures) ∙ ap is.versionOf (c .before .before .before .release .given .1)))
 
 pub read-tag-spec : {M : Type 1} → statement M
 read-tag-spec =

@@ -3,23 +3,23 @@
 use mathlib.Core.Path.{_≡_, refl, ap, sym, _∙_, subst}
 use Prim.Native.Nat.{ℕ, _-_, _≤_, _<_}
 use native.Mathlib.Omega.{arith}
-use mathlib.Core.List.{List}
+use borrow.Author.Tests.{not-true, not-false}
 use lib.ListN.{length}
-use Rattle.xml.specs.Tree.{Forest}
+use Rattle.xml.specs.Tree.{Forest, none}
 use Rattle.xml.specs.Form.{height}
 use Rattle.elements.specs.declared.tags.Tag.the-variants.{Open, Empty}
 use Rattle.elements.specs.declared.starts.Next.the-variants.{End, Close, Opens}
-use Rattle.elements.specs.Reading.{rowAt, aroundAt, childrenAt, NextTag, FirstOf}
+use Rattle.elements.specs.Reading.{rowAt, headAt, aroundAt, childrenAt, NextTag, Behind, FirstOf}
 use Rattle.elements.specs.Starts.{NextStart}
 use Rattle.elements.proofs.Left.{left-end}
-use Rattle.elements.proofs.Plain.{inner-first}
 use Rattle.elements.proofs.Rows.{row-end, row-close, around-end, around-close, first-open, first-empty, children-open, children-empty}
 use Rattle.elements.proofs.Roots.{height-open, height-rest}
+use Rattle.index_values.specs.Elements.{numberOf}
 use Rattle.index_values.specs.Tests.{given}
-use Rattle.index.specs.Sweep.{gathered, fresh, ended, endedSums, closed, sweep}
+use Rattle.index.specs.Sweep.{gathered, fresh, ended, closed, sweep}
 use Rattle.index.specs.declared.walk.Sums.{Sums}
 use Rattle.index_rows.specs.Places.{Placed}
-use Rattle.index_rows.proofs.Placing.{Noting, noting-none, noting-more, noting-all, placed-none}
+use Rattle.index_rows.proofs.Placing.{Noting, noting-none, noting-more, noting-all}
 use Rattle.index.proofs.Steps.{row-over, step-holds, step-other}
 use borrow.Author.Needs.{needs}
 use borrow.Fn.Kinds.{In}
@@ -28,15 +28,13 @@ use Rattle.index.proofs.walk.walk.Reads as walk
 use Rattle.index.proofs.walk.walk.Kinds as walk-kinds
 use Rattle.index.proofs.walk.+walk.Lts-walk as walk-lts
 use Rattle.elements.proofs.next_start.Reads as next-start-reads
-use Rattle.elements.proofs.leave.Reads as leave-reads
+use Rattle.index.proofs.walk.behind.Reads as behind-reads
 use Rattle.index.proofs.walk.close_element.Reads as close-element-reads
+use Rattle.index.proofs.walk.close_empty.Reads as close-empty-reads
 use Rattle.index.proofs.walk.enter.Reads as enter-reads
-use Rattle.index.proofs.walk.finish.Reads as finish-reads
 use Rattle.index.proofs.walk.is_open.Reads as is-open-reads
-use Rattle.index.proofs.walk.mark.Reads as mark-reads
-use Rattle.index.proofs.walk.number_at.Reads as number-at-reads
-use Rattle.index_names.proofs.sort_in.Reads as sort-in-reads
-use Rattle.index_rows.proofs.note.Reads as note-reads
+use Rattle.index.proofs.walk.meet.Reads as meet-reads
+use Rattle.index.proofs.walk.over.Reads as over-reads
 use Rattle.index.proofs.walk.+walk.{statement}
 use Rattle.index.proofs.walk.+walk.Tie.{close}
 
@@ -53,39 +51,35 @@ abbrev claims : ℕ → walk-lts.Claims
 claims t = (
   next-start-reads.Asked,
   next-start-reads.Learnt,
-  finish-reads.Asked,
-  finish-reads.Learnt,
-  number-at-reads.Asked,
-  number-at-reads.Learnt,
-  sort-in-reads.Asked,
-  sort-in-reads.Learnt,
-  mark-reads.Asked,
-  mark-reads.Learnt,
-  note-reads.Asked,
-  note-reads.Learnt,
+  over-reads.Asked,
+  over-reads.Learnt,
+  meet-reads.Asked,
+  meet-reads.Learnt,
   enter-reads.Asked,
   enter-reads.Learnt,
   is-open-reads.Asked,
   is-open-reads.Learnt,
-  close-element-reads.Asked,
-  close-element-reads.Learnt,
+  behind-reads.Asked,
+  behind-reads.Learnt,
+  close-empty-reads.Asked,
+  close-empty-reads.Learnt,
   walk-below t,
   walk.Post,
-  leave-reads.Asked,
-  leave-reads.Learnt,
+  close-element-reads.Asked,
+  close-element-reads.Learnt,
 )
 
 abbrev walk-Inv-loop : walk-lts.InvT-loop
-walk-Inv-loop text uuid uids₀ rows₀ at kind depth volume i₀ a₀ seen₀ places₀ t22 t23 uids rows i a seen places =
+walk-Inv-loop text uuid uids₀ rows₀ at kind depth volume i₀ a₀ seen₀ places₀ uids rows i a seen places =
     (at ≤ i) × (i ≤ length text) × (height (rowAt text i) ≤ depth) × (aroundAt text at ≡ aroundAt text i)
     × (sweep (given uuid volume) kind fresh (rowAt text at) (gathered a₀ uids₀) ≡ sweep (given uuid volume) kind seen (rowAt text i) (gathered a uids))
-    × (t22 ≡ fresh) × (t23 ≡ fresh) × Noting text kind (rowAt text at) (rowAt text i) places
+    × Noting text kind (rowAt text at) (rowAt text i) places
 
 abbrev walk-μ-loop : walk-lts.MeasureT-loop
-walk-μ-loop text uuid uids₀ rows₀ at kind depth volume i₀ a₀ seen₀ places₀ t22 t23 uids rows i a seen places = length text - i
+walk-μ-loop text uuid uids₀ rows₀ at kind depth volume i₀ a₀ seen₀ places₀ uids rows i a seen places = length text - i
 
 walk-loop-holds : (t : ℕ) → walk-lts.Need-loop-holds (claims t) (walk-at t) walk.Post walk-Inv-loop walk-μ-loop
-walk-loop-holds t c = (search needs, search needs, c .before .before .pre .1 .1, refl, refl, refl, refl, noting-none (c .before .before .args .text .now) (c .before .before .args .kind) (rowAt (c .before .before .args .text .now) (c .before .before .args .at)))
+walk-loop-holds t c = (search needs, search needs, c .before .before .pre .1 .1, refl, refl, noting-none (c .before .before .args .text .now) (c .before .before .args .kind) (rowAt (c .before .before .args .text .now) (c .before .before .args .at)))
 
 walk-next-start-requires : (t : ℕ) → walk-lts.Need-next-start-requires (claims t) (walk-at t) walk.Post walk-Inv-loop walk-μ-loop
 walk-next-start-requires t c κs = search needs
@@ -93,8 +87,8 @@ walk-next-start-requires t c κs = search needs
 walk-enum-told : (t : ℕ) → walk-lts.Need-enum-told (claims t) (walk-at t) walk.Post walk-Inv-loop walk-μ-loop
 walk-enum-told t c = search needs
 
-walk-finish-requires : (t : ℕ) → walk-lts.Need-finish-requires (claims t) (walk-at t) walk.Post walk-Inv-loop walk-μ-loop
-walk-finish-requires t c κs = search needs
+walk-over-requires : (t : ℕ) → walk-lts.Need-over-requires (claims t) (walk-at t) walk.Post walk-Inv-loop walk-μ-loop
+walk-over-requires t c κs = search needs
 
 walk-returns : (t : ℕ) → walk-lts.Need-returns (claims t) (walk-at t) walk.Post walk-Inv-loop walk-μ-loop
 unfolding ended
@@ -103,17 +97,19 @@ walk-returns t c =
     let s = a .text .now in
     let l = c .before .before .before .before .before .loop in
     let g = given (a .uuid .now) (a .volume) in
-    let tag : NextStart s (l .i) End = subst (NextStart s (l .i)) (c .before .before .enum-told .given .1) (c .before .before .before .before .next-start .ensures) in (
-      ap (λ (x : Sums). gathered x (l .uids)) (c .finish .ensures) ∙ sym (l .inv .4 ∙ row-over g (a .kind) (l .seen) (gathered (l .a) (l .uids)) (rowAt s (l .i)) (row-end tag)),
-      record { left = left-end s (length s) (omega arith) ∙ sym (l .inv .3 ∙ around-end tag); ahead = search needs; inside = search needs },
-      noting-all s (a .kind) (rowAt s (a .at)) (rowAt s (l .i)) (l .places) (row-end tag) (l .inv .7),
-    )
+    let tag : NextStart s (l .i) End = subst (NextStart s (l .i)) (c .before .before .enum-told .given .1) (c .before .before .before .before .next-start .ensures) in
+    let behind : Behind s (a .at) (length s) = record { left = left-end s (length s) (omega arith) ∙ sym (l .inv .3 ∙ around-end tag); ahead = search needs; inside = search needs } in
+    record {
+      gathers = ap (λ (x : Sums). gathered x (l .uids)) (c .over .ensures .sums) ∙ sym (l .inv .4 ∙ row-over g (a .kind) (l .seen) (gathered (l .a) (l .uids)) (rowAt s (l .i)) (row-end tag));
+      behind = subst (Behind s (a .at)) (sym (c .over .ensures .at)) behind;
+      places = subst (Placed s (a .kind) (rowAt s (a .at))) (sym (c .over .ensures .places)) (noting-all s (a .kind) (rowAt s (a .at)) (rowAt s (l .i)) (l .places) (row-end tag) (l .inv .5));
+    }
 
 walk-enum-known-n : (t : ℕ) → walk-lts.Need-enum-known-n (claims t) (walk-at t) walk.Post walk-Inv-loop walk-μ-loop
 walk-enum-known-n t c = search needs
 
-walk-finish-requires-2 : (t : ℕ) → walk-lts.Need-finish-requires-2 (claims t) (walk-at t) walk.Post walk-Inv-loop walk-μ-loop
-walk-finish-requires-2 t c κs = search needs
+walk-over-requires-2 : (t : ℕ) → walk-lts.Need-over-requires-2 (claims t) (walk-at t) walk.Post walk-Inv-loop walk-μ-loop
+walk-over-requires-2 t c κs = search needs
 
 walk-returns-2 : (t : ℕ) → walk-lts.Need-returns-2 (claims t) (walk-at t) walk.Post walk-Inv-loop walk-μ-loop
 unfolding ended
@@ -123,222 +119,173 @@ walk-returns-2 t c =
     let l = c .before .before .before .before .before .before .loop in
     let g = given (a .uuid .now) (a .volume) in
     let n = c .before .before .before .n .given .0 .0 in
-    let tag : NextStart s (l .i) (Close n) = subst (NextStart s (l .i)) (c .before .before .before .n .given .1) (c .before .before .before .before .before .next-start .ensures) in (
-      ap (λ (x : Sums). gathered x (l .uids)) (c .finish2 .ensures) ∙ sym (l .inv .4 ∙ row-over g (a .kind) (l .seen) (gathered (l .a) (l .uids)) (rowAt s (l .i)) (row-close tag)),
-      record { left = sym (l .inv .3 ∙ around-close tag); ahead = omega (arith, tag .place); inside = tag .place .1 },
-      noting-all s (a .kind) (rowAt s (a .at)) (rowAt s (l .i)) (l .places) (row-close tag) (l .inv .7),
-    )
+    let tag : NextStart s (l .i) (Close n) = subst (NextStart s (l .i)) (c .before .before .before .n .given .1) (c .before .before .before .before .before .next-start .ensures) in
+    let behind : Behind s (a .at) n = record { left = sym (l .inv .3 ∙ around-close tag); ahead = omega (arith, tag .place); inside = tag .place .1 } in
+    record {
+      gathers = ap (λ (x : Sums). gathered x (l .uids)) (c .over2 .ensures .sums) ∙ sym (l .inv .4 ∙ row-over g (a .kind) (l .seen) (gathered (l .a) (l .uids)) (rowAt s (l .i)) (row-close tag));
+      behind = subst (Behind s (a .at)) (sym (c .over2 .ensures .at)) behind;
+      places = subst (Placed s (a .kind) (rowAt s (a .at))) (sym (c .over2 .ensures .places)) (noting-all s (a .kind) (rowAt s (a .at)) (rowAt s (l .i)) (l .places) (row-close tag) (l .inv .5));
+    }
 
 walk-enum-known-h : (t : ℕ) → walk-lts.Need-enum-known-h (claims t) (walk-at t) walk.Post walk-Inv-loop walk-μ-loop
 walk-enum-known-h t c = search needs
 
-walk-number-at-requires : (t : ℕ) → walk-lts.Need-number-at-requires (claims t) (walk-at t) walk.Post walk-Inv-loop walk-μ-loop
-walk-number-at-requires t c κs =
-    let a = c .before .before .before .before .before .before .before .args in
+walk-meet-requires : (t : ℕ) → walk-lts.Need-meet-requires (claims t) (walk-at t) walk.Post walk-Inv-loop walk-μ-loop
+walk-meet-requires t c κs =
+    let a = c .before .before .before .before .before .before .before .before .before .args in
     let s = a .text .now in
-    let l = c .before .before .before .before .loop in
-    let g = given (a .uuid .now) (a .volume) in
-    let x = c .before .h .given .0 .0 in
-    let o : NextStart s (l .i) (Opens x) = subst (NextStart s (l .i)) (c .before .h .given .1) (c .before .before .before .next-start .ensures) in
+    let l = c .before .before .before .before .before .before .loop in
+    let x = c .before .before .before .h .given .0 .0 in
+    let o : NextStart s (l .i) (Opens x) = subst (NextStart s (l .i)) (c .before .before .before .h .given .1) (c .before .before .before .before .before .next-start .ensures) in
     o .shape
-
-walk-sort-in-requires : (t : ℕ) → walk-lts.Need-sort-in-requires (claims t) (walk-at t) walk.Post walk-Inv-loop walk-μ-loop
-walk-sort-in-requires t c κs = search needs
-
-walk-mark-requires : (t : ℕ) → walk-lts.Need-mark-requires (claims t) (walk-at t) walk.Post walk-Inv-loop walk-μ-loop
-walk-mark-requires t c κs = search needs
-
-walk-note-requires : (t : ℕ) → walk-lts.Need-note-requires (claims t) (walk-at t) walk.Post walk-Inv-loop walk-μ-loop
-walk-note-requires t c κs = search needs
 
 walk-enter-requires : (t : ℕ) → walk-lts.Need-enter-requires (claims t) (walk-at t) walk.Post walk-Inv-loop walk-μ-loop
 walk-enter-requires t c κs =
-    let a = c .before .before .before .before .before .before .before .before .before .before .before .before .before .args in
+    let a = c .before .before .before .before .before .before .before .before .before .before .args in
     let s = a .text .now in
-    let l = c .before .before .before .before .before .before .before .before .before .before .loop in
-    let g = given (a .uuid .now) (a .volume) in
-    let x = c .before .before .before .before .before .before .before .h .given .0 .0 in
-    let o : NextStart s (l .i) (Opens x) = subst (NextStart s (l .i)) (c .before .before .before .before .before .before .before .h .given .1) (c .before .before .before .before .before .before .before .before .before .next-start .ensures) in
+    let l = c .before .before .before .before .before .before .before .loop in
+    let x = c .before .before .before .before .h .given .0 .0 in
+    let o : NextStart s (l .i) (Opens x) = subst (NextStart s (l .i)) (c .before .before .before .before .h .given .1) (c .before .before .before .before .before .before .next-start .ensures) in
     o .shape
 
 walk-is-open-requires : (t : ℕ) → walk-lts.Need-is-open-requires (claims t) (walk-at t) walk.Post walk-Inv-loop walk-μ-loop
 walk-is-open-requires t c κs = search needs
 
-walk-finish-requires-3 : (t : ℕ) → walk-lts.Need-finish-requires-3 (claims t) (walk-at t) walk.Post walk-Inv-loop walk-μ-loop
-walk-finish-requires-3 t c κs = search needs
-
-walk-close-element-requires : (t : ℕ) → walk-lts.Need-close-element-requires (claims t) (walk-at t) walk.Post walk-Inv-loop walk-μ-loop
-walk-close-element-requires t c κs = search needs
+walk-behind-requires : (t : ℕ) → walk-lts.Need-behind-requires (claims t) (walk-at t) walk.Post walk-Inv-loop walk-μ-loop
+walk-behind-requires t c κs = search needs
 
 walk-loop-less : (t : ℕ) → walk-lts.Need-loop-less (claims t) (walk-at t) walk.Post walk-Inv-loop walk-μ-loop
 walk-loop-less t c =
-    let a = c .before .before .before .before .before .before .before .before .before .before .before .before .before .before .before .before .before .before .before .before .before .before .before .args in
+    let a = c .before .before .before .before .before .before .before .before .before .before .before .before .before .before .args in
     let s = a .text .now in
-    let l = c .before .before .before .before .before .before .before .before .before .before .before .before .before .before .before .before .before .before .before .before .loop in
-    let g = given (a .uuid .now) (a .volume) in
-    let x = c .before .before .before .before .before .before .before .before .before .before .before .before .before .before .before .before .before .h .given .0 .0 in
-    let o : NextStart s (l .i) (Opens x) = subst (NextStart s (l .i)) (c .before .before .before .before .before .before .before .before .before .before .before .before .before .before .before .before .before .h .given .1) (c .before .before .before .before .before .before .before .before .before .before .before .before .before .before .before .before .before .before .before .next-start .ensures) in
-    let tag : NextTag s (l .i) (Empty (x .at)) = rw (c .before .before .before .before .before .before .if2 .taken) at (o .tag) in
-    let first : FirstOf s (l .i) (x .at) (x .at) = first-empty tag in
+    let l = c .before .before .before .before .before .before .before .before .before .before .before .loop in
+    let x = c .before .before .before .before .before .before .before .before .h .given .0 .0 in
+    let o : NextStart s (l .i) (Opens x) = subst (NextStart s (l .i)) (c .before .before .before .before .before .before .before .before .h .given .1) (c .before .before .before .before .before .before .before .before .before .before .next-start .ensures) in
+    let first : FirstOf s (l .i) (x .at) (c .behind .result) = c .behind .ensures (l .i) o in
     omega (arith, first .place, first .after)
 
 walk-loop-again : (t : ℕ) → walk-lts.Need-loop-again (claims t) (walk-at t) walk.Post walk-Inv-loop walk-μ-loop
-unfolding ended
 walk-loop-again t c =
-    let a = c .before .before .before .before .before .before .before .before .before .before .before .before .before .before .before .before .before .before .before .before .before .before .before .args in
+    let a = c .before .before .before .before .before .before .before .before .before .before .before .before .before .before .args in
     let s = a .text .now in
-    let l = c .before .before .before .before .before .before .before .before .before .before .before .before .before .before .before .before .before .before .before .before .loop in
+    let l = c .before .before .before .before .before .before .before .before .before .before .before .loop in
     let g = given (a .uuid .now) (a .volume) in
-    let x = c .before .before .before .before .before .before .before .before .before .before .before .before .before .before .before .before .before .h .given .0 .0 in
-    let o : NextStart s (l .i) (Opens x) = subst (NextStart s (l .i)) (c .before .before .before .before .before .before .before .before .before .before .before .before .before .before .before .before .before .h .given .1) (c .before .before .before .before .before .before .before .before .before .before .before .before .before .before .before .before .before .before .before .next-start .ensures) in
-    let tag : NextTag s (l .i) (Empty (x .at)) = rw (c .before .before .before .before .before .before .if2 .taken) at (o .tag) in
-    let k = childrenAt s (x .at) in
-    let v = c .close-element .ensures k (a .uuid .now) (λ q. placed-none s _ k _ (children-empty tag) (l .inv .6)) in
+    let x = c .before .before .before .before .before .before .before .before .h .given .0 .0 in
+    let o : NextStart s (l .i) (Opens x) = subst (NextStart s (l .i)) (c .before .before .before .before .before .before .before .before .h .given .1) (c .before .before .before .before .before .before .before .before .before .before .next-start .ensures) in
+    let met = c .before .before .before .before .meet .ensures in
+    let srt = c .before .before .before .before .meet .result in
+    let first : FirstOf s (l .i) (x .at) (c .behind .result) = c .behind .ensures (l .i) o in
+    let low : height (rowAt s (c .behind .result)) ≤ height (rowAt s (l .i)) = height-rest first in (
+      omega (arith, first .place, first .after),
+      first .after .1,
+      omega arith,
+      l .inv .3 ∙ first .around,
+      l .inv .4 ∙ step-other g (a .kind) (l .seen) (gathered (l .a) (l .uids)) first srt _ (c .before .before .before .enter .result) (met .known) (met .seen) (c .before .before .before .enter .ensures) (sym (c .before .before .is-open .ensures) ∙ not-true _ (c .before .if1 .taken)),
+      noting-more s (a .kind) (numberOf (a .kind) (headAt s (x .at))) (l .places) _ first refl (met .places) (rowAt s (a .at)) (l .inv .5),
+    )
+
+walk-close-empty-requires : (t : ℕ) → walk-lts.Need-close-empty-requires (claims t) (walk-at t) walk.Post walk-Inv-loop walk-μ-loop
+walk-close-empty-requires t c κs = search needs
+
+walk-loop-less-2 : (t : ℕ) → walk-lts.Need-loop-less-2 (claims t) (walk-at t) walk.Post walk-Inv-loop walk-μ-loop
+walk-loop-less-2 t c =
+    let a = c .before .before .before .before .before .before .before .before .before .before .before .before .before .before .before .before .before .args in
+    let s = a .text .now in
+    let l = c .before .before .before .before .before .before .before .before .before .before .before .before .before .before .loop in
+    let x = c .before .before .before .before .before .before .before .before .before .before .before .h .given .0 .0 in
+    let o : NextStart s (l .i) (Opens x) = subst (NextStart s (l .i)) (c .before .before .before .before .before .before .before .before .before .before .before .h .given .1) (c .before .before .before .before .before .before .before .before .before .before .before .before .before .next-start .ensures) in
+    let tag : NextTag s (l .i) (Empty (x .at)) = rw (c .before .before .before .if2 .taken) at (o .tag) in
     let first : FirstOf s (l .i) (x .at) (x .at) = first-empty tag in
+    omega (arith, first .place, first .after)
+
+walk-loop-again-2 : (t : ℕ) → walk-lts.Need-loop-again-2 (claims t) (walk-at t) walk.Post walk-Inv-loop walk-μ-loop
+walk-loop-again-2 t c =
+    let a = c .before .before .before .before .before .before .before .before .before .before .before .before .before .before .before .before .before .args in
+    let s = a .text .now in
+    let l = c .before .before .before .before .before .before .before .before .before .before .before .before .before .before .loop in
+    let g = given (a .uuid .now) (a .volume) in
+    let x = c .before .before .before .before .before .before .before .before .before .before .before .h .given .0 .0 in
+    let o : NextStart s (l .i) (Opens x) = subst (NextStart s (l .i)) (c .before .before .before .before .before .before .before .before .before .before .before .h .given .1) (c .before .before .before .before .before .before .before .before .before .before .before .before .before .next-start .ensures) in
+    let met = c .before .before .before .before .before .before .before .meet .ensures in
+    let srt = c .before .before .before .before .before .before .before .meet .result in
+    let b = gathered (c .before .before .before .before .before .before .enter .result) (l .uids) in
+    let tag : NextTag s (l .i) (Empty (x .at)) = rw (c .before .before .before .if2 .taken) at (o .tag) in
+    let first : FirstOf s (l .i) (x .at) (x .at) = first-empty tag in
+    let closes =
+    c .close-empty .ensures (a .uuid .now) ∙ ap (closed g srt none (l .a .entries)) (sym (row-over g srt fresh b none refl))
+    ∙ ap (λ (f : Forest). closed g srt f (l .a .entries) (sweep g srt fresh f b)) (sym (children-empty tag)) in
     let low : height (rowAt s (x .at)) ≤ height (rowAt s (l .i)) = height-rest first in (
       omega (arith, first .place, first .after),
       first .after .1,
       omega arith,
       l .inv .3 ∙ first .around,
-      l .inv .4 ∙ step-holds g (a .kind) (l .seen) (gathered (l .a) (l .uids)) first (c .before .before .before .before .before .before .before .before .before .before .before .before .before .before .before .number-at .result) (c .before .before .before .before .before .before .before .before .before .before .before .before .before .before .sort-in .result) (c .before .before .before .before .before .before .before .before .before .before .before .before .mark .last .0) (c .before .before .before .before .before .before .before .before .before .enter .result) (c .before .before .before .before .before .before .before .before .before .before .before .before .before .before .before .number-at .ensures) (c .before .before .before .before .before .before .before .before .before .before .before .before .before .before .sort-in .ensures) (c .before .before .before .before .before .before .before .before .before .before .before .before .mark .ensures) (c .before .before .before .before .before .before .before .before .before .enter .ensures) (gathered (c .close-element .result) (c .close-element .last .1 .1 .0)) (sym (c .before .before .before .before .before .before .before .before .is-open .ensures) ∙ c .before .before .before .before .before .before .before .if1 .taken)
-          (v ∙ ap (closed g (c .before .before .before .before .before .before .before .before .before .before .before .before .before .before .sort-in .result) k (l .a .entries))
-          (ap (λ (x : Sums). gathered x (l .uids)) (c .before .before .before .before .finish3 .ensures ∙ ap (λ (m : List ℕ). endedSums (c .before .before .before .before .before .before .before .before .before .before .before .before .before .before .sort-in .result) m (c .before .before .before .before .before .before .before .before .before .enter .result)) (l .inv .5))
-          ∙ sym (row-over g (c .before .before .before .before .before .before .before .before .before .before .before .before .before .before .sort-in .result) fresh (gathered (c .before .before .before .before .before .before .before .before .before .enter .result) (l .uids)) k (children-empty tag)))),
-      l .inv .5,
-      l .inv .6,
-      noting-more s (a .kind) (c .before .before .before .before .before .before .before .before .before .before .before .before .before .before .before .number-at .result) (l .places) (c .before .before .before .before .before .before .before .before .before .before .note .last .0) first (c .before .before .before .before .before .before .before .before .before .before .before .before .before .before .before .number-at .ensures) (c .before .before .before .before .before .before .before .before .before .before .note .ensures) (rowAt s (a .at)) (l .inv .7),
+      l .inv .4 ∙ step-holds g (a .kind) (l .seen) (gathered (l .a) (l .uids)) first srt _ (c .before .before .before .before .before .before .enter .result) (met .known) (met .seen) (c .before .before .before .before .before .before .enter .ensures) _ (sym (c .before .before .before .before .before .is-open .ensures) ∙ not-false _ (c .before .before .before .before .if1 .left)) closes,
+      noting-more s (a .kind) (numberOf (a .kind) (headAt s (x .at))) (l .places) _ first refl (met .places) (rowAt s (a .at)) (l .inv .5),
     )
 
 walk-sub-walk : (t : ℕ) → walk-lts.Need-sub-walk (claims t) (walk-at t) walk.Post walk-Inv-loop walk-μ-loop
 walk-sub-walk t c =
-    let a = c .before .before .before .before .before .before .before .before .before .before .before .before .before .before .before .before .before .before .before .args in
+    let a = c .before .before .before .before .before .before .before .before .before .before .before .before .before .before .before .before .args in
     let s = a .text .now in
-    let l = c .before .before .before .before .before .before .before .before .before .before .before .before .before .before .before .before .loop in
-    let g = given (a .uuid .now) (a .volume) in
-    let x = c .before .before .before .before .before .before .before .before .before .before .before .before .before .h .given .0 .0 in
-    let o : NextStart s (l .i) (Opens x) = subst (NextStart s (l .i)) (c .before .before .before .before .before .before .before .before .before .before .before .before .before .h .given .1) (c .before .before .before .before .before .before .before .before .before .before .before .before .before .before .before .next-start .ensures) in
+    let l = c .before .before .before .before .before .before .before .before .before .before .before .before .before .loop in
+    let x = c .before .before .before .before .before .before .before .before .before .before .h .given .0 .0 in
+    let o : NextStart s (l .i) (Opens x) = subst (NextStart s (l .i)) (c .before .before .before .before .before .before .before .before .before .before .h .given .1) (c .before .before .before .before .before .before .before .before .before .before .before .before .next-start .ensures) in
     let tag : NextTag s (l .i) (Open (x .at)) = rw (c .before .before .if2 .left) at (o .tag) in
     let low = height-open tag in
     omega (arith, l .inv .2)
 
 walk-walk-requires : (t : ℕ) → walk-lts.Need-walk-requires (claims t) (walk-at t) walk.Post walk-Inv-loop walk-μ-loop
 walk-walk-requires t c κs =
-    let a = c .before .before .before .before .before .before .before .before .before .before .before .before .before .before .before .before .before .before .before .args in
+    let a = c .before .before .before .before .before .before .before .before .before .before .before .before .before .before .before .before .args in
     let s = a .text .now in
-    let l = c .before .before .before .before .before .before .before .before .before .before .before .before .before .before .before .before .loop in
-    let g = given (a .uuid .now) (a .volume) in
-    let x = c .before .before .before .before .before .before .before .before .before .before .before .before .before .h .given .0 .0 in
-    let o : NextStart s (l .i) (Opens x) = subst (NextStart s (l .i)) (c .before .before .before .before .before .before .before .before .before .before .before .before .before .h .given .1) (c .before .before .before .before .before .before .before .before .before .before .before .before .before .before .before .next-start .ensures) in
+    let l = c .before .before .before .before .before .before .before .before .before .before .before .before .before .loop in
+    let x = c .before .before .before .before .before .before .before .before .before .before .h .given .0 .0 in
+    let o : NextStart s (l .i) (Opens x) = subst (NextStart s (l .i)) (c .before .before .before .before .before .before .before .before .before .before .h .given .1) (c .before .before .before .before .before .before .before .before .before .before .before .before .next-start .ensures) in
     let tag : NextTag s (l .i) (Open (x .at)) = rw (c .before .before .if2 .left) at (o .tag) in
     let low = height-open tag in
-    let e : a .depth ≡ t = c .before .before .before .before .before .before .before .before .before .before .before .before .before .before .before .before .before .before .before .pre .0 in
+    let e : a .depth ≡ t = c .before .before .before .before .before .before .before .before .before .before .before .before .before .before .before .before .pre .0 in
     let y : a .depth - 1 < t = omega arith in
     (y, (tag .place .1, omega arith))
 
-walk-close-element-requires-2 : (t : ℕ) → walk-lts.Need-close-element-requires-2 (claims t) (walk-at t) walk.Post walk-Inv-loop walk-μ-loop
-walk-close-element-requires-2 t c κs = search needs
-
-walk-loop-less-2 : (t : ℕ) → walk-lts.Need-loop-less-2 (claims t) (walk-at t) walk.Post walk-Inv-loop walk-μ-loop
-walk-loop-less-2 t c =
-    let a = c .before .before .before .before .before .before .before .before .before .before .before .before .before .before .before .before .before .before .before .before .before .before .before .before .before .args in
-    let s = a .text .now in
-    let l = c .before .before .before .before .before .before .before .before .before .before .before .before .before .before .before .before .before .before .before .before .before .before .loop in
-    let g = given (a .uuid .now) (a .volume) in
-    let x = c .before .before .before .before .before .before .before .before .before .before .before .before .before .before .before .before .before .before .before .h .given .0 .0 in
-    let o : NextStart s (l .i) (Opens x) = subst (NextStart s (l .i)) (c .before .before .before .before .before .before .before .before .before .before .before .before .before .before .before .before .before .before .before .h .given .1) (c .before .before .before .before .before .before .before .before .before .before .before .before .before .before .before .before .before .before .before .before .before .next-start .ensures) in
-    let tag : NextTag s (l .i) (Open (x .at)) = rw (c .before .before .before .before .before .before .before .before .if2 .left) at (o .tag) in
-    let first : FirstOf s (l .i) (x .at) (c .before .before .before .before .before .walk .result .at) = first-open tag (c .before .before .before .before .before .walk .ensures .1) in
-    omega (arith, first .place, first .after)
-
-walk-loop-again-2 : (t : ℕ) → walk-lts.Need-loop-again-2 (claims t) (walk-at t) walk.Post walk-Inv-loop walk-μ-loop
-walk-loop-again-2 t c =
-    let a = c .before .before .before .before .before .before .before .before .before .before .before .before .before .before .before .before .before .before .before .before .before .before .before .before .before .args in
-    let s = a .text .now in
-    let l = c .before .before .before .before .before .before .before .before .before .before .before .before .before .before .before .before .before .before .before .before .before .before .loop in
-    let g = given (a .uuid .now) (a .volume) in
-    let x = c .before .before .before .before .before .before .before .before .before .before .before .before .before .before .before .before .before .before .before .h .given .0 .0 in
-    let o : NextStart s (l .i) (Opens x) = subst (NextStart s (l .i)) (c .before .before .before .before .before .before .before .before .before .before .before .before .before .before .before .before .before .before .before .h .given .1) (c .before .before .before .before .before .before .before .before .before .before .before .before .before .before .before .before .before .before .before .before .before .next-start .ensures) in
-    let tag : NextTag s (l .i) (Open (x .at)) = rw (c .before .before .before .before .before .before .before .before .if2 .left) at (o .tag) in
-    let k = childrenAt s (x .at) in
-    let held : Placed s (c .before .before .before .before .before .before .before .before .before .before .before .before .before .before .before .before .sort-in .result) k (c .before .before .before .before .before .walk .result .places) = subst (λ (f : Forest). Placed s (c .before .before .before .before .before .before .before .before .before .before .before .before .before .before .before .before .sort-in .result) f (c .before .before .before .before .before .walk .result .places)) (sym (children-open tag)) (c .before .before .before .before .before .walk .ensures .2) in
-    let v = c .close-element2 .ensures k (a .uuid .now) (λ q. held) in
-    let first : FirstOf s (l .i) (x .at) (c .before .before .before .before .before .walk .result .at) = first-open tag (c .before .before .before .before .before .walk .ensures .1) in
-    let low : height (rowAt s (c .before .before .before .before .before .walk .result .at)) ≤ height (rowAt s (l .i)) = height-rest first in (
-      omega (arith, first .place, first .after),
-      first .after .1,
-      omega arith,
-      l .inv .3 ∙ first .around,
-      l .inv .4 ∙ step-holds g (a .kind) (l .seen) (gathered (l .a) (l .uids)) first (c .before .before .before .before .before .before .before .before .before .before .before .before .before .before .before .before .before .number-at .result) (c .before .before .before .before .before .before .before .before .before .before .before .before .before .before .before .before .sort-in .result) (c .before .before .before .before .before .before .before .before .before .before .before .before .before .before .mark .last .0) (c .before .before .before .before .before .before .before .before .before .before .before .enter .result) (c .before .before .before .before .before .before .before .before .before .before .before .before .before .before .before .before .before .number-at .ensures) (c .before .before .before .before .before .before .before .before .before .before .before .before .before .before .before .before .sort-in .ensures) (c .before .before .before .before .before .before .before .before .before .before .before .before .before .before .mark .ensures) (c .before .before .before .before .before .before .before .before .before .before .before .enter .ensures) (gathered (c .close-element2 .result) (c .close-element2 .last .1 .1 .0)) (sym (c .before .before .before .before .before .before .before .before .before .before .is-open .ensures) ∙ c .before .before .before .before .before .before .before .before .before .if1 .taken)
-          (v ∙ ap (closed g (c .before .before .before .before .before .before .before .before .before .before .before .before .before .before .before .before .sort-in .result) k (l .a .entries))
-          (c .before .before .before .before .before .walk .ensures .0 ∙ ap (λ (f : Forest). sweep g (c .before .before .before .before .before .before .before .before .before .before .before .before .before .before .before .before .sort-in .result) fresh f (gathered (c .before .before .before .before .before .before .before .before .before .before .before .enter .result) (l .uids))) (sym (children-open tag)))),
-      l .inv .5,
-      l .inv .6,
-      noting-more s (a .kind) (c .before .before .before .before .before .before .before .before .before .before .before .before .before .before .before .before .before .number-at .result) (l .places) (c .before .before .before .before .before .before .before .before .before .before .before .before .note .last .0) first (c .before .before .before .before .before .before .before .before .before .before .before .before .before .before .before .before .before .number-at .ensures) (c .before .before .before .before .before .before .before .before .before .before .before .before .note .ensures) (rowAt s (a .at)) (l .inv .7),
-    )
+walk-close-element-requires : (t : ℕ) → walk-lts.Need-close-element-requires (claims t) (walk-at t) walk.Post walk-Inv-loop walk-μ-loop
+walk-close-element-requires t c κs = search needs
 
 walk-loop-less-3 : (t : ℕ) → walk-lts.Need-loop-less-3 (claims t) (walk-at t) walk.Post walk-Inv-loop walk-μ-loop
 walk-loop-less-3 t c =
-    let a = c .before .before .before .before .before .before .before .before .before .before .before .before .before .before .before .before .before .args in
+    let a = c .before .before .before .before .before .before .before .before .before .before .before .before .before .before .before .before .before .before .before .before .args in
     let s = a .text .now in
-    let l = c .before .before .before .before .before .before .before .before .before .before .before .before .before .before .loop in
-    let g = given (a .uuid .now) (a .volume) in
-    let x = c .before .before .before .before .before .before .before .before .before .before .before .h .given .0 .0 in
-    let o : NextStart s (l .i) (Opens x) = subst (NextStart s (l .i)) (c .before .before .before .before .before .before .before .before .before .before .before .h .given .1) (c .before .before .before .before .before .before .before .before .before .before .before .before .before .next-start .ensures) in
-    let first : FirstOf s (l .i) (x .at) (x .next) = o .next (c .if3 .taken) in
+    let l = c .before .before .before .before .before .before .before .before .before .before .before .before .before .before .before .before .before .loop in
+    let x = c .before .before .before .before .before .before .before .before .before .before .before .before .before .before .h .given .0 .0 in
+    let o : NextStart s (l .i) (Opens x) = subst (NextStart s (l .i)) (c .before .before .before .before .before .before .before .before .before .before .before .before .before .before .h .given .1) (c .before .before .before .before .before .before .before .before .before .before .before .before .before .before .before .before .next-start .ensures) in
+    let tag : NextTag s (l .i) (Open (x .at)) = rw (c .before .before .before .before .before .before .if2 .left) at (o .tag) in
+    let first : FirstOf s (l .i) (x .at) (c .before .before .before .walk .result .at) = first-open tag (c .before .before .before .walk .ensures .behind) in
     omega (arith, first .place, first .after)
 
 walk-loop-again-3 : (t : ℕ) → walk-lts.Need-loop-again-3 (claims t) (walk-at t) walk.Post walk-Inv-loop walk-μ-loop
 walk-loop-again-3 t c =
-    let a = c .before .before .before .before .before .before .before .before .before .before .before .before .before .before .before .before .before .args in
+    let a = c .before .before .before .before .before .before .before .before .before .before .before .before .before .before .before .before .before .before .before .before .args in
     let s = a .text .now in
-    let l = c .before .before .before .before .before .before .before .before .before .before .before .before .before .before .loop in
+    let l = c .before .before .before .before .before .before .before .before .before .before .before .before .before .before .before .before .before .loop in
     let g = given (a .uuid .now) (a .volume) in
-    let x = c .before .before .before .before .before .before .before .before .before .before .before .h .given .0 .0 in
-    let o : NextStart s (l .i) (Opens x) = subst (NextStart s (l .i)) (c .before .before .before .before .before .before .before .before .before .before .before .h .given .1) (c .before .before .before .before .before .before .before .before .before .before .before .before .before .next-start .ensures) in
-    let first : FirstOf s (l .i) (x .at) (x .next) = o .next (c .if3 .taken) in
-    let low : height (rowAt s (x .next)) ≤ height (rowAt s (l .i)) = height-rest first in (
+    let x = c .before .before .before .before .before .before .before .before .before .before .before .before .before .before .h .given .0 .0 in
+    let o : NextStart s (l .i) (Opens x) = subst (NextStart s (l .i)) (c .before .before .before .before .before .before .before .before .before .before .before .before .before .before .h .given .1) (c .before .before .before .before .before .before .before .before .before .before .before .before .before .before .before .before .next-start .ensures) in
+    let met = c .before .before .before .before .before .before .before .before .before .before .meet .ensures in
+    let srt = c .before .before .before .before .before .before .before .before .before .before .meet .result in
+    let b = gathered (c .before .before .before .before .before .before .before .before .before .enter .result) (l .uids) in
+    let tag : NextTag s (l .i) (Open (x .at)) = rw (c .before .before .before .before .before .before .if2 .left) at (o .tag) in
+    let first : FirstOf s (l .i) (x .at) (c .before .before .before .walk .result .at) = first-open tag (c .before .before .before .walk .ensures .behind) in
+    let k = childrenAt s (x .at) in
+    let held : Placed s srt k (c .before .before .before .walk .result .places) = subst (λ (f : Forest). Placed s srt f (c .before .before .before .walk .result .places)) (sym (children-open tag)) (c .before .before .before .walk .ensures .places) in
+    let closes =
+    c .close-element .ensures k (a .uuid .now) (λ q. held)
+    ∙ ap (closed g srt k (l .a .entries)) (c .before .before .before .walk .ensures .gathers ∙ ap (λ (f : Forest). sweep g srt fresh f b) (sym (children-open tag))) in
+    let low : height (rowAt s (c .before .before .before .walk .result .at)) ≤ height (rowAt s (l .i)) = height-rest first in (
       omega (arith, first .place, first .after),
       first .after .1,
       omega arith,
       l .inv .3 ∙ first .around,
-      l .inv .4 ∙ step-other g (a .kind) (l .seen) (gathered (l .a) (l .uids)) first (c .before .before .before .before .before .before .before .before .before .number-at .result) (c .before .before .before .before .before .before .before .before .sort-in .result) (c .before .before .before .before .before .before .mark .last .0) (c .before .before .before .enter .result) (c .before .before .before .before .before .before .before .before .before .number-at .ensures) (c .before .before .before .before .before .before .before .before .sort-in .ensures) (c .before .before .before .before .before .before .mark .ensures) (c .before .before .before .enter .ensures) (sym (c .before .before .is-open .ensures) ∙ c .before .if1 .left),
-      l .inv .5,
-      l .inv .6,
-      noting-more s (a .kind) (c .before .before .before .before .before .before .before .before .before .number-at .result) (l .places) (c .before .before .before .before .note .last .0) first (c .before .before .before .before .before .before .before .before .before .number-at .ensures) (c .before .before .before .before .note .ensures) (rowAt s (a .at)) (l .inv .7),
-    )
-
-walk-leave-requires : (t : ℕ) → walk-lts.Need-leave-requires (claims t) (walk-at t) walk.Post walk-Inv-loop walk-μ-loop
-walk-leave-requires t c κs = search needs
-
-walk-loop-less-4 : (t : ℕ) → walk-lts.Need-loop-less-4 (claims t) (walk-at t) walk.Post walk-Inv-loop walk-μ-loop
-walk-loop-less-4 t c =
-    let a = c .before .before .before .before .before .before .before .before .before .before .before .before .before .before .before .before .before .before .args in
-    let s = a .text .now in
-    let l = c .before .before .before .before .before .before .before .before .before .before .before .before .before .before .before .loop in
-    let g = given (a .uuid .now) (a .volume) in
-    let x = c .before .before .before .before .before .before .before .before .before .before .before .before .h .given .0 .0 in
-    let o : NextStart s (l .i) (Opens x) = subst (NextStart s (l .i)) (c .before .before .before .before .before .before .before .before .before .before .before .before .h .given .1) (c .before .before .before .before .before .before .before .before .before .before .before .before .before .before .next-start .ensures) in
-    let first : FirstOf s (l .i) (x .at) (c .leave .result) = inner-first o (c .before .if3 .left) (c .leave .ensures) in
-    omega (arith, first .place, first .after)
-
-walk-loop-again-4 : (t : ℕ) → walk-lts.Need-loop-again-4 (claims t) (walk-at t) walk.Post walk-Inv-loop walk-μ-loop
-walk-loop-again-4 t c =
-    let a = c .before .before .before .before .before .before .before .before .before .before .before .before .before .before .before .before .before .before .args in
-    let s = a .text .now in
-    let l = c .before .before .before .before .before .before .before .before .before .before .before .before .before .before .before .loop in
-    let g = given (a .uuid .now) (a .volume) in
-    let x = c .before .before .before .before .before .before .before .before .before .before .before .before .h .given .0 .0 in
-    let o : NextStart s (l .i) (Opens x) = subst (NextStart s (l .i)) (c .before .before .before .before .before .before .before .before .before .before .before .before .h .given .1) (c .before .before .before .before .before .before .before .before .before .before .before .before .before .before .next-start .ensures) in
-    let first : FirstOf s (l .i) (x .at) (c .leave .result) = inner-first o (c .before .if3 .left) (c .leave .ensures) in
-    let low : height (rowAt s (c .leave .result)) ≤ height (rowAt s (l .i)) = height-rest first in (
-      omega (arith, first .place, first .after),
-      first .after .1,
-      omega arith,
-      l .inv .3 ∙ first .around,
-      l .inv .4 ∙ step-other g (a .kind) (l .seen) (gathered (l .a) (l .uids)) first (c .before .before .before .before .before .before .before .before .before .before .number-at .result) (c .before .before .before .before .before .before .before .before .before .sort-in .result) (c .before .before .before .before .before .before .before .mark .last .0) (c .before .before .before .before .enter .result) (c .before .before .before .before .before .before .before .before .before .before .number-at .ensures) (c .before .before .before .before .before .before .before .before .before .sort-in .ensures) (c .before .before .before .before .before .before .before .mark .ensures) (c .before .before .before .before .enter .ensures) (sym (c .before .before .before .is-open .ensures) ∙ c .before .before .if1 .left),
-      l .inv .5,
-      l .inv .6,
-      noting-more s (a .kind) (c .before .before .before .before .before .before .before .before .before .before .number-at .result) (l .places) (c .before .before .before .before .before .note .last .0) first (c .before .before .before .before .before .before .before .before .before .before .number-at .ensures) (c .before .before .before .before .before .note .ensures) (rowAt s (a .at)) (l .inv .7),
+      l .inv .4 ∙ step-holds g (a .kind) (l .seen) (gathered (l .a) (l .uids)) first srt _ (c .before .before .before .before .before .before .before .before .before .enter .result) (met .known) (met .seen) (c .before .before .before .before .before .before .before .before .before .enter .ensures) _ (sym (c .before .before .before .before .before .before .before .before .is-open .ensures) ∙ not-false _ (c .before .before .before .before .before .before .before .if1 .left)) closes,
+      noting-more s (a .kind) (numberOf (a .kind) (headAt s (x .at))) (l .places) _ first refl (met .places) (rowAt s (a .at)) (l .inv .5),
     )
 
 pub +walk-spec : {M : Type 1} → statement M
@@ -350,29 +297,23 @@ pub +walk-spec : {M : Type 1} → statement M
     (walk-loop-holds t)
     (walk-next-start-requires t)
     (walk-enum-told t)
-    (walk-finish-requires t)
+    (walk-over-requires t)
     (walk-returns t)
     (walk-enum-known-n t)
-    (walk-finish-requires-2 t)
+    (walk-over-requires-2 t)
     (walk-returns-2 t)
     (walk-enum-known-h t)
-    (walk-number-at-requires t)
-    (walk-sort-in-requires t)
-    (walk-mark-requires t)
-    (walk-note-requires t)
+    (walk-meet-requires t)
     (walk-enter-requires t)
     (walk-is-open-requires t)
-    (walk-finish-requires-3 t)
-    (walk-close-element-requires t)
+    (walk-behind-requires t)
     (walk-loop-less t)
     (walk-loop-again t)
-    (walk-sub-walk t)
-    (walk-walk-requires t)
-    (walk-close-element-requires-2 t)
+    (walk-close-empty-requires t)
     (walk-loop-less-2 t)
     (walk-loop-again-2 t)
+    (walk-sub-walk t)
+    (walk-walk-requires t)
+    (walk-close-element-requires t)
     (walk-loop-less-3 t)
     (walk-loop-again-3 t)
-    (walk-leave-requires t)
-    (walk-loop-less-4 t)
-    (walk-loop-again-4 t)

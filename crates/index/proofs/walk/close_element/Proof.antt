@@ -14,8 +14,8 @@ use borrow.Author.Needs.{needs}
 use Rattle.index.proofs.walk.close_element.Statement.{statement}
 use Rattle.index.proofs.walk.close_element.Tie as tie
 
-element-copy-out-put-uid : tie.Need-element-copy-out-put-uid
-element-copy-out-put-uid c = search needs
+array-read-put-uid : tie.Need-array-read-put-uid
+array-read-put-uid c = search needs
 
 is-entry-requires : tie.Need-is-entry-requires
 is-entry-requires c κs = search needs
@@ -31,21 +31,21 @@ settle-requires c κs = search needs
 
 returns : tie.Need-returns
 returns c k uuid placed =
-    let a = c .before .before .before .before .before .before .before .before .args in
+    let a = c .before .before .before .before .before .before .before .before .before .args in
     let s = a .text .now in
-    let t = a .places .now in
+    let t = a .w .places in
     let u = a .uids .now in
     let n = numberSaid (textOf (seat s (getD t 0 0))) in
     let v = c .before .judge .ensures k (λ q. subst (λ (j : ℕ). Placed s j k t) q (placed (ap isEntry q))) in
-    closed-parts (given uuid (a .volume)) (a .sort) k (a .number) (a .a) _ _ _ u _ (v .0) (v .1 uuid) (c .settle .ensures)
-    (c .before .before .before .put-uid .ensures ∙ ap (λ (b : Bool). cond b (set u (a .number) n) u) (c .before .before .before .before .is-entry .ensures)
+    closed-parts (given uuid (a .volume)) (a .sort) k (a .number) (a .w .sums) _ _ _ u _ (v .0) (v .1 uuid) (c .settle .ensures)
+    (c .before .before .before .before .put-uid .ensures ∙ ap (λ (b : Bool). cond b (set u (a .number) n) u) (c .before .before .before .before .before .is-entry .ensures)
     ∙ uid-parts (a .sort) k (a .number) n u (λ e. fileuid-placed (a .sort) e s k t (placed e)))
 
 pub close-element-spec : {M : Type 1} → statement M
 close-element-spec =
     tie.close
     (tie.spec
-    element-copy-out-put-uid
+    array-read-put-uid
     is-entry-requires
     put-uid-requires
     judge-requires
