@@ -7,18 +7,14 @@ use lib.Dec.{ltb}
 use lib.ListN.{length}
 use Rattle.slices.specs.Slices.{every}
 use Rattle.slices.proofs.Booleans.{split}
-use Rattle.digits.specs.Runs.{value}
-use Rattle.digits.specs.Decimal as decimal
-use Rattle.digits.specs.Decimal.{isNumber, plain}
-use Rattle.values.specs.Values.{number}
 use Rattle.constructs.specs.Constructs.{standing, scan, step, runAfter, closedBy, pastLabel}
-use Rattle.slices.specs.Words.{bytes}
 use Rattle.tape.specs.Tape.{list, entry}
 use Rattle.extents.specs.Rows.{rowsOf}
 use Rattle.extents.specs.Lawful.{lawful, rowLawful, apart}
 use Rattle.extents.specs.Map.{byteMap, placeOf}
 use Rattle.label.specs.Label.{Label}
 use Rattle.worked.specs.Cases.{fresh, standsAt, indexAt, cases}
+use Rattle.worked.proofs.Numbers.{numbers}
 use Rattle.worked.proofs.Labels.{one, lengths, shorts}
 
 module _ (B : ℕ) (x y z : List ℕ) where
@@ -30,5 +26,5 @@ module _ (B : ℕ) (x y z : List ℕ) where
   at-5 = split (λ (t : Bool). (t || standsAt 5 (standing B (fresh x y z))) ≡ true) (ltb B (length z)) (λ e. refl) fits
 
 pub worked : (f : Label) (b : List ℕ) (B : ℕ) (x y z : List ℕ) → every (λ b. b) (cases f b B x y z) ≡ true
-unfolding every cases bytes number decimal.number isNumber plain value list entry byteMap placeOf rowsOf lawful rowLawful apart
-worked f b B x y z = rw (at-5 B x y z, one, lengths f, shorts f b)
+unfolding every cases list entry byteMap placeOf rowsOf lawful rowLawful apart
+worked f b B x y z = rw (at-5 B x y z, numbers .0, numbers .1, numbers .2, one, lengths f, shorts f b)

@@ -1,23 +1,22 @@
 -- Document 01's starred cases (01, Bench examples), each a test of the definitions: one table.
 use mathlib.Core.Bool.{Bool, true, false, not, _&&_, _||_}
-use mathlib.Core.List.{List, [], _∷_}
+use mathlib.Core.List.{List, [], _∷_, _++_}
 use Prim.Native.Nat.{ℕ}
 use Prim.Native.String.{String}
 use lib.Dec.{eqb, ltb}
 use lib.ListN.{length}
-use Rattle.refusals.specs.declared.Refusal.the-variants.{Value}
-use Rattle.refusals.specs.Refusals.{Answer, refused, answer, orRefuse, numberOf, shownNumber}
+use Rattle.refusals.specs.Refusals.{Answer, refused, answer, andThen, numberOf, shownNumber}
 use Rattle.slices.specs.Slices.{same}
 use Rattle.slices.specs.Words.{bytes}
 use Rattle.slices.specs.declared.Written.{Written}
 use Rattle.slices.specs.declared.Written.the-variants.{To, Refused}
-use Rattle.values.specs.Values.{number}
 use Rattle.extents.specs.Rows.{rowsOf}
 use Rattle.extents.specs.Lawful.{lawful}
 use Rattle.extents.specs.Map.{Place, stored, unstored, byteMap}
 use Rattle.tape.specs.Tape.{Tape, mark, block, list}
 use Rattle.constructs.specs.Constructs.{Construct, standing}
 use Rattle.label.specs.Label.{Label}
+use Rattle.index.specs.Index.{indexOf}
 use Rattle.label_writer.specs.Text.{escaped, textOf, isGiven}
 use Rattle.writing.specs.Writing.{answered}
 
@@ -35,9 +34,27 @@ standsAt n (c ∷ d ∷ cs) = false
 abbrev pub indexAt : ℕ → ℕ → List ℕ → List ℕ → List ℕ → Bool
 indexAt n B vol1 label index = ltb B (length index) || standsAt n (standing B (fresh vol1 label index))
 
--- a number's text as a reader takes it, 6 for none
+-- an entry's times
+unfoldable pub times : List ℕ
+times =
+    bytes "<creationtime>2010-02-01T18:35:47.866846222Z</creationtime><changetime>2010-02-01T18:35:47.866846222Z</changetime>"
+    ++ bytes "<modifytime>2010-02-01T18:35:47.866846222Z</modifytime><accesstime>2010-02-01T18:35:47.866846222Z</accesstime>"
+    ++ bytes "<backuptime>2010-02-01T18:35:47.866846222Z</backuptime>"
+
+-- an index's text, with that text as its highest fileuid
+unfoldable pub indexWith : String → List ℕ
+indexWith number =
+    bytes "<?xml version=\"1.0\" encoding=\"UTF-8\"?><ltfsindex version=\"2.0.1\"><creator>LTFS</creator>"
+    ++ bytes "<volumeuuid>30a91a08-daae-48d1-ae75-69804e61d2ea</volumeuuid><generationnumber>1</generationnumber>"
+    ++ bytes "<updatetime>2010-02-01T18:35:47.866846222Z</updatetime><location><partition>a</partition><startblock>5</startblock></location>"
+    ++ bytes "<allowpolicyupdate>true</allowpolicyupdate><highestfileuid>" ++ bytes number ++ bytes "</highestfileuid>"
+    ++ bytes "<directory><fileuid>1</fileuid><name/>" ++ times ++ bytes "<readonly>false</readonly><contents/></directory></ltfsindex>"
+
+-- the highest fileuid of that index, as its reader tells it
 abbrev pub numberIn : String → Answer ℕ
-numberIn s = orRefuse (number (bytes s)) Value answer
+numberIn number =
+    andThen (indexOf (record { uuid = bytes "30a91a08-daae-48d1-ae75-69804e61d2ea"; first = 97; other = 98; size = 524288 }) 97 5 (indexWith number))
+    (λ x. answer (x .heading .highestfileuid))
 
 abbrev pub says : ℕ → Answer ℕ → Bool
 says n (refused r) = false
