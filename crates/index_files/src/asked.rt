@@ -13,8 +13,7 @@ use quantities::ByteCount;
 use refusals::Refusal;
 ghost use mathlib.Core.Path.{_≡_};
 ghost use lib.ListN.{length};
-ghost use Rattle.elements.specs.Reading.{leftAt, rowAt, childrenAt, Spans};
-ghost use Rattle.index_values.specs.Elements.{textIn};
+ghost use Rattle.elements.specs.Reading.{leftAt, rowAt, childrenAt};
 ghost use Rattle.index_values.specs.Tests.{given, rowsIn};
 ghost use Rattle.index.specs.Index.{indexOf};
 ghost use Rattle.index_files.specs.Files.{filesLeft};
@@ -78,26 +77,6 @@ fn locate(
     }
 }
 
-// Where the text of the first element of a name stands, in the row at at.
-fn span_in(text: &[u8], at: usize, name: &[u8]) -> Span
-    ensures { λ r. ⌜ Spans (now (text .entry)) (r .from) (r .len) (textIn (now (name .entry)) (rowAt (now (text .entry)) at)) ⌝ }
-{
-    let mut i = at;
-    loop {
-        match elements::next_child(text, i) {
-            Child::Done => {
-                return Span { from: 0, len: 0 };
-            }
-            Child::At(n, next) => {
-                if elements::name_is(text, n, name) {
-                    return elements::text_at(text, n);
-                }
-                i = next;
-            }
-        }
-    }
-}
-
 // How many rows there are from at on.
 pub(crate) fn count_rows(text: &[u8], at: usize) -> u64
     ensures { λ r. ⌜ r ≡ length (rowsIn (rowAt (now (text .entry)) at)) ⌝ }
@@ -124,7 +103,7 @@ pub(crate) fn head_at(text: &[u8], n: usize) -> FileHead
     let at = elements::first_child(text, n);
     FileHead {
         length: ByteCount(index_values::number_said(index_values::text_in(text, at, b"length"))),
-        name: span_in(text, at, b"name"),
+        name: index_values::span_in(text, at, b"name"),
         rows: count_rows(text, extent_rows::first_row(text, n)),
     }
 }

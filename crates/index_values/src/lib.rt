@@ -5,6 +5,7 @@ mod uids;
 
 pub use rows::number_said;
 pub use rows::row_in;
+pub use rows::span_in;
 pub use rows::text_in;
 pub use tests::Judged;
 pub use tests::Volume;

@@ -10,7 +10,7 @@ ghost use Rattle.index_values.specs.Elements.{textIn, rowIn};
 ghost use Rattle.index_values.specs.Entries.{numberSaid};
 
 // Where the text of the first element of a name in the row at at stands.
-fn span_in(text: &[u8], at: usize, name: &[u8]) -> Span
+pub fn span_in(text: &[u8], at: usize, name: &[u8]) -> Span
     ensures { λ r. ⌜ Spans (now (text .entry)) (r .from) (r .len) (textIn (now (name .entry)) (rowAt (now (text .entry)) at)) ⌝ }
 {
     let mut i = at;

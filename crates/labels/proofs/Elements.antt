@@ -6,7 +6,7 @@ use Prim.Native.Nat.{ℕ, _+_}
 use native.Mathlib.Omega.{arith}
 use lib.ListN.{length, drop, getElem?}
 use Rattle.slices.proofs.Booleans.{and-left, and-right}
-use Rattle.tape.specs.Tape.{mark, block, Tape, markCell, blockCell, list, lawful, isBlockLength, Encodes}
+use Rattle.tape.specs.Tape.{mark, block, content, Tape, markCell, blockCell, list, lawful, isBlockLength, Encodes}
 use Rattle.tape.specs.Reading.{entryAt}
 use Rattle.tape.specs.declared.Entry.the-variants.{Mark, Block, End}
 use Rattle.tape.proofs.Walking.{entry-here, entry-none, next-here}
@@ -93,6 +93,7 @@ module _ {l : List ℕ} {at : ℕ} where
   mark-not (mark ∷ t) w e = no-step 0 (at + 1) (sym e ∙ ap pastMark (mark-here w))
 
 four-laid : {x y : List ℕ} {t u v w z : Tape} → t ≡ block x ∷ u → u ≡ mark ∷ v → v ≡ block y ∷ w → w ≡ mark ∷ z → Blocks (length x) (length y) ≡ layoutOf t
+unfolding content
 four-laid a b c d = rw (a, b, c, d)
 
 -- four steps along a list: what each may find, and the layout then

@@ -7,7 +7,7 @@ use Prim.Native.Nat.{ℕ}
 use lib.ListN.{getElem?}
 use Rattle.refusals.specs.Refusals.{Answer, answer, require, andThen}
 use Rattle.refusals.specs.declared.Refusal.the-variants.{Layout, Foreign}
-use Rattle.tape.specs.Tape.{Element, mark, block, Tape}
+use Rattle.tape.specs.Tape.{Element, mark, block, content, Tape}
 use Rattle.tape.specs.Answers.{tapeIn}
 use Rattle.label.specs.Label.{Label, labelOf}
 use Rattle.vol1.specs.Vol1.{vol1Of}
@@ -29,8 +29,7 @@ isLaid t = isBlock (getElem? t 0) && isMark (getElem? t 1) && isBlock (getElem? 
 
 abbrev pub bytesIn : Option Element → List ℕ
 bytesIn none = []
-bytesIn (some mark) = []
-bytesIn (some (block x)) = x
+bytesIn (some e) = content e
 
 -- the bytes of block n
 abbrev pub bytesAt : Tape → ℕ → List ℕ

@@ -10,7 +10,7 @@ use lib.Dec.{leb, ltb, eqb}
 use lib.ListN.{length, take}
 use Rattle.refusals.specs.Refusals.{Answer, answer}
 use Rattle.slices.specs.Slices.{every}
-use Rattle.slices.proofs.Booleans.{split, and-left, and-right}
+use Rattle.slices.proofs.Booleans.{and-left, and-right}
 use Rattle.quantities.specs.Letters.{areLetters}
 use Rattle.quantities.specs.Sizes.{isBlockSize}
 use Rattle.values.specs.Values.{isUuid}
@@ -18,37 +18,27 @@ use Rattle.extents.specs.Rows.{Row}
 use Rattle.extents.specs.Lawful.{rowLawful, lawful, eachLawful, apart, end, lastBlock}
 use Rattle.constructs.specs.Reach.{liesBy}
 use Rattle.constructs.proofs.Lying.{lies-by}
-use Rattle.index_names.specs.Sorts.{index, file}
-use Rattle.index_values.specs.Elements.{Element, elements}
+use Rattle.index_names.specs.Sorts.{index}
+use Rattle.index_values.specs.Elements.{elements}
 use Rattle.index_values.specs.Tests as tests
-use Rattle.index_values.specs.Tests.{Given, lengthOf, rowsOf}
+use Rattle.index_values.specs.Tests.{Given, rowsOf}
 use Rattle.index.specs.Index as text
-use Rattle.index.specs.Index.{File, fileOf, filesOf, indexOf, allLawful, callerRight}
+use Rattle.index.specs.Index.{File, fileOf, filesOf, indexOf, callerRight}
 use Rattle.index_values.specs.declared.tests.Volume.{Volume as Letters}
 use Rattle.elements.specs.Reading.{leftAt}
 use Rattle.xml.specs.Tree.{Forest}
 use Rattle.index_files.specs.Files.{filesLeft}
 use Rattle.index_files.proofs.AllFiles.{files-left}
+use Rattle.index.proofs.EachFile.{files-lawful}
 use Rattle.index_files.proofs.Accepted.{accepted}
-use Rattle.verdict.specs.Verdict.{Index, Volume, firstFailing, lies, badFileIn}
+use Rattle.verdict.specs.Verdict.{Index, firstFailing, lies, badFileIn}
 use Rattle.volume.specs.Volume.{rowsOfEach, soundly, volumeWith}
 use Rattle.volume.specs.Steps.{ReachTable, liesIn, lostFile, Loses}
 use Rattle.volume.specs.declared.lost.Lost.{Lost}
 
--- each file's extents are lawful for its length and blocks of size B
-abbrev AllLawful : ℕ → List File → Type 0
-AllLawful B [] = Unit {0}
-AllLawful B (f ∷ fs) = (lawful (f .length) B (f .rows) ≡ true) × AllLawful B fs
-
-files-lawful : (g : Given) (l : List Element) → allLawful g l ≡ true → AllLawful (g .size) (filesOf l)
-unfolding filesOf every tests.lawful
-files-lawful g [] e = tt
-files-lawful g (x ∷ l) e =
-    let a = and-left (tests.lawful g (x .sort) (x .kids)) (allLawful g l) e in
-    let b = files-lawful g l (and-right (tests.lawful g (x .sort) (x .kids)) (allLawful g l) e) in
-    split (λ t. eqb (x .sort) file ≡ t → AllLawful (g .size) (cond t (fileOf (x .kids) ∷ filesOf l) (filesOf l))) (eqb (x .sort) file)
-    (λ u q. (and-right (tests.few (x .sort) (x .kids)) (lawful (lengthOf (x .kids)) (g .size) (rowsOf (x .kids))) (rw q at a), b))
-    (λ u q. b) refl
+-- a file's extents are few, and lawful for its length and blocks of size B
+abbrev fileLawful : ℕ → File → Bool
+fileLawful B f = leb (length (f .rows)) 1024 && lawful (f .length) B (f .rows)
 
 -- a lawful row has a byte
 row-byte : (L B : ℕ) (r : Row) → rowLawful L B r ≡ true → 1 ≤ r .byteoffset + r .bytecount
@@ -76,13 +66,14 @@ module _ (g : Given) (w : Letters) (li ld ri rd : List ℕ) (ki kd : ℕ) (i : R
       let a = row-byte L B r (and-left (rowLawful L B r) (every (rowLawful L B) rows) e) in
       rw (lies-same r a, every-same L B rows (and-right (rowLawful L B r) (every (rowLawful L B) rows) e))
 
-  failing-same : (k : ℕ) (fs : List File) → AllLawful (g .size) fs
+  failing-same : (k : ℕ) (fs : List File) → every (fileLawful (g .size)) fs ≡ true
       → firstFailing (every (liesIn w ri ki rd kd)) k (rowsOfEach fs) ≡ firstFailing (every (lies (volumeWith g) (take ki li) (take kd ld))) k (rowsOfEach fs)
-  unfolding firstFailing rowsOfEach lawful
+  unfolding firstFailing rowsOfEach lawful every
   failing-same k [] h = refl
   failing-same k (f ∷ fs) h =
-      let a = every-same (f .length) (g .size) (f .rows) (and-left (eachLawful (f .length) (g .size) (f .rows)) (apart (f .rows)) (h .0)) in
-      rw (a, failing-same (suc k) fs (h .1))
+      let e = and-right (leb (length (f .rows)) 1024) (lawful (f .length) (g .size) (f .rows)) (and-left (fileLawful (g .size) f) (every (fileLawful (g .size)) fs) h) in
+      let a = every-same (f .length) (g .size) (f .rows) (and-left (eachLawful (f .length) (g .size) (f .rows)) (apart (f .rows)) e) in
+      rw (a, failing-same (suc k) fs (and-right (fileLawful (g .size) f) (every (fileLawful (g .size)) fs) h))
 
 -- the caller's block size is at least 1
 size-one : (g : Given) (letter : ℕ) → callerRight g letter ≡ true → 1 ≤ g .size
@@ -102,7 +93,7 @@ pub lost-same : (g : Given) (w : Letters) (li ld ri rd : List ℕ) (ki kd letter
 lost-same g w li ld ri rd ki kd letter block t x i d hi hd a b c e =
     let r = accepted g letter block t x e in
     let y : x .files ≡ filesOf (elements index (r .kids)) = ap (λ (z : text.Index). z .files) (r .says) in
-    let l : AllLawful (g .size) (x .files) = subst (AllLawful (g .size)) (sym y) (files-lawful g (elements index (r .kids)) (r .lawful)) in
+    let l : every (fileLawful (g .size)) (x .files) ≡ true = subst (λ (fs : List File). every (fileLawful (g .size)) fs ≡ true) (sym y) (files-lawful g (elements index (r .kids)) (r .lawful)) in
     failing-same g w li ld ri rd ki kd i d hi hd (size-one g letter (r .caller)) a b c 0 (x .files) l
     ∙ ap (λ (z : Answer text.Index). badFileIn (volumeWith g) (soundly z) (take ki li) (take kd ld)) (sym e)
 

@@ -23,7 +23,6 @@ use Rattle.volume.specs.Steps.{linkOf, briefLink, joined, textIn, Locate
 use Rattle.volume.specs.declared.sound.Brief.{Brief}
 use Rattle.volume.specs.declared.lost.Lost.{Lost}
 use Rattle.volume.specs.declared.search.Kept.{Kept}
-use Rattle.volume.specs.declared.search.Tried.{Tried}
 use Rattle.volume.specs.declared.search.Tried.the-variants.{Fits, Fails}
 use Rattle.volume.proofs.Chaining.{link-placed, located-at, next-first, firsts-none, firsts-length, joined-sound}
 use Rattle.volume.proofs.Searching.{Partner, partner, try-nowhere, try-apart, try-lost, try-fits, try-cut}
