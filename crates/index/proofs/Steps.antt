@@ -8,7 +8,8 @@ use borrow.Author.Tests.{eqb-true}
 use lib.Dec.{eqb}
 use Rattle.xml.specs.Tree.{Forest, none}
 use Rattle.elements.specs.Reading.{rowAt, headAt, childrenAt, FirstOf}
-use Rattle.index_names.specs.Sorts.{root, directory, file, holds, sort}
+use Rattle.index_names.specs.Sorts.{root, directory, file, holds}
+use Rattle.index_names.specs.Tables.{sort}
 use Rattle.index_values.specs.Elements.{numberOf, sortOf}
 use Rattle.index_values.specs.Entries.{isEntry}
 use Rattle.index_values.specs.Tests.{Given}
