@@ -11,7 +11,7 @@ use lib.Dec.{eqb, leb, ltb}
 use lib.ListN.{length, getD, set, length-set, getD-replicate}
 use lib.Seq.{getD-set-same, getD-set-other}
 use Rattle.xml.specs.Tree.{Forest, none, node}
-use Rattle.index_names.specs.Sorts.{must, repeats}
+use Rattle.index_names.specs.Tables.{must, repeats}
 use Rattle.index_values.specs.Elements.{numberOf}
 use Rattle.children.specs.Children.{below}
 use Rattle.index.specs.Structure.{count, once, complete}

@@ -4,7 +4,7 @@ use mathlib.Core.Path.{_≡_, refl, ap, sym, _∙_}
 use mathlib.Core.Bool.{Bool, true, false, cond, not, _&&_, _||_, false≢true}
 use mathlib.Core.List.{List, [], _∷_, _++_}
 use mathlib.Core.Option.{some, none}
-use Prim.Native.Nat.{ℕ, suc, _≤_}
+use Prim.Native.Nat.{ℕ, zero, suc, _≤_}
 use native.Mathlib.Omega.{arith}
 use borrow.Author.Tests.{eqb-true}
 use lib.Dec.{eqb, leb}
@@ -20,8 +20,10 @@ use Rattle.values.specs.Values as is
 use Rattle.elements.specs.Reading.{isRow}
 use Rattle.extents.specs.Lawful as extents
 use Rattle.extents.specs.Map.{lettered}
-use Rattle.index_names.specs.Sorts.{file, extentinfo, extent, skipped, unknown, holds, sort, fileSort, extentinfoSort, extentSort, must, repeats}
-use Rattle.index_names.specs.Names.{names, numberIn, fileNames, extentNames}
+use Rattle.index_names.specs.Sorts.{file, extentinfo, extent, skipped, unknown, holds}
+use Rattle.index_names.specs.Rows.{countOnce, someAnyNumber}
+use Rattle.index_names.specs.Tables.{times, entryTable, ofFile, extentinfoTable, extentTable, table, sort, must, repeats}
+use Rattle.index_names.specs.Names.{names, numberIn}
 use Rattle.index_rows.proofs.Named.{ruled, number-own}
 use Rattle.index_values.specs.Elements.{Element, element, elements, numberOf, sortOf, textIn, rowIn}
 use Rattle.index_values.specs.Entries.{orZero}
@@ -86,28 +88,25 @@ module _ (s : ℕ) (h : Head) (c : Forest) (e : rightly (element s h c) ≡ true
 
 -- sorts by numbers
 partition-valued : (j : ℕ) → j ≡ 1 → (t : List ℕ) → valued (sort extent j) t ≡ true → isSome (is.letter t) ≡ true
-unfolding sort extentSort valued
+unfolding sort table extentTable valued
 partition-valued j q t e = sym (ap (λ (n : ℕ). valued (sort extent n) t) q) ∙ e
 
 only-extents : (j : ℕ) → eqb (sort extentinfo j) unknown ≡ false → sort extentinfo j ≡ extent
-unfolding sort extentinfoSort
-only-extents j = go (eqb j 0)
-  where
-    go : (b : Bool) → eqb (cond b extent unknown) unknown ≡ false → cond b extent unknown ≡ extent
-    go true e = refl
-    go false e = absurd (false≢true (sym e))
+unfolding sort table extentinfoTable
+only-extents zero e = refl
+only-extents (suc j) e = absurd (false≢true (sym e))
 
 extentinfo-sort : (j : ℕ) → j ≡ 9 → sort file j ≡ extentinfo
-unfolding sort fileSort
+unfolding sort table times entryTable ofFile
 extentinfo-sort j q = ap (sort file) q
 
 -- in an extent stands a partition
 partition-told : (n : List ℕ) → eqb (numberIn (names extent) n) 1 ≡ same n (bytes "partition")
-unfolding names extentNames bytes ruled same
-partition-told n = number-own extentNames 1 n refl
+unfolding names table extentTable bytes ruled same
+partition-told n = number-own (names extent) 1 n refl
 
 partition-there : (c : Forest) → complete extent c ≡ true → 1 ≤ count 1 extent c
-unfolding complete repeats must
+unfolding complete repeats someAnyNumber must countOnce table extentTable
 partition-there c e =
     let n : count 1 extent c ≡ 1 = eqb-true (count 1 extent c) 1 (below-at (λ j. once (must extent) j (count j extent c)) 16 1 e (omega arith)) in
     omega arith
@@ -151,8 +150,8 @@ rows-lettered (node h c r) e = and-both _ _ first (rows-lettered r (behind sound
 
 -- in a file stands its extentinfo
 extentinfo-told : (n : List ℕ) → eqb (numberIn (names file) n) 9 ≡ same n (bytes "extentinfo")
-unfolding names fileNames bytes ruled same
-extentinfo-told n = number-own fileNames 9 n refl
+unfolding names table times entryTable ofFile bytes ruled same
+extentinfo-told n = number-own (names file) 9 n refl
 
 extents-sound : (f : Forest) → every sound (elements file f) ≡ true → every sound (elements extentinfo (rowIn (bytes "extentinfo") f)) ≡ true
 unfolding rowIn elements every

@@ -17,8 +17,10 @@ use Rattle.elements.specs.Reading.{isRow}
 use Rattle.children.specs.Rules.{Rule, placeOf, markOf}
 use Rattle.children.specs.Children.{noAttribute, holds as heldBy, allKnown, pick, atMostOne, below, lawful}
 use Rattle.children.proofs.Below.{below-false}
-use Rattle.index_names.specs.Sorts.{index, extent, skipped, unknown, holds, entrySort, fileSort, directorySort, rootSort, contentsSort, extentinfoSort, extentSort, placeSort, indexSort, sort, must, repeats}
-use Rattle.index_names.specs.Names.{names, numberIn, indexNames, placeNames, directoryNames, contentsNames, fileNames, extentinfoNames, extentNames}
+use Rattle.index_names.specs.Sorts.{index, extent, skipped, unknown, holds}
+use Rattle.index_names.specs.Rows.{countOnce}
+use Rattle.index_names.specs.Tables.{indexTable, placeTable, times, entryTable, ofDirectory, contentsTable, ofFile, extentinfoTable, extentTable, table, sort, must, repeats}
+use Rattle.index_names.specs.Names.{names, numberIn}
 use Rattle.index_rows.proofs.Named.{same-flip, namesOf, number-place}
 use Rattle.index_values.specs.Elements.{numberOf, sortOf}
 use Rattle.index.specs.Structure.{fits, count, once, complete}
@@ -97,7 +99,7 @@ tabled k =
     && below (suc (length (names k))) (λ j. agree (eqb (sort k j) unknown) (leb (length (names k)) j))
 
 all-tabled : below 9 tabled ≡ true
-unfolding below agree names indexNames placeNames directoryNames contentsNames fileNames extentinfoNames extentNames sort entrySort fileSort directorySort rootSort contentsSort extentinfoSort extentSort placeSort indexSort must
+unfolding below agree names sort must countOnce table indexTable placeTable times entryTable ofDirectory contentsTable ofFile extentinfoTable extentTable
 all-tabled = refl
 
 pub below-at : (f : ℕ → Bool) (n j : ℕ) → below n f ≡ true → j < n → f j ≡ true
@@ -158,21 +160,21 @@ module _ (kind : ℕ) (one : kind < 9) where
   abbrev size : ℕ
   size = length (names kind)
 
-  table : tabled kind ≡ true
-  table = below-at tabled 9 kind all-tabled one
+  passed : tabled kind ≡ true
+  passed = below-at tabled 9 kind all-tabled one
 
   must-named : must kind ≤ size
-  must-named = leb-true (must kind) size (and-left (leb (must kind) size) (leb size 16) (and-left (leb (must kind) size && leb size 16) _ table))
+  must-named = leb-true (must kind) size (and-left (leb (must kind) size) (leb size 16) (and-left (leb (must kind) size && leb size 16) _ passed))
 
   size-most : size ≤ 16
-  size-most = leb-true size 16 (and-right (leb (must kind) size) (leb size 16) (and-left (leb (must kind) size && leb size 16) _ table))
+  size-most = leb-true size 16 (and-right (leb (must kind) size) (leb size 16) (and-left (leb (must kind) size && leb size 16) _ passed))
 
   -- a name that is none of the kind's has no sort
   sorted : (n : List ℕ) → eqb (sort kind (numberIn (names kind) n)) unknown ≡ leb size (numberIn (names kind) n)
   sorted n =
       agree-same _ _
       (below-at (λ j. agree (eqb (sort kind j) unknown) (leb size j)) (suc size) (numberIn (names kind) n)
-      (and-right (leb (must kind) size && leb size 16) _ table) (omega (arith, number-most (names kind) n)))
+      (and-right (leb (must kind) size && leb size 16) _ passed) (omega (arith, number-most (names kind) n)))
 
   -- what an element may hold by its sort is what it may by its mark
   held : (s : ℕ) (h : Head) (c : Forest) → cond (holds s) (isRow c || every isSpace (h .text)) (eqb s skipped || not (isRow c)) ≡ heldBy (mark s) h c

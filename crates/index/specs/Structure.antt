@@ -8,7 +8,8 @@ use Rattle.xml.specs.Bytes.{isSpace}
 use Rattle.xml.specs.Tree.{Head, Forest, none, node}
 use Rattle.elements.specs.Reading.{isRow}
 use Rattle.children.specs.Children.{below}
-use Rattle.index_names.specs.Sorts.{unknown, skipped, holds, must, repeats}
+use Rattle.index_names.specs.Sorts.{unknown, skipped, holds}
+use Rattle.index_names.specs.Tables.{must, repeats}
 use Rattle.index_values.specs.Elements.{Element, numberOf}
 
 -- it may stand where it does; it has no attribute; one that holds elements has no other text, a value has no elements

@@ -5,7 +5,8 @@ use Prim.Native.Nat.{ℕ, _+_}
 use lib.ListN.{getD, set, replicate}
 use lib.Dec.{eqb, ltb}
 use Rattle.xml.specs.Tree.{Head, Forest, none, node}
-use Rattle.index_names.specs.Sorts.{file, holds, must, repeats}
+use Rattle.index_names.specs.Sorts.{file, holds}
+use Rattle.index_names.specs.Tables.{must, repeats}
 use Rattle.index_values.specs.Elements.{numberOf, sortOf}
 use Rattle.children.specs.Children.{below}
 use Rattle.index.specs.Structure.{fits, once}

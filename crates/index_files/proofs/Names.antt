@@ -6,27 +6,17 @@ use mathlib.Core.List.{List, [], _∷_}
 use Prim.Native.Nat.{ℕ, suc}
 use borrow.Author.Tests.{eqb-true}
 use lib.Dec.{eqb}
+use lib.ListN.{getD}
 use Rattle.slices.specs.Slices.{same}
 use Rattle.slices.specs.Words.{bytes}
 use Rattle.slices.proofs.Booleans.{and-left, and-right}
 use Rattle.slices.proofs.Equal.{same-eq}
-use Rattle.index_names.specs.Sorts.{index, place, root, directory, contents, file, extentinfo, extent, skipped, unknown, holds, sort, entrySort, fileSort, directorySort, rootSort, contentsSort, extentinfoSort, extentSort, placeSort, indexSort}
-use Rattle.index_names.specs.Names.{names, numberIn, indexNames, placeNames, directoryNames, contentsNames, fileNames, extentinfoNames, extentNames}
+use Rattle.index_names.specs.Sorts.{file, extentinfo, extent, skipped, unknown, holds}
+use Rattle.index_names.specs.Rows.{Row, namesOf, sortsOf}
+use Rattle.index_names.specs.Tables.{indexTable, placeTable, times, entryTable, ofDirectory, contentsTable, ofFile, extentinfoTable, extentTable, table, sort}
+use Rattle.index_names.specs.Names.{names, numberIn}
+use Rattle.index_names.proofs.ByKind.{by-kind, each-table}
 use Rattle.index_files.specs.Files.{namesFile, namesSkipped}
-
--- each kind of element that holds elements, and any other number
-by-kind : (P : ℕ → Type 0) → P file → P extent → P root → P directory → P contents → P extentinfo → P index → P place
-    → ((k : ℕ) → eqb k file ≡ false → eqb k extent ≡ false → eqb k root ≡ false → eqb k directory ≡ false → eqb k contents ≡ false
-    → eqb k extentinfo ≡ false → eqb k index ≡ false → eqb k place ≡ false → P k) → (k : ℕ) → P k
-by-kind P p6 p8 p3 p4 p5 p7 p1 p2 rest k =
-    or file p6 (λ f6. or extent p8 (λ f8. or root p3 (λ f3. or directory p4 (λ f4. or contents p5 (λ f5. or extentinfo p7 (λ f7. or index p1 (λ f1. or place p2 (λ f2. rest k f6 f8 f3 f4 f5 f7 f1 f2))))))))
-  where
-    or : (m : ℕ) → P m → (eqb k m ≡ false → P k) → P k
-    or m p next = go (eqb k m) refl
-      where
-        go : (b : Bool) → eqb k m ≡ b → P k
-        go true e = subst P (sym (eqb-true k m e)) p
-        go false e = next e
 
 -- a rule of sorts and names that holds at each name of a row holds of any name there, if it holds of what may not stand there
 module _ (test : ℕ → List ℕ → Bool) (other : (n : List ℕ) → test unknown n ≡ true) where
@@ -43,10 +33,6 @@ module _ (test : ℕ → List ℕ → Bool) (other : (n : List ℕ) → test unk
       go true q i = ap (test (f 0)) (same-eq n x q) ∙ and-left (test (f 0) x) (passes (λ j. f (suc j)) xs) e
       go false q i = i
 
-  nothing : (k : ℕ) → names k ≡ [] → sort k 0 ≡ unknown → passes (sort k) (names k) ≡ true
-  unfolding passes
-  nothing k e f = ap (passes (sort k)) e ∙ ap (λ (s : ℕ). eqb s unknown) f
-
 -- both or neither
 abbrev both : Bool → Bool → Bool
 both a b = cond a b (not b)
@@ -61,10 +47,9 @@ abbrev told : ℕ → List ℕ → Bool
 told s n = eqb s unknown || (both (namesFile n) (eqb s file) && both (namesSkipped n) (eqb s skipped))
 
 told-kind : (k : ℕ) → passes told (λ n. refl) (sort k) (names k) ≡ true
-unfolding passes names fileNames extentNames directoryNames contentsNames extentinfoNames indexNames placeNames sort fileSort extentSort rootSort directorySort contentsSort extentinfoSort indexSort placeSort entrySort namesFile namesSkipped same bytes
+unfolding passes names sort indexTable placeTable times entryTable ofDirectory contentsTable ofFile extentinfoTable extentTable namesFile namesSkipped same bytes
 told-kind =
-    by-kind (λ (k : ℕ). passes told (λ n. refl) (sort k) (names k) ≡ true) refl refl refl refl refl refl refl refl
-    (λ k f6 f8 f3 f4 f5 f7 f1 f2. nothing told (λ n. refl) k (rw (f6, f8, f3, f4, f5, f7, f1, f2)) (rw (f6, f8, f3, f4, f5, f7, f1, f2)))
+    each-table (λ (rows : List Row). passes told (λ n. refl) (λ j. getD (sortsOf rows) j unknown) (namesOf rows) ≡ true) refl refl refl refl refl refl refl refl refl
 
 module _ (kind : ℕ) (n : List ℕ) (e : eqb (sort kind (numberIn (names kind) n)) unknown ≡ false) where
   parts : (both (namesFile n) (eqb (sort kind (numberIn (names kind) n)) file) && both (namesSkipped n) (eqb (sort kind (numberIn (names kind) n)) skipped)) ≡ true
@@ -87,11 +72,11 @@ abbrev pub keeps : ℕ → Bool
 keeps s = not (eqb s file) && (not (holds s) || inFile s)
 
 keeps-kind : (k : ℕ) → inFile k ≡ true → passes (λ s n. keeps s) (λ n. refl) (sort k) (names k) ≡ true
-unfolding passes names fileNames extentNames directoryNames contentsNames extentinfoNames indexNames placeNames sort fileSort extentSort rootSort directorySort contentsSort extentinfoSort indexSort placeSort entrySort bytes
+unfolding passes names sort table times entryTable ofFile extentinfoTable extentTable bytes
 keeps-kind =
-    by-kind (λ (k : ℕ). inFile k ≡ true → passes (λ s n. keeps s) (λ n. refl) (sort k) (names k) ≡ true) (λ e. refl) (λ e. refl)
-    (λ e. absurd (false≢true e)) (λ e. absurd (false≢true e)) (λ e. absurd (false≢true e)) (λ e. refl) (λ e. absurd (false≢true e)) (λ e. absurd (false≢true e))
-    (λ k f6 f8 f3 f4 f5 f7 f1 f2 e. absurd (false≢true (sym (rw (f6, f7, f8)) ∙ e)))
+    by-kind (λ (k : ℕ). inFile k ≡ true → passes (λ s n. keeps s) (λ n. refl) (sort k) (names k) ≡ true) (λ e. absurd (false≢true e)) (λ e. absurd (false≢true e))
+    (λ e. absurd (false≢true e)) (λ e. absurd (false≢true e)) (λ e. absurd (false≢true e)) (λ e. refl) (λ e. refl) (λ e. refl)
+    (λ k o e. absurd (false≢true (sym (rw (o .no-file, o .no-extentinfo, o .no-extent)) ∙ e)))
 
 pub inside-file : (kind : ℕ) → inFile kind ≡ true → (n : List ℕ) → keeps (sort kind (numberIn (names kind) n)) ≡ true
 inside-file kind e n = named (λ s n. keeps s) (λ n. refl) (sort kind) (names kind) (keeps-kind kind e) n

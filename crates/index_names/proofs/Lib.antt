@@ -1,1 +1,4 @@
+pub mod ByKind
 pub mod Numbered
+pub mod Fields
+pub mod Ordered

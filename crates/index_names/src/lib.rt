@@ -1,10 +1,15 @@
-// The elements of an index by their names (01, Index): which may stand in which, and the number of each among those of its row.
+// The elements of an index by their names (01, Index): which may stand in which, and how often.
 ghost use mathlib.Core.Path.{_≡_};
-ghost use Rattle.index_names.specs.Names.{numberIn, names, indexNames, placeNames, directoryNames, contentsNames, fileNames, extentinfoNames, extentNames};
-ghost use Rattle.index_names.specs.Sorts.{entrySort, fileSort, directorySort, rootSort, contentsSort, extentinfoSort, extentSort, placeSort, indexSort, sort, must, repeats};
+ghost use Rattle.index_names.specs.Sorts as sorts;
+ghost use Rattle.index_names.specs.Rows.{namesOf};
+ghost use Rattle.index_names.specs.Tables.{times, entryTable, table, sort, must, repeats};
+ghost use Rattle.index_names.specs.Names.{numberIn, names};
+ghost use Rattle.index_names.specs.Packed.{packed};
 
-// What an element is: one that holds elements, from INDEX to EXTENT; one that is skipped; one that may not stand where it does; or a value,
+// What an element is: one that may not stand where it does; one that holds elements, from INDEX to EXTENT; one that is skipped; or a value,
 // from COMMENT on.
+pub const UNKNOWN: usize = 0;
+
 pub const INDEX: usize = 1;
 
 pub const PLACE: usize = 2;
@@ -23,35 +28,90 @@ pub const EXTENT: usize = 8;
 
 pub const SKIPPED: usize = 9;
 
-pub const UNKNOWN: usize = 10;
+pub const COMMENT: usize = 10;
 
-pub const COMMENT: usize = 11;
+pub const CREATOR: usize = 11;
 
-pub const CREATOR: usize = 12;
+pub const UUID: usize = 12;
 
-pub const UUID: usize = 13;
+pub const GENERATION: usize = 13;
 
-pub const GENERATION: usize = 14;
+pub const TIME: usize = 14;
 
-pub const TIME: usize = 15;
+pub const BOOLEAN: usize = 15;
 
-pub const BOOLEAN: usize = 16;
+pub const NUMBER: usize = 16;
 
-pub const NUMBER: usize = 17;
+pub const LETTER: usize = 17;
 
-pub const LETTER: usize = 18;
+pub const NAME: usize = 18;
 
-pub const NAME: usize = 19;
+pub const ROOT_NAME: usize = 19;
 
-pub const ROOT_NAME: usize = 20;
+pub const UID: usize = 20;
 
-pub const UID: usize = 21;
+pub const ROOT_UID: usize = 21;
 
-pub const ROOT_UID: usize = 22;
+// The table of each kind as a number: the sorts of its rows, five bits each, and from bit 60 on how many must be there, which are the first ones.
+const INDEX_ROWS: usize = CREATOR
+    | UUID << 5
+    | GENERATION << 10
+    | TIME << 15
+    | PLACE << 20
+    | BOOLEAN << 25
+    | NUMBER << 30
+    | ROOT << 35
+    | COMMENT << 40
+    | PLACE << 45
+    | SKIPPED << 50
+    | 8 << 60;
 
-// The number of a name among those of an index's row.
+const PLACE_ROWS: usize = LETTER | NUMBER << 5 | 2 << 60;
+
+// The five times and readonly, of directory and file.
+const ENTRY_ROWS: usize = TIME << 10
+    | TIME << 15
+    | TIME << 20
+    | TIME << 25
+    | TIME << 30
+    | BOOLEAN << 35;
+
+const ROOT_ROWS: usize = ROOT_UID
+    | ROOT_NAME << 5
+    | ENTRY_ROWS
+    | CONTENTS << 40
+    | SKIPPED << 45
+    | 9 << 60;
+
+const DIRECTORY_ROWS: usize = UID
+    | NAME << 5
+    | ENTRY_ROWS
+    | CONTENTS << 40
+    | SKIPPED << 45
+    | 9 << 60;
+
+const CONTENTS_ROWS: usize = DIRECTORY | FILE << 5;
+
+const FILE_ROWS: usize = UID
+    | NAME << 5
+    | ENTRY_ROWS
+    | NUMBER << 40
+    | EXTENTINFO << 45
+    | SKIPPED << 50
+    | 9 << 60;
+
+const EXTENTINFO_ROWS: usize = EXTENT;
+
+const EXTENT_ROWS: usize = NUMBER
+    | LETTER << 5
+    | NUMBER << 10
+    | NUMBER << 15
+    | NUMBER << 20
+    | 5 << 60;
+
+// The number of a name among those of an index.
 fn in_index(name: &[u8]) -> usize
-    ensures { λ r. ⌜ r ≡ numberIn indexNames (now (name .entry)) ⌝ }
+    ensures { λ r. ⌜ r ≡ numberIn (names sorts.index) (now (name .entry)) ⌝ }
 {
     if slices::same(name, b"creator") {
         return 0;
@@ -89,9 +149,9 @@ fn in_index(name: &[u8]) -> usize
     11
 }
 
-// The number of a name among those of a place's row.
+// The number of a name among those of a place.
 fn in_place(name: &[u8]) -> usize
-    ensures { λ r. ⌜ r ≡ numberIn placeNames (now (name .entry)) ⌝ }
+    ensures { λ r. ⌜ r ≡ numberIn (names sorts.place) (now (name .entry)) ⌝ }
 {
     if slices::same(name, b"partition") {
         return 0;
@@ -102,9 +162,31 @@ fn in_place(name: &[u8]) -> usize
     2
 }
 
-// The number of a name among those of a directory's row.
-fn in_directory(name: &[u8]) -> usize
-    ensures { λ r. ⌜ r ≡ numberIn directoryNames (now (name .entry)) ⌝ }
+// The number of a name among the five times.
+fn in_times(name: &[u8]) -> usize
+    ensures { λ r. ⌜ r ≡ numberIn (namesOf times) (now (name .entry)) ⌝ }
+{
+    if slices::same(name, b"creationtime") {
+        return 0;
+    }
+    if slices::same(name, b"changetime") {
+        return 1;
+    }
+    if slices::same(name, b"modifytime") {
+        return 2;
+    }
+    if slices::same(name, b"accesstime") {
+        return 3;
+    }
+    if slices::same(name, b"backuptime") {
+        return 4;
+    }
+    5
+}
+
+// The number of a name among those that directory and file have.
+fn in_entry(name: &[u8]) -> usize
+    ensures { λ r. ⌜ r ≡ numberIn (namesOf (entryTable sorts.uid sorts.name)) (now (name .entry)) ⌝ }
 {
     if slices::same(name, b"fileuid") {
         return 0;
@@ -112,23 +194,23 @@ fn in_directory(name: &[u8]) -> usize
     if slices::same(name, b"name") {
         return 1;
     }
-    if slices::same(name, b"creationtime") {
-        return 2;
-    }
-    if slices::same(name, b"changetime") {
-        return 3;
-    }
-    if slices::same(name, b"modifytime") {
-        return 4;
-    }
-    if slices::same(name, b"accesstime") {
-        return 5;
-    }
-    if slices::same(name, b"backuptime") {
-        return 6;
+    let j = in_times(name);
+    if j < 5 {
+        return 2 + j;
     }
     if slices::same(name, b"readonly") {
         return 7;
+    }
+    8
+}
+
+// The number of a name among those of a directory, the root directory too.
+fn in_directory(name: &[u8]) -> usize
+    ensures { λ r. ⌜ r ≡ numberIn (names sorts.directory) (now (name .entry)) ⌝ }
+{
+    let j = in_entry(name);
+    if j < 8 {
+        return j;
     }
     if slices::same(name, b"contents") {
         return 8;
@@ -139,9 +221,9 @@ fn in_directory(name: &[u8]) -> usize
     10
 }
 
-// The number of a name among those of a contents's row.
+// The number of a name among those of contents.
 fn in_contents(name: &[u8]) -> usize
-    ensures { λ r. ⌜ r ≡ numberIn contentsNames (now (name .entry)) ⌝ }
+    ensures { λ r. ⌜ r ≡ numberIn (names sorts.contents) (now (name .entry)) ⌝ }
 {
     if slices::same(name, b"directory") {
         return 0;
@@ -152,33 +234,13 @@ fn in_contents(name: &[u8]) -> usize
     2
 }
 
-// The number of a name among those of a file's row.
+// The number of a name among those of a file.
 fn in_file(name: &[u8]) -> usize
-    ensures { λ r. ⌜ r ≡ numberIn fileNames (now (name .entry)) ⌝ }
+    ensures { λ r. ⌜ r ≡ numberIn (names sorts.file) (now (name .entry)) ⌝ }
 {
-    if slices::same(name, b"fileuid") {
-        return 0;
-    }
-    if slices::same(name, b"name") {
-        return 1;
-    }
-    if slices::same(name, b"creationtime") {
-        return 2;
-    }
-    if slices::same(name, b"changetime") {
-        return 3;
-    }
-    if slices::same(name, b"modifytime") {
-        return 4;
-    }
-    if slices::same(name, b"accesstime") {
-        return 5;
-    }
-    if slices::same(name, b"backuptime") {
-        return 6;
-    }
-    if slices::same(name, b"readonly") {
-        return 7;
+    let j = in_entry(name);
+    if j < 8 {
+        return j;
     }
     if slices::same(name, b"length") {
         return 8;
@@ -192,9 +254,9 @@ fn in_file(name: &[u8]) -> usize
     11
 }
 
-// The number of a name among those of an extentinfo's row.
+// The number of a name among those of an extentinfo.
 fn in_extentinfo(name: &[u8]) -> usize
-    ensures { λ r. ⌜ r ≡ numberIn extentinfoNames (now (name .entry)) ⌝ }
+    ensures { λ r. ⌜ r ≡ numberIn (names sorts.extentinfo) (now (name .entry)) ⌝ }
 {
     if slices::same(name, b"extent") {
         return 0;
@@ -202,9 +264,9 @@ fn in_extentinfo(name: &[u8]) -> usize
     1
 }
 
-// The number of a name among those of an extent's row.
+// The number of a name among those of an extent.
 fn in_extent(name: &[u8]) -> usize
-    ensures { λ r. ⌜ r ≡ numberIn extentNames (now (name .entry)) ⌝ }
+    ensures { λ r. ⌜ r ≡ numberIn (names sorts.extent) (now (name .entry)) ⌝ }
 {
     if slices::same(name, b"fileoffset") {
         return 0;
@@ -224,7 +286,7 @@ fn in_extent(name: &[u8]) -> usize
     5
 }
 
-// The number of a name among those of a row in an element of a kind.
+// The number of a name among those in an element of a kind.
 pub fn number_in(kind: usize, name: &[u8]) -> usize
     ensures { λ r. ⌜ r ≡ numberIn (names kind) (now (name .entry)) ⌝ }
 {
@@ -255,219 +317,55 @@ pub fn number_in(kind: usize, name: &[u8]) -> usize
     0
 }
 
-// The sort of what directories and files both have, by its number.
-fn entry_sort(j: usize) -> usize
-    ensures { λ r. ⌜ r ≡ entrySort j ⌝ }
+// The table of a kind; 0, no row, of what holds no elements.
+fn rows_of(kind: usize) -> usize
+    ensures { λ r. ⌜ r ≡ packed (table kind) ⌝ }
 {
-    if j == 0 {
-        return UID;
+    if kind == FILE {
+        return FILE_ROWS;
     }
-    if j == 1 {
-        return NAME;
+    if kind == EXTENT {
+        return EXTENT_ROWS;
     }
-    if j < 7 {
-        return TIME;
+    if kind == ROOT {
+        return ROOT_ROWS;
     }
-    if j == 7 {
-        return BOOLEAN;
+    if kind == DIRECTORY {
+        return DIRECTORY_ROWS;
     }
-    UNKNOWN
-}
-
-// The sort of what a file has, by its number.
-fn file_sort(j: usize) -> usize
-    ensures { λ r. ⌜ r ≡ fileSort j ⌝ }
-{
-    if j < 8 {
-        return entry_sort(j);
+    if kind == CONTENTS {
+        return CONTENTS_ROWS;
     }
-    if j == 8 {
-        return NUMBER;
+    if kind == EXTENTINFO {
+        return EXTENTINFO_ROWS;
     }
-    if j == 9 {
-        return EXTENTINFO;
+    if kind == INDEX {
+        return INDEX_ROWS;
     }
-    if j == 10 {
-        return SKIPPED;
+    if kind == PLACE {
+        return PLACE_ROWS;
     }
-    UNKNOWN
-}
-
-// The sort of what a directory has, by its number.
-fn directory_sort(j: usize) -> usize
-    ensures { λ r. ⌜ r ≡ directorySort j ⌝ }
-{
-    if j < 8 {
-        return entry_sort(j);
-    }
-    if j == 8 {
-        return CONTENTS;
-    }
-    if j == 9 {
-        return SKIPPED;
-    }
-    UNKNOWN
-}
-
-// The sort of what the root directory has, by its number.
-fn root_sort(j: usize) -> usize
-    ensures { λ r. ⌜ r ≡ rootSort j ⌝ }
-{
-    if j == 0 {
-        return ROOT_UID;
-    }
-    if j == 1 {
-        return ROOT_NAME;
-    }
-    directory_sort(j)
-}
-
-// The sort of what contents have, by its number.
-fn contents_sort(j: usize) -> usize
-    ensures { λ r. ⌜ r ≡ contentsSort j ⌝ }
-{
-    if j == 0 {
-        return DIRECTORY;
-    }
-    if j == 1 {
-        return FILE;
-    }
-    UNKNOWN
-}
-
-// The sort of what an extentinfo has, by its number.
-fn extentinfo_sort(j: usize) -> usize
-    ensures { λ r. ⌜ r ≡ extentinfoSort j ⌝ }
-{
-    if j == 0 {
-        return EXTENT;
-    }
-    UNKNOWN
-}
-
-// The sort of what an extent has, by its number.
-fn extent_sort(j: usize) -> usize
-    ensures { λ r. ⌜ r ≡ extentSort j ⌝ }
-{
-    if j == 1 {
-        return LETTER;
-    }
-    if j < 5 {
-        return NUMBER;
-    }
-    UNKNOWN
-}
-
-// The sort of what a location has, by its number.
-fn place_sort(j: usize) -> usize
-    ensures { λ r. ⌜ r ≡ placeSort j ⌝ }
-{
-    if j == 0 {
-        return LETTER;
-    }
-    if j == 1 {
-        return NUMBER;
-    }
-    UNKNOWN
-}
-
-// The sort of what an index has, by its number.
-fn index_sort(j: usize) -> usize
-    ensures { λ r. ⌜ r ≡ indexSort j ⌝ }
-{
-    if j == 0 {
-        return CREATOR;
-    }
-    if j == 1 {
-        return UUID;
-    }
-    if j == 2 {
-        return GENERATION;
-    }
-    if j == 3 {
-        return TIME;
-    }
-    if j == 4 {
-        return PLACE;
-    }
-    if j == 5 {
-        return BOOLEAN;
-    }
-    if j == 6 {
-        return NUMBER;
-    }
-    if j == 7 {
-        return ROOT;
-    }
-    if j == 8 {
-        return COMMENT;
-    }
-    if j == 9 {
-        return PLACE;
-    }
-    if j == 10 {
-        return SKIPPED;
-    }
-    UNKNOWN
+    0
 }
 
 // The sort of the element of number j in an element of a kind.
 pub fn sort_in(kind: usize, j: usize) -> usize
     ensures { λ r. ⌜ r ≡ sort kind j ⌝ }
 {
-    if kind == FILE {
-        return file_sort(j);
+    if 11 < j {
+        return UNKNOWN;
     }
-    if kind == EXTENT {
-        return extent_sort(j);
-    }
-    if kind == ROOT {
-        return root_sort(j);
-    }
-    if kind == DIRECTORY {
-        return directory_sort(j);
-    }
-    if kind == CONTENTS {
-        return contents_sort(j);
-    }
-    if kind == EXTENTINFO {
-        return extentinfo_sort(j);
-    }
-    if kind == INDEX {
-        return index_sort(j);
-    }
-    if kind == PLACE {
-        return place_sort(j);
-    }
-    UNKNOWN
+    (rows_of(kind) >> (5 * j)) % 32
 }
 
-// How many of the names of a kind's row must be there.
+// How many of the elements in an element of a kind must be there.
 pub fn must_in(kind: usize) -> usize
     ensures { λ r. ⌜ r ≡ must kind ⌝ }
 {
-    if kind == FILE {
-        return 9;
-    }
-    if kind == ROOT {
-        return 9;
-    }
-    if kind == DIRECTORY {
-        return 9;
-    }
-    if kind == EXTENT {
-        return 5;
-    }
-    if kind == INDEX {
-        return 8;
-    }
-    if kind == PLACE {
-        return 2;
-    }
-    0
+    rows_of(kind) >> 60
 }
 
-// Whether elements of one name may come again in a kind's row.
+// Whether elements of one name may come again in an element of a kind.
 pub fn may_repeat(kind: usize) -> bool
     ensures { λ r. ⌜ r ≡ repeats kind ⌝ }
 {

@@ -15,7 +15,8 @@ use Rattle.xml.specs.Tree.{Forest, none, node}
 use Rattle.children.specs.Children.{textOf, childrenOf}
 use Rattle.children.specs.Rows.{seat}
 use Rattle.index_names.specs.Sorts.{index, root, directory, file, extent}
-use Rattle.index_names.specs.Names.{names, numberIn, indexNames, directoryNames, fileNames, extentNames}
+use Rattle.index_names.specs.Tables.{indexTable, times, entryTable, ofDirectory, ofFile, extentTable, table}
+use Rattle.index_names.specs.Names.{names, numberIn}
 use Rattle.index_rows.specs.Places.{firstIn, Placed}
 use Rattle.index_rows.proofs.Named.{ruled, number-own}
 use Rattle.index_values.specs.Elements.{textIn, rowIn}
@@ -49,14 +50,14 @@ module _ (kind j : ℕ) (name : List ℕ) (told : (n : List ℕ) → eqb (number
 
 -- of a directory or a file: its fileuid
 fileuid-told : (kind : ℕ) → isEntry kind ≡ true → (n : List ℕ) → eqb (numberIn (names kind) n) 0 ≡ same n (bytes "fileuid")
-unfolding names directoryNames fileNames bytes ruled same
+unfolding names table times entryTable ofDirectory ofFile bytes ruled same
 fileuid-told kind e n = go (eqb kind root) (eqb kind directory) (eqb kind file) refl refl refl e
   where
     go : (x y z : Bool) → eqb kind root ≡ x → eqb kind directory ≡ y → eqb kind file ≡ z → (x || y || z) ≡ true
         → eqb (numberIn (names kind) n) 0 ≡ same n (bytes "fileuid")
-    go true y z p q r o = ap (λ (k : ℕ). eqb (numberIn (names k) n) 0) (eqb-true kind root p) ∙ number-own directoryNames 0 n refl
-    go false true z p q r o = ap (λ (k : ℕ). eqb (numberIn (names k) n) 0) (eqb-true kind directory q) ∙ number-own directoryNames 0 n refl
-    go false false true p q r o = ap (λ (k : ℕ). eqb (numberIn (names k) n) 0) (eqb-true kind file r) ∙ number-own fileNames 0 n refl
+    go true y z p q r o = ap (λ (k : ℕ). eqb (numberIn (names k) n) 0) (eqb-true kind root p) ∙ number-own (names root) 0 n refl
+    go false true z p q r o = ap (λ (k : ℕ). eqb (numberIn (names k) n) 0) (eqb-true kind directory q) ∙ number-own (names directory) 0 n refl
+    go false false true p q r o = ap (λ (k : ℕ). eqb (numberIn (names k) n) 0) (eqb-true kind file r) ∙ number-own (names file) 0 n refl
     go false false false p q r o = let y : _≡_ {A = ℕ} 0 1 = cc in absurd (omega arith)
 
 pub fileuid-placed : (kind : ℕ) → isEntry kind ≡ true → (s : List ℕ) (f : Forest) (t : List ℕ) → Placed s kind f t
@@ -67,60 +68,60 @@ fileuid-placed kind e s f t placed = ap numberSaid (text-placed kind 0 (bytes "f
 -- of a file: its length and its extents
 module _ (s : List ℕ) (f : Forest) (t : List ℕ) (placed : Placed s file f t) where
   pub length-placed : textIn (bytes "length") f ≡ textOf (seat s (getD t 8 0))
-  unfolding names fileNames bytes ruled same
-  length-placed = text-placed file 8 (bytes "length") (λ n. number-own fileNames 8 n refl) s f t placed (omega arith)
+  unfolding names table times entryTable ofFile bytes ruled same
+  length-placed = text-placed file 8 (bytes "length") (λ n. number-own (names file) 8 n refl) s f t placed (omega arith)
 
   pub extents-placed : rowIn (bytes "extentinfo") f ≡ childrenOf (seat s (getD t 9 0))
-  unfolding names fileNames bytes ruled same
-  extents-placed = row-placed file 9 (bytes "extentinfo") (λ n. number-own fileNames 9 n refl) s f t placed (omega arith)
+  unfolding names table times entryTable ofFile bytes ruled same
+  extents-placed = row-placed file 9 (bytes "extentinfo") (λ n. number-own (names file) 9 n refl) s f t placed (omega arith)
 
 -- of an extent: its five values
 module _ (s : List ℕ) (f : Forest) (t : List ℕ) (placed : Placed s extent f t) where
   pub fileoffset-placed : textIn (bytes "fileoffset") f ≡ textOf (seat s (getD t 0 0))
-  unfolding names extentNames bytes ruled same
-  fileoffset-placed = text-placed extent 0 (bytes "fileoffset") (λ n. number-own extentNames 0 n refl) s f t placed (omega arith)
+  unfolding names table extentTable bytes ruled same
+  fileoffset-placed = text-placed extent 0 (bytes "fileoffset") (λ n. number-own (names extent) 0 n refl) s f t placed (omega arith)
 
   pub partition-placed : textIn (bytes "partition") f ≡ textOf (seat s (getD t 1 0))
-  unfolding names extentNames bytes ruled same
-  partition-placed = text-placed extent 1 (bytes "partition") (λ n. number-own extentNames 1 n refl) s f t placed (omega arith)
+  unfolding names table extentTable bytes ruled same
+  partition-placed = text-placed extent 1 (bytes "partition") (λ n. number-own (names extent) 1 n refl) s f t placed (omega arith)
 
   pub startblock-placed : textIn (bytes "startblock") f ≡ textOf (seat s (getD t 2 0))
-  unfolding names extentNames bytes ruled same
-  startblock-placed = text-placed extent 2 (bytes "startblock") (λ n. number-own extentNames 2 n refl) s f t placed (omega arith)
+  unfolding names table extentTable bytes ruled same
+  startblock-placed = text-placed extent 2 (bytes "startblock") (λ n. number-own (names extent) 2 n refl) s f t placed (omega arith)
 
   pub byteoffset-placed : textIn (bytes "byteoffset") f ≡ textOf (seat s (getD t 3 0))
-  unfolding names extentNames bytes ruled same
-  byteoffset-placed = text-placed extent 3 (bytes "byteoffset") (λ n. number-own extentNames 3 n refl) s f t placed (omega arith)
+  unfolding names table extentTable bytes ruled same
+  byteoffset-placed = text-placed extent 3 (bytes "byteoffset") (λ n. number-own (names extent) 3 n refl) s f t placed (omega arith)
 
   pub bytecount-placed : textIn (bytes "bytecount") f ≡ textOf (seat s (getD t 4 0))
-  unfolding names extentNames bytes ruled same
-  bytecount-placed = text-placed extent 4 (bytes "bytecount") (λ n. number-own extentNames 4 n refl) s f t placed (omega arith)
+  unfolding names table extentTable bytes ruled same
+  bytecount-placed = text-placed extent 4 (bytes "bytecount") (λ n. number-own (names extent) 4 n refl) s f t placed (omega arith)
 
 -- of an index: what its header says
 module _ (s : List ℕ) (f : Forest) (t : List ℕ) (placed : Placed s index f t) where
   pub generation-placed : textIn (bytes "generationnumber") f ≡ textOf (seat s (getD t 2 0))
-  unfolding names indexNames bytes ruled same
-  generation-placed = text-placed index 2 (bytes "generationnumber") (λ n. number-own indexNames 2 n refl) s f t placed (omega arith)
+  unfolding names table indexTable bytes ruled same
+  generation-placed = text-placed index 2 (bytes "generationnumber") (λ n. number-own (names index) 2 n refl) s f t placed (omega arith)
 
   pub updatetime-placed : textIn (bytes "updatetime") f ≡ textOf (seat s (getD t 3 0))
-  unfolding names indexNames bytes ruled same
-  updatetime-placed = text-placed index 3 (bytes "updatetime") (λ n. number-own indexNames 3 n refl) s f t placed (omega arith)
+  unfolding names table indexTable bytes ruled same
+  updatetime-placed = text-placed index 3 (bytes "updatetime") (λ n. number-own (names index) 3 n refl) s f t placed (omega arith)
 
   pub location-placed : rowIn (bytes "location") f ≡ childrenOf (seat s (getD t 4 0))
-  unfolding names indexNames bytes ruled same
-  location-placed = row-placed index 4 (bytes "location") (λ n. number-own indexNames 4 n refl) s f t placed (omega arith)
+  unfolding names table indexTable bytes ruled same
+  location-placed = row-placed index 4 (bytes "location") (λ n. number-own (names index) 4 n refl) s f t placed (omega arith)
 
   pub allow-placed : textIn (bytes "allowpolicyupdate") f ≡ textOf (seat s (getD t 5 0))
-  unfolding names indexNames bytes ruled same
-  allow-placed = text-placed index 5 (bytes "allowpolicyupdate") (λ n. number-own indexNames 5 n refl) s f t placed (omega arith)
+  unfolding names table indexTable bytes ruled same
+  allow-placed = text-placed index 5 (bytes "allowpolicyupdate") (λ n. number-own (names index) 5 n refl) s f t placed (omega arith)
 
   pub highest-placed : textIn (bytes "highestfileuid") f ≡ textOf (seat s (getD t 6 0))
-  unfolding names indexNames bytes ruled same
-  highest-placed = text-placed index 6 (bytes "highestfileuid") (λ n. number-own indexNames 6 n refl) s f t placed (omega arith)
+  unfolding names table indexTable bytes ruled same
+  highest-placed = text-placed index 6 (bytes "highestfileuid") (λ n. number-own (names index) 6 n refl) s f t placed (omega arith)
 
   pub back-placed : rowIn (bytes "previousgenerationlocation") f ≡ childrenOf (seat s (getD t 9 0))
-  unfolding names indexNames bytes ruled same
-  back-placed = row-placed index 9 (bytes "previousgenerationlocation") (λ n. number-own indexNames 9 n refl) s f t placed (omega arith)
+  unfolding names table indexTable bytes ruled same
+  back-placed = row-placed index 9 (bytes "previousgenerationlocation") (λ n. number-own (names index) 9 n refl) s f t placed (omega arith)
 
 -- what is not there says no number
 pub no-number : numberSaid [] ≡ 0

@@ -4,7 +4,8 @@ use mathlib.Core.List.{List, [], _∷_, _++_}
 use Prim.Native.Nat.{ℕ}
 use Rattle.slices.specs.Slices.{same}
 use Rattle.xml.specs.Tree.{Head, Forest, none, node}
-use Rattle.index_names.specs.Sorts.{holds, sort}
+use Rattle.index_names.specs.Sorts.{holds}
+use Rattle.index_names.specs.Tables.{sort}
 use Rattle.index_names.specs.Names.{names, numberIn}
 
 -- an element: its sort, its head, and the elements in it

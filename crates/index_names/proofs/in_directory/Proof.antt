@@ -1,11 +1,21 @@
--- `in_directory` meets its contract: the names are compared in their order.
+-- `in_directory` meets its contract: what directory and file have, then its own.
 use mathlib.Core.Path.{sym, _∙_}
 use Rattle.slices.specs.Words.{bytes}
-use Rattle.index_names.specs.Names.{directoryNames}
-use Rattle.index_names.proofs.Numbered.{number-first, number-later, number-none}
+use Rattle.index_names.specs.Sorts.{uid, name}
+use Rattle.index_names.specs.Rows.{namesOf}
+use Rattle.index_names.specs.Tables.{times, entryTable, ofDirectory, table}
+use Rattle.index_names.specs.Names.{names}
+use Rattle.index_names.proofs.Numbered.{number-first, number-later, number-none, number-front, number-behind}
 use borrow.Author.Needs.{needs}
 use Rattle.index_names.proofs.in_directory.Statement.{statement}
 use Rattle.index_names.proofs.in_directory.Tie as tie
+
+in-entry-requires : tie.Need-in-entry-requires
+in-entry-requires c κs = search needs
+
+returns : tie.Need-returns
+unfolding names table entryTable times ofDirectory bytes
+returns c = number-front (namesOf (entryTable uid name)) (namesOf ofDirectory) _ _ (c .before .in-entry .ensures) (c .if1 .taken)
 
 slice-aggregate-same : tie.Need-slice-aggregate-same
 slice-aggregate-same c = search needs
@@ -13,9 +23,9 @@ slice-aggregate-same c = search needs
 same-requires : tie.Need-same-requires
 same-requires c κs = search needs
 
-returns : tie.Need-returns
-unfolding directoryNames bytes
-returns c = number-first _ _ _ (sym (c .before .same .ensures) ∙ c .if1 .taken)
+returns-2 : tie.Need-returns-2
+unfolding names table entryTable times ofDirectory bytes
+returns-2 c = number-behind (namesOf (entryTable uid name)) (namesOf ofDirectory) _ _ (c .before .before .before .before .in-entry .ensures) (c .before .before .before .if1 .left) 0 (number-first _ _ _ (sym (c .before .same .ensures) ∙ c .if2 .taken))
 
 slice-aggregate-same-2 : tie.Need-slice-aggregate-same-2
 slice-aggregate-same-2 c = search needs
@@ -23,126 +33,24 @@ slice-aggregate-same-2 c = search needs
 same-requires-2 : tie.Need-same-requires-2
 same-requires-2 c κs = search needs
 
-returns-2 : tie.Need-returns-2
-unfolding directoryNames bytes
-returns-2 c = number-later _ _ _ 0 (sym (c .before .before .before .before .same .ensures) ∙ c .before .before .before .if1 .left) (number-first _ _ _ (sym (c .before .same2 .ensures) ∙ c .if2 .taken))
-
-slice-aggregate-same-3 : tie.Need-slice-aggregate-same-3
-slice-aggregate-same-3 c = search needs
-
-same-requires-3 : tie.Need-same-requires-3
-same-requires-3 c κs = search needs
-
 returns-3 : tie.Need-returns-3
-unfolding directoryNames bytes
-returns-3 c = number-later _ _ _ 1 (sym (c .before .before .before .before .before .before .before .same .ensures) ∙ c .before .before .before .before .before .before .if1 .left) (number-later _ _ _ 0 (sym (c .before .before .before .before .same2 .ensures) ∙ c .before .before .before .if2 .left) (number-first _ _ _ (sym (c .before .same3 .ensures) ∙ c .if3 .taken)))
-
-slice-aggregate-same-4 : tie.Need-slice-aggregate-same-4
-slice-aggregate-same-4 c = search needs
-
-same-requires-4 : tie.Need-same-requires-4
-same-requires-4 c κs = search needs
+unfolding names table entryTable times ofDirectory bytes
+returns-3 c = number-behind (namesOf (entryTable uid name)) (namesOf ofDirectory) _ _ (c .before .before .before .before .before .before .before .in-entry .ensures) (c .before .before .before .before .before .before .if1 .left) 1 (number-later _ _ _ 0 (sym (c .before .before .before .before .same .ensures) ∙ c .before .before .before .if2 .left) (number-first _ _ _ (sym (c .before .same2 .ensures) ∙ c .if3 .taken)))
 
 returns-4 : tie.Need-returns-4
-unfolding directoryNames bytes
-returns-4 c = number-later _ _ _ 2 (sym (c .before .before .before .before .before .before .before .before .before .before .same .ensures) ∙ c .before .before .before .before .before .before .before .before .before .if1 .left) (number-later _ _ _ 1 (sym (c .before .before .before .before .before .before .before .same2 .ensures) ∙ c .before .before .before .before .before .before .if2 .left) (number-later _ _ _ 0 (sym (c .before .before .before .before .same3 .ensures) ∙ c .before .before .before .if3 .left) (number-first _ _ _ (sym (c .before .same4 .ensures) ∙ c .if4 .taken))))
-
-slice-aggregate-same-5 : tie.Need-slice-aggregate-same-5
-slice-aggregate-same-5 c = search needs
-
-same-requires-5 : tie.Need-same-requires-5
-same-requires-5 c κs = search needs
-
-returns-5 : tie.Need-returns-5
-unfolding directoryNames bytes
-returns-5 c = number-later _ _ _ 3 (sym (c .before .before .before .before .before .before .before .before .before .before .before .before .before .same .ensures) ∙ c .before .before .before .before .before .before .before .before .before .before .before .before .if1 .left) (number-later _ _ _ 2 (sym (c .before .before .before .before .before .before .before .before .before .before .same2 .ensures) ∙ c .before .before .before .before .before .before .before .before .before .if2 .left) (number-later _ _ _ 1 (sym (c .before .before .before .before .before .before .before .same3 .ensures) ∙ c .before .before .before .before .before .before .if3 .left) (number-later _ _ _ 0 (sym (c .before .before .before .before .same4 .ensures) ∙ c .before .before .before .if4 .left) (number-first _ _ _ (sym (c .before .same5 .ensures) ∙ c .if5 .taken)))))
-
-slice-aggregate-same-6 : tie.Need-slice-aggregate-same-6
-slice-aggregate-same-6 c = search needs
-
-same-requires-6 : tie.Need-same-requires-6
-same-requires-6 c κs = search needs
-
-returns-6 : tie.Need-returns-6
-unfolding directoryNames bytes
-returns-6 c = number-later _ _ _ 4 (sym (c .before .before .before .before .before .before .before .before .before .before .before .before .before .before .before .before .same .ensures) ∙ c .before .before .before .before .before .before .before .before .before .before .before .before .before .before .before .if1 .left) (number-later _ _ _ 3 (sym (c .before .before .before .before .before .before .before .before .before .before .before .before .before .same2 .ensures) ∙ c .before .before .before .before .before .before .before .before .before .before .before .before .if2 .left) (number-later _ _ _ 2 (sym (c .before .before .before .before .before .before .before .before .before .before .same3 .ensures) ∙ c .before .before .before .before .before .before .before .before .before .if3 .left) (number-later _ _ _ 1 (sym (c .before .before .before .before .before .before .before .same4 .ensures) ∙ c .before .before .before .before .before .before .if4 .left) (number-later _ _ _ 0 (sym (c .before .before .before .before .same5 .ensures) ∙ c .before .before .before .if5 .left) (number-first _ _ _ (sym (c .before .same6 .ensures) ∙ c .if6 .taken))))))
-
-slice-aggregate-same-7 : tie.Need-slice-aggregate-same-7
-slice-aggregate-same-7 c = search needs
-
-same-requires-7 : tie.Need-same-requires-7
-same-requires-7 c κs = search needs
-
-returns-7 : tie.Need-returns-7
-unfolding directoryNames bytes
-returns-7 c = number-later _ _ _ 5 (sym (c .before .before .before .before .before .before .before .before .before .before .before .before .before .before .before .before .before .before .before .same .ensures) ∙ c .before .before .before .before .before .before .before .before .before .before .before .before .before .before .before .before .before .before .if1 .left) (number-later _ _ _ 4 (sym (c .before .before .before .before .before .before .before .before .before .before .before .before .before .before .before .before .same2 .ensures) ∙ c .before .before .before .before .before .before .before .before .before .before .before .before .before .before .before .if2 .left) (number-later _ _ _ 3 (sym (c .before .before .before .before .before .before .before .before .before .before .before .before .before .same3 .ensures) ∙ c .before .before .before .before .before .before .before .before .before .before .before .before .if3 .left) (number-later _ _ _ 2 (sym (c .before .before .before .before .before .before .before .before .before .before .same4 .ensures) ∙ c .before .before .before .before .before .before .before .before .before .if4 .left) (number-later _ _ _ 1 (sym (c .before .before .before .before .before .before .before .same5 .ensures) ∙ c .before .before .before .before .before .before .if5 .left) (number-later _ _ _ 0 (sym (c .before .before .before .before .same6 .ensures) ∙ c .before .before .before .if6 .left) (number-first _ _ _ (sym (c .before .same7 .ensures) ∙ c .if7 .taken)))))))
-
-slice-aggregate-same-8 : tie.Need-slice-aggregate-same-8
-slice-aggregate-same-8 c = search needs
-
-same-requires-8 : tie.Need-same-requires-8
-same-requires-8 c κs = search needs
-
-returns-8 : tie.Need-returns-8
-unfolding directoryNames bytes
-returns-8 c = number-later _ _ _ 6 (sym (c .before .before .before .before .before .before .before .before .before .before .before .before .before .before .before .before .before .before .before .before .before .before .same .ensures) ∙ c .before .before .before .before .before .before .before .before .before .before .before .before .before .before .before .before .before .before .before .before .before .if1 .left) (number-later _ _ _ 5 (sym (c .before .before .before .before .before .before .before .before .before .before .before .before .before .before .before .before .before .before .before .same2 .ensures) ∙ c .before .before .before .before .before .before .before .before .before .before .before .before .before .before .before .before .before .before .if2 .left) (number-later _ _ _ 4 (sym (c .before .before .before .before .before .before .before .before .before .before .before .before .before .before .before .before .same3 .ensures) ∙ c .before .before .before .before .before .before .before .before .before .before .before .before .before .before .before .if3 .left) (number-later _ _ _ 3 (sym (c .before .before .before .before .before .before .before .before .before .before .before .before .before .same4 .ensures) ∙ c .before .before .before .before .before .before .before .before .before .before .before .before .if4 .left) (number-later _ _ _ 2 (sym (c .before .before .before .before .before .before .before .before .before .before .same5 .ensures) ∙ c .before .before .before .before .before .before .before .before .before .if5 .left) (number-later _ _ _ 1 (sym (c .before .before .before .before .before .before .before .same6 .ensures) ∙ c .before .before .before .before .before .before .if6 .left) (number-later _ _ _ 0 (sym (c .before .before .before .before .same7 .ensures) ∙ c .before .before .before .if7 .left) (number-first _ _ _ (sym (c .before .same8 .ensures) ∙ c .if8 .taken))))))))
-
-slice-aggregate-same-9 : tie.Need-slice-aggregate-same-9
-slice-aggregate-same-9 c = search needs
-
-same-requires-9 : tie.Need-same-requires-9
-same-requires-9 c κs = search needs
-
-returns-9 : tie.Need-returns-9
-unfolding directoryNames bytes
-returns-9 c = number-later _ _ _ 7 (sym (c .before .before .before .before .before .before .before .before .before .before .before .before .before .before .before .before .before .before .before .before .before .before .before .before .before .same .ensures) ∙ c .before .before .before .before .before .before .before .before .before .before .before .before .before .before .before .before .before .before .before .before .before .before .before .before .if1 .left) (number-later _ _ _ 6 (sym (c .before .before .before .before .before .before .before .before .before .before .before .before .before .before .before .before .before .before .before .before .before .before .same2 .ensures) ∙ c .before .before .before .before .before .before .before .before .before .before .before .before .before .before .before .before .before .before .before .before .before .if2 .left) (number-later _ _ _ 5 (sym (c .before .before .before .before .before .before .before .before .before .before .before .before .before .before .before .before .before .before .before .same3 .ensures) ∙ c .before .before .before .before .before .before .before .before .before .before .before .before .before .before .before .before .before .before .if3 .left) (number-later _ _ _ 4 (sym (c .before .before .before .before .before .before .before .before .before .before .before .before .before .before .before .before .same4 .ensures) ∙ c .before .before .before .before .before .before .before .before .before .before .before .before .before .before .before .if4 .left) (number-later _ _ _ 3 (sym (c .before .before .before .before .before .before .before .before .before .before .before .before .before .same5 .ensures) ∙ c .before .before .before .before .before .before .before .before .before .before .before .before .if5 .left) (number-later _ _ _ 2 (sym (c .before .before .before .before .before .before .before .before .before .before .same6 .ensures) ∙ c .before .before .before .before .before .before .before .before .before .if6 .left) (number-later _ _ _ 1 (sym (c .before .before .before .before .before .before .before .same7 .ensures) ∙ c .before .before .before .before .before .before .if7 .left) (number-later _ _ _ 0 (sym (c .before .before .before .before .same8 .ensures) ∙ c .before .before .before .if8 .left) (number-first _ _ _ (sym (c .before .same9 .ensures) ∙ c .if9 .taken)))))))))
-
-slice-aggregate-same-10 : tie.Need-slice-aggregate-same-10
-slice-aggregate-same-10 c = search needs
-
-same-requires-10 : tie.Need-same-requires-10
-same-requires-10 c κs = search needs
-
-returns-10 : tie.Need-returns-10
-unfolding directoryNames bytes
-returns-10 c = number-later _ _ _ 8 (sym (c .before .before .before .before .before .before .before .before .before .before .before .before .before .before .before .before .before .before .before .before .before .before .before .before .before .before .before .before .same .ensures) ∙ c .before .before .before .before .before .before .before .before .before .before .before .before .before .before .before .before .before .before .before .before .before .before .before .before .before .before .before .if1 .left) (number-later _ _ _ 7 (sym (c .before .before .before .before .before .before .before .before .before .before .before .before .before .before .before .before .before .before .before .before .before .before .before .before .before .same2 .ensures) ∙ c .before .before .before .before .before .before .before .before .before .before .before .before .before .before .before .before .before .before .before .before .before .before .before .before .if2 .left) (number-later _ _ _ 6 (sym (c .before .before .before .before .before .before .before .before .before .before .before .before .before .before .before .before .before .before .before .before .before .before .same3 .ensures) ∙ c .before .before .before .before .before .before .before .before .before .before .before .before .before .before .before .before .before .before .before .before .before .if3 .left) (number-later _ _ _ 5 (sym (c .before .before .before .before .before .before .before .before .before .before .before .before .before .before .before .before .before .before .before .same4 .ensures) ∙ c .before .before .before .before .before .before .before .before .before .before .before .before .before .before .before .before .before .before .if4 .left) (number-later _ _ _ 4 (sym (c .before .before .before .before .before .before .before .before .before .before .before .before .before .before .before .before .same5 .ensures) ∙ c .before .before .before .before .before .before .before .before .before .before .before .before .before .before .before .if5 .left) (number-later _ _ _ 3 (sym (c .before .before .before .before .before .before .before .before .before .before .before .before .before .same6 .ensures) ∙ c .before .before .before .before .before .before .before .before .before .before .before .before .if6 .left) (number-later _ _ _ 2 (sym (c .before .before .before .before .before .before .before .before .before .before .same7 .ensures) ∙ c .before .before .before .before .before .before .before .before .before .if7 .left) (number-later _ _ _ 1 (sym (c .before .before .before .before .before .before .before .same8 .ensures) ∙ c .before .before .before .before .before .before .if8 .left) (number-later _ _ _ 0 (sym (c .before .before .before .before .same9 .ensures) ∙ c .before .before .before .if9 .left) (number-first _ _ _ (sym (c .before .same10 .ensures) ∙ c .if10 .taken))))))))))
-
-returns-11 : tie.Need-returns-11
-unfolding directoryNames bytes
-returns-11 c = number-later _ _ _ 9 (sym (c .before .before .before .before .before .before .before .before .before .before .before .before .before .before .before .before .before .before .before .before .before .before .before .before .before .before .before .before .same .ensures) ∙ c .before .before .before .before .before .before .before .before .before .before .before .before .before .before .before .before .before .before .before .before .before .before .before .before .before .before .before .if1 .left) (number-later _ _ _ 8 (sym (c .before .before .before .before .before .before .before .before .before .before .before .before .before .before .before .before .before .before .before .before .before .before .before .before .before .same2 .ensures) ∙ c .before .before .before .before .before .before .before .before .before .before .before .before .before .before .before .before .before .before .before .before .before .before .before .before .if2 .left) (number-later _ _ _ 7 (sym (c .before .before .before .before .before .before .before .before .before .before .before .before .before .before .before .before .before .before .before .before .before .before .same3 .ensures) ∙ c .before .before .before .before .before .before .before .before .before .before .before .before .before .before .before .before .before .before .before .before .before .if3 .left) (number-later _ _ _ 6 (sym (c .before .before .before .before .before .before .before .before .before .before .before .before .before .before .before .before .before .before .before .same4 .ensures) ∙ c .before .before .before .before .before .before .before .before .before .before .before .before .before .before .before .before .before .before .if4 .left) (number-later _ _ _ 5 (sym (c .before .before .before .before .before .before .before .before .before .before .before .before .before .before .before .before .same5 .ensures) ∙ c .before .before .before .before .before .before .before .before .before .before .before .before .before .before .before .if5 .left) (number-later _ _ _ 4 (sym (c .before .before .before .before .before .before .before .before .before .before .before .before .before .same6 .ensures) ∙ c .before .before .before .before .before .before .before .before .before .before .before .before .if6 .left) (number-later _ _ _ 3 (sym (c .before .before .before .before .before .before .before .before .before .before .same7 .ensures) ∙ c .before .before .before .before .before .before .before .before .before .if7 .left) (number-later _ _ _ 2 (sym (c .before .before .before .before .before .before .before .same8 .ensures) ∙ c .before .before .before .before .before .before .if8 .left) (number-later _ _ _ 1 (sym (c .before .before .before .before .same9 .ensures) ∙ c .before .before .before .if9 .left) (number-later _ _ _ 0 (sym (c .before .same10 .ensures) ∙ c .if10 .left) (number-none _))))))))))
+unfolding names table entryTable times ofDirectory bytes
+returns-4 c = number-behind (namesOf (entryTable uid name)) (namesOf ofDirectory) _ _ (c .before .before .before .before .before .before .before .in-entry .ensures) (c .before .before .before .before .before .before .if1 .left) 2 (number-later _ _ _ 1 (sym (c .before .before .before .before .same .ensures) ∙ c .before .before .before .if2 .left) (number-later _ _ _ 0 (sym (c .before .same2 .ensures) ∙ c .if3 .left) (number-none _)))
 
 pub in-directory-spec : {M : Type 1} → statement M
 in-directory-spec =
     tie.close
     (tie.spec
+    in-entry-requires
+    returns
     slice-aggregate-same
     same-requires
-    returns
+    returns-2
     slice-aggregate-same-2
     same-requires-2
-    returns-2
-    slice-aggregate-same-3
-    same-requires-3
     returns-3
-    slice-aggregate-same-4
-    same-requires-4
-    returns-4
-    slice-aggregate-same-5
-    same-requires-5
-    returns-5
-    slice-aggregate-same-6
-    same-requires-6
-    returns-6
-    slice-aggregate-same-7
-    same-requires-7
-    returns-7
-    slice-aggregate-same-8
-    same-requires-8
-    returns-8
-    slice-aggregate-same-9
-    same-requires-9
-    returns-9
-    slice-aggregate-same-10
-    same-requires-10
-    returns-10
-    returns-11)
+    returns-4)
