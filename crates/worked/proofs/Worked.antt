@@ -7,7 +7,7 @@ use lib.Dec.{ltb}
 use lib.ListN.{length}
 use Rattle.slices.specs.Slices.{every}
 use Rattle.slices.proofs.Booleans.{split}
-use Rattle.digits.specs.Runs.{value}
+use Rattle.digits.specs.Runs.{value, digits}
 use Rattle.digits.specs.Decimal as decimal
 use Rattle.digits.specs.Decimal.{isNumber, plain}
 use Rattle.values.specs.Values.{number}
@@ -30,5 +30,5 @@ module _ (B : ℕ) (x y z : List ℕ) where
   at-5 = split (λ (t : Bool). (t || standsAt 5 (standing B (fresh x y z))) ≡ true) (ltb B (length z)) (λ e. refl) fits
 
 pub worked : (f : Label) (b : List ℕ) (B : ℕ) (x y z : List ℕ) → every (λ b. b) (cases f b B x y z) ≡ true
-unfolding every cases bytes number decimal.number isNumber plain value list entry byteMap placeOf rowsOf lawful rowLawful apart
+unfolding every cases bytes number decimal.number isNumber plain value digits list entry byteMap placeOf rowsOf lawful rowLawful apart
 worked f b B x y z = rw (at-5 B x y z, one, lengths f, shorts f b)
