@@ -14,8 +14,9 @@ use Rattle.texts.specs.Decoded.{reference, meaning, decodedBehind, codePoints}
 use Rattle.children.specs.Children.{below}
 use Rattle.values.specs.Values.{number, boolean, fits, inForm, inRanges, isTime, isUuid, sameUuid, letter, isCreator, isName, isRootName, version}
 use Rattle.extents.specs.Lawful.{lawful, rowLawful, apart}
-use Rattle.index_names.specs.Names.{indexNames, placeNames, directoryNames, contentsNames, fileNames, extentinfoNames, extentNames, names, numberIn}
-use Rattle.index_names.specs.Sorts.{entrySort, fileSort, directorySort, rootSort, contentsSort, extentinfoSort, extentSort, placeSort, indexSort, sort, must, repeats}
+use Rattle.index_names.specs.Rows.{countOnce, someAnyNumber}
+use Rattle.index_names.specs.Tables.{indexTable, placeTable, times, entryTable, ofDirectory, contentsTable, ofFile, extentinfoTable, extentTable, table, sort, must, repeats}
+use Rattle.index_names.specs.Names.{names, numberIn}
 use Rattle.index_values.specs.Elements.{elements, textIn, rowIn}
 use Rattle.index_values.specs.Entries.{uidOf, many, uidsOf}
 use Rattle.index_values.specs.Tests as tests
@@ -32,5 +33,5 @@ pub numbers :
     (says 18446744073709551615 (cases.numberIn "18446744073709551615") ≡ true)
     × (isRefused 6 (cases.numberIn "18446744073709551616") ≡ true)
     × (isRefused 6 (cases.numberIn "007") ≡ true)
-unfolding times indexWith every same bytes value decimal.number isNumber plain isSpace isLetter isNameByte reads char inText inside tagEnd outside leave innermost noText step ended run form front behind isNot quoteAfter past quoted headOf top pop closed opened alone put forests isRow reference meaning decodedBehind codePoints below number boolean fits inForm inRanges isTime isUuid sameUuid letter isCreator isName isRootName version lawful rowLawful apart indexNames placeNames directoryNames contentsNames fileNames extentinfoNames extentNames names numberIn entrySort fileSort directorySort rootSort contentsSort extentinfoSort extentSort placeSort indexSort sort must repeats elements textIn rowIn uidOf many uidsOf valued own rowOf rowsIn few tests.lawful member different structure.fits count complete rightly filesOf structured bounded allValued childrenRead tagRead rootRead callerRight indexOf declaration
+unfolding times indexWith every same bytes value decimal.number isNumber plain isSpace isLetter isNameByte reads char inText inside tagEnd outside leave innermost noText step ended run form front behind isNot quoteAfter past quoted headOf top pop closed opened alone put forests isRow reference meaning decodedBehind codePoints below number boolean fits inForm inRanges isTime isUuid sameUuid letter isCreator isName isRootName version lawful rowLawful apart countOnce someAnyNumber indexTable placeTable entryTable ofDirectory contentsTable ofFile extentinfoTable extentTable table sort must repeats names numberIn elements textIn rowIn uidOf many uidsOf valued own rowOf rowsIn few tests.lawful member different structure.fits count complete rightly filesOf structured bounded allValued childrenRead tagRead rootRead callerRight indexOf declaration
 numbers = (refl, refl, refl)

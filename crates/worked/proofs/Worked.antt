@@ -7,6 +7,7 @@ use lib.Dec.{ltb}
 use lib.ListN.{length}
 use Rattle.slices.specs.Slices.{every}
 use Rattle.slices.proofs.Booleans.{split}
+use Rattle.digits.specs.Runs.{digits}
 use Rattle.constructs.specs.Constructs.{standing, scan, step, runAfter, closedBy, pastLabel}
 use Rattle.tape.specs.Tape.{list, entry}
 use Rattle.extents.specs.Rows.{rowsOf}
@@ -26,5 +27,5 @@ module _ (B : ℕ) (x y z : List ℕ) where
   at-5 = split (λ (t : Bool). (t || standsAt 5 (standing B (fresh x y z))) ≡ true) (ltb B (length z)) (λ e. refl) fits
 
 pub worked : (f : Label) (b : List ℕ) (B : ℕ) (x y z : List ℕ) → every (λ b. b) (cases f b B x y z) ≡ true
-unfolding every cases list entry byteMap placeOf rowsOf lawful rowLawful apart
+unfolding every cases digits list entry byteMap placeOf rowsOf lawful rowLawful apart
 worked f b B x y z = rw (at-5 B x y z, numbers .0, numbers .1, numbers .2, one, lengths f, shorts f b)
