@@ -45,15 +45,15 @@ at-suffix k {c} {cs} {ds = d ∷ ds} (here q) n =
 at-suffix k {c} {cs} {ds = d ∷ ds} (there s) n = rw (ne-eqb (length ds) k (λ e. omega (arith, suffix-length s))) (at-suffix k s n)
 
 module _ (g : Given) (letter : ℕ) (s : List ℕ) (p : Spot) (t : List ℕ) (is-text : t ≡ textIn s p) where
-  pub place-found : (h : Header) → saying t (readIs.Found h) ≡ toldBy (indexOf g letter (p .first) t) → ReadsPlace g letter s p (chosenIs.Found p h)
+  pub place-found : (h : Header) → saying t (readIs.Found h) ≡ toldBy (indexOf g letter (p .first .0) t) → ReadsPlace g letter s p (chosenIs.Found p h)
   place-found h e c w =
       let q : saying (textIn s p) (readIs.Found h) ≡ toldBy (indexOf g letter (c .first) (c .text))
       = ap (λ (x : List ℕ). saying x (readIs.Found h)) (sym is-text) ∙ e ∙ ap (λ (x : ℕ). toldBy (indexOf g letter x t)) (w .first)
       ∙ ap (λ (x : List ℕ). toldBy (indexOf g letter (c .first) x)) (is-text ∙ w .text) in
-      ap (λ (a : Answer Told). andThen a (λ x. answer (record { construct = record { first = p .first; upTo = p .end; text = textIn s p }; told = x }))) q
+      ap (λ (a : Answer Told). andThen a (λ x. answer (record { construct = record { first = p .first .0; upTo = p .end; text = textIn s p }; told = x }))) q
       ∙ rw (w .first, w .end, w .text)
 
-  pub place-refused : (r : Refusal) → refused r ≡ toldBy (indexOf g letter (p .first) t) → ReadsPlace g letter s p (chosenIs.Refused r)
+  pub place-refused : (r : Refusal) → refused r ≡ toldBy (indexOf g letter (p .first .0) t) → ReadsPlace g letter s p (chosenIs.Refused r)
   place-refused r e c w =
       let q : refused r ≡ toldBy (indexOf g letter (c .first) (c .text))
       = e ∙ ap (λ (x : ℕ). toldBy (indexOf g letter x t)) (w .first) ∙ ap (λ (x : List ℕ). toldBy (indexOf g letter (c .first) x)) (is-text ∙ w .text) in

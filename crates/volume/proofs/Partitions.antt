@@ -41,7 +41,7 @@ module _ (B : ℕ) (l s : List ℕ) (t : Tape) (e : Encodes l s t) where
   -- a construct's four numbers
   spot-of : (T : List ℕ) → length T ≡ 87380 → (c : Construct) (cs : List Construct) → Suffix (c ∷ cs) (standing B t)
       → placeIn (tableAfter B T (answer t)) (length cs)
-      ≡ record { first = c .first; end = c .upTo; from = bytesBefore t (c .first); to = bytesBefore t (c .upTo - 1) }
+      ≡ record { first = record { 0 = c .first }; end = c .upTo; from = bytesBefore t (c .first); to = bytesBefore t (c .upTo - 1) }
   spot-of T n c cs suf =
       let k : length cs < 21845 = omega (arith, suffix-length suf, few) in
       let at = table-at t T (omega (arith, few)) suf in

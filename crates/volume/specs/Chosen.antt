@@ -39,7 +39,7 @@ chosenIn g letter k l s =
 abbrev pub chosenBy : List ℕ → Chosen → Answer Told·Construct
 chosenBy s (chosenIs.Found p h) =
     andThen (saying (textIn s p) (readIs.Found h))
-    (λ t. answer (record { construct = record { first = p .first; upTo = p .end; text = textIn s p }; told = t }))
+    (λ t. answer (record { construct = record { first = p .first .0; upTo = p .end; text = textIn s p }; told = t }))
 chosenBy s (chosenIs.Refused r) = refused r
 
 -- the index at a place of the store where a construct lies
