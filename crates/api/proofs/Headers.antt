@@ -60,7 +60,7 @@ says-index s a h time {out} e c q =
 -- a construct's text and its time, each at a place that was cut off
 module _ (p : Spot) (h : Read) (text time : Span) where
   abbrev pub constructNumbers : List ℕ
-  constructNumbers = p .first ∷ p .end ∷ text .from ∷ text .len ∷ headerNumbers h time
+  constructNumbers = p .first .0 ∷ p .end ∷ text .from ∷ text .len ∷ headerNumbers h time
 
   pub says-place : (s : List ℕ) → CutOff (length s) (record { from = p .from; len = p .to - p .from }) text → CutOff (text .len) (h .time) time
       → SaysConstruct s (constructOf s p h) constructNumbers

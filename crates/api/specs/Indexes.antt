@@ -79,7 +79,7 @@ headerNumbers h time =
 
 -- a construct that was found in a store, with its header
 abbrev pub constructOf : List ℕ → Spot → Header → Told·Construct
-constructOf s p h = record { construct = record { first = p .first; upTo = p .end; text = textIn s p }; told = toldOf (textIn s p) h }
+constructOf s p h = record { construct = record { first = p .first .0; upTo = p .end; text = textIn s p }; told = toldOf (textIn s p) h }
 
 module _ {A : Type 0} where
   -- how many there are

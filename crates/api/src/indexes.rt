@@ -207,7 +207,7 @@ fn in_place(p: Place, h: Header, end: usize) -> [u64; 17]
     let time = inside(h.time, text.len);
     let a = in_numbers(h, time);
     [
-        p.first as u64,
+        p.first.0,
         p.end as u64,
         text.from as u64,
         text.len as u64,
