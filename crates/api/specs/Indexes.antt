@@ -55,7 +55,7 @@ headerNumbers h =
 
 -- that of a construct that was found in a store, with its place
 abbrev pub constructNumbers : Spot → Header → List ℕ
-constructNumbers p h = p .first ∷ p .end ∷ p .from ∷ (p .to - p .from) ∷ headerNumbers h
+constructNumbers p h = p .first .0 ∷ p .end ∷ p .from ∷ (p .to - p .from) ∷ headerNumbers h
 
 module _ {A : Type 0} where
   -- how many there are

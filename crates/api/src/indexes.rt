@@ -197,7 +197,7 @@ fn in_place(p: Place, h: Header) -> [u64; 17]
 {
     let a = in_numbers(h);
     [
-        p.first as u64,
+        p.first.0,
         p.end as u64,
         p.from as u64,
         volume::between(p.from, p.to) as u64,

@@ -300,9 +300,9 @@ fn rows_case(fd: i32, text: &[u8], uuid: &[u8], volume: Volume, letter: u8, bloc
 
 // Where a construct lies: its first block and its closing mark; then its header.
 fn construct_as(fd: i32, store: &[u8], place: Place, h: Header) -> bool {
-    let first = case_files::number(fd) as usize;
+    let first = case_files::number(fd);
     let mark = case_files::number(fd) as usize;
-    if place.first != first {
+    if place.first.0 != first {
         return false;
     }
     if place.end != std::num::wrapping_add_usize(mark, 1) {

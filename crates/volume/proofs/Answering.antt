@@ -30,7 +30,7 @@ use Rattle.verdict.specs.Demand.{Demand3}
 use Rattle.verdict.proofs.Orders.{firsts, firsts-suffix, firsts-all}
 use Rattle.verdict.proofs.Partners.{begins-at, length-beginnings}
 use Rattle.volume.specs.Volume.{volumeWith, givenBy, labels, onVolume, orNoCut, rescueIn, verdictIn}
-use Rattle.volume.specs.Steps.{Located, Listed, Held, FillsOf, JudgesLast, JudgesIndexes, Breaks, breakOf, lastBreak, Chains, ChainsOf, Ready, BeginsOf, Searches, triedCut, CutsBy, Cuts}
+use Rattle.volume.specs.Steps.{Located, Listed, Held, FillsOf, JudgesLast, JudgesIndexes, JudgesData, Breaks, breakOf, lastBreak, Chains, ChainsOf, Ready, BeginsOf, Searches, triedCut, CutsBy, CutsData, Cuts}
 use Rattle.volume.specs.Answers.{judged, rescued, cutOf, Rescues, Judges}
 use Rattle.volume.specs.declared.filling.Filled.{Filled}
 use Rattle.volume.specs.declared.search.Tried.{Tried}
@@ -157,16 +157,21 @@ module _ (g : Given) (il is dl ds ti ri : List ℕ) (a : Filled) (fi : Fills g i
   pub judges-1 : a .ends ≡ false → Breaks g il is dl ds (Broken 1 0)
   judges-1 f i d ei ed = verdict-1 (volumeWith g) i d (sym (ends-told g il is ti ri a fi i ei) ∙ f)
 
-  module _ (td rd : List ℕ) (b : Filled) (fd : Fills g dl ds td rd b) where
-    pub judges-2 : a .ends ≡ true → b .ends ≡ false → Breaks g il is dl ds (Broken 2 0)
-    judges-2 at f i d ei ed = verdict-2 (volumeWith g) i d (sym (ends-told g il is ti ri a fi i ei) ∙ at) (sym (ends-told g dl ds td rd b fd d ed) ∙ f)
+  pub judges-on : a .ends ≡ true → (r : Judgement) → JudgesData g is dl ds ti (a .count) ri r → Breaks g il is dl ds r
+  judges-on at r w i d ei ed = w i d ed (held g il is ti ri a fi i ei) (sym (ends-told g il is ti ri a fi i ei) ∙ at)
 
-    pub judges-by : a .ends ≡ true → b .ends ≡ true → (r : Judgement) → JudgesIndexes g is ds ti (a .count) ri td (b .count) rd r → Breaks g il is dl ds r
-    judges-by at bt r w i d ei ed =
-        w dl i d ed (held g il is ti ri a fi i ei) (held g dl ds td rd b fd d ed) (sym (ends-told g il is ti ri a fi i ei) ∙ at) (sym (ends-told g dl ds td rd b fd d ed) ∙ bt)
+  pub cuts-on : (r : Tried) → CutsData g is dl ds ti (a .count) ri r → Cuts g il is dl ds r
+  cuts-on r w i d ei ed = w i d ed (held g il is ti ri a fi i ei)
 
-    pub cuts-with : (r : Tried) → CutsBy g is ds ti (a .count) ri td (b .count) rd r → Cuts g il is dl ds r
-    cuts-with r w i d ei ed = w dl i d ed (held g il is ti ri a fi i ei) (held g dl ds td rd b fd d ed)
+module _ (g : Given) (is ti : List ℕ) (n : ℕ) (ri dl ds td rd : List ℕ) (b : Filled) (fd : Fills g dl ds td rd b) where
+  pub judges-2 : b .ends ≡ false → JudgesData g is dl ds ti n ri (Broken 2 0)
+  judges-2 f i d ed hi at = verdict-2 (volumeWith g) i d at (sym (ends-told g dl ds td rd b fd d ed) ∙ f)
+
+  pub judges-by : b .ends ≡ true → (r : Judgement) → JudgesIndexes g is ds ti n ri td (b .count) rd r → JudgesData g is dl ds ti n ri r
+  judges-by bt r w i d ed hi at = w dl i d ed hi (held g dl ds td rd b fd d ed) at (sym (ends-told g dl ds td rd b fd d ed) ∙ bt)
+
+  pub cuts-with : (r : Tried) → CutsBy g is ds ti n ri td (b .count) rd r → CutsData g is dl ds ti n ri r
+  cuts-with r w i d ed hi = w dl i d ed hi (held g dl ds td rd b fd d ed)
 
 module _ {A : Type 0} (ask : Volume → Tape → Tape → Answer A) (il is dl ds : List ℕ) where
   -- where the labels are refused, so is the question

@@ -102,7 +102,7 @@ module _ (v : Volume) where
         }
 
 -- what is read of a construct at its place in the store
-pub link-located : (g : Given) (s : List ℕ) (letter : ℕ) (p : Spot) (t : List ℕ) (b : Brief) → t ≡ textIn s p → briefLink b ≡ linkOf (soundly (indexOf g letter (p .first) t))
+pub link-located : (g : Given) (s : List ℕ) (letter : ℕ) (p : Spot) (t : List ℕ) (b : Brief) → t ≡ textIn s p → briefLink b ≡ linkOf (soundly (indexOf g letter (p .first .0) t))
     → (c : Construct) → Located s p c → briefLink b ≡ linkOf (volumeWith g .read letter (c .first) (c .text))
 link-located g s letter p t b f r c w =
     r ∙ ap (λ (x : ℕ). linkOf (soundly (indexOf g letter x t))) (w .first) ∙ ap (λ (x : List ℕ). linkOf (soundly (indexOf g letter (c .first) x))) (f ∙ w .text)
@@ -112,7 +112,7 @@ pub located-at : (s table : List ℕ) (k : ℕ) (p : Spot) (c : Construct) (cs :
 located-at s table k p c cs e l n = subst (λ (x : Spot). Located s x c) (sym (e ∙ ap (placeIn table) (sym n))) l
 
 pub link-placed : (g : Given) (s table : List ℕ) (letter k : ℕ) (p : Spot) (t : List ℕ) (b : Brief) → p ≡ placeIn table k → t ≡ textIn s p
-    → briefLink b ≡ linkOf (soundly (indexOf g letter (p .first) t))
+    → briefLink b ≡ linkOf (soundly (indexOf g letter (p .first .0) t))
     → (c : Construct) (cs : List Construct) → Located s (placeIn table (length cs)) c → length cs ≡ k
     → briefLink b ≡ linkOf (volumeWith g .read letter (c .first) (c .text))
 link-placed g s table letter k p t b e f r c cs l n = link-located g s letter p t b f r c (located-at s table k p c cs e l n)
@@ -127,13 +127,13 @@ module _ (v : Volume) (s table : List ℕ) (k before : ℕ) (b : Brief)
   at-first z f ds l c [] suf n whole gen = links-first v c b (link-of c [] (l c [] suf) n) f
   at-first z f ds l c (p ∷ ps) suf n whole gen = absurd (omega arith)
 
-  pub at-behind : (k ≡ 0 → ⊥) → (q : Spot) (ok : Bool) → q ≡ placeIn table (k - 1) → ok ≡ joined (briefLink b) (v .dataLetter) (q .first) before
+  pub at-behind : (k ≡ 0 → ⊥) → (q : Spot) (ok : Bool) → q ≡ placeIn table (k - 1) → ok ≡ joined (briefLink b) (v .dataLetter) (q .first .0) before
       → LinksAt v s table k before (record { ok = ok; generation = b .generation })
   at-behind z q ok e j ds l c [] suf n whole gen = absurd (z (sym n))
   at-behind z q ok e j ds l c (p ∷ ps) suf n whole gen =
       let m : k - 1 ≡ length ps = omega arith in
       let w : Located s q p = subst (λ (x : Spot). Located s x p) (sym (e ∙ ap (placeIn table) m)) (l p ps (suffix-trans (there (here refl)) suf)) in
-      links-behind v c b (link-of c (p ∷ ps) (l c (p ∷ ps) suf) n) p ps (q .first) before ok whole (w .first) gen j
+      links-behind v c b (link-of c (p ∷ ps) (l c (p ∷ ps) suf) n) p ps (q .first .0) before ok whole (w .first) gen j
 
 -- the chain so far: the first k constructs have no break, the table has their generations, and the last one's is at hand
 pub record ChainAt (v : Volume) (ds : List Construct) (table : List ℕ) (k before : ℕ) : Type 0 where

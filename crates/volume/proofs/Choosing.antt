@@ -46,21 +46,21 @@ at-suffix k {c} {cs} {ds = d ∷ ds} (here q) n =
 at-suffix k {c} {cs} {ds = d ∷ ds} (there s) n = rw (ne-eqb (length ds) k (λ e. omega (arith, suffix-length s))) (at-suffix k s n)
 
 module _ (g : Given) (letter : ℕ) (s : List ℕ) (p : Spot) (x : List ℕ) (is-text : x ≡ textIn s p) where
-  index-at : (t : Tape) (c : Construct) → p ≡ spotOf t c → textIn s p ≡ c .text → indexOf g letter (p .first) x ≡ indexOf g letter (c .first) (c .text)
-  index-at t c at e = ap (λ (n : ℕ). indexOf g letter n x) (ap (λ (q : Spot). q .first) at) ∙ ap (indexOf g letter (c .first)) (is-text ∙ e)
+  index-at : (t : Tape) (c : Construct) → p ≡ spotOf t c → textIn s p ≡ c .text → indexOf g letter (p .first .0) x ≡ indexOf g letter (c .first) (c .text)
+  index-at t c at e = ap (λ (n : ℕ). indexOf g letter n x) (ap (λ (q : Spot). q .first .0) at) ∙ ap (indexOf g letter (c .first)) (is-text ∙ e)
 
-  pub place-found : (h : Header) → ReadsIndex x (indexOf g letter (p .first) x) (readIs.Found h) → ReadsPlace g letter s p (chosenIs.Found p h)
+  pub place-found : (h : Header) → ReadsIndex x (indexOf g letter (p .first .0) x) (readIs.Found h) → ReadsPlace g letter s p (chosenIs.Found p h)
   place-found h w t c at lies =
       let q : answer (summaryIn (textIn s p) h) ≡ summaryOf (indexOf g letter (c .first) (c .text))
       = ap (λ (y : List ℕ). answer (summaryIn y h)) (sym is-text) ∙ w .answers ∙ ap summaryOf (index-at t c at (lies .part)) in
-      let at-first : p .first ≡ c .first = ap (λ (q : Spot). q .first) at in
+      let at-first : p .first .0 ≡ c .first = ap (λ (q : Spot). q .first .0) at in
       let at-end : p .end ≡ c .upTo = ap (λ (q : Spot). q .end) at in
       let at-from : p .from ≡ bytesBefore t (c .first) = ap (λ (q : Spot). q .from) at in
       record {
         answers =
             ap
             (λ (a : Answer Summary).
-            andThen a (λ y. answer (record { construct = record { first = p .first; upTo = p .end; text = textIn s p }; from = p .from; summary = y })))
+            andThen a (λ y. answer (record { construct = record { first = p .first .0; upTo = p .end; text = textIn s p }; from = p .from; summary = y })))
             q
             ∙ same at-first at-end (lies .part) at-from;
         inside = record { text = lies .inside; header = subst (λ (y : List ℕ). Definite y h) is-text (w .header) };
@@ -72,7 +72,7 @@ module _ (g : Given) (letter : ℕ) (s : List ℕ) (p : Spot) (x : List ℕ) (is
           ≡ readAt g letter t c
       same a b d e = rw (a, b, d, e)
 
-  pub place-refused : (r : Refusal) → ReadsIndex x (indexOf g letter (p .first) x) (readIs.Refused r) → ReadsPlace g letter s p (chosenIs.Refused r)
+  pub place-refused : (r : Refusal) → ReadsIndex x (indexOf g letter (p .first .0) x) (readIs.Refused r) → ReadsPlace g letter s p (chosenIs.Refused r)
   place-refused r w t c at lies =
       record {
         answers =

@@ -35,15 +35,15 @@ module _ (table : List ℕ) (n : ℕ) (before : List ℕ) where
   begins-start s ds l h b = sym (ap (λ (x : List Construct). beginnings x before) (firsts-none ds))
 
   pub begins-more : (after : List ℕ) (k : ℕ) (p : Spot) (m : ℕ) → BeginsAt table n before after k → k < n → p ≡ placeIn table k → (k + 1 < 4294967296 → m ≡ k + 1)
-      → BeginsAt table n before (set after (p .first) m) (k + 1)
+      → BeginsAt table n before (set after (p .first .0) m) (k + 1)
   unfolding beginnings
   begins-more after k p m w i e q s ds l h b =
       let x = next-first ds k (omega arith) in
       let z : length (firsts k ds) ≡ k = firsts-length ds k (omega arith) in
       let c = l (x .0) (firsts k ds) (x .2) in
-      let f : p .first ≡ x .0 .first = ap (λ (y : Spot). y .first) (e ∙ ap (placeIn table) (sym z)) ∙ c .first in
+      let f : p .first .0 ≡ x .0 .first = ap (λ (y : Spot). y .first .0) (e ∙ ap (placeIn table) (sym z)) ∙ c .first in
       let r : m ≡ suc (length (firsts k ds)) = q (omega arith) ∙ omega arith in
-      ap (λ (y : List ℕ). set y (p .first) m) (w s ds l h b) ∙ rw (f, r) (sym (ap (λ (y : List Construct). beginnings y before) (x .1)))
+      ap (λ (y : List ℕ). set y (p .first .0) m) (w s ds l h b) ∙ rw (f, r) (sym (ap (λ (y : List Construct). beginnings y before) (x .1)))
 
   pub begins-end : (after : List ℕ) (k : ℕ) → BeginsAt table n before after k → k ≤ n → n ≤ k → BeginsOf table n before after
   begins-end after k w a b s ds l h i = let q : k ≡ n = omega arith in w s ds l h i ∙ ap (λ (m : ℕ). beginnings (firsts m ds) before) q

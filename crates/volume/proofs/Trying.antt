@@ -35,23 +35,23 @@ sound-answer (answer x) b e f = (x, refl)
 
 -- of an index that reads: by the tables and by the definition the same file is lost
 pub lost-located : (u : List ℕ) (w : Letters) (is ds : List ℕ) (li ld ri rd : List ℕ) (here there : Spot) (t : List ℕ) (b : Brief) (c d : Construct)
-    → t ≡ textIn is here → briefLink b ≡ linkOf (soundly (indexOf (given u w) (w .first) (here .first) t)) → Located is here c → Located ds there d
+    → t ≡ textIn is here → briefLink b ≡ linkOf (soundly (indexOf (given u w) (w .first) (here .first .0) t)) → Located is here c → Located ds there d
     → ReachTable (w .size) li ri → ReachTable (w .size) ld rd → c .upTo ≤ length li → d .upTo ≤ length ld
     → (lost : Lost) → Loses t w ri (here .end) rd (there .end) lost → b .sound ≡ true
     → badFileIn (volumeWith (given u w)) (readIndex (volumeWith (given u w)) c) (take (c .upTo) li) (take (d .upTo) ld) ≡ lostFile lost
 lost-located u w is ds li ld ri rd here there t b c d is-text reads p q hi hd fi fd lost l s =
-    let x = sound-answer (indexOf (given u w) (w .first) (here .first) t) b reads s in
-    let o : soundly (indexOf (given u w) (w .first) (here .first) t) ≡ readIndex (volumeWith (given u w)) c
+    let x = sound-answer (indexOf (given u w) (w .first) (here .first .0) t) b reads s in
+    let o : soundly (indexOf (given u w) (w .first) (here .first .0) t) ≡ readIndex (volumeWith (given u w)) c
     = ap (λ (y : ℕ). soundly (indexOf (given u w) (w .first) y t)) (p .first) ∙ ap (λ (y : List ℕ). soundly (indexOf (given u w) (w .first) (c .first) y)) (is-text ∙ p .text) in
-    let z = lost-same (given u w) w li ld ri rd (here .end) (there .end) (w .first) (here .first) t (x .0) hi hd
+    let z = lost-same (given u w) w li ld ri rd (here .end) (there .end) (w .first) (here .first .0) t (x .0) hi hd
     (subst (λ (y : ℕ). y ≤ length li) (sym (p .end)) fi) (subst (λ (y : ℕ). y ≤ length ld) (sym (q .end)) fd) refl refl refl (x .1) in
-    sym (l (given u w) (w .first) (here .first) (x .0) (x .1) ∙ z
+    sym (l (given u w) (w .first) (here .first .0) (x .0) (x .1) ∙ z
     ∙ ap (λ (y : Option Index). badFileIn (volumeWith (given u w)) y (take (here .end) li) (take (there .end) ld)) o
     ∙ ap (λ (y : ℕ). badFileIn (volumeWith (given u w)) (readIndex (volumeWith (given u w)) c) (take y li) (take (there .end) ld)) (p .end)
     ∙ ap (λ (y : ℕ). badFileIn (volumeWith (given u w)) (readIndex (volumeWith (given u w)) c) (take (c .upTo) li) (take y ld)) (q .end))
 
 module _ (u : List ℕ) (w : Letters) (is ti : List ℕ) (k : ℕ) (td gens begins ri rd : List ℕ) (here : Spot) (t : List ℕ) (b : Brief)
-    (at-here : here ≡ placeIn ti k) (is-text : t ≡ textIn is here) (reads : briefLink b ≡ linkOf (soundly (indexOf (given u w) (w .first) (here .first) t))) where
+    (at-here : here ≡ placeIn ti k) (is-text : t ≡ textIn is here) (reads : briefLink b ≡ linkOf (soundly (indexOf (given u w) (w .first) (here .first .0) t))) where
   v : Volume
   v = volumeWith (given u w)
 
@@ -86,20 +86,20 @@ module _ (u : List ℕ) (w : Letters) (is ti : List ℕ) (k : ℕ) (td gens begi
 
   module _ (j : ℕ) (at-begin : getD begins (b .block .0) 0 ≡ j) (some-one : j ≡ 0 → ⊥) (there : Spot) (at-there : there ≡ placeIn td (j - 1))
       (generation : ℕ) (is-generation : generation ≡ getD gens (j - 1) 0) where
-    tries-apart : joined (briefLink b) (w .other) (there .first) generation ≡ false → Tries (given u w) w is ti k td gens begins ri rd Fails
+    tries-apart : joined (briefLink b) (w .other) (there .first .0) generation ≡ false → Tries (given u w) w is ti k td gens begins ri rd Fails
     unfolding v
     tries-apart f cs ds li ld r c bs suf n =
         let p = there-is cs ds li ld r c bs suf n j at-begin some-one in
-        sym (try-apart (volumeWith (given u w)) li ld c bs ds b (link-here cs ds li ld r c bs suf n) gens (r .ds-store) td j p (there .first) generation
-        (located-there cs ds li ld r c bs suf n j at-begin some-one there at-there .first) (is-generation ∙ p .generation) f)
+        sym (try-apart (volumeWith (given u w)) li ld c bs ds b (link-here cs ds li ld r c bs suf n) gens (r .ds-store) td j p (there .first .0) generation
+        (located-there cs ds li ld r c bs suf n j at-begin some-one there at-there .first .0) (is-generation ∙ p .generation) f)
 
-    module _ (f : joined (briefLink b) (w .other) (there .first) generation ≡ true) (lost : Lost) (l : Loses t w ri (here .end) rd (there .end) lost) where
+    module _ (f : joined (briefLink b) (w .other) (there .first .0) generation ≡ true) (lost : Lost) (l : Loses t w ri (here .end) rd (there .end) lost) where
       tries-lost : (m : ℕ) → lostFile lost ≡ some m → Tries (given u w) w is ti k td gens begins ri rd Fails
       unfolding v
       tries-lost m e cs ds li ld r c bs suf n =
           let p = there-is cs ds li ld r c bs suf n j at-begin some-one in
-          let s = joined-sound b (w .other) (there .first) generation f in
-          sym (try-lost (volumeWith (given u w)) li ld c bs ds b (link-here cs ds li ld r c bs suf n) gens (r .ds-store) td j p (there .first) generation
+          let s = joined-sound b (w .other) (there .first .0) generation f in
+          sym (try-lost (volumeWith (given u w)) li ld c bs ds b (link-here cs ds li ld r c bs suf n) gens (r .ds-store) td j p (there .first .0) generation
           (located-there cs ds li ld r c bs suf n j at-begin some-one there at-there .first) (is-generation ∙ p .generation) f m
           (lost-here cs ds li ld r c bs suf n j at-begin some-one there at-there lost l s ∙ e))
 
@@ -110,10 +110,10 @@ module _ (u : List ℕ) (w : Letters) (is ti : List ℕ) (k : ℕ) (td gens begi
           let p = there-is cs ds li ld r c bs suf n j at-begin some-one in
           let q = located-there cs ds li ld r c bs suf n j at-begin some-one there at-there in
           let h = located-here cs ds li ld r c bs suf n in
-          let s = joined-sound b (w .other) (there .first) generation f in
-          ap some (try-cut (volumeWith (given u w)) li ld c bs ds b (link-here cs ds li ld r c bs suf n) gens (r .ds-store) td j p (there .first) generation
+          let s = joined-sound b (w .other) (there .first .0) generation f in
+          ap some (try-cut (volumeWith (given u w)) li ld c bs ds b (link-here cs ds li ld r c bs suf n) gens (r .ds-store) td j p (there .first .0) generation
           (q .first) (is-generation ∙ p .generation) f a (a₁ ∙ sym n) a₂ (a₃ ∙ h .end) (a₄ ∙ q .end) a₅)
-          ∙ sym (try-fits (volumeWith (given u w)) li ld c bs ds b (link-here cs ds li ld r c bs suf n) gens (r .ds-store) td j p (there .first) generation
+          ∙ sym (try-fits (volumeWith (given u w)) li ld c bs ds b (link-here cs ds li ld r c bs suf n) gens (r .ds-store) td j p (there .first .0) generation
           (q .first) (is-generation ∙ p .generation) f
           (lost-here cs ds li ld r c bs suf n j at-begin some-one there at-there lost l s ∙ e))
 

@@ -42,7 +42,7 @@ chosenIn g letter k l s =
 -- a construct that was found at a spot of a store, and its header
 abbrev pub indexedIn : List ℕ → Spot → Header → Indexed
 indexedIn s p h =
-    record { construct = record { first = p .first; upTo = p .end; text = textIn s p }; from = p .from; summary = summaryIn (textIn s p) h }
+    record { construct = record { first = p .first .0; upTo = p .end; text = textIn s p }; from = p .from; summary = summaryIn (textIn s p) h }
 
 abbrev pub chosenBy : List ℕ → Chosen → Answer Indexed
 chosenBy s (chosenIs.Found p h) = answer (indexedIn s p h)

@@ -43,11 +43,11 @@ textIn s p = take (p .to - p .from) (drop (p .from) s)
 
 -- the spot of a construct of a tape: its text begins behind the bytes of the blocks before it, and ends before its closing mark
 abbrev pub spotOf : Tape → Construct → Spot
-spotOf t c = record { first = c .first; end = c .upTo; from = bytesBefore t (c .first); to = bytesBefore t (c .upTo - 1) }
+spotOf t c = record { first = record { 0 = c .first }; end = c .upTo; from = bytesBefore t (c .first); to = bytesBefore t (c .upTo - 1) }
 
 -- a construct lies at a spot of the store
 pub record Located (s : List ℕ) (p : Spot) (c : Construct) : Type 0 where
-  pub first : p .first ≡ c .first
+  pub first : p .first .0 ≡ c .first
   pub end : p .end ≡ c .upTo
   pub text : textIn s p ≡ c .text
 
@@ -129,10 +129,10 @@ Loses t w ri ki rd kd r =
 -- whether an index that has the text t and says b follows the construct at there, and by the tables its extents all lie on the ki elements
 -- of its partition and on those of the other up to that construct's end
 pub data Fitting (t : List ℕ) (b : Brief) (w : Letters) (ki : ℕ) (there : Spot) (generation : ℕ) (ri rd : List ℕ) (r : Bool) : Type 0 where
-  apart : r ≡ false → joined (briefLink b) (w .other) (there .first) generation ≡ false → Fitting t b w ki there generation ri rd r
-  losing : (l : Lost) (m : ℕ) → r ≡ false → joined (briefLink b) (w .other) (there .first) generation ≡ true → Loses t w ri ki rd (there .end) l
+  apart : r ≡ false → joined (briefLink b) (w .other) (there .first .0) generation ≡ false → Fitting t b w ki there generation ri rd r
+  losing : (l : Lost) (m : ℕ) → r ≡ false → joined (briefLink b) (w .other) (there .first .0) generation ≡ true → Loses t w ri ki rd (there .end) l
       → lostFile l ≡ some m → Fitting t b w ki there generation ri rd r
-  fitting : (l : Lost) → r ≡ true → joined (briefLink b) (w .other) (there .first) generation ≡ true → Loses t w ri ki rd (there .end) l
+  fitting : (l : Lost) → r ≡ true → joined (briefLink b) (w .other) (there .first .0) generation ≡ true → Loses t w ri ki rd (there .end) l
       → lostFile l ≡ none → Fitting t b w ki there generation ri rd r
 
 -- a table of how far data blocks reach, by the lengths of a partition's data blocks
@@ -163,6 +163,15 @@ cutIs k =
       dataKept = k .«data_kept»;
       generation = k .generation .0;
     }
+
+-- a cut that keeps construct k of the index partition and construct j of the data partition, which lie at here and there; b is what the
+-- index of the first says
+pub record Keeps (k j : ℕ) (here there : Spot) (b : Brief) (a : Kept) : Type 0 where
+  pub indexConstruct : a .«index_construct» ≡ k
+  pub dataConstruct : a .«data_construct» ≡ j
+  pub indexKept : a .«index_kept» ≡ here .end
+  pub dataKept : a .«data_kept» ≡ there .end
+  pub generation : a .generation .0 ≡ b .generation .0
 
 abbrev pub triedCut : Tried → Option Cut
 triedCut (triedIs.Fits k) = some (cutIs k)
@@ -210,6 +219,10 @@ abbrev pub CutsBy : Given → List ℕ → List ℕ → List ℕ → ℕ → Lis
 CutsBy g is ds ti n ri td m rd r =
     (dl : List ℕ) (i d : Tape) → Encodes dl ds d → Held (g .size) is i ti n ri → Held (g .size) ds d td m rd → triedCut r ≡ rescue (volumeWith g) i d
 
+-- the cut by the tables of the index partition, and the data partition's list
+abbrev pub CutsData : Given → List ℕ → List ℕ → List ℕ → List ℕ → ℕ → List ℕ → Tried → Type 0
+CutsData g is dl ds ti n ri r = (i d : Tape) → Encodes dl ds d → Held (g .size) is i ti n ri → triedCut r ≡ rescue (volumeWith g) i d
+
 -- the cut of the volume with that UUID and those letters
 abbrev pub Cuts : Given → List ℕ → List ℕ → List ℕ → List ℕ → Tried → Type 0
 Cuts g il is dl ds r = (i d : Tape) → Encodes il is i → Encodes dl ds d → triedCut r ≡ rescue (volumeWith g) i d
@@ -237,6 +250,11 @@ abbrev pub JudgesIndexes : Given → List ℕ → List ℕ → List ℕ → ℕ 
 JudgesIndexes g is ds ti n ri td m rd r =
     (dl : List ℕ) (i d : Tape) → Encodes dl ds d → Held (g .size) is i ti n ri → Held (g .size) ds d td m rd
     → endsWith i (standing (g .size) i) ≡ true → endsWith d (standing (g .size) d) ≡ true → breakOf r ≡ verdict (volumeWith g) i d
+
+-- whether the breaks from 2 on hold, by the tables of an index partition that ends with a construct, and the data partition's list
+abbrev pub JudgesData : Given → List ℕ → List ℕ → List ℕ → List ℕ → ℕ → List ℕ → Judgement → Type 0
+JudgesData g is dl ds ti n ri r =
+    (i d : Tape) → Encodes dl ds d → Held (g .size) is i ti n ri → endsWith i (standing (g .size) i) ≡ true → breakOf r ≡ verdict (volumeWith g) i d
 
 -- the break of the volume with that UUID and those letters, or none
 abbrev pub Breaks : Given → List ℕ → List ℕ → List ℕ → List ℕ → Judgement → Type 0

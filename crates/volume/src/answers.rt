@@ -15,7 +15,7 @@ use label::Label;
 use refusals::Refusal;
 ghost use mathlib.Core.Path.{_≡_};
 ghost use Rattle.index_values.specs.Tests.{given};
-ghost use Rattle.volume.specs.Steps.{CutsBy, Cuts};
+ghost use Rattle.volume.specs.Steps.{CutsBy, CutsData, Cuts};
 ghost use Rattle.volume.specs.Answers.{Rescues, Judges};
 
 pub enum Verdict {
@@ -43,7 +43,8 @@ fn cut_by(
     m: usize,
     data_reach: &[u32],
 ) -> Tried
-    ensures { λ r. ⌜ CutsBy (given (now (uuid .entry)) volume) (now («index_store» .entry)) (now («data_store» .entry)) (now («index_table» .entry)) n (now («index_reach» .entry)) (now («data_table» .entry)) m (now («data_reach» .entry)) r ⌝ }
+    ensures { λ r. ⌜ CutsBy (given (now (uuid .entry)) volume) (now («index_store» .entry)) (now («data_store» .entry)) (now («index_table» .entry)) n
+        (now («index_reach» .entry)) (now («data_table» .entry)) m (now («data_reach» .entry)) r ⌝ }
 {
     let mut generations = [0u64; CONSTRUCTS];
     let k = chains::chain(data_store, uuid, volume, data_table, m, &mut generations);
@@ -63,6 +64,37 @@ fn cut_by(
     )
 }
 
+// The cut of a volume whose index partition's tables are filled.
+fn cut_data(
+    index_store: &[u8],
+    data_list: &[u8],
+    data_store: &[u8],
+    uuid: &[u8],
+    volume: Volume,
+    index_table: &[u32; NUMBERS],
+    n: usize,
+    index_reach: &[u32],
+) -> Tried
+    ensures { λ r. ⌜ CutsData (given (now (uuid .entry)) volume) (now («index_store» .entry)) (now («data_list» .entry)) (now («data_store» .entry))
+        (now («index_table» .entry)) n (now («index_reach» .entry)) r ⌝ }
+{
+    let mut table = [0u32; NUMBERS];
+    let mut reach = [0u32; ELEMENTS];
+    let m = filling::fill(data_list, data_store, volume.size, &mut table, &mut reach);
+    cut_by(
+        index_store,
+        data_store,
+        uuid,
+        volume,
+        index_table,
+        n,
+        index_reach,
+        &table,
+        m.count,
+        &reach,
+    )
+}
+
 // The cut of the volume with that UUID and those letters, of two lists that are well formed.
 fn rescue_with(
     index_list: &[u8],
@@ -72,37 +104,21 @@ fn rescue_with(
     uuid: &[u8],
     volume: Volume,
 ) -> Tried
-    ensures { λ r. ⌜ Cuts (given (now (uuid .entry)) volume) (now («index_list» .entry)) (now («index_store» .entry)) (now («data_list» .entry)) (now («data_store» .entry)) r ⌝ }
+    ensures { λ r. ⌜ Cuts (given (now (uuid .entry)) volume) (now («index_list» .entry)) (now («index_store» .entry))
+        (now («data_list» .entry)) (now («data_store» .entry)) r ⌝ }
 {
-    let mut index_table = [0u32; NUMBERS];
-    let mut index_reach = [0u32; ELEMENTS];
-    let n = filling::fill(
-        index_list,
+    let mut table = [0u32; NUMBERS];
+    let mut reach = [0u32; ELEMENTS];
+    let n = filling::fill(index_list, index_store, volume.size, &mut table, &mut reach);
+    cut_data(
         index_store,
-        volume.size,
-        &mut index_table,
-        &mut index_reach,
-    );
-    let mut data_table = [0u32; NUMBERS];
-    let mut data_reach = [0u32; ELEMENTS];
-    let m = filling::fill(
         data_list,
-        data_store,
-        volume.size,
-        &mut data_table,
-        &mut data_reach,
-    );
-    cut_by(
-        index_store,
         data_store,
         uuid,
         volume,
-        &index_table,
+        &table,
         n.count,
-        &index_reach,
-        &data_table,
-        m.count,
-        &data_reach,
+        &reach,
     )
 }
 

@@ -2,7 +2,6 @@
 use crate::sound;
 use constructs::NUMBERS;
 use index_values::Volume;
-use quantities::BlockNumber;
 use quantities::Generation;
 ghost use lib.ListN.{length};
 ghost use Rattle.index_values.specs.Tests.{given};
@@ -43,7 +42,7 @@ fn link(
     }
     let last = constructs::construct(table, k - 1);
     Linked {
-        ok: sound::joins(b, volume.other, BlockNumber(last.first as u64), before),
+        ok: sound::joins(b, volume.other, last.first, before),
         generation: generation,
     }
 }
@@ -57,7 +56,8 @@ pub fn chain(
     n: usize,
     generations: &mut [u64],
 ) -> usize
-    ensures { λ r. ⌜ ChainsOf (volumeWith (given (now (uuid .entry)) volume)) (now (store .entry)) (now (table .entry)) n (length (now (generations .entry))) (now (generations .exit)) r ⌝ }
+    ensures { λ r. ⌜ ChainsOf (volumeWith (given (now (uuid .entry)) volume)) (now (store .entry)) (now (table .entry)) n
+        (length (now (generations .entry))) (now (generations .exit)) r ⌝ }
 {
     let mut k: usize = 0;
     let mut last = Generation(0);

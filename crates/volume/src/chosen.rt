@@ -6,7 +6,6 @@ use constructs::Scanned;
 use index::Header;
 use index::Read;
 use index_values::Volume;
-use quantities::BlockNumber;
 use refusals::Refusal;
 ghost use Rattle.index_values.specs.Tests.{given};
 ghost use Rattle.volume.specs.Chosen.{chosenIn, Chooses, ReadsPlace};
@@ -22,7 +21,7 @@ fn read_place(store: &[u8], uuid: &[u8], volume: Volume, letter: u8, place: Plac
     ensures { λ r. ⌜ ReadsPlace (given (now (uuid .entry)) volume) letter (now (store .entry)) place r ⌝ }
 {
     let text = sound::text_at(store, place);
-    match index::read_index(text, uuid, volume, letter, BlockNumber(place.first as u64)) {
+    match index::read_index(text, uuid, volume, letter, place.first) {
         Read::Found(h) => Chosen::Found(place, h),
         Read::Refused(r) => Chosen::Refused(r),
     }

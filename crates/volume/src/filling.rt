@@ -52,7 +52,8 @@ pub fn fill(
     table: &mut [u32; NUMBERS],
     reach: &mut [u32],
 ) -> Filled
-    ensures { λ r. ⌜ FillsOf size (now (list .entry)) (now (store .entry)) (now (table .entry)) (now (table .exit)) (now (reach .entry)) (now (reach .exit)) r ⌝ }
+    ensures { λ r. ⌜ FillsOf size (now (list .entry)) (now (store .entry)) (now (table .entry)) (now (table .exit))
+        (now (reach .entry)) (now (reach .exit)) r ⌝ }
 {
     let count = list_constructs(list, store, size, table);
     let elements = fill_reach(list, store, size, reach);

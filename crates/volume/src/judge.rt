@@ -8,10 +8,9 @@ use crate::sound;
 use constructs::CONSTRUCTS;
 use constructs::NUMBERS;
 use index_values::Volume;
-use quantities::BlockNumber;
 use quantities::Generation;
 ghost use Rattle.index_values.specs.Tests.{given};
-ghost use Rattle.volume.specs.Steps.{JudgesLast, JudgesIndexes, Breaks};
+ghost use Rattle.volume.specs.Steps.{JudgesLast, JudgesIndexes, JudgesData, Breaks};
 
 // No break, or which of the five, and its number.
 pub enum Judgement {
@@ -32,19 +31,14 @@ fn judge_last(
     index_reach: &[u32],
     data_reach: &[u32],
 ) -> Judgement
-    ensures { λ r. ⌜ JudgesLast (given (now (uuid .entry)) volume) (now (store .entry)) (now («index_table» .entry)) k (now («data_table» .entry)) j (generation .0) (now («index_reach» .entry)) (now («data_reach» .entry)) r ⌝ }
+    ensures { λ r. ⌜ JudgesLast (given (now (uuid .entry)) volume) (now (store .entry)) (now («index_table» .entry)) k (now («data_table» .entry)) j
+        (generation .0) (now («index_reach» .entry)) (now («data_reach» .entry)) r ⌝ }
 {
     let here = constructs::construct(index_table, k);
     let text = sound::text_at(store, here);
-    let b = sound::read_brief(
-        text,
-        uuid,
-        volume,
-        volume.first,
-        BlockNumber(here.first as u64),
-    );
+    let b = sound::read_brief(text, uuid, volume, volume.first, here.first);
     let there = constructs::construct(data_table, j);
-    if !sound::joins(b, volume.other, BlockNumber(there.first as u64), generation) {
+    if !sound::joins(b, volume.other, there.first, generation) {
         return Judgement::Broken(4, k as u64);
     }
     match lost::first_lost(
@@ -73,7 +67,8 @@ fn judge_indexes(
     m: usize,
     data_reach: &[u32],
 ) -> Judgement
-    ensures { λ r. ⌜ JudgesIndexes (given (now (uuid .entry)) volume) (now («index_store» .entry)) (now («data_store» .entry)) (now («index_table» .entry)) n (now («index_reach» .entry)) (now («data_table» .entry)) m (now («data_reach» .entry)) r ⌝ }
+    ensures { λ r. ⌜ JudgesIndexes (given (now (uuid .entry)) volume) (now («index_store» .entry)) (now («data_store» .entry)) (now («index_table» .entry)) n
+        (now («index_reach» .entry)) (now («data_table» .entry)) m (now («data_reach» .entry)) r ⌝ }
 {
     let mut generations = [0u64; CONSTRUCTS];
     let k = chains::chain(data_store, uuid, volume, data_table, m, &mut generations);
@@ -95,6 +90,40 @@ fn judge_indexes(
     )
 }
 
+// Breaks from 2 on, of an index partition whose tables are filled and that ends with a construct.
+fn judge_data(
+    index_store: &[u8],
+    data_list: &[u8],
+    data_store: &[u8],
+    uuid: &[u8],
+    volume: Volume,
+    index_table: &[u32; NUMBERS],
+    n: usize,
+    index_reach: &[u32],
+) -> Judgement
+    ensures { λ r. ⌜ JudgesData (given (now (uuid .entry)) volume) (now («index_store» .entry)) (now («data_list» .entry)) (now («data_store» .entry))
+        (now («index_table» .entry)) n (now («index_reach» .entry)) r ⌝ }
+{
+    let mut table = [0u32; NUMBERS];
+    let mut reach = [0u32; ELEMENTS];
+    let m = filling::fill(data_list, data_store, volume.size, &mut table, &mut reach);
+    if !m.ends {
+        return Judgement::Broken(2, 0);
+    }
+    judge_indexes(
+        index_store,
+        data_store,
+        uuid,
+        volume,
+        index_table,
+        n,
+        index_reach,
+        &table,
+        m.count,
+        &reach,
+    )
+}
+
 // The verdict on the volume with that UUID and those letters, of two lists that are well formed.
 pub fn judge(
     index_list: &[u8],
@@ -104,42 +133,23 @@ pub fn judge(
     uuid: &[u8],
     volume: Volume,
 ) -> Judgement
-    ensures { λ r. ⌜ Breaks (given (now (uuid .entry)) volume) (now («index_list» .entry)) (now («index_store» .entry)) (now («data_list» .entry)) (now («data_store» .entry)) r ⌝ }
+    ensures { λ r. ⌜ Breaks (given (now (uuid .entry)) volume) (now («index_list» .entry)) (now («index_store» .entry))
+        (now («data_list» .entry)) (now («data_store» .entry)) r ⌝ }
 {
-    let mut index_table = [0u32; NUMBERS];
-    let mut index_reach = [0u32; ELEMENTS];
-    let n = filling::fill(
-        index_list,
-        index_store,
-        volume.size,
-        &mut index_table,
-        &mut index_reach,
-    );
+    let mut table = [0u32; NUMBERS];
+    let mut reach = [0u32; ELEMENTS];
+    let n = filling::fill(index_list, index_store, volume.size, &mut table, &mut reach);
     if !n.ends {
         return Judgement::Broken(1, 0);
     }
-    let mut data_table = [0u32; NUMBERS];
-    let mut data_reach = [0u32; ELEMENTS];
-    let m = filling::fill(
-        data_list,
-        data_store,
-        volume.size,
-        &mut data_table,
-        &mut data_reach,
-    );
-    if !m.ends {
-        return Judgement::Broken(2, 0);
-    }
-    judge_indexes(
+    judge_data(
         index_store,
+        data_list,
         data_store,
         uuid,
         volume,
-        &index_table,
+        &table,
         n.count,
-        &index_reach,
-        &data_table,
-        m.count,
-        &data_reach,
+        &reach,
     )
 }

@@ -32,9 +32,9 @@ fn row_lies(
             index_reach,
             volume.size,
             index_kept,
-            row.startblock.0,
-            row.byteoffset.0,
-            row.bytecount.0,
+            row.startblock,
+            row.byteoffset,
+            row.bytecount,
         );
     }
     if row.letter == volume.other as u64 {
@@ -42,9 +42,9 @@ fn row_lies(
             data_reach,
             volume.size,
             data_kept,
-            row.startblock.0,
-            row.byteoffset.0,
-            row.bytecount.0,
+            row.startblock,
+            row.byteoffset,
+            row.bytecount,
         );
     }
     false
@@ -60,7 +60,8 @@ fn file_lies(
     data_reach: &[u32],
     data_kept: u64,
 ) -> bool
-    ensures { λ r. ⌜ r ≡ every (liesIn volume (now («index_reach» .entry)) «index_kept» (now («data_reach» .entry)) «data_kept») (rowsOf (childrenAt (now (text .entry)) n)) ⌝ }
+    ensures { λ r. ⌜ r ≡ every (liesIn volume (now («index_reach» .entry)) «index_kept» (now («data_reach» .entry)) «data_kept»)
+        (rowsOf (childrenAt (now (text .entry)) n)) ⌝ }
 {
     let mut at = index_files::first_row(text, n);
     loop {

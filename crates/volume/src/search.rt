@@ -6,12 +6,11 @@ use crate::sound::Brief;
 use constructs::NUMBERS;
 use constructs::Place;
 use index_values::Volume;
-use quantities::BlockNumber;
 use quantities::Generation;
 ghost use mathlib.Core.Path.{_≡_};
 ghost use Prim.Native.Nat.{_<_};
 ghost use Rattle.index_values.specs.Tests.{given};
-ghost use Rattle.volume.specs.Steps.{BeginsOf, textIn, Fitting, Tries, Searches};
+ghost use Rattle.volume.specs.Steps.{BeginsOf, textIn, Fitting, Keeps, Tries, Searches};
 
 // A cut: both construct numbers, both counts of kept elements, and the generation of the last index kept in the index partition.
 pub struct Kept {
@@ -43,7 +42,7 @@ pub fn put_beginnings(table: &[u32; NUMBERS], n: usize, beginnings: &mut [u32])
     let mut k: usize = 0;
     while k < n {
         let here = constructs::construct(table, k);
-        tables::put32(beginnings, here.first, narrow(k + 1));
+        tables::put32(beginnings, here.first.0 as usize, narrow(k + 1));
         k += 1;
     }
 }
@@ -60,9 +59,10 @@ fn cut_fits(
     index_reach: &[u32],
     data_reach: &[u32],
 ) -> bool
-    ensures { λ r. ⌜ Fitting (textIn (now (store .entry)) here) b volume (here .end) there (generation .0) (now («index_reach» .entry)) (now («data_reach» .entry)) r ⌝ }
+    ensures { λ r. ⌜ Fitting (textIn (now (store .entry)) here) b volume (here .end) there (generation .0)
+        (now («index_reach» .entry)) (now («data_reach» .entry)) r ⌝ }
 {
-    if !sound::joins(b, volume.other, BlockNumber(there.first as u64), generation) {
+    if !sound::joins(b, volume.other, there.first, generation) {
         return false;
     }
     match lost::first_lost(
@@ -75,6 +75,20 @@ fn cut_fits(
     ) {
         Lost::File(_) => false,
         Lost::Nothing => true,
+    }
+}
+
+// The cut after construct k of the index partition, at here, whose index says b, and construct j of the data partition, at there.
+fn cut_after(k: usize, j: usize, here: Place, there: Place, b: Brief) -> Kept
+    ensures { λ r. ⌜ Keeps k j here there b r ⌝ }
+{
+    let generation = b.generation;
+    Kept {
+        index_construct: k as u64,
+        data_construct: j as u64,
+        index_kept: here.end as u64,
+        data_kept: there.end as u64,
+        generation: generation,
     }
 }
 
@@ -91,7 +105,8 @@ fn try_cut(
     index_reach: &[u32],
     data_reach: &[u32],
 ) -> Tried
-    ensures { λ r. ⌜ Tries (given (now (uuid .entry)) volume) volume (now (store .entry)) (now («index_table» .entry)) k (now («data_table» .entry)) (now (generations .entry)) (now (beginnings .entry)) (now («index_reach» .entry)) (now («data_reach» .entry)) r ⌝ }
+    ensures { λ r. ⌜ Tries (given (now (uuid .entry)) volume) volume (now (store .entry)) (now («index_table» .entry)) k (now («data_table» .entry))
+        (now (generations .entry)) (now (beginnings .entry)) (now («index_reach» .entry)) (now («data_reach» .entry)) r ⌝ }
 {
     let here = constructs::construct(index_table, k);
     let b = sound::brief_at(store, uuid, volume, volume.first, here);
@@ -113,14 +128,7 @@ fn try_cut(
     ) {
         return Tried::Fails;
     }
-    let own = b.generation;
-    Tried::Fits(Kept {
-        index_construct: k as u64,
-        data_construct: (j - 1) as u64,
-        index_kept: here.end as u64,
-        data_kept: there.end as u64,
-        generation: own,
-    })
+    Tried::Fits(cut_after(k, j - 1, here, there, b))
 }
 
 // The first cut that fits, from construct n - 1 of the index partition back.
@@ -136,7 +144,8 @@ pub fn search(
     index_reach: &[u32],
     data_reach: &[u32],
 ) -> Tried
-    ensures { λ r. ⌜ Searches (given (now (uuid .entry)) volume) volume (now (store .entry)) (now («index_table» .entry)) n (now («data_table» .entry)) (now (generations .entry)) (now (beginnings .entry)) (now («index_reach» .entry)) (now («data_reach» .entry)) r ⌝ }
+    ensures { λ r. ⌜ Searches (given (now (uuid .entry)) volume) volume (now (store .entry)) (now («index_table» .entry)) n (now («data_table» .entry))
+        (now (generations .entry)) (now (beginnings .entry)) (now («index_reach» .entry)) (now («data_reach» .entry)) r ⌝ }
 {
     let mut k = n;
     while 0 < k {

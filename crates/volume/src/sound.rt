@@ -84,13 +84,7 @@ pub fn text_at(store: &[u8], place: Place) -> &[u8]
 
 // The index of the construct at a place of the store, in the partition with that letter.
 pub fn brief_at(store: &[u8], uuid: &[u8], volume: Volume, letter: u8, place: Place) -> Brief
-    ensures { λ r. ⌜ briefLink r ≡ linkOf (soundly (indexOf (given (now (uuid .entry)) volume) letter (place .first) (textIn (now (store .entry)) place))) ⌝ }
+    ensures { λ r. ⌜ briefLink r ≡ linkOf (soundly (indexOf (given (now (uuid .entry)) volume) letter (place .first .0) (textIn (now (store .entry)) place))) ⌝ }
 {
-    read_brief(
-        text_at(store, place),
-        uuid,
-        volume,
-        letter,
-        BlockNumber(place.first as u64),
-    )
+    read_brief(text_at(store, place), uuid, volume, letter, place.first)
 }

@@ -1,5 +1,5 @@
--- `rescue_with` meets its contract: the cut by the tables that were filled.
-use Rattle.volume.proofs.Answering.{cuts-with}
+-- `rescue_with` meets its contract: the cut by the index partition's tables.
+use Rattle.volume.proofs.Answering.{cuts-on}
 use Rattle.index_values.specs.Tests.{given}
 use borrow.Author.Needs.{needs}
 use Rattle.volume.proofs.answers.rescue_with.Statement.{statement}
@@ -11,34 +11,17 @@ slice-aggregate-fill c = search needs
 fill-requires : tie.Need-fill-requires
 fill-requires c κs = search needs
 
-slice-aggregate-fill-2 : tie.Need-slice-aggregate-fill-2
-slice-aggregate-fill-2 c = search needs
+slice-aggregate-cut-data : tie.Need-slice-aggregate-cut-data
+slice-aggregate-cut-data c = search needs
 
-fill-requires-2 : tie.Need-fill-requires-2
-fill-requires-2 c κs = search needs
-
-slice-aggregate-cut-by : tie.Need-slice-aggregate-cut-by
-slice-aggregate-cut-by c = search needs
-
-slice-aggregate-cut-by-2 : tie.Need-slice-aggregate-cut-by-2
-slice-aggregate-cut-by-2 c = search needs
-
-cut-by-requires : tie.Need-cut-by-requires
-cut-by-requires c κs = search needs
+cut-data-requires : tie.Need-cut-data-requires
+cut-data-requires c κs = search needs
 
 returns : tie.Need-returns
 returns c =
-    cuts-with (given (c .before .before .before .before .before .before .before .before .before .before .before .before .before .before .before .before .before .before .args .uuid .now) (c .before .before .before .before .before .before .before .before .before .before .before .before .before .before .before .before .before .before .args .volume)) (c .before .before .before .before .before .before .before .before .before .before .before .before .before .before .before .before .before .before .args .index-list .now) (c .before .before .before .before .before .before .before .before .before .before .before .before .before .before .before .before .before .before .args .index-store .now) (c .before .before .before .before .before .before .before .before .before .before .before .before .before .before .before .before .before .before .args .data-list .now) (c .before .before .before .before .before .before .before .before .before .before .before .before .before .before .before .before .before .before .args .data-store .now) _ _ (c .before .before .before .before .before .before .before .before .before .before .fill .result) (c .before .before .before .before .before .before .before .before .before .before .fill .ensures) _ _ (c .before .before .before .before .before .before .fill2 .result) (c .before .before .before .before .before .before .fill2 .ensures) (c .cut-by .result) (c .cut-by .ensures)
+    let a = c .before .before .before .before .before .before .before .before .before .before .before .before .args in
+    cuts-on (given (a .uuid .now) (a .volume)) (a .index-list .now) (a .index-store .now) (a .data-list .now) (a .data-store .now) _ _ (c .before .before .before .before .fill .result) (c .before .before .before .before .fill .ensures) (c .cut-data .result) (c .cut-data .ensures)
 
 pub rescue-with-spec : {M : Type 1} → statement M
 rescue-with-spec =
-    tie.close
-    (tie.spec
-    slice-aggregate-fill
-    fill-requires
-    slice-aggregate-fill-2
-    fill-requires-2
-    slice-aggregate-cut-by
-    slice-aggregate-cut-by-2
-    cut-by-requires
-    returns)
+    tie.close (tie.spec slice-aggregate-fill fill-requires slice-aggregate-cut-data cut-data-requires returns)

@@ -1,5 +1,5 @@
--- `judge` meets its contract: breaks 1 and 2, then the breaks by the tables that were filled.
-use Rattle.volume.proofs.Answering.{judges-1, judges-2, judges-by}
+-- `judge` meets its contract: break 1, then the breaks by the index partition's tables.
+use Rattle.volume.proofs.Answering.{judges-1, judges-on}
 use Rattle.index_values.specs.Tests.{given}
 use borrow.Author.Tests.{not-true, not-false}
 use borrow.Author.Needs.{needs}
@@ -14,31 +14,19 @@ fill-requires c κs = search needs
 
 returns : tie.Need-returns
 returns c =
-    judges-1 (given (c .before .before .before .before .before .before .before .before .before .before .before .args .uuid .now) (c .before .before .before .before .before .before .before .before .before .before .before .args .volume)) (c .before .before .before .before .before .before .before .before .before .before .before .args .index-list .now) (c .before .before .before .before .before .before .before .before .before .before .before .args .index-store .now) (c .before .before .before .before .before .before .before .before .before .before .before .args .data-list .now) (c .before .before .before .before .before .before .before .before .before .before .before .args .data-store .now) _ _ (c .before .before .before .fill .result) (c .before .before .before .fill .ensures) (not-true _ (c .if1 .taken))
+    let a = c .before .before .before .before .before .before .before .before .before .before .before .args in
+    judges-1 (given (a .uuid .now) (a .volume)) (a .index-list .now) (a .index-store .now) (a .data-list .now) (a .data-store .now) _ _ (c .before .before .before .fill .result) (c .before .before .before .fill .ensures) (not-true _ (c .if1 .taken))
 
-slice-aggregate-fill-2 : tie.Need-slice-aggregate-fill-2
-slice-aggregate-fill-2 c = search needs
+slice-aggregate-judge-data : tie.Need-slice-aggregate-judge-data
+slice-aggregate-judge-data c = search needs
 
-fill-requires-2 : tie.Need-fill-requires-2
-fill-requires-2 c κs = search needs
+judge-data-requires : tie.Need-judge-data-requires
+judge-data-requires c κs = search needs
 
 returns-2 : tie.Need-returns-2
 returns-2 c =
-    judges-2 (given (c .before .before .before .before .before .before .before .before .before .before .before .before .before .before .before .before .before .args .uuid .now) (c .before .before .before .before .before .before .before .before .before .before .before .before .before .before .before .before .before .args .volume)) (c .before .before .before .before .before .before .before .before .before .before .before .before .before .before .before .before .before .args .index-list .now) (c .before .before .before .before .before .before .before .before .before .before .before .before .before .before .before .before .before .args .index-store .now) (c .before .before .before .before .before .before .before .before .before .before .before .before .before .before .before .before .before .args .data-list .now) (c .before .before .before .before .before .before .before .before .before .before .before .before .before .before .before .before .before .args .data-store .now) _ _ (c .before .before .before .before .before .before .before .before .before .fill .result) (c .before .before .before .before .before .before .before .before .before .fill .ensures) _ _ (c .before .before .before .fill2 .result) (c .before .before .before .fill2 .ensures) (not-false _ (c .before .before .before .before .before .before .if1 .left)) (not-true _ (c .if2 .taken))
-
-slice-aggregate-judge-indexes : tie.Need-slice-aggregate-judge-indexes
-slice-aggregate-judge-indexes c = search needs
-
-slice-aggregate-judge-indexes-2 : tie.Need-slice-aggregate-judge-indexes-2
-slice-aggregate-judge-indexes-2 c = search needs
-
-judge-indexes-requires : tie.Need-judge-indexes-requires
-judge-indexes-requires c κs = search needs
-
-returns-3 : tie.Need-returns-3
-returns-3 c =
-    judges-by (given (c .before .before .before .before .before .before .before .before .before .before .before .before .before .before .before .before .before .before .before .before .before .before .args .uuid .now) (c .before .before .before .before .before .before .before .before .before .before .before .before .before .before .before .before .before .before .before .before .before .before .args .volume)) (c .before .before .before .before .before .before .before .before .before .before .before .before .before .before .before .before .before .before .before .before .before .before .args .index-list .now) (c .before .before .before .before .before .before .before .before .before .before .before .before .before .before .before .before .before .before .before .before .before .before .args .index-store .now) (c .before .before .before .before .before .before .before .before .before .before .before .before .before .before .before .before .before .before .before .before .before .before .args .data-list .now) (c .before .before .before .before .before .before .before .before .before .before .before .before .before .before .before .before .before .before .before .before .before .before .args .data-store .now) _ _ (c .before .before .before .before .before .before .before .before .before .before .before .before .before .before .fill .result) (c .before .before .before .before .before .before .before .before .before .before .before .before .before .before .fill .ensures) _ _ (c .before .before .before .before .before .before .before .before .fill2 .result) (c .before .before .before .before .before .before .before .before .fill2 .ensures) (not-false _ (c .before .before .before .before .before .before .before .before .before .before .before .if1 .left)) (not-false _ (c .before .before .before .before .before .if2 .left))
-    (c .judge-indexes .result) (c .judge-indexes .ensures)
+    let a = c .before .before .before .before .before .before .before .before .before .before .before .before .before .before .args in
+    judges-on (given (a .uuid .now) (a .volume)) (a .index-list .now) (a .index-store .now) (a .data-list .now) (a .data-store .now) _ _ (c .before .before .before .before .before .before .fill .result) (c .before .before .before .before .before .before .fill .ensures) (not-false _ (c .before .before .before .if1 .left)) (c .judge-data .result) (c .judge-data .ensures)
 
 pub judge-spec : {M : Type 1} → statement M
 judge-spec =
@@ -47,10 +35,6 @@ judge-spec =
     slice-aggregate-fill
     fill-requires
     returns
-    slice-aggregate-fill-2
-    fill-requires-2
-    returns-2
-    slice-aggregate-judge-indexes
-    slice-aggregate-judge-indexes-2
-    judge-indexes-requires
-    returns-3)
+    slice-aggregate-judge-data
+    judge-data-requires
+    returns-2)

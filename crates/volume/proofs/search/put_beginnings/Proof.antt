@@ -40,7 +40,7 @@ loop-again : tie.Need-loop-again Inv-loop μ-loop
 loop-again c =
     let p = c .before .before .put32 .ensures in (
       omega (arith, c .before .before .before .before .before .before .loop-test .taken),
-      ap length p ∙ length-set (c .before .before .before .before .before .before .before .loop .beginnings) (c .before .before .before .before .before .construct .result .first) (c .before .before .before .narrow .result) ∙ c .before .before .before .before .before .before .before .loop .inv .1,
+      ap length p ∙ length-set (c .before .before .before .before .before .before .before .loop .beginnings) (c .before .before .before .before .before .construct .result .first .0) (c .before .before .before .narrow .result) ∙ c .before .before .before .before .before .before .before .loop .inv .1,
       subst (λ (l : List ℕ). BeginsAt (c .before .before .before .before .before .before .before .before .before .args .table .now) (c .before .before .before .before .before .before .before .before .before .args .n) (c .before .before .before .before .before .before .before .before .before .args .beginnings .now) l (c .before .before .before .before .before .before .before .loop .k + 1)) (sym p)
           (begins-more (c .before .before .before .before .before .before .before .before .before .args .table .now) (c .before .before .before .before .before .before .before .before .before .args .n) (c .before .before .before .before .before .before .before .before .before .args .beginnings .now) (c .before .before .before .before .before .before .before .loop .beginnings) (c .before .before .before .before .before .before .before .loop .k) (c .before .before .before .before .before .construct .result) (c .before .before .before .narrow .result) (c .before .before .before .before .before .before .before .loop .inv .2) (c .before .before .before .before .before .before .loop-test .taken) (c .before .before .before .before .before .construct .ensures) (c .before .before .before .narrow .ensures)),
     )

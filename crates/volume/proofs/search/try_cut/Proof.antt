@@ -46,14 +46,17 @@ returns-2 c =
     (c .before .before .before .before .before .before .before .construct .result) (textIn (c .before .before .before .before .before .before .before .before .before .before .before .before .before .before .args .store .now) (c .before .before .before .before .before .before .before .construct .result)) (c .before .before .before .before .before .before .brief-at .result) (c .before .before .before .before .before .before .before .construct .ensures) refl (c .before .before .before .before .before .before .brief-at .ensures)
     (c .before .before .before .before .before .item32 .result) (sym (c .before .before .before .before .before .item32 .ensures)) (c .before .before .before .before .if1 .left) (c .before .before .before .construct2 .result) (c .before .before .before .construct2 .ensures) (c .before .before .item .result) (c .before .before .item .ensures) (c .before .cut-fits .result) (c .before .cut-fits .ensures) (not-true _ (c .if2 .taken))
 
-sub-t18 : tie.Need-sub-t18
-sub-t18 c = search needs
+sub-cut-after : tie.Need-sub-cut-after
+sub-cut-after c = search needs
+
+cut-after-requires : tie.Need-cut-after-requires
+cut-after-requires c κs = search needs
 
 returns-3 : tie.Need-returns-3
 returns-3 c =
     tries-so (c .before .before .before .before .before .before .before .before .before .before .before .before .before .before .before .args .uuid .now) (c .before .before .before .before .before .before .before .before .before .before .before .before .before .before .before .args .volume) (c .before .before .before .before .before .before .before .before .before .before .before .before .before .before .before .args .store .now) (c .before .before .before .before .before .before .before .before .before .before .before .before .before .before .before .args .index-table .now) (c .before .before .before .before .before .before .before .before .before .before .before .before .before .before .before .args .k) (c .before .before .before .before .before .before .before .before .before .before .before .before .before .before .before .args .data-table .now) (c .before .before .before .before .before .before .before .before .before .before .before .before .before .before .before .args .generations .now) (c .before .before .before .before .before .before .before .before .before .before .before .before .before .before .before .args .beginnings .now) (c .before .before .before .before .before .before .before .before .before .before .before .before .before .before .before .args .index-reach .now) (c .before .before .before .before .before .before .before .before .before .before .before .before .before .before .before .args .data-reach .now)
     (c .before .before .before .before .before .before .before .before .construct .result) (textIn (c .before .before .before .before .before .before .before .before .before .before .before .before .before .before .before .args .store .now) (c .before .before .before .before .before .before .before .before .construct .result)) (c .before .before .before .before .before .before .before .brief-at .result) (c .before .before .before .before .before .before .before .before .construct .ensures) refl (c .before .before .before .before .before .before .before .brief-at .ensures)
-    (c .before .before .before .before .before .before .item32 .result) (sym (c .before .before .before .before .before .before .item32 .ensures)) (c .before .before .before .before .before .if1 .left) (c .before .before .before .before .construct2 .result) (c .before .before .before .before .construct2 .ensures) (c .before .before .before .item .result) (c .before .before .before .item .ensures) (c .before .before .cut-fits .result) (c .before .before .cut-fits .ensures) (not-false _ (c .before .if2 .left)) _ refl refl refl refl refl
+    (c .before .before .before .before .before .before .item32 .result) (sym (c .before .before .before .before .before .before .item32 .ensures)) (c .before .before .before .before .before .if1 .left) (c .before .before .before .before .construct2 .result) (c .before .before .before .before .construct2 .ensures) (c .before .before .before .item .result) (c .before .before .before .item .ensures) (c .before .before .cut-fits .result) (c .before .before .cut-fits .ensures) (not-false _ (c .before .if2 .left)) (c .cut-after .result) (c .cut-after .ensures .indexConstruct) (c .cut-after .ensures .dataConstruct) (c .cut-after .ensures .indexKept) (c .cut-after .ensures .dataKept) (c .cut-after .ensures .generation)
 
 pub try-cut-spec : {M : Type 1} → statement M
 try-cut-spec =
@@ -70,5 +73,6 @@ try-cut-spec =
     item-requires
     cut-fits-requires
     returns-2
-    sub-t18
+    sub-cut-after
+    cut-after-requires
     returns-3)

@@ -19,7 +19,7 @@ read-brief-requires c κs = search needs
 returns : tie.Need-returns
 returns c =
     c .read-brief .ensures
-    ∙ ap (λ (x : List ℕ). linkOf (soundly (indexOf (given (c .before .before .before .before .args .uuid .now) (c .before .before .before .before .args .volume)) (c .before .before .before .before .args .letter) (c .before .before .before .before .args .place .first) x))) (c .before .text-at .ensures)
+    ∙ ap (λ (x : List ℕ). linkOf (soundly (indexOf (given (c .before .before .before .before .args .uuid .now) (c .before .before .before .before .args .volume)) (c .before .before .before .before .args .letter) (c .before .before .before .before .args .place .first .0) x))) (c .before .text-at .ensures)
 
 pub brief-at-spec : {M : Type 1} → statement M
 brief-at-spec = tie.close (tie.spec text-at-requires read-brief-requires returns)
