@@ -98,11 +98,11 @@ module _ (i o : List ℕ) (ok : areFields i o ≡ true) where
   abbrev lengths : Bool
   lengths = eqb (length i) identifierLength && eqb (length o) ownerLength
 
-  given-identifier : length i ≡ identifierLength
+  pub given-identifier : length i ≡ identifierLength
   unfolding areFields
   given-identifier = eqb-true _ _ (and-left _ _ (and-left lengths (isPrinted i) (and-left (lengths && isPrinted i) (isPrinted o) ok)))
 
-  given-owner : length o ≡ ownerLength
+  pub given-owner : length o ≡ ownerLength
   unfolding areFields
   given-owner = eqb-true _ _ (and-right (eqb (length i) identifierLength) _ (and-left lengths (isPrinted i) (and-left (lengths && isPrinted i) (isPrinted o) ok)))
 
