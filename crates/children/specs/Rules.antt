@@ -4,6 +4,7 @@ use mathlib.Core.Bool.{Bool, cond, not, _||_}
 use mathlib.Core.List.{List, [], _∷_}
 use Prim.Native.Nat.{ℕ, suc}
 use lib.Dec.{eqb}
+use lib.ListN.{take}
 use Rattle.slices.specs.Slices.{same}
 
 pub record Rule : Type 0 where
@@ -24,6 +25,10 @@ longer b (r ∷ rs) = record { name = b ∷ r .name; mark = r .mark } ∷ rs
 unfoldable pub rules : List ℕ → List Rule
 rules [] = []
 rules (b ∷ s) = cond (isMark b) (record { name = []; mark = b } ∷ rules s) (longer b (rules s))
+
+-- of a table that a row is read by, the first 16 rules count
+abbrev pub tableOf : List ℕ → List Rule
+tableOf t = take 16 (rules t)
 
 -- the number of the first rule for a name, past the last one where there is none; and its mark, 0 where there is none
 unfoldable pub placeOf : List Rule → List ℕ → ℕ

@@ -22,7 +22,7 @@ use Rattle.xml.specs.Machine.{form}
 use Rattle.elements.specs.Reading.{isRow}
 use Rattle.texts.specs.Decoded.{decoded}
 use Rattle.children.specs.Rules.{isMark, rules, longer, placeOf, markOf}
-use Rattle.children.specs.Children.{holds, allKnown, pick, atMostOne, below, lawful, only, textOf as textOfFirst, childrenOf}
+use Rattle.children.specs.Children.{holds, kept, allKnown, atMostOne, below, lawful, textOf as textOfFirst, childrenOf}
 use Rattle.values.specs.Values.{number, boolean, letter, version, isCreator, isTime, isUuid}
 use Rattle.label_writer.specs.declared.Given.{Given}
 use Rattle.label.specs.Label.{Label, Texts, isShaped, textsIn, isFormed, labelFrom, labelOf}
@@ -53,7 +53,7 @@ unfolding version same bytes decimal.number decimal.isNumber decimal.plain runs.
 version-says = refl
 
 children-shaped : (f : Label) → isShaped (children f) ≡ true
-unfolding isShaped lawful rules longer isMark bytes same allKnown holds markOf placeOf pick atMostOne below isRow only childrenOf
+unfolding isShaped lawful rules longer isMark bytes same allKnown holds markOf placeOf kept atMostOne below isRow childrenOf
 children-shaped f = refl
 
 -- the texts that were written
@@ -71,7 +71,7 @@ shown f =
     }
 
 children-texts : (f : Label) → textsIn (children f) ≡ shown f
-unfolding textsIn bytes same only textOfFirst childrenOf
+unfolding textsIn bytes same kept textOfFirst childrenOf
 children-texts f = refl
 
 -- the same values in another release

@@ -9,11 +9,11 @@ use Rattle.xml.specs.Tree.{Forest}
 use Rattle.xml.specs.Form.{height}
 use Rattle.elements.specs.declared.tags.Tag.the-variants.{Open, Empty}
 use Rattle.elements.specs.declared.starts.Next.the-variants.{End, Close, Opens}
-use Rattle.elements.specs.Reading.{rowAt, aroundAt, childrenAt, NextTag, FirstOf}
+use Rattle.elements.specs.Tags.{tagsAround}
+use Rattle.elements.specs.Reading.{rowAt, childrenAt, NextTag, FirstOf}
 use Rattle.elements.specs.Starts.{NextStart}
-use Rattle.elements.proofs.Left.{left-end}
 use Rattle.elements.proofs.Plain.{inner-first}
-use Rattle.elements.proofs.Rows.{row-end, row-close, around-end, around-close, first-open, first-empty, children-open, children-empty}
+use Rattle.elements.proofs.Rows.{row-end, row-close, behind-end, behind-close, behind-along, first-open, first-empty, children-open, children-empty}
 use Rattle.elements.proofs.Roots.{height-open, height-rest}
 use Rattle.index_values.specs.Tests.{given}
 use Rattle.index.specs.Sweep.{gathered, fresh, ended, endedSums, closed, sweep}
@@ -77,7 +77,7 @@ claims t = (
 
 abbrev walk-Inv-loop : walk-lts.InvT-loop
 walk-Inv-loop text uuid uids₀ rows₀ at kind depth volume i₀ a₀ seen₀ places₀ t22 t23 uids rows i a seen places =
-    (at ≤ i) × (i ≤ length text) × (height (rowAt text i) ≤ depth) × (aroundAt text at ≡ aroundAt text i)
+    (at ≤ i) × (i ≤ length text) × (height (rowAt text i) ≤ depth) × (tagsAround text at ≡ tagsAround text i)
     × (sweep (given uuid volume) kind fresh (rowAt text at) (gathered a₀ uids₀) ≡ sweep (given uuid volume) kind seen (rowAt text i) (gathered a uids))
     × (t22 ≡ fresh) × (t23 ≡ fresh) × Noting text kind (rowAt text at) (rowAt text i) places
 
@@ -105,7 +105,7 @@ walk-returns t c =
     let g = given (a .uuid .now) (a .volume) in
     let tag : NextStart s (l .i) End = subst (NextStart s (l .i)) (c .before .before .enum-told .given .1) (c .before .before .before .before .next-start .ensures) in (
       ap (λ (x : Sums). gathered x (l .uids)) (c .finish .ensures) ∙ sym (l .inv .4 ∙ row-over g (a .kind) (l .seen) (gathered (l .a) (l .uids)) (rowAt s (l .i)) (row-end tag)),
-      record { left = left-end s (length s) (omega arith) ∙ sym (l .inv .3 ∙ around-end tag); ahead = search needs; inside = search needs },
+      behind-along (omega (arith, l .inv .0)) (l .inv .3) (behind-end tag),
       noting-all s (a .kind) (rowAt s (a .at)) (rowAt s (l .i)) (l .places) (row-end tag) (l .inv .7),
     )
 
@@ -125,7 +125,7 @@ walk-returns-2 t c =
     let n = c .before .before .before .n .given .0 .0 in
     let tag : NextStart s (l .i) (Close n) = subst (NextStart s (l .i)) (c .before .before .before .n .given .1) (c .before .before .before .before .before .next-start .ensures) in (
       ap (λ (x : Sums). gathered x (l .uids)) (c .finish2 .ensures) ∙ sym (l .inv .4 ∙ row-over g (a .kind) (l .seen) (gathered (l .a) (l .uids)) (rowAt s (l .i)) (row-close tag)),
-      record { left = sym (l .inv .3 ∙ around-close tag); ahead = omega (arith, tag .place); inside = tag .place .1 },
+      behind-along (omega (arith, l .inv .0)) (l .inv .3) (behind-close tag),
       noting-all s (a .kind) (rowAt s (a .at)) (rowAt s (l .i)) (l .places) (row-close tag) (l .inv .7),
     )
 
@@ -199,7 +199,7 @@ walk-loop-again t c =
       omega (arith, first .place, first .after),
       first .after .1,
       omega arith,
-      l .inv .3 ∙ first .around,
+      l .inv .3 ∙ first .tagsKept,
       l .inv .4 ∙ step-holds g (a .kind) (l .seen) (gathered (l .a) (l .uids)) first (c .before .before .before .before .before .before .before .before .before .before .before .before .before .before .before .number-at .result) (c .before .before .before .before .before .before .before .before .before .before .before .before .before .before .sort-in .result) (c .before .before .before .before .before .before .before .before .before .before .before .before .mark .last .0) (c .before .before .before .before .before .before .before .before .before .enter .result) (c .before .before .before .before .before .before .before .before .before .before .before .before .before .before .before .number-at .ensures) (c .before .before .before .before .before .before .before .before .before .before .before .before .before .before .sort-in .ensures) (c .before .before .before .before .before .before .before .before .before .before .before .before .mark .ensures) (c .before .before .before .before .before .before .before .before .before .enter .ensures) (gathered (c .close-element .result) (c .close-element .last .1 .1 .0)) (sym (c .before .before .before .before .before .before .before .before .is-open .ensures) ∙ c .before .before .before .before .before .before .before .if1 .taken)
           (v ∙ ap (closed g (c .before .before .before .before .before .before .before .before .before .before .before .before .before .before .sort-in .result) k (l .a .entries))
           (ap (λ (x : Sums). gathered x (l .uids)) (c .before .before .before .before .finish3 .ensures ∙ ap (λ (m : List ℕ). endedSums (c .before .before .before .before .before .before .before .before .before .before .before .before .before .before .sort-in .result) m (c .before .before .before .before .before .before .before .before .before .enter .result)) (l .inv .5))
@@ -267,7 +267,7 @@ walk-loop-again-2 t c =
       omega (arith, first .place, first .after),
       first .after .1,
       omega arith,
-      l .inv .3 ∙ first .around,
+      l .inv .3 ∙ first .tagsKept,
       l .inv .4 ∙ step-holds g (a .kind) (l .seen) (gathered (l .a) (l .uids)) first (c .before .before .before .before .before .before .before .before .before .before .before .before .before .before .before .before .before .number-at .result) (c .before .before .before .before .before .before .before .before .before .before .before .before .before .before .before .before .sort-in .result) (c .before .before .before .before .before .before .before .before .before .before .before .before .before .before .mark .last .0) (c .before .before .before .before .before .before .before .before .before .before .before .enter .result) (c .before .before .before .before .before .before .before .before .before .before .before .before .before .before .before .before .before .number-at .ensures) (c .before .before .before .before .before .before .before .before .before .before .before .before .before .before .before .before .sort-in .ensures) (c .before .before .before .before .before .before .before .before .before .before .before .before .before .before .mark .ensures) (c .before .before .before .before .before .before .before .before .before .before .before .enter .ensures) (gathered (c .close-element2 .result) (c .close-element2 .last .1 .1 .0)) (sym (c .before .before .before .before .before .before .before .before .before .before .is-open .ensures) ∙ c .before .before .before .before .before .before .before .before .before .if1 .taken)
           (v ∙ ap (closed g (c .before .before .before .before .before .before .before .before .before .before .before .before .before .before .before .before .sort-in .result) k (l .a .entries))
           (c .before .before .before .before .before .walk .ensures .0 ∙ ap (λ (f : Forest). sweep g (c .before .before .before .before .before .before .before .before .before .before .before .before .before .before .before .before .sort-in .result) fresh f (gathered (c .before .before .before .before .before .before .before .before .before .before .before .enter .result) (l .uids))) (sym (children-open tag)))),
@@ -300,7 +300,7 @@ walk-loop-again-3 t c =
       omega (arith, first .place, first .after),
       first .after .1,
       omega arith,
-      l .inv .3 ∙ first .around,
+      l .inv .3 ∙ first .tagsKept,
       l .inv .4 ∙ step-other g (a .kind) (l .seen) (gathered (l .a) (l .uids)) first (c .before .before .before .before .before .before .before .before .before .number-at .result) (c .before .before .before .before .before .before .before .before .sort-in .result) (c .before .before .before .before .before .before .mark .last .0) (c .before .before .before .enter .result) (c .before .before .before .before .before .before .before .before .before .number-at .ensures) (c .before .before .before .before .before .before .before .before .sort-in .ensures) (c .before .before .before .before .before .before .mark .ensures) (c .before .before .before .enter .ensures) (sym (c .before .before .is-open .ensures) ∙ c .before .if1 .left),
       l .inv .5,
       l .inv .6,
@@ -334,7 +334,7 @@ walk-loop-again-4 t c =
       omega (arith, first .place, first .after),
       first .after .1,
       omega arith,
-      l .inv .3 ∙ first .around,
+      l .inv .3 ∙ first .tagsKept,
       l .inv .4 ∙ step-other g (a .kind) (l .seen) (gathered (l .a) (l .uids)) first (c .before .before .before .before .before .before .before .before .before .before .number-at .result) (c .before .before .before .before .before .before .before .before .before .sort-in .result) (c .before .before .before .before .before .before .before .mark .last .0) (c .before .before .before .before .enter .result) (c .before .before .before .before .before .before .before .before .before .before .number-at .ensures) (c .before .before .before .before .before .before .before .before .before .sort-in .ensures) (c .before .before .before .before .before .before .before .mark .ensures) (c .before .before .before .before .enter .ensures) (sym (c .before .before .before .is-open .ensures) ∙ c .before .before .if1 .left),
       l .inv .5,
       l .inv .6,

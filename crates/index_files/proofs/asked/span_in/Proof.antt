@@ -50,7 +50,7 @@ returns-2 c =
     let l = c .before .before .before .before .before .before .before .loop in
     let g = c .before .before .before .before .n .given in
     let f : NextChild s (l .i) (At (g .0 .0) (g .0 .1 .0)) = subst (NextChild s (l .i)) (g .1) (c .before .before .before .before .before .before .next-child .ensures) in
-    let e = c .text-at .ensures in
+    let e = c .text-at .ensures .spans in
     record { part = e .part ∙ sym (l .inv ∙ text-here w s (l .i) f (sym (c .before .before .name-is .ensures) ∙ c .before .if1 .taken)); inside = e .inside }
 
 loop-less : tie.Need-loop-less Inv-loop μ-loop
