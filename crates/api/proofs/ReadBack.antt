@@ -18,6 +18,7 @@ use Rattle.writing.specs.Writing.{Writes}
 use Rattle.vol1.specs.Vol1.{Fields, areFields, vol1}
 use Rattle.vol1.proofs.Blocks.{given-identifier, given-owner, identifier-vol1, owner-vol1, vol1-reads}
 use Rattle.label.specs.Label.{Label}
+use Rattle.label.specs.TextPlaces.{textPlaces}
 use Rattle.label_writer.specs.Text.{textOf, isGiven}
 use Rattle.label_writer.proofs.RoundTrip.{text-reads}
 use Rattle.api.specs.Outputs.{Shown, Told, one, writtenLength, WritesOut, Stores}
@@ -81,8 +82,8 @@ vol1-stored {i} {o} {before} {after} {r} {n} = stores (areFields i o) (vol1 i o)
 
 read-as-label : (f : Label) → f .release ≡ 1 → isGiven f ≡ true → ReadAsLabel f (textOf f)
 read-as-label f e g r out q =
-    let t : Told 12 (SaysLabel (textOf f)) (answer f) r out
-    = subst (λ (a : Answer Label). Told 12 (SaysLabel (textOf f)) a r out) (text-reads f g e) q in
+    let t : Told 12 (SaysLabel (textOf f) (textPlaces (textOf f))) (answer f) r out
+    = subst (λ (a : Answer Label). Told 12 (SaysLabel (textOf f) (textPlaces (textOf f))) a r out) (text-reads f g e) q in
     (t .refusal, t .tells)
 
 pub label-stored : (compression : ℕ) {f : Label} {before after : List ℕ} {r n : ℕ} → f .release ≡ 1 → WritesOut (isWritable compression f) (textOf f) before after r n

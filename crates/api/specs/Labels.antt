@@ -9,9 +9,12 @@ use Rattle.elements.specs.Reading.{Inside}
 use Rattle.texts.specs.Decoded.{decoded}
 use Rattle.vol1.specs.Vol1.{Fields, identifierAt, identifierLength, ownerAt, ownerLength, vol1Of, areFields, vol1}
 use Rattle.label.specs.Label.{Label, labelOf}
+use Rattle.label.specs.TextPlaces.{TextPlaces, textPlaces}
 use Rattle.label_writer.specs.Text.{isGiven, labelOfGiven, textOf}
 use Rattle.label.specs.declared.reader.Fields.{Fields as Read}
+use Rattle.tape.specs.Answers.{tapeIn}
 use Rattle.labels.specs.Labels.{labelsIn}
+use Rattle.labels.specs.Reading.{placesOn}
 use Rattle.index_files.specs.Filling.{partTold, TellsPart}
 use Rattle.api.specs.Outputs.{Shown, Told, Stores, bit}
 
@@ -38,10 +41,20 @@ labelNumbers f =
     f .release ∷ f .creator .from ∷ f .creator .len ∷ f .time .from ∷ f .time .len ∷ f .uuid .from ∷ f .uuid .len
     ∷ f .location ∷ f .«index_letter» ∷ f .«data_letter» ∷ f .«block_size» ∷ bit (f .compression) ∷ []
 
--- twelve numbers say what a label says: the R of its version; the places of its creator, as spelled, its time and its UUID, which lie in s, each
--- with its length; its location, the index letter, the data letter, the block size, and the compression
-pub record SaysLabel (s : List ℕ) (f : Label) (out : List ℕ) : Type 0 where
+-- the places that six of them tell
+abbrev pub placesTold : List ℕ → TextPlaces
+placesTold out =
+    record {
+      creator = record { from = getD out 1 0; len = getD out 2 0 };
+      time = record { from = getD out 3 0; len = getD out 4 0 };
+      uuid = record { from = getD out 5 0; len = getD out 6 0 };
+    }
+
+-- twelve numbers say what a label says: the R of its version; the places of its creator, as spelled, its time and its UUID, which lie in s and
+-- are w, each with its length; its location, the index letter, the data letter, the block size, and the compression
+pub record SaysLabel (s : List ℕ) (w : TextPlaces) (f : Label) (out : List ℕ) : Type 0 where
   pub release : getD out 0 0 ≡ f .release
+  pub places : placesTold out ≡ w
   pub creator : decoded (partTold s out 1) ≡ f .creator
   pub creatorInside : Inside s (getD out 1 0) (getD out 2 0)
   pub time : TellsPart s out 3 (f .time)
@@ -54,15 +67,15 @@ pub record SaysLabel (s : List ℕ) (f : Label) (out : List ℕ) : Type 0 where
 
 -- what the reader of a label answers of a text
 abbrev pub ReadsLabelOut : List ℕ → ℕ → List ℕ → Type 0
-ReadsLabelOut s = Told 12 (SaysLabel s) (labelOf s)
+ReadsLabelOut s = Told 12 (SaysLabel s (textPlaces s)) (labelOf s)
 
--- the labels of a volume: what the index side's label says, its places being in the index store
-abbrev pub ReadsLabelsOut : List ℕ → List ℕ → List ℕ → List ℕ → ℕ → List ℕ → Type 0
-ReadsLabelsOut il is dl ds = Told 12 (SaysLabel is) (labelsIn il is dl ds)
+-- what the check of the labels of two sides answers, the places being in the index store
+abbrev pub ChecksOut : List ℕ → List ℕ → List ℕ → List ℕ → ℕ → List ℕ → Type 0
+ChecksOut il is dl ds = Told 12 (SaysLabel is (placesOn (tapeIn il is))) (labelsIn il is dl ds)
 
 -- it reads the text as that label
 abbrev pub ReadAsLabel : Label → List ℕ → Type 0
-ReadAsLabel f s = (r : ℕ) (out : List ℕ) → ReadsLabelOut s r out → (r ≡ 0) × SaysLabel s f out
+ReadAsLabel f s = (r : ℕ) (out : List ℕ) → ReadsLabelOut s r out → (r ≡ 0) × SaysLabel s (textPlaces s) f out
 
 -- the label that a caller gives, its compression as a number
 abbrev pub givenLabel : List ℕ → List ℕ → List ℕ → ℕ → ℕ → ℕ → ℕ → ℕ → Label

@@ -8,7 +8,7 @@ use slices::Written;
 use vol1::Vol1;
 use vol1::Vol1Read;
 ghost use mathlib.Core.Path.{_≡_};
-ghost use Rattle.api.specs.Labels.{labelNumbers, givenLabel, ReadsVol1Out, WritesVol1, ReadsLabelOut, ReadsLabelsOut, WritesLabel};
+ghost use Rattle.api.specs.Labels.{labelNumbers, givenLabel, ReadsVol1Out, WritesVol1, ReadsLabelOut, ChecksOut, WritesLabel};
 
 fn in_numbers(f: Fields) -> [u64; 12]
     ensures { λ r. ⌜ r ≡ labelNumbers f ⌝ }
@@ -139,7 +139,7 @@ pub extern "C" fn klapouzen_check_labels(
     data_store: &[u8],
     out: &mut [u64; 12],
 ) -> u64
-    ensures { λ r. ⌜ ReadsLabelsOut (now («index_list» .entry)) (now («index_store» .entry)) (now («data_list» .entry)) (now («data_store» .entry))
+    ensures { λ r. ⌜ ChecksOut (now («index_list» .entry)) (now («index_store» .entry)) (now («data_list» .entry)) (now («data_store» .entry))
         r (now (out .exit)) ⌝ }
 {
     match labels::check(index_list, index_store, data_list, data_store) {

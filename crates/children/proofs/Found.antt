@@ -7,15 +7,17 @@ use native.Mathlib.Omega.{arith}
 use native.Mathlib.Nat.{not-suc-le-zero}
 use borrow.Author.Tests.{eq-eqb, eqb-true, eqb-false}
 use lib.Dec.{eqb}
-use lib.ListN.{length, getD}
+use lib.ListN.{length, drop, getD}
 use Rattle.slices.proofs.Booleans.{and-left, and-right}
-use Rattle.xml.specs.Tree.{Forest}
+use Rattle.xml.specs.Tree.{Forest, none, node}
+use Rattle.elements.specs.Tags.{Tags, tagsIn, textPlace}
 use Rattle.elements.specs.Reading.{headAt, childrenAt, isRow}
 use Rattle.children.specs.Rules.{Rule}
 use Rattle.children.specs.Children.{allKnown, pick, atMostOne, below, lawful, only, textOf, childrenOf}
-use Rattle.children.specs.Rows.{Seated}
-use Rattle.children.proofs.Named.{nameOf, fresh, pick-only}
-use Rattle.children.proofs.Seats.{row-seat, seat-text, seat-children}
+use Rattle.children.specs.Places.{tagsNamed, firstText}
+use Rattle.children.specs.Rows.{Seated, Placed}
+use Rattle.children.proofs.Named.{nameOf, fresh, pick-only, tags-only}
+use Rattle.children.proofs.Seats.{row-seat, tag-some, seat-text, seat-children}
 
 pub below-at : (test : ℕ → Bool) (n k : ℕ) → below n test ≡ true → k < n → test k ≡ true
 unfolding below
@@ -40,3 +42,11 @@ module _ {s : List ℕ} {rs : List Rule} {must : ℕ} {f : Forest} {ok : Bool} {
 
   pub found-children : childrenOf (only (nameOf rs k) f) ≡ childrenAt s (getD seats k 0)
   found-children = ap childrenOf (sym (pick-only rs k new f) ∙ row .found t k) ∙ seat-children s (getD seats k 0) there
+
+  -- and it is the tag there
+  module _ {g : Tags} (stand : Placed s rs g ok seats) where
+    pub found-tag : tagsNamed (nameOf rs k) g ≡ node (drop (getD seats k 0) s) (tagsIn (drop (getD seats k 0) s)) none
+    found-tag = sym (tags-only rs k new g) ∙ stand .tags t k ∙ tag-some s (getD seats k 0) there
+
+    pub found-place : firstText s (tagsNamed (nameOf rs k) g) ≡ textPlace s (drop (getD seats k 0) s)
+    found-place = ap (firstText s) found-tag

@@ -6,9 +6,12 @@ use Prim.Native.Nat.{ℕ, zero, suc}
 use lib.Dec.{eqb, eqb·suc-suc, eqb·zero-suc, eqb·suc-zero}
 use Rattle.slices.specs.Slices.{same}
 use Rattle.slices.proofs.Equal.{same-eq, same-refl}
-use Rattle.xml.specs.Tree.{Forest, none, node}
+use Rattle.xml.specs.Tree.{Forest, tagHead}
+use Rattle.elements.specs.Tags.{Tags}
 use Rattle.children.specs.Rules.{Rule, placeOf}
 use Rattle.children.specs.Children.{pick, only}
+use Rattle.children.specs.Places.{tagsFor, tagsNamed}
+use Rattle.children.proofs.Noted.{kept-same}
 
 abbrev pub nameOf : List Rule → ℕ → List ℕ
 nameOf [] k = []
@@ -45,7 +48,9 @@ placed (r ∷ rs) (suc k) n e = go (same (r .name) n) refl (same (r .name) (name
     go false q false d i z = eqb·suc-suc (placeOf rs n) k ∙ i z
 
 -- where a rule's name is new, what was read at its number is what has its name
-pub pick-only : (rs : List Rule) (k : ℕ) → fresh rs k ≡ true → (f : Forest) → pick rs k f ≡ only (nameOf rs k) f
-unfolding pick only
-pick-only rs k e none = refl
-pick-only rs k e (node h c f) = rw (placed rs k (h .name) e, pick-only rs k e f)
+module _ (rs : List Rule) (k : ℕ) (new : fresh rs k ≡ true) where
+  pub pick-only : (f : Forest) → pick rs k f ≡ only (nameOf rs k) f
+  pick-only = kept-same (λ h. eqb (placeOf rs (h .name)) k) (λ h. same (nameOf rs k) (h .name)) (λ h. placed rs k (h .name) new)
+
+  pub tags-only : (t : Tags) → tagsFor rs k t ≡ tagsNamed (nameOf rs k) t
+  tags-only = kept-same (λ r. eqb (placeOf rs (tagHead r .name)) k) (λ r. same (nameOf rs k) (tagHead r .name)) (λ r. placed rs k (tagHead r .name) new)

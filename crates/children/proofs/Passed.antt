@@ -2,99 +2,123 @@
 use mathlib.Core.Path.{_≡_, refl, ap, _∙_, sym}
 use mathlib.Core.Bool.{Bool, true, false, not, _&&_, false≢true}
 use mathlib.Core.List.{List}
-use Prim.Native.Nat.{ℕ, _<_}
+use Prim.Native.Nat.{ℕ, _<_, _≤_}
 use native.Mathlib.Omega.{arith}
-use borrow.Author.Tests.{eq-eqb, ne-eqb, eqb-true, eqb-false}
+use borrow.Author.Tests.{eq-eqb, eqb-true, eqb-false}
 use lib.Dec.{eqb}
-use lib.ListN.{length, getD, set}
+use lib.ListN.{length, drop, getD, set}
 use lib.Seq.{getD-set-same, getD-set-other}
-use Rattle.xml.specs.Tree.{Forest, none, node}
-use Rattle.elements.specs.Reading.{headAt, childrenAt, isRow}
+use Rattle.xml.specs.Tree.{Forest, none, tagHead}
+use Rattle.elements.specs.Tags.{Tags, tagsAt, tagsIn}
+use Rattle.elements.specs.Reading.{rowAt, headAt, childrenAt, isRow, FirstOf}
+use Rattle.elements.proofs.ByTag.{no-tags}
 use Rattle.children.specs.Rules.{Rule, placeOf, markOf}
-use Rattle.children.specs.Children.{noAttribute, holds, allKnown, pick, atMostOne, below, lawful}
-use Rattle.children.specs.Rows.{seat, Seated}
+use Rattle.children.specs.Children.{noAttribute, holds, kept, allKnown, pick, atMostOne, below, lawful}
+use Rattle.children.specs.Places.{tagsFor, firstPlace}
+use Rattle.children.specs.Rows.{seat, tagSeat, ReadsRow}
 use Rattle.children.proofs.Below.{below-false, below-all, below-ext}
-use Rattle.children.proofs.Seats.{join, seat-none, seat-some, join-seat, row-seat, one-seat}
+use Rattle.children.proofs.Noted.{join, Noted, noted-none, noted-all, noted-next}
+use Rattle.children.proofs.Seats.{seat-none, seat-some, row-seat, one-seat, tag-none, tag-some, tag-place}
 
--- of the row f the elements before g are passed, and each one's place is noted at its rule's number
-pub record Passed (s : List ℕ) (rs : List Rule) (f g : Forest) (seats : List ℕ) : Type 0 where
-  pub known : allKnown rs f ≡ allKnown rs g
-  pub seated : (k : ℕ) → pick rs k f ≡ join (seat s (getD seats k 0)) (pick rs k g)
+module _ (s : List ℕ) (rs : List Rule) where
+  abbrev ByHeads : Forest → Forest → List ℕ → Type 0
+  ByHeads = Noted (λ h. h .name) rs (seat s) (seat-none s 0 refl)
 
-pub none-passed : (s : List ℕ) (rs : List Rule) (f : Forest) (seats : List ℕ) → ((k : ℕ) → getD seats k 0 ≡ 0) → Passed s rs f f seats
-unfolding join
-none-passed s rs f seats z =
-    record { known = refl; seated = λ k. sym (ap (λ (t : Forest). join t (pick rs k f)) (seat-none s _ (z k))) }
+  abbrev ByTags : Tags → Tags → List ℕ → Type 0
+  ByTags = Noted (λ r. tagHead r .name) rs (tagSeat s) (tag-none s 0 refl)
 
--- a row that is not lawful
-pub unlawful : (s : List ℕ) (rs : List Rule) (must : ℕ) (f : Forest) (seats : List ℕ) → lawful rs must f ≡ false → Seated s rs must f false seats
-unlawful s rs must f seats e = record { told = sym e; found = λ t. absurd (false≢true t) }
+  -- of the row at i the elements before j are passed, and each one's place is noted at its rule's number
+  pub record Passed (i j : ℕ) (seats : List ℕ) : Type 0 where
+    pub known : allKnown rs (rowAt s i) ≡ allKnown rs (rowAt s j)
+    pub seated : ByHeads (rowAt s i) (rowAt s j) seats
+    pub tagged : ByTags (tagsAt s i) (tagsAt s j) seats
+    pub inside : (k : ℕ) → getD seats k 0 ≤ length s
 
-middle-false : (a b c : Bool) → b ≡ false → (a && b && c) ≡ false
-middle-false true b c e = rw e
-middle-false false b c e = refl
+  pub none-passed : (i : ℕ) (seats : List ℕ) → ((k : ℕ) → getD seats k 0 ≡ 0) → Passed i i seats
+  none-passed i seats z =
+      record {
+        known = refl;
+        seated = noted-none (λ h. h .name) rs (seat s) (seat-none s 0 refl) (rowAt s i) seats z;
+        tagged = noted-none (λ r. tagHead r .name) rs (tagSeat s) (tag-none s 0 refl) (tagsAt s i) seats z;
+        inside = λ k. let e = z k in omega arith;
+      }
 
--- the next element is the one at n, before the elements g′
-module _ (s : List ℕ) (rs : List Rule) (f g g′ : Forest) (seats : List ℕ) (n : ℕ) (p : Passed s rs f g seats)
-    (next : g ≡ node (headAt s n) (childrenAt s n) g′) where
-  abbrev named : List ℕ
-  named = headAt s n .name
+  -- a row that is not lawful
+  pub unlawful : (must i : ℕ) (seats : List ℕ) → lawful rs must (rowAt s i) ≡ false → ReadsRow s i rs must false seats
+  unlawful must i seats e =
+      record {
+        row = record { told = sym e; found = λ t. absurd (false≢true t) };
+        places = record { tags = λ t. absurd (false≢true t); place = λ t. absurd (false≢true t) };
+      }
 
-  abbrev fits : Bool
-  fits = noAttribute (headAt s n) && holds (markOf rs named) (headAt s n) (childrenAt s n)
+  -- the next element is the one at n, and the row goes on at j′
+  module _ (i j j′ : ℕ) (seats : List ℕ) (n : ℕ) (p : Passed i j seats) (first : FirstOf s j n j′) where
+    abbrev named : List ℕ
+    named = headAt s n .name
 
-  pub unknown-next : (must : ℕ) → fits ≡ false → Seated s rs must f false seats
-  unfolding lawful allKnown
-  unknown-next must e =
-      let z : allKnown rs f ≡ false = p .known ∙ ap (allKnown rs) next ∙ rw e in
-      unlawful s rs must f seats (rw z)
+    abbrev fits : Bool
+    fits = noAttribute (headAt s n) && holds (markOf rs named) (headAt s n) (childrenAt s n)
 
-  pub twice-next : (must k : ℕ) → k ≡ placeOf rs named → k < length rs → (getD seats k 0 ≡ 0 → ⊥) → Seated s rs must f false seats
-  unfolding lawful atMostOne join pick isRow
-  twice-next must k e h q =
-      unlawful s rs must f seats
-      (middle-false (allKnown rs f) _ (below must (λ j. isRow (pick rs j f))) (below-false (λ (j : ℕ). atMostOne (pick rs j f)) (length rs) k h two))
-    where
-      two : atMostOne (pick rs k f) ≡ false
-      two =
-          ap atMostOne (p .seated k ∙ ap (λ (t : Forest). join t (pick rs k g)) (seat-some s _ q))
-          ∙ ap (λ (t : Forest). not (isRow (pick rs k t))) next ∙ rw (eq-eqb _ _ (sym e))
+    pub unknown-next : (must : ℕ) → fits ≡ false → ReadsRow s i rs must false seats
+    unfolding lawful allKnown
+    unknown-next must e =
+        let z : allKnown rs (rowAt s i) ≡ false = p .known ∙ ap (allKnown rs) (first .row) ∙ rw e in
+        unlawful must i seats (rw z)
 
-  pub pass-next : (k : ℕ) → k ≡ placeOf rs named → k < length seats → getD seats k 0 ≡ 0 → 0 < n → fits ≡ true → Passed s rs f g′ (set seats k n)
-  unfolding allKnown pick join
-  pass-next k e h q lt t = record { known = p .known ∙ ap (allKnown rs) next ∙ rw t; seated = λ j. at j (eqb j k) refl }
-    where
-      here : pick rs k g ≡ node (headAt s n) (childrenAt s n) (pick rs k g′)
-      here = ap (pick rs k) next ∙ rw (eq-eqb _ _ (sym e))
+    pub twice-next : (must k : ℕ) → k ≡ placeOf rs named → k < length rs → (getD seats k 0 ≡ 0 → ⊥) → ReadsRow s i rs must false seats
+    unfolding lawful atMostOne join kept isRow
+    twice-next must k e h q =
+        unlawful must i seats
+        (middle-false (allKnown rs (rowAt s i)) _ (below must (λ j. isRow (pick rs j (rowAt s i)))) (below-false (λ (j : ℕ). atMostOne (pick rs j (rowAt s i))) (length rs) k h two))
+      where
+        middle-false : (a b c : Bool) → b ≡ false → (a && b && c) ≡ false
+        middle-false true b c e = rw e
+        middle-false false b c e = refl
 
-      other : (j : ℕ) → (j ≡ k → ⊥) → pick rs j g ≡ pick rs j g′
-      other j d = ap (pick rs j) next ∙ rw (ne-eqb _ _ (λ z. d (sym z ∙ sym e)))
+        two : atMostOne (pick rs k (rowAt s i)) ≡ false
+        two =
+            ap atMostOne (p .seated .each k ∙ ap (λ (t : Forest). join t (pick rs k (rowAt s j))) (seat-some s _ q))
+            ∙ ap (λ (t : Forest). not (isRow (pick rs k t))) (first .row) ∙ rw (eq-eqb _ _ (sym e))
 
-      at : (j : ℕ) (b : Bool) → eqb j k ≡ b → pick rs j f ≡ join (seat s (getD (set seats k n) j 0)) (pick rs j g′)
-      at j true b =
-          let z : j ≡ k = eqb-true _ _ b in
-          rw (z, getD-set-same seats k n 0 h, seat-some s n (λ y. (omega arith)))
-          (p .seated k ∙ ap (λ (t : Forest). join t (pick rs k g)) (seat-none s _ q) ∙ here)
-      at j false b =
-          let d = eqb-false _ _ b in
-          rw (getD-set-other seats k j n 0 d) (p .seated j ∙ ap (join (seat s (getD seats j 0))) (other j d))
+    pub pass-next : (k : ℕ) → k ≡ placeOf rs named → k < length seats → getD seats k 0 ≡ 0 → fits ≡ true → Passed i j′ (set seats k n)
+    unfolding allKnown
+    pass-next k e h q t =
+        let there : n ≡ 0 → ⊥ = λ y. omega (arith, first .place) in
+        record {
+          known = p .known ∙ ap (allKnown rs) (first .row) ∙ rw t;
+          seated = noted-next (λ h. h .name) rs (seat s) (seat-none s 0 refl) (rowAt s i) (rowAt s j) (rowAt s j′) (headAt s n) (childrenAt s n) seats n k (p .seated) (first .row) (seat-some s n there) e h q;
+          tagged = noted-next (λ r. tagHead r .name) rs (tagSeat s) (tag-none s 0 refl) (tagsAt s i) (tagsAt s j) (tagsAt s j′) (drop n s) (tagsIn (drop n s)) seats n k (p .tagged) (first .tags) (tag-some s n there) e h q;
+          inside = λ m. at m (eqb m k) refl;
+        }
+      where
+        at : (m : ℕ) (b : Bool) → eqb m k ≡ b → getD (set seats k n) m 0 ≤ length s
+        at m true b = rw (eqb-true m k b, getD-set-same seats k n 0 h) (first .place .1)
+        at m false b = rw (getD-set-other seats k m n 0 (eqb-false _ _ b)) (p .inside m)
 
--- all elements are passed
-pub all-passed : (s : List ℕ) (rs : List Rule) (f g : Forest) (seats : List ℕ) → Passed s rs f g seats → g ≡ none
-    → (must : ℕ) (ok : Bool) → ok ≡ below must (λ k. not (eqb (getD seats k 0) 0)) → Seated s rs must f ok seats
-unfolding pick allKnown lawful
-all-passed s rs f g seats p e must ok o = record { told = o ∙ sym told-all; found = λ t. all }
-  where
-    all : (k : ℕ) → pick rs k f ≡ seat s (getD seats k 0)
-    all k = p .seated k ∙ ap (λ (h : Forest). join (seat s (getD seats k 0)) (pick rs k h)) e ∙ join-seat s (getD seats k 0)
+  -- all elements are passed
+  module _ (i j : ℕ) (seats : List ℕ) (p : Passed i j seats) (e : rowAt s j ≡ none) where
+    all : (k : ℕ) → pick rs k (rowAt s i) ≡ seat s (getD seats k 0)
+    all = noted-all (λ h. h .name) rs (seat s) (seat-none s 0 refl) (rowAt s i) (rowAt s j) seats (p .seated) e
 
-    known-all : allKnown rs f ≡ true
+    all-tags : (k : ℕ) → tagsFor rs k (tagsAt s i) ≡ tagSeat s (getD seats k 0)
+    all-tags = noted-all (λ r. tagHead r .name) rs (tagSeat s) (tag-none s 0 refl) (tagsAt s i) (tagsAt s j) seats (p .tagged) (no-tags s j e)
+
+    known-all : allKnown rs (rowAt s i) ≡ true
+    unfolding allKnown
     known-all = p .known ∙ ap (allKnown rs) e
 
-    one : below (length rs) (λ k. atMostOne (pick rs k f)) ≡ true
-    one = below-all (λ k. atMostOne (pick rs k f)) (length rs) (λ k. ap atMostOne (all k) ∙ one-seat s (getD seats k 0))
+    one : below (length rs) (λ k. atMostOne (pick rs k (rowAt s i))) ≡ true
+    one = below-all (λ k. atMostOne (pick rs k (rowAt s i))) (length rs) (λ k. ap atMostOne (all k) ∙ one-seat s (getD seats k 0))
 
-    told-all : lawful rs must f ≡ below must (λ k. not (eqb (getD seats k 0) 0))
-    told-all =
+    told-all : (must : ℕ) → lawful rs must (rowAt s i) ≡ below must (λ k. not (eqb (getD seats k 0) 0))
+    unfolding lawful
+    told-all must =
         rw (known-all, one)
-        (below-ext (λ k. isRow (pick rs k f)) (λ k. not (eqb (getD seats k 0) 0)) (λ k. ap isRow (all k) ∙ row-seat s (getD seats k 0)) must)
+        (below-ext (λ k. isRow (pick rs k (rowAt s i))) (λ k. not (eqb (getD seats k 0) 0)) (λ k. ap isRow (all k) ∙ row-seat s (getD seats k 0)) must)
+
+    pub all-passed : (must : ℕ) (ok : Bool) → ok ≡ below must (λ k. not (eqb (getD seats k 0) 0)) → ReadsRow s i rs must ok seats
+    all-passed must ok o =
+        record {
+          row = record { told = o ∙ sym (told-all must); found = λ t. all };
+          places = record { tags = λ t. all-tags; place = λ t k. tag-place s (getD seats k 0) (p .inside k) ∙ ap (firstPlace s) (sym (all-tags k)) };
+        }

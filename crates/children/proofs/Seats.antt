@@ -1,20 +1,18 @@
 -- The element at a place, alone: none for the place 0, else its head and its children.
-use mathlib.Core.Path.{_≡_, refl, ap}
+use mathlib.Core.Path.{_≡_, refl, ap, sym}
 use mathlib.Core.Bool.{Bool, true, false, not}
 use mathlib.Core.List.{List}
-use Prim.Native.Nat.{ℕ}
+use Prim.Native.Nat.{ℕ, _≤_}
 use borrow.Author.Tests.{eq-eqb, ne-eqb, eqb-true, eqb-false, ltb-true, ltb-false}
 use lib.Dec.{eqb, ltb}
-use lib.ListN.{getD, replicate, getD-replicate, List·getD-eq-default}
-use Rattle.xml.specs.Tree.{Forest, none, node}
+use lib.ListN.{length, drop, getD, replicate, getD-replicate, List·getD-eq-default}
+use Rattle.xml.specs.Tree.{none, node}
+use Rattle.elements.specs.Tags.{tagsIn}
 use Rattle.elements.specs.Reading.{headAt, childrenAt, isRow}
+use Rattle.elements.proofs.ByTag.{place-kept}
 use Rattle.children.specs.Children.{atMostOne, textOf, childrenOf}
-use Rattle.children.specs.Rows.{seat}
-
--- a row, and then another
-unfoldable pub join : Forest → Forest → Forest
-join none g = g
-join (node h k f) g = node h k (join f g)
+use Rattle.children.specs.Places.{firstPlace}
+use Rattle.children.specs.Rows.{seat, tagSeat}
 
 module _ (s : List ℕ) (n : ℕ) where
   pub seat-none : n ≡ 0 → seat s n ≡ none
@@ -24,14 +22,6 @@ module _ (s : List ℕ) (n : ℕ) where
   pub seat-some : (n ≡ 0 → ⊥) → seat s n ≡ node (headAt s n) (childrenAt s n) none
   unfolding seat
   seat-some e = rw (ne-eqb _ _ e)
-
-  pub join-seat : join (seat s n) none ≡ seat s n
-  unfolding join
-  join-seat = go (eqb n 0) refl
-    where
-      go : (t : Bool) → eqb n 0 ≡ t → join (seat s n) none ≡ seat s n
-      go true e = rw (seat-none (eqb-true _ _ e))
-      go false e = rw (seat-some (eqb-false _ _ e))
 
   pub row-seat : isRow (seat s n) ≡ not (eqb n 0)
   unfolding isRow
@@ -48,6 +38,22 @@ module _ (s : List ℕ) (n : ℕ) where
       go : (t : Bool) → eqb n 0 ≡ t → atMostOne (seat s n) ≡ true
       go true e = ap atMostOne (seat-none (eqb-true _ _ e))
       go false e = ap atMostOne (seat-some (eqb-false _ _ e))
+
+  pub tag-none : n ≡ 0 → tagSeat s n ≡ none
+  unfolding tagSeat
+  tag-none e = rw (eq-eqb _ _ e)
+
+  pub tag-some : (n ≡ 0 → ⊥) → tagSeat s n ≡ node (drop n s) (tagsIn (drop n s)) none
+  unfolding tagSeat
+  tag-some e = rw (ne-eqb _ _ e)
+
+  -- the place of the tag there
+  pub tag-place : n ≤ length s → n ≡ firstPlace s (tagSeat s n)
+  tag-place h = go (eqb n 0) refl
+    where
+      go : (t : Bool) → eqb n 0 ≡ t → n ≡ firstPlace s (tagSeat s n)
+      go true e = rw (tag-none (eqb-true _ _ e)) (eqb-true _ _ e)
+      go false e = rw (tag-some (eqb-false _ _ e)) (sym (place-kept s n h))
 
   pub seat-text : (n ≡ 0 → ⊥) → textOf (seat s n) ≡ headAt s n .text
   unfolding textOf

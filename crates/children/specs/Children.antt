@@ -6,7 +6,7 @@ use lib.Dec.{eqb}
 use lib.ListN.{length}
 use Rattle.slices.specs.Slices.{every, same}
 use Rattle.xml.specs.Bytes.{isSpace}
-use Rattle.xml.specs.Tree.{Head, Forest, none, node}
+use Rattle.xml.specs.Tree.{Head, Tree, Forest, none, node}
 use Rattle.elements.specs.Reading.{isRow}
 use Rattle.children.specs.Rules.{Rule, placeOf, markOf}
 
@@ -27,10 +27,15 @@ unfoldable pub allKnown : List Rule → Forest → Bool
 allKnown rs none = true
 allKnown rs (node h k f) = noAttribute h && holds (markOf rs (h .name)) h k && allKnown rs f
 
+module _ {A : Type 0} where
+  -- those that pass a test
+  unfoldable pub kept : (A → Bool) → Tree A → Tree A
+  kept test none = none
+  kept test (node h k f) = cond (test h) (node h k (kept test f)) (kept test f)
+
 -- those that the rule of this number is for
-unfoldable pub pick : List Rule → ℕ → Forest → Forest
-pick rs k none = none
-pick rs k (node h c f) = cond (eqb (placeOf rs (h .name)) k) (node h c (pick rs k f)) (pick rs k f)
+abbrev pub pick : List Rule → ℕ → Forest → Forest
+pick rs k = kept (λ h. eqb (placeOf rs (h .name)) k)
 
 unfoldable pub atMostOne : Forest → Bool
 atMostOne none = true
@@ -46,15 +51,15 @@ unfoldable pub lawful : List Rule → ℕ → Forest → Bool
 lawful rs must f = allKnown rs f && below (length rs) (λ k. atMostOne (pick rs k f)) && below must (λ k. isRow (pick rs k f))
 
 -- the elements of a row that have a name
-unfoldable pub only : List ℕ → Forest → Forest
-only name none = none
-only name (node h k f) = cond (same name (h .name)) (node h k (only name f)) (only name f)
+abbrev pub only : List ℕ → Forest → Forest
+only name = kept (λ h. same name (h .name))
 
 -- of the first element of a row: its text, its children
 unfoldable pub textOf : Forest → List ℕ
 textOf none = []
 textOf (node h k f) = h .text
 
-unfoldable pub childrenOf : Forest → Forest
-childrenOf none = none
-childrenOf (node h k f) = k
+module _ {A : Type 0} where
+  unfoldable pub childrenOf : Tree A → Tree A
+  childrenOf none = none
+  childrenOf (node h k f) = k

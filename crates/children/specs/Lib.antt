@@ -1,3 +1,4 @@
 pub mod Rules
 pub mod Children
+pub mod Places
 pub mod Rows

@@ -5,6 +5,7 @@ use mathlib.Core.List.{List, [], _∷_}
 use Prim.Native.Nat.{ℕ, suc}
 use Prim.Native.String.{String}
 use lib.Dec.{eqb}
+use lib.ListN.{take}
 use Rattle.slices.specs.Slices.{same}
 use Rattle.slices.specs.Words.{bytes}
 
@@ -34,6 +35,10 @@ longer b (r ∷ rs) = record { name = b ∷ r .name; mark = r .mark } ∷ rs
 unfoldable pub rules : List ℕ → List Rule
 rules [] = []
 rules (b ∷ s) = cond (isMark b) (record { name = []; mark = b } ∷ rules s) (longer b (rules s))
+
+-- of a table that a row is read by, the first 16 rules count
+abbrev pub tableOf : List ℕ → List Rule
+tableOf t = take 16 (rules t)
 
 -- the number of the first rule for a name, past the last one where there is none; and its mark, 0 where there is none
 unfoldable pub placeOf : List Rule → List ℕ → ℕ

@@ -7,7 +7,7 @@ ghost use lib.Dec.{eqb};
 ghost use lib.ListN.{length, getD};
 ghost use Rattle.xml.specs.Scans.{Past};
 ghost use Rattle.elements.specs.Reading.{headAt, childrenAt};
-ghost use Rattle.children.specs.Rules.{isMark, notMark, rules, placeOf, markOf};
+ghost use Rattle.children.specs.Rules.{isMark, notMark, rules, tableOf, placeOf, markOf};
 ghost use Rattle.children.specs.Children.{noAttribute, holds, below};
 ghost use Rattle.children.specs.Rows.{ReadsRow};
 
@@ -124,7 +124,7 @@ fn all_seated(seats: &[usize; 16], must: usize) -> bool
 
 // Reads the row that goes on at `at` by a table of rules, of which the first `must` are required.
 pub fn read_row(text: &[u8], at: usize, table: &[u8], must: usize) -> Row
-    ensures { λ r. ⌜ ReadsRow (now (text .entry)) at (rules (now (table .entry))) must (r .ok) (r .seats) ⌝ }
+    ensures { λ r. ⌜ ReadsRow (now (text .entry)) at (tableOf (now (table .entry))) must (r .ok) (r .seats) ⌝ }
 {
     let mut seats = [0usize; 16];
     if 16 < must {

@@ -1,4 +1,5 @@
 pub mod Names
+pub mod ByTag
 pub mod Left
 pub mod Rows
 pub mod Parts

@@ -1,5 +1,5 @@
 -- What an element says, by the places in the text where its parts begin and end.
-use mathlib.Core.Path.{_≡_, ap, _∙_, sym}
+use mathlib.Core.Path.{_≡_, ap, ap₂, _∙_, sym}
 use mathlib.Core.Bool.{Bool, true, false, _||_}
 use mathlib.Core.List.{List, []}
 use Prim.Native.Nat.{ℕ, _+_, _-_, _<_, _≤_}
@@ -7,13 +7,19 @@ use native.Mathlib.Omega.{arith}
 use native.Mathlib.Numerals.{add-one}
 use borrow.Author.Tests.{eq-eqb, ne-eqb}
 use lib.Dec.{eqb}
-use lib.ListN.{length, take, drop, getD, drop-of-length-le}
+use lib.ListN.{length, take, drop, getD, drop-of-length-le, length-take, length-drop}
 use lib.Seq.{drop-cons, drop-drop}
 use Rattle.xml.specs.Bytes.{isNameByte, isSpace}
-use Rattle.xml.specs.Tree.{front, behind, isNot, notOpen, past, quoted, headOf, top, forests}
-use Rattle.elements.specs.Reading.{rowAt, emptyAt, behindTag, headAt, childrenAt}
+use Rattle.xml.specs.Tree.{front, behind, isNot, notOpen, past, quoted, headOf, behindTag, tagHead, top, trees}
+use Rattle.elements.specs.declared.heads.Span.{Span}
+use Rattle.elements.specs.Tags.{tagsOf, tagsAt, tagsIn}
+use Rattle.elements.specs.Reading.{rowAt, emptyAt, headAt, childrenAt, TextAt}
 use Rattle.xml.specs.Scans.{Past}
+use Rattle.xml.proofs.Past.{past-ahead}
 use Rattle.elements.proofs.Left.{left-end}
+
+abbrev span : ℕ → ℕ → Span
+span i k = record { from = i; len = k }
 
 -- a run of bytes that pass a test, from i to e
 module _ {f : ℕ → Bool} {s : List ℕ} {i e : ℕ} (run : Past f s i e) where
@@ -85,8 +91,40 @@ module _ (s : List ℕ) (n a : ℕ) (here : drop a s ≡ drop n s) where
 
     pub children-none : b ≡ true → rowAt s (length s) ≡ childrenAt s n
     unfolding childrenAt top
-    children-none e = ap top (left-end s (length s) (omega arith)) ∙ rw (empty-told, e)
+    children-none e = ap top (left-end tagHead s (length s) (omega arith)) ∙ rw (empty-told, e)
 
     pub children-some : b ≡ false → rowAt s a ≡ childrenAt s n
     unfolding childrenAt
-    children-some e = ap (λ (r : List ℕ). top (forests r)) here ∙ rw (empty-told, e)
+    children-some e = ap (λ (r : List ℕ). top (trees tagHead r)) here ∙ rw (empty-told, e)
+
+    pub tags-none : b ≡ true → tagsAt s (length s) ≡ tagsIn (drop n s)
+    unfolding tagsIn top
+    tags-none e = ap top (left-end (λ r. r) s (length s) (omega arith)) ∙ rw (empty-told, e)
+
+    pub tags-some : b ≡ false → tagsAt s a ≡ tagsIn (drop n s)
+    unfolding tagsIn
+    tags-some e = ap (λ (r : List ℕ). top (tagsOf r)) here ∙ rw (empty-told, e)
+
+    -- its text begins at t
+    text-from : t ≤ length s → t ≡ length s - length (past 0 0 (drop n s) .rest)
+    text-from h =
+        let z : length (past 0 0 (drop n s) .rest) ≡ length s - t = ap (λ (r : List ℕ). length (past 0 0 r .rest)) (sym here) ∙ rw ends (length-drop t s) in
+        omega arith
+
+    pub text-empty : b ≡ true → t ≤ length s → TextAt s n (record { from = t; len = 0 })
+    text-empty e h =
+        record {
+          place = ap₂ (λ (i k : ℕ). span i k) (text-from h) (ap length (text-none e));
+          spans = record { part = text-none e; inside = omega arith };
+        }
+
+    pub text-found : (e : ℕ) → b ≡ false → Past notOpen s t e → TextAt s n (record { from = t; len = e - t })
+    text-found e z found =
+        let p = text-part e z found in
+        let h : t ≤ e = past-ahead found in
+        let i : e ≤ length s = found .inside in
+        let w : length (take (e - t) (drop t s)) ≡ e - t = omega (arith, length-take (e - t) (drop t s), length-drop t s) in
+        record {
+          place = ap₂ (λ (i k : ℕ). span i k) (text-from (omega arith)) (sym w ∙ ap length p);
+          spans = record { part = p; inside = omega arith };
+        }

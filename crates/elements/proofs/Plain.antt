@@ -16,10 +16,10 @@ use Rattle.xml.proofs.Past.{front-more, front-none, past-ahead}
 use Rattle.elements.specs.declared.starts.Start.{Start}
 use Rattle.elements.specs.declared.heads.Span.{Span}
 use Rattle.elements.specs.declared.tags.Tag.the-variants.{End, Close, Open, Empty}
-use Rattle.elements.specs.Reading.{rowAt, headAt, emptyAt, childrenAt, isRow, Spans, NextTag, Behind, FirstOf}
+use Rattle.elements.specs.Reading.{rowAt, headAt, emptyAt, childrenAt, isRow, TextAt, NextTag, Behind, FirstOf}
 use Rattle.elements.specs.Starts.{Shape, Opening, Starts}
 use Rattle.elements.proofs.Left.{none-next, close-next, empty-next, open-next}
-use Rattle.elements.proofs.Parts.{no-part, name-part, key-part, text-part, empty-told, children-some}
+use Rattle.elements.proofs.Parts.{no-part, name-part, key-part, text-found, empty-told, children-some}
 use Rattle.elements.proofs.Rows.{row-end, row-close, behind-close, behind-end, first-open, first-empty}
 
 -- a byte of a name is none that is not
@@ -132,6 +132,9 @@ module _ (s : List ℕ) (n e : ℕ) (named : Past isNameByte s n e) (h : e < len
     kids : childrenAt s n ≡ rowAt s n
     kids = sym (children-some s n n refl false (e + 1) named-past refl)
 
+    said : TextAt s n (record { from = e + 1; len = z - (e + 1) })
+    said = text-found s n n refl false (e + 1) named-past z refl found
+
     abbrev start : Bool → ℕ → Start
     start leaf next =
         record {
@@ -150,7 +153,8 @@ module _ (s : List ℕ) (n e : ℕ) (named : Past isNameByte s n e) (h : e < len
           name = record { part = name-part s n n refl e named; inside = omega (arith, past-ahead named) };
           plain = sym (ap (λ (k : List ℕ). eqb (length k) 0) no-key);
           empty = empty-told s n n refl false (e + 1) named-past;
-          text = record { part = text-part s n n refl false (e + 1) named-past z refl found; inside = omega (arith, past-ahead found, found .inside) };
+          text = said .spans;
+          place = said .place;
           leaf = el ∙ ap (λ (f : Forest). not (isRow f)) (sym kids);
         }
 
@@ -200,7 +204,7 @@ module _ (s : List ℕ) (n e : ℕ) (named : Past isNameByte s n e) (h : e < len
 
 -- the tag at n, read part by part
 module _ (s : List ℕ) (n e : ℕ) (named : Past isNameByte s n e) (b : Bool) (t : ℕ) (ends : past 0 0 (drop n s) ≡ record { empty = b; rest = drop t s })
-    (plain : Bool) (ep : plain ≡ eqb (length (headAt s n .key)) 0) (said : Span) (es : Spans s (said .from) (said .len) (headAt s n .text))
+    (plain : Bool) (ep : plain ≡ eqb (length (headAt s n .key)) 0) (said : Span) (es : TextAt s n said)
     (leaf : Bool) (el : leaf ≡ not (isRow (childrenAt s n))) where
   abbrev other : Bool → Bool → ℕ → Start
   other empty leaf next =
@@ -212,7 +216,8 @@ module _ (s : List ℕ) (n e : ℕ) (named : Past isNameByte s n e) (b : Bool) (
         name = record { part = name-part s n n refl e named; inside = omega (arith, past-ahead named, named .inside) };
         plain = ep;
         empty = empty-told s n n refl b t ends;
-        text = es;
+        text = es .spans;
+        place = es .place;
         leaf = el;
       }
 

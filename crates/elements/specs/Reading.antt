@@ -5,7 +5,8 @@ use mathlib.Core.Bool.{Bool, true, false, cond}
 use mathlib.Core.List.{List, []}
 use Prim.Native.Nat.{ℕ, _+_, _≤_, min}
 use lib.ListN.{length, take, drop}
-use Rattle.xml.specs.Tree.{Head, Forest, none, node, front, notOpen, past, headOf, top, pop, closed, opened, alone, forests}
+use Rattle.xml.specs.Tree.{Head, Tree, Forest, none, node, front, notOpen, past, tagHead, top, pop, closed, opened, alone, trees, forests}
+use Rattle.elements.specs.Tags.{tagsLeft, tagsAt, tagsAround, tagsIn, textPlace}
 use Rattle.elements.specs.declared.tags.Tag.{Tag}
 use Rattle.elements.specs.declared.tags.Tag.the-variants.{End, Close, Open, Empty}
 use Rattle.elements.specs.declared.tags.Child.{Child}
@@ -24,16 +25,12 @@ rowAt s i = top (leftAt s i)
 abbrev pub aroundAt : List ℕ → ℕ → List Forest
 aroundAt s i = pop (leftAt s i)
 
--- what follows the tag that r begins with, from behind its `<` on; behind an empty-element tag nothing counts
-unfoldable pub behindTag : List ℕ → List ℕ
-behindTag r = cond (past 0 0 r .empty) [] (past 0 0 r .rest)
-
 -- the element whose tag is at n: whether that is an empty-element tag, its head, its children
 abbrev pub emptyAt : List ℕ → ℕ → Bool
 emptyAt s n = past 0 0 (drop n s) .empty
 
 abbrev pub headAt : List ℕ → ℕ → Head
-headAt s n = headOf (drop n s) (behindTag (drop n s))
+headAt s n = tagHead (drop n s)
 
 unfoldable pub childrenAt : List ℕ → ℕ → Forest
 childrenAt s n = cond (emptyAt s n) none (rowAt s n)
@@ -43,12 +40,13 @@ unfoldable pub isRow : Forest → Bool
 isRow none = false
 isRow (node h k f) = true
 
--- what is left to read where this tag comes next
-abbrev pub seen : List ℕ → Tag → List Forest
-seen s End = []
-seen s (Close n) = closed (leftAt s n)
-seen s (Open n) = opened (headAt s n) (leftAt s n)
-seen s (Empty n) = alone (headAt s n) (leftAt s n)
+module _ {A : Type 0} where
+  -- what is left to read where this tag comes next
+  abbrev pub seen : (List ℕ → A) → List ℕ → Tag → List (Tree A)
+  seen tell s End = []
+  seen tell s (Close n) = closed (trees tell (drop n s))
+  seen tell s (Open n) = opened (tell (drop n s)) (trees tell (drop n s))
+  seen tell s (Empty n) = alone (tell (drop n s)) (trees tell (drop n s))
 
 -- it is an empty-element tag or not, as it is taken for
 abbrev pub told : List ℕ → Tag → Type 0
@@ -69,13 +67,15 @@ ahead s i (Empty n) = Next s i n
 
 -- the next tag from i on
 pub record NextTag (s : List ℕ) (i : ℕ) (tag : Tag) : Type 0 where
-  pub left : leftAt s i ≡ seen s tag
+  pub left : leftAt s i ≡ seen tagHead s tag
+  pub tags : tagsLeft s i ≡ seen (λ r. r) s tag
   pub kind : told s tag
   pub place : ahead s i tag
 
 -- at j reading goes on behind the element that is open at i
 pub record Behind (s : List ℕ) (i j : ℕ) : Type 0 where
   pub left : leftAt s j ≡ aroundAt s i
+  pub tags : tagsLeft s j ≡ tagsAround s i
   pub ahead : min i (length s) ≤ j
   pub inside : j ≤ length s
 
@@ -83,6 +83,8 @@ pub record Behind (s : List ℕ) (i j : ℕ) : Type 0 where
 pub record FirstOf (s : List ℕ) (i n j : ℕ) : Type 0 where
   pub row : rowAt s i ≡ node (headAt s n) (childrenAt s n) (rowAt s j)
   pub around : aroundAt s i ≡ aroundAt s j
+  pub tags : tagsAt s i ≡ node (drop n s) (tagsIn (drop n s)) (tagsAt s j)
+  pub tagsKept : tagsAround s i ≡ tagsAround s j
   pub place : Next s i n
   pub after : (n ≤ j) × (j ≤ length s)
 
@@ -94,6 +96,7 @@ NextChild s i (At n j) = FirstOf s i n j
 -- at j the row of the children of the element at n begins
 pub record ChildrenFrom (s : List ℕ) (n j : ℕ) : Type 0 where
   pub row : rowAt s j ≡ childrenAt s n
+  pub tags : tagsAt s j ≡ tagsIn (drop n s)
   pub inside : j ≤ length s
 
 -- the n bytes from i on lie in the text s
@@ -105,6 +108,11 @@ pub record Spans (s : List ℕ) (i n : ℕ) (w : List ℕ) : Type 0 where
   pub part : take n (drop i s) ≡ w
   pub inside : Inside s i n
 
--- that part of it
+-- w is where the text of the element at n stands
+pub record TextAt (s : List ℕ) (n : ℕ) (w : Span) : Type 0 where
+  pub place : w ≡ textPlace s (drop n s)
+  pub spans : Spans s (w .from) (w .len) (headAt s n .text)
+
+-- that part of a text
 abbrev pub partAt : List ℕ → Span → List ℕ
 partAt s w = take (w .len) (drop (w .from) s)

@@ -4,8 +4,9 @@ use mathlib.Core.Bool.{true, false, not, cond}
 use mathlib.Core.List.{List}
 use Prim.Native.Nat.{ℕ}
 use lib.Dec.{eqb}
-use lib.ListN.{length}
+use lib.ListN.{length, drop}
 use Rattle.xml.specs.Tree.{none}
+use Rattle.elements.specs.Tags.{textPlace}
 use Rattle.elements.specs.Reading.{rowAt, headAt, emptyAt, childrenAt, isRow, NextTag, Behind, FirstOf, Spans}
 use Rattle.elements.specs.declared.tags.Tag.{Tag}
 use Rattle.elements.specs.declared.tags.Tag.the-variants as tag
@@ -21,6 +22,7 @@ pub record Shape (s : List ℕ) (h : Start) : Type 0 where
   pub plain : h .plain ≡ eqb (length (headAt s (h .at) .key)) 0
   pub empty : emptyAt s (h .at) ≡ h .empty
   pub text : Spans s (h .text .from) (h .text .len) (headAt s (h .at) .text)
+  pub place : h .text ≡ textPlace s (drop (h .at) s)
   pub leaf : h .leaf ≡ not (isRow (childrenAt s (h .at)))
 
 -- the element whose tag is at n; one without children is left at the place told

@@ -10,7 +10,7 @@ ghost use lib.ListN.{length, drop};
 ghost use Rattle.slices.specs.Slices as slices;
 ghost use Rattle.xml.specs.Bytes.{isSpace};
 ghost use Rattle.xml.specs.Tree.{quoted};
-ghost use Rattle.elements.specs.Reading.{headAt, childrenAt, isRow, ChildrenFrom, Spans};
+ghost use Rattle.elements.specs.Reading.{headAt, childrenAt, isRow, ChildrenFrom, TextAt};
 
 // Its name.
 pub fn name_of(text: &[u8], n: usize) -> &[u8]
@@ -98,7 +98,7 @@ pub struct Span {
 
 // Where its text stands.
 pub fn text_at(text: &[u8], n: usize) -> Span
-    ensures { λ r. ⌜ Spans (now (text .entry)) (r .from) (r .len) (headAt (now (text .entry)) n .text) ⌝ }
+    ensures { λ r. ⌜ TextAt (now (text .entry)) n r ⌝ }
 {
     let tag = scan::tag_end(text, scan::inside(text, n));
     let a = tag.at;

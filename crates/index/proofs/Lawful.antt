@@ -15,7 +15,7 @@ use Rattle.xml.specs.Bytes.{isSpace}
 use Rattle.xml.specs.Tree.{Head, Forest, none, node}
 use Rattle.elements.specs.Reading.{isRow}
 use Rattle.children.specs.Rules.{Rule, placeOf, markOf}
-use Rattle.children.specs.Children.{noAttribute, holds as heldBy, allKnown, pick, atMostOne, below, lawful}
+use Rattle.children.specs.Children.{noAttribute, holds as heldBy, kept, allKnown, pick, atMostOne, below, lawful}
 use Rattle.children.proofs.Below.{below-false}
 use Rattle.index_names.specs.Sorts.{index, extent, skipped, unknown, holds}
 use Rattle.index_names.specs.Rows.{countOnce}
@@ -212,7 +212,7 @@ module _ (kind : ℕ) (one : kind < 9) where
 
   -- so many elements have a name as its rule picks
   there : (j : ℕ) (f : Forest) → isRow (pick rs j f) ≡ leb 1 (count j kind f)
-  unfolding pick count isRow
+  unfolding kept count isRow
   there j none = refl
   there j (node h c r) = ap (λ (k : ℕ). isRow (cond (eqb k j) (node h c (pick rs j r)) (pick rs j r))) (place-number kind (h .name)) ∙ go (eqb (numberOf kind h) j) (there j r)
     where
@@ -222,7 +222,7 @@ module _ (kind : ℕ) (one : kind < 9) where
       go false i = i
 
   not-twice : (j : ℕ) (f : Forest) → atMostOne (pick rs j f) ≡ leb (count j kind f) 1
-  unfolding pick count atMostOne
+  unfolding kept count atMostOne
   not-twice j none = refl
   not-twice j (node h c r) = ap (λ (k : ℕ). atMostOne (cond (eqb k j) (node h c (pick rs j r)) (pick rs j r))) (place-number kind (h .name)) ∙ go (eqb (numberOf kind h) j) (not-twice j r)
     where

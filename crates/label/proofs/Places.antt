@@ -4,18 +4,27 @@ use mathlib.Core.List.{List}
 use Prim.Native.Nat.{ℕ}
 use Rattle.refusals.specs.Refusals.{Answer, refused}
 use Rattle.refusals.specs.declared.Refusal.{Refusal}
+use Rattle.elements.specs.declared.heads.Span.{Span}
 use Rattle.label.specs.Label.{Label}
-use Rattle.label.specs.Reading.{LieIn, placesInside, ReadsLabel}
+use Rattle.label.specs.TextPlaces.{TextPlaces}
+use Rattle.label.specs.Reading.{LieIn, placesInside, placesOf, Stands, ReadsLabel}
 use Rattle.label.specs.declared.reader.Fields.{Fields}
 use Rattle.label.specs.declared.reader.Label.{Label as Answered}
 use Rattle.label.specs.declared.reader.Label.the-variants.{Says, Refused}
 
-module _ {s : List ℕ} {a : Answer Label} where
-  pub refuses : {r : Refusal} → refused r ≡ a → ReadsLabel s a (Refused r)
-  refuses e = record { says = e; inside = tt }
+module _ {s : List ℕ} {a : Answer Label} {w : TextPlaces} where
+  pub refuses : {r : Refusal} → refused r ≡ a → ReadsLabel s a w (Refused r)
+  refuses e = record { says = e; inside = tt; stands = tt }
 
-  pub reads-as : {b : Answer Label} {r : Answered} → a ≡ b → ReadsLabel s a r → ReadsLabel s b r
-  reads-as e p = record { says = p .says ∙ e; inside = p .inside }
-
-  pub said-inside : {r : Answered} {f : Fields} → r ≡ Says f → ReadsLabel s a r → LieIn s f
+  pub said-inside : {r : Answered} {f : Fields} → r ≡ Says f → ReadsLabel s a w r → LieIn s f
   said-inside e p = subst (placesInside s) e (p .inside)
+
+  pub said-places : {r : Answered} {f : Fields} → r ≡ Says f → ReadsLabel s a w r → placesOf f ≡ w
+  said-places e p = subst (Stands w) e (p .stands)
+
+  pub reads-as : {b : Answer Label} {v : TextPlaces} {r : Answered} → a ≡ b → w ≡ v → ReadsLabel s a w r → ReadsLabel s b v r
+  reads-as {r = r} e q p = record { says = p .says ∙ e; inside = p .inside; stands = subst (λ (x : TextPlaces). Stands x r) q (p .stands) }
+
+pub same-places : {c c′ t t′ u u′ : Span} → c ≡ c′ → t ≡ t′ → u ≡ u′
+    → _≡_ {A = TextPlaces} (record { creator = c; time = t; uuid = u }) (record { creator = c′; time = t′; uuid = u′ })
+same-places p q r = cc

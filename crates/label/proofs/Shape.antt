@@ -4,16 +4,19 @@ use mathlib.Core.Bool.{Bool, true, false, _&&_}
 use mathlib.Core.List.{List}
 use Prim.Native.Nat.{ℕ}
 use native.Mathlib.Omega.{arith}
-use lib.ListN.{getD}
+use lib.ListN.{drop, getD}
 use Rattle.slices.specs.Slices.{same}
 use Rattle.slices.specs.Words.{bytes}
 use Rattle.slices.proofs.Booleans.{and-left, and-right}
 use Rattle.xml.specs.Tree.{Forest}
+use Rattle.elements.specs.Tags.{Tags, textPlace}
 use Rattle.elements.specs.Reading.{headAt, childrenAt}
 use Rattle.children.specs.Children.{lawful}
-use Rattle.children.specs.Rows.{Seated}
-use Rattle.children.proofs.Found.{found-text, found-children}
+use Rattle.children.specs.Rows.{Seated, Placed}
+use Rattle.children.proofs.Found.{found-text, found-children, found-place}
 use Rattle.label.specs.Label.{Texts, ofRoot, ofLocation, ofPartitions, inside, isShaped, value, textsIn}
+use Rattle.label.specs.TextPlaces.{TextPlaces, placesIn}
+use Rattle.label.proofs.Places.{same-places}
 
 same-texts : {c c′ t t′ u u′ l l′ i i′ d d′ b b′ z z′ : List ℕ} → c ≡ c′ → t ≡ t′ → u ≡ u′ → l ≡ l′ → i ≡ i′ → d ≡ d′ → b ≡ b′ → z ≡ z′
     → _≡_ {A = Texts} (record { creator = c; time = t; uuid = u; location = l; indexLetter = i; dataLetter = d; blockSize = b; compression = z })
@@ -75,3 +78,15 @@ module _ {s : List ℕ} {f X Y : Forest} {okA okP okQ : Bool} {a p q : List ℕ}
         (sym (ap (value "data") (partitions-row all) ∙ found-text Q parts 1 (omega arith) refl))
         (sym (found-text A all 5 (omega arith) refl))
         (sym (found-text A all 6 (omega arith) refl))
+
+    -- and where they stand, by the root's children's tags
+    pub standing : {g : Tags} → Placed s ofRoot g okA a
+        → _≡_ {A = TextPlaces}
+        (record { creator = textPlace s (drop (getD a 0 0) s); time = textPlace s (drop (getD a 1 0) s); uuid = textPlace s (drop (getD a 2 0) s) })
+        (placesIn s g)
+    unfolding rules longer bytes isMark same
+    standing w =
+        same-places
+        (sym (found-place A all 0 (omega arith) refl w))
+        (sym (found-place A all 1 (omega arith) refl w))
+        (sym (found-place A all 2 (omega arith) refl w))

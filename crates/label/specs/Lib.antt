@@ -1,4 +1,5 @@
 pub mod Label
+pub mod TextPlaces
 pub mod Parts
 pub mod Reading
 pub mod Agreement

@@ -3,11 +3,14 @@ use mathlib.Core.Path.{_≡_}
 use mathlib.Core.Bool.{true}
 use mathlib.Core.List.{List}
 use Prim.Native.Nat.{ℕ}
+use lib.ListN.{drop}
 use Rattle.refusals.specs.Refusals.{Answer, refused, answer}
-use Rattle.elements.specs.Reading.{headAt, partAt, Inside}
+use Rattle.elements.specs.Tags.{Tags, tagsIn}
+use Rattle.elements.specs.Reading.{headAt, childrenAt, partAt, Inside}
 use Rattle.texts.specs.Decoded.{decoded}
 use Rattle.xml.specs.Tree.{Forest}
-use Rattle.label.specs.Label.{Label, Texts, isShaped, textsIn}
+use Rattle.label.specs.Label.{Label, Texts, isShaped, textsIn, rootOf}
+use Rattle.label.specs.TextPlaces.{TextPlaces, placesIn, placesAt}
 use Rattle.label.specs.declared.reader.Places.{Places}
 use Rattle.label.specs.declared.reader.Fields.{Fields}
 use Rattle.label.specs.declared.reader.Label.{Label as Answered}
@@ -27,10 +30,11 @@ textsAt s p =
       compression = headAt s (p .compression) .text;
     }
 
--- whether the children are lawful, and if so where they stand
-pub record Finds (s : List ℕ) (f : Forest) (p : Places) : Type 0 where
+-- whether the children f, whose tags are t, are lawful, and if so where they stand
+pub record Finds (s : List ℕ) (f : Forest) (t : Tags) (p : Places) : Type 0 where
   pub shaped : p .ok ≡ isShaped f
   pub texts : p .ok ≡ true → textsAt s p ≡ textsIn f
+  pub places : p .ok ≡ true → placesAt s p ≡ placesIn s t
 
 -- the label that a reader's fields say of the text
 abbrev pub fieldsIn : List ℕ → Fields → Label
@@ -62,6 +66,21 @@ abbrev pub placesInside : List ℕ → Answered → Type 0
 placesInside s (Refused r) = Unit {0}
 placesInside s (Says f) = LieIn s f
 
-pub record ReadsLabel (s : List ℕ) (a : Answer Label) (r : Answered) : Type 0 where
+-- the places in the fields
+abbrev pub placesOf : Fields → TextPlaces
+placesOf f = record { creator = f .creator; time = f .time; uuid = f .uuid }
+
+-- they are the places w
+abbrev pub Stands : TextPlaces → Answered → Type 0
+Stands w (Refused r) = Unit {0}
+Stands w (Says f) = placesOf f ≡ w
+
+-- the answer says what a says, of the texts at the places w
+pub record ReadsLabel (s : List ℕ) (a : Answer Label) (w : TextPlaces) (r : Answered) : Type 0 where
   pub says : means s r ≡ a
   pub inside : placesInside s r
+  pub stands : Stands w r
+
+-- the label whose root has its tag at n
+abbrev pub ReadsRoot : List ℕ → ℕ → Answered → Type 0
+ReadsRoot s n = ReadsLabel s (rootOf (headAt s n) (childrenAt s n)) (placesIn s (tagsIn (drop n s)))

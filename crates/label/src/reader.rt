@@ -9,13 +9,16 @@ use values::Version;
 use xml::Checked;
 ghost use mathlib.Core.Path.{_≡_};
 ghost use mathlib.Core.Bool.{_&&_};
+ghost use lib.ListN.{drop};
+ghost use Rattle.elements.specs.Tags.{tagsIn};
 ghost use Rattle.elements.specs.Reading.{headAt, childrenAt};
 ghost use Rattle.texts.specs.Decoded.{decoded};
 ghost use Rattle.digits.specs.Decimal.{valueOf};
 ghost use Rattle.values.specs.Values.{number, letter, isCreator, isTime, isUuid};
-ghost use Rattle.label.specs.Label.{lettersFit, labelFrom, isRoot, rootOf, labelOf};
+ghost use Rattle.label.specs.Label.{lettersFit, labelFrom, isRoot, labelOf};
+ghost use Rattle.label.specs.TextPlaces.{textPlaces, placesAt};
 ghost use Rattle.label.specs.Parts.{sized, fitting, lettersOf};
-ghost use Rattle.label.specs.Reading.{textsAt, Finds, ReadsLabel};
+ghost use Rattle.label.specs.Reading.{textsAt, Finds, ReadsLabel, ReadsRoot};
 
 // Whether the children of the root are lawful, and the places of the elements that hold the values.
 pub struct Places {
@@ -68,7 +71,7 @@ fn all_three(a: bool, b: bool, c: bool) -> bool
 
 // The children of the root at n.
 fn find_places(text: &[u8], n: usize) -> Places
-    ensures { λ r. ⌜ Finds (now (text .entry)) (childrenAt (now (text .entry)) n) r ⌝ }
+    ensures { λ r. ⌜ Finds (now (text .entry)) (childrenAt (now (text .entry)) n) (tagsIn (drop n (now (text .entry)))) r ⌝ }
 {
     let all = children::read_row(
         text,
@@ -154,7 +157,7 @@ fn read_size(raw: &[u8]) -> Number
 
 // The values at the places.
 fn read_values(text: &[u8], p: Places, release: u64) -> Label
-    ensures { λ r. ⌜ ReadsLabel (now (text .entry)) (labelFrom release (textsAt (now (text .entry)) p)) r ⌝ }
+    ensures { λ r. ⌜ ReadsLabel (now (text .entry)) (labelFrom release (textsAt (now (text .entry)) p)) (placesAt (now (text .entry)) p) r ⌝ }
 {
     if !texts_lawful(
         elements::text_of(text, p.creator),
@@ -202,7 +205,7 @@ fn is_root(text: &[u8], n: usize) -> bool
 
 // The root at n.
 fn read_root(text: &[u8], n: usize) -> Label
-    ensures { λ r. ⌜ ReadsLabel (now (text .entry)) (rootOf (headAt (now (text .entry)) n) (childrenAt (now (text .entry)) n)) r ⌝ }
+    ensures { λ r. ⌜ ReadsRoot (now (text .entry)) n r ⌝ }
 {
     if !is_root(text, n) {
         return Label::Refused(Refusal::Structure);
@@ -219,7 +222,7 @@ fn read_root(text: &[u8], n: usize) -> Label
 
 // Reads an LTFS label.
 pub fn read(text: &[u8]) -> Label
-    ensures { λ r. ⌜ ReadsLabel (now (text .entry)) (labelOf (now (text .entry))) r ⌝ }
+    ensures { λ r. ⌜ ReadsLabel (now (text .entry)) (labelOf (now (text .entry))) (textPlaces (now (text .entry))) r ⌝ }
 {
     if 4096 < text.len() {
         return Label::Refused(Refusal::TooMany);

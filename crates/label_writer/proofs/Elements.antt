@@ -8,7 +8,7 @@ use Rattle.slices.specs.Slices.{every}
 use Rattle.slices.specs.Words.{bytes}
 use Rattle.digits.specs.Decimal.{short}
 use Rattle.xml.specs.Bytes.{declaration, isNameByte, isLetter, isSpace}
-use Rattle.xml.specs.Tree.{Head, Forest, none, node, front, behind, isNot, notOpen, quoteAfter, past, quoted, headOf, top, pop, closed, opened, alone, put, forests}
+use Rattle.xml.specs.Tree.{Head, Forest, none, node, front, behind, isNot, notOpen, quoteAfter, past, quoted, headOf, top, pop, closed, opened, alone, put, trees, behindTag, forests}
 use Rattle.xml.specs.Grammar.{head}
 use Rattle.elements.specs.Reading.{rowAt}
 use Rattle.label.specs.Label.{Label}
@@ -60,11 +60,11 @@ rootHead = head (bytes "ltfslabel") (bytes "version") (bytes "2.0.1") []
 
 -- the root's tag is read alike before any other
 opening-read : (s : List ℕ) → forests (drop 38 (opening ++ 60 ∷ s)) ≡ opened rootHead (forests (60 ∷ s))
-unfolding opening declaration bytes forests isNot put past quoteAfter headOf front behind quoted isNameByte isLetter isSpace
+unfolding opening declaration bytes trees isNot put past quoteAfter headOf behindTag front behind quoted isNameByte isLetter isSpace
 opening-read s = refl
 
 closing-read : forests closing ≡ closed []
-unfolding closing bytes forests isNot put
+unfolding closing bytes trees isNot put
 closing-read = refl
 
 -- the root's children

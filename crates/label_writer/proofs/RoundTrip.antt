@@ -21,7 +21,7 @@ use Rattle.xml.specs.Tree.{none}
 use Rattle.elements.specs.Reading.{isRow}
 use Rattle.texts.specs.Decoded.{decoded}
 use Rattle.children.specs.Rules.{placeOf, markOf}
-use Rattle.children.specs.Children.{holds, allKnown, pick, atMostOne, below, lawful, only, textOf as textOfFirst, childrenOf}
+use Rattle.children.specs.Children.{holds, kept, allKnown, atMostOne, below, lawful, textOf as textOfFirst, childrenOf}
 use Rattle.values.specs.Values.{number, boolean, letter, version, isCreator, isTime, isUuid}
 use Rattle.label_writer.specs.declared.Given.{Given}
 use Rattle.label.specs.Label.{Label, Texts, isShaped, textsIn, labelFrom, labelOf}
@@ -54,7 +54,7 @@ unfolding version same bytes decimal.number decimal.isNumber decimal.plain runs.
 version-says = refl
 
 children-shaped : (f : Label) → isShaped (children f) ≡ true
-unfolding isShaped lawful bytes same allKnown holds markOf placeOf pick atMostOne below isRow only childrenOf
+unfolding isShaped lawful bytes same allKnown holds markOf placeOf kept atMostOne below isRow childrenOf
 children-shaped f = refl
 
 -- the texts that were written
@@ -72,7 +72,7 @@ shown f =
     }
 
 children-texts : (f : Label) → textsIn (children f) ≡ shown f
-unfolding textsIn bytes same only textOfFirst childrenOf
+unfolding textsIn bytes same kept textOfFirst childrenOf
 children-texts f = refl
 
 -- the same values in another release

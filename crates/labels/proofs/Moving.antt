@@ -1,61 +1,56 @@
--- A part of a part of a store is a part of the store, and lies in it.
+-- A part of a part of a store is a part of the store: what the label of a text says, as what it says of the store that the text lies in.
 use mathlib.Core.Path.{_≡_, sym, _∙_, ap}
 use mathlib.Core.List.{List}
-use Prim.Native.Nat.{ℕ, _+_, _-_, _<_, _≤_}
+use Prim.Native.Nat.{ℕ, _+_, _-_, _≤_}
 use native.Mathlib.Omega.{arith}
-use lib.ListN.{length, take, drop, length-take}
-use lib.Seq.{take-all, take-nil, take-take, drop-drop}
+use lib.ListN.{length, take, drop, length-take, length-drop}
+use lib.Seq.{take-take, drop-drop}
 use Rattle.slices.proofs.Parts.{drop-front}
-use Rattle.refusals.specs.Refusals.{answer}
-use Rattle.elements.specs.Reading.{Inside, Spans}
-use Rattle.elements.specs.declared.heads.Span.{Span}
-use Rattle.label.specs.Reading.{fieldsIn, ReadsLabel}
-use Rattle.label.specs.declared.reader.Fields.{Fields}
-use Rattle.label.specs.declared.reader.Label.the-variants.{Says}
-use Rattle.labels.specs.Reading.{Moves}
+use Rattle.refusals.specs.Refusals.{Answer}
+use Rattle.elements.specs.Reading.{Inside}
+use Rattle.label.specs.Label.{Label as Told}
+use Rattle.label.specs.TextPlaces.{TextPlaces}
+use Rattle.label.specs.Reading.{ReadsLabel}
+use Rattle.label.specs.declared.reader.Label.{Label}
+use Rattle.label.specs.declared.reader.Label.the-variants.{Says, Refused}
+use Rattle.labels.specs.Reading.{placesMoved, labelMoved, BeginWithin}
 
-module _ (from len n by : ℕ) (s : List ℕ) where
-  -- a part of the n bytes from `by` on, in the store
-  inner : take len (drop from (take n (drop by s))) ≡ take len (take (n - from) (drop (by + from) s))
-  inner = ap (take len) (drop-front from n (drop by s) ∙ ap (take (n - from)) (drop-drop from by s))
+-- the n bytes from `by` on in the store s
+module _ (s : List ℕ) (n by : ℕ) (k : Inside s by n) where
+  part-long : length (take n (drop by s)) ≡ n
+  part-long = omega (arith, length-take n (drop by s), length-drop by s)
 
-  short : length (take (n - from) (drop (by + from) s)) ≤ n - from
-  short = omega (arith, length-take (n - from) (drop (by + from) s))
+  part-moved : (from len : ℕ) → from + len ≤ n → take len (drop (by + from) s) ≡ take len (drop from (take n (drop by s)))
+  part-moved from len h =
+      sym (ap (take len) (drop-front from n (drop by s) ∙ ap (take (n - from)) (drop-drop from by s)) ∙ take-take len (n - from) (drop (by + from) s) (omega arith))
 
-  module _ (k : Inside s by n) where
-    pub moved-past : n < from → Spans s by 0 (take len (drop from (take n (drop by s))))
-    moved-past h =
-        let z : n - from ≡ 0 = omega arith in
-        record { part = sym (inner ∙ rw z (take-nil {A = ℕ} len)); inside = omega arith }
+  -- a span of them lies in the store
+  span-inside : (from len : ℕ) → Inside (take n (drop by s)) from len → Inside s (by + from) len
+  span-inside from len h = omega (arith, part-long)
 
-    pub moved-cut : from ≤ n → n - from < len → Spans s (by + from) (n - from) (take len (drop from (take n (drop by s))))
-    moved-cut g h =
-        let l = short in
-        record { part = sym (inner ∙ take-all len (take (n - from) (drop (by + from) s)) (omega arith)); inside = omega arith }
+  within : (from len : ℕ) → Inside (take n (drop by s)) from len → from + len ≤ n
+  within from len h = omega (arith, part-long)
 
-    pub moved-whole : from ≤ n → len ≤ n - from → Spans s (by + from) len (take len (drop from (take n (drop by s))))
-    moved-whole g h = record { part = sym (inner ∙ take-take len (n - from) (drop (by + from) s) h); inside = omega arith }
-
--- what a label says, its three spans moved
-module _ (n by : ℕ) (f : Fields) (creator time uuid : Span) where
-  abbrev pub withSpans : Fields
-  withSpans =
+  pub reads-moved : {a : Answer Told} {w : TextPlaces} (r : Label) → ReadsLabel (take n (drop by s)) a w r → ReadsLabel s a (placesMoved by w) (labelMoved by r)
+  reads-moved (Refused r) p = record { says = p .says; inside = tt; stands = tt }
+  reads-moved (Says f) p =
+      let i = p .inside in
       record {
-        release = f .release;
-        creator = creator;
-        time = time;
-        uuid = uuid;
-        location = f .location;
-        «index_letter» = f .«index_letter»;
-        «data_letter» = f .«data_letter»;
-        «block_size» = f .«block_size»;
-        compression = f .compression;
+        says = rw (
+          part-moved (f .creator .from) (f .creator .len) (within _ _ (i .creator)),
+          part-moved (f .time .from) (f .time .len) (within _ _ (i .time)),
+          part-moved (f .uuid .from) (f .uuid .len) (within _ _ (i .uuid)),
+        )
+            (p .says);
+        inside = record { creator = span-inside _ _ (i .creator); time = span-inside _ _ (i .time); uuid = span-inside _ _ (i .uuid) };
+        stands = ap (placesMoved by) (p .stands);
       }
 
-  pub fields-moved : Moves n by (f .creator) creator → Moves n by (f .time) time → Moves n by (f .uuid) uuid
-      → (s : List ℕ) → Inside s by n → ReadsLabel s (answer (fieldsIn (take n (drop by s)) f)) (Says withSpans)
-  fields-moved p q r s k =
-      record {
-        says = rw (p s k .part, q s k .part, r s k .part);
-        inside = record { creator = p s k .inside; time = q s k .inside; uuid = r s k .inside };
-      }
+  pub begins : {a : Answer Told} {w : TextPlaces} (r : Label) → ReadsLabel (take n (drop by s)) a w r → BeginWithin n r
+  begins (Refused r) p = tt
+  begins (Says f) p =
+      let i = p .inside in
+      let c = within _ _ (i .creator) in
+      let t = within _ _ (i .time) in
+      let u = within _ _ (i .uuid) in
+      (omega arith, omega arith, omega arith)

@@ -1,11 +1,12 @@
 -- The labels of two sides, check by check: what follows from each that fails, and what where none does.
-use mathlib.Core.Path.{_≡_, refl}
+use mathlib.Core.Path.{_≡_, refl, sym, ap, _∙_}
 use mathlib.Core.Bool.{Bool, true, false, _&&_}
 use mathlib.Core.List.{List}
 use Prim.Native.Nat.{ℕ, _+_, _-_}
 use native.Mathlib.Omega.{arith}
 use lib.Dec.{eqb}
 use lib.ListN.{length, take, drop}
+use lib.Seq.{length-take-le}
 use Rattle.refusals.specs.declared.Refusal.{Refusal}
 use Rattle.refusals.specs.declared.Refusal.the-variants as is
 use Rattle.refusals.specs.Refusals.{refused, answer, require}
@@ -15,7 +16,9 @@ use Rattle.tape.specs.Answers.{tapeIn}
 use Rattle.label.specs.Label.{Label, labelOf}
 use Rattle.vol1.specs.Vol1.{Fields, vol1, vol1Of, identifierIn, ownerIn, isPrinted}
 use Rattle.label.specs.Agreement.{agree}
-use Rattle.labels.specs.Labels.{isLaid, labelsFrom, labelsOf, labelsIn}
+use Rattle.label.specs.TextPlaces.{textPlaces}
+use Rattle.labels.specs.Labels.{isLaid, bytesAt, labelsFrom, labelsOf, labelsIn}
+use Rattle.labels.specs.Reading.{placesMoved, placesOn}
 use Rattle.labels.proofs.Blocks.{LaidOut}
 
 -- a test that refuses with one number refuses with that number
@@ -84,3 +87,11 @@ module _ (il il′ dl dl′ : List ℕ) where
           let a : n + m - n ≡ m = omega arith in
           let b : k + j - k ≡ j = omega arith in
           rw (e₀, e₁, p .laid, q .laid, a, b, p .vol1, p .text, q .vol1, q .text)
+
+-- the places of the index side's texts
+pub places-laid : (il il′ : List ℕ) {i : Tape} {n m : ℕ} → tapeIn il il′ ≡ answer i → LaidOut il′ i n m
+    → placesMoved n (textPlaces (take (n + m - n) (drop n il′))) ≡ placesOn (tapeIn il il′)
+places-laid il il′ {i} {n} {m} e p =
+    let a : n + m - n ≡ m = omega arith in
+    let b : n ≡ length (bytesAt i 0) = sym (length-take-le n il′ (omega (arith, p .within))) ∙ ap length (p .vol1) in
+    rw (e, a, p .text) (ap (λ (k : ℕ). placesMoved k (textPlaces (bytesAt i 2))) b)

@@ -1,21 +1,24 @@
 -- What the steps of the check answer.
 use mathlib.Core.Path.{_≡_}
 use mathlib.Core.Bool.{cond}
-use mathlib.Core.List.{List}
-use Prim.Native.Nat.{ℕ}
-use lib.ListN.{length, take, drop}
+use mathlib.Core.List.{List, []}
+use Prim.Native.Nat.{ℕ, _+_, _≤_}
+use lib.ListN.{length}
+use Rattle.refusals.specs.Refusals.{Answer, refused, answer}
 use Rattle.tape.specs.Tape.{Tape, Encodes}
+use Rattle.tape.specs.Answers.{tapeIn}
 use Rattle.tape.specs.declared.Entry.{Entry}
 use Rattle.tape.specs.declared.Entry.the-variants as entry
-use Rattle.elements.specs.Reading.{partAt, Inside, Spans}
 use Rattle.elements.specs.declared.heads.Span.{Span}
-use Rattle.label.specs.Reading.{means, ReadsLabel}
+use Rattle.label.specs.TextPlaces.{TextPlaces, textPlaces}
+use Rattle.label.specs.Reading.{ReadsLabel}
 use Rattle.label.specs.declared.reader.Label.{Label}
+use Rattle.label.specs.declared.reader.Label.the-variants.{Says, Refused}
 use Rattle.labels.specs.declared.Step.{Step}
 use Rattle.labels.specs.declared.Step.the-variants.{Past, Other}
 use Rattle.labels.specs.declared.Laid.{Laid}
 use Rattle.labels.specs.declared.Laid.the-variants.{Blocks, Otherwise}
-use Rattle.labels.specs.Labels.{isLaid, bytesAt, labelsIn}
+use Rattle.labels.specs.Labels.{isLaid, bytesAt, labelsFrom, labelsIn}
 
 -- past a block, with its length; or something else stands there
 abbrev pub pastBlock : Entry → Step
@@ -38,14 +41,44 @@ layoutOf t = cond (isLaid t) (Blocks (length (bytesAt t 0)) (length (bytesAt t 2
 abbrev pub LaysOut : List ℕ → Laid → Type 0
 LaysOut l r = (s : List ℕ) (t : Tape) → Encodes l s t → r ≡ layoutOf t
 
--- what the labels of two lists with their stores say, with places in the index store
-abbrev pub ReadsLabels : List ℕ → List ℕ → List ℕ → List ℕ → Label → Type 0
-ReadsLabels il is dl ds = ReadsLabel is (labelsIn il is dl ds)
+-- a span of a text that begins `by` bytes into a store, as a span of the store
+abbrev pub spanMoved : ℕ → Span → Span
+spanMoved by w = record { from = by + w .from; len = w .len }
 
--- a span of the n bytes that begin `by` bytes into a store, as a span of the store
-abbrev pub Moves : ℕ → ℕ → Span → Span → Type 0
-Moves n by w r = (s : List ℕ) → Inside s by n → Spans s (r .from) (r .len) (partAt (take n (drop by s)) w)
+-- the three of a label
+abbrev pub placesMoved : ℕ → TextPlaces → TextPlaces
+placesMoved by w = record { creator = spanMoved by (w .creator); time = spanMoved by (w .time); uuid = spanMoved by (w .uuid) }
 
--- the same of what a label says
-abbrev pub MovesLabel : ℕ → ℕ → Label → Label → Type 0
-MovesLabel n by said r = (s : List ℕ) → Inside s by n → ReadsLabel s (means (take n (drop by s)) said) r
+-- what a label says, with its spans moved
+abbrev pub labelMoved : ℕ → Label → Label
+labelMoved by (Refused r) = Refused r
+labelMoved by (Says f) =
+    Says (record {
+      release = f .release;
+      creator = spanMoved by (f .creator);
+      time = spanMoved by (f .time);
+      uuid = spanMoved by (f .uuid);
+      location = f .location;
+      «index_letter» = f .«index_letter»;
+      «data_letter» = f .«data_letter»;
+      «block_size» = f .«block_size»;
+      compression = f .compression;
+    })
+
+-- its spans begin at most n bytes into the text
+abbrev pub BeginWithin : ℕ → Label → Type 0
+BeginWithin n (Refused r) = Unit {0}
+BeginWithin n (Says f) = (f .creator .from ≤ n) × (f .time .from ≤ n) × (f .uuid .from ≤ n)
+
+-- where the texts of a side's label stand in its store: in block 2, which follows block 0
+abbrev pub placesOn : Answer Tape → TextPlaces
+placesOn (refused r) = textPlaces []
+placesOn (answer t) = placesMoved (length (bytesAt t 0)) (textPlaces (bytesAt t 2))
+
+-- what the labels of two sides say, the places being in the index store
+abbrev pub ChecksLabels : List ℕ → List ℕ → List ℕ → List ℕ → Label → Type 0
+ChecksLabels il is dl ds = ReadsLabel is (labelsIn il is dl ds) (placesOn (tapeIn il is))
+
+-- the same of the VOL1 labels v and w and the label texts s and t, the places being in s
+abbrev pub ReadsSides : List ℕ → List ℕ → List ℕ → List ℕ → Label → Type 0
+ReadsSides v s w t = ReadsLabel s (labelsFrom v s w t) (textPlaces s)

@@ -9,9 +9,7 @@ use vol1::Vol1Read;
 ghost use mathlib.Core.Path.{_≡_};
 ghost use Prim.Native.Nat.{_+_, _≤_};
 ghost use Rattle.tape.specs.Reading.{entryAt};
-ghost use Rattle.label.specs.Reading.{means};
-ghost use Rattle.labels.specs.Labels.{labelsFrom};
-ghost use Rattle.labels.specs.Reading.{pastBlock, pastMark, LaysOut, Moves, MovesLabel, ReadsLabels};
+ghost use Rattle.labels.specs.Reading.{pastBlock, pastMark, LaysOut, spanMoved, labelMoved, BeginWithin, ReadsSides, ChecksLabels};
 
 // The element asked for: its bytes, and the place of the next entry; or another one.
 enum Step {
@@ -65,38 +63,29 @@ fn lay_out(list: &[u8]) -> Laid
     Laid::Blocks(vol1, text)
 }
 
-// A span of the n bytes that begin at a place of a store, as a span of the store: cut off at their end.
-fn moved(w: Span, n: usize, by: usize) -> Span
-    requires { ⌜ by + n ≤ 18446744073709551615 ⌝ }
-    ensures { λ r. ⌜ Moves n by w r ⌝ }
+// A span of a text that begins at a place of a store, as a span of the store.
+fn moved(w: Span, by: usize) -> Span
+    requires { ⌜ by + w .from ≤ 18446744073709551615 ⌝ }
+    ensures { λ r. ⌜ r ≡ spanMoved by w ⌝ }
 {
-    if n < w.from {
-        return Span { from: by, len: 0 };
-    }
-    if n - w.from < w.len {
-        return Span {
-            from: by + w.from,
-            len: n - w.from,
-        };
-    }
     Span {
         from: by + w.from,
         len: w.len,
     }
 }
 
-// What a label says, with its spans moved.
+// What the label of a text of n bytes says, with its spans moved.
 fn in_store(said: Label, n: usize, by: usize) -> Label
-    requires { ⌜ by + n ≤ 18446744073709551615 ⌝ }
-    ensures { λ r. ⌜ MovesLabel n by said r ⌝ }
+    requires { ⌜ BeginWithin n said × (by + n ≤ 18446744073709551615) ⌝ }
+    ensures { λ r. ⌜ r ≡ labelMoved by said ⌝ }
 {
     match said {
         Label::Refused(r) => Label::Refused(r),
         Label::Says(f) => Label::Says(Fields {
             release: f.release,
-            creator: moved(f.creator, n, by),
-            time: moved(f.time, n, by),
-            uuid: moved(f.uuid, n, by),
+            creator: moved(f.creator, by),
+            time: moved(f.time, by),
+            uuid: moved(f.uuid, by),
             location: f.location,
             index_letter: f.index_letter,
             data_letter: f.data_letter,
@@ -108,7 +97,7 @@ fn in_store(said: Label, n: usize, by: usize) -> Label
 
 // The VOL1 label v and the label text s of the index side, w and t of the data side.
 fn read_sides(v: &[u8], s: &[u8], w: &[u8], t: &[u8]) -> Label
-    ensures { λ r. ⌜ means (now (s .entry)) r ≡ labelsFrom (now (v .entry)) (now (s .entry)) (now (w .entry)) (now (t .entry)) ⌝ }
+    ensures { λ r. ⌜ ReadsSides (now (v .entry)) (now (s .entry)) (now (w .entry)) (now (t .entry)) r ⌝ }
 {
     let Vol1Read::Good = vol1::read_vol1(v) else {
         return Label::Refused(Refusal::Vol1);
@@ -133,7 +122,7 @@ fn read_sides(v: &[u8], s: &[u8], w: &[u8], t: &[u8]) -> Label
 
 // The labels of a volume: what the index side's label says, its spans being places in the index store.
 pub fn check(index_list: &[u8], index_store: &[u8], data_list: &[u8], data_store: &[u8]) -> Label
-    ensures { λ r. ⌜ ReadsLabels (now («index_list» .entry)) (now («index_store» .entry)) (now («data_list» .entry)) (now («data_store» .entry)) r ⌝ }
+    ensures { λ r. ⌜ ChecksLabels (now («index_list» .entry)) (now («index_store» .entry)) (now («data_list» .entry)) (now («data_store» .entry)) r ⌝ }
 {
     let Checked::Elements(_) = tape::check(index_list, index_store) else {
         return Label::Refused(Refusal::List);

@@ -8,14 +8,14 @@ use lib.ListN.{take, getD}
 use Rattle.slices.specs.Slices.{every}
 use Rattle.slices.proofs.Booleans.{and-left, and-right}
 use Rattle.xml.specs.Bytes.{isNameByte, isLetter, isSpace}
-use Rattle.xml.specs.Tree.{front, behind, isNot, notOpen, quoteAfter, past, quoted, headOf, top, pop, closed, opened, alone, put, forests}
+use Rattle.xml.specs.Tree.{front, behind, isNot, notOpen, quoteAfter, past, quoted, headOf, top, pop, closed, opened, alone, put, trees, behindTag, forests}
 use Rattle.xml.specs.Grammar.{head}
 use Rattle.xml.proofs.Classes.{name-not}
 
 -- text before a tag: it holds no tag, and it is what reaches to the tag
 module _ (s : List ℕ) where
   pub text-over : (w : List ℕ) → every notOpen w ≡ true → forests (w ++ s) ≡ forests s
-  unfolding every forests
+  unfolding every trees
   text-over [] e = refl
   text-over (b ∷ w) e = rw (and-left (notOpen b) (every notOpen w) e) (text-over w (and-right (notOpen b) (every notOpen w) e))
 
@@ -44,7 +44,7 @@ module _ (s : List ℕ) where
   name-behind (b ∷ n) e = rw (and-left (isNameByte b) (every isNameByte n) e) (name-behind n (and-right (isNameByte b) (every isNameByte n) e))
 
   name-over : (n : List ℕ) → every isNameByte n ≡ true → forests (n ++ 62 ∷ s) ≡ forests s
-  unfolding every forests isNot isNameByte isLetter
+  unfolding every trees isNot isNameByte isLetter
   name-over [] e = refl
   name-over (b ∷ n) e = rw (name-not b 60 (and-left (isNameByte b) (every isNameByte n) e) refl) (name-over n (and-right (isNameByte b) (every isNameByte n) e))
 
@@ -56,12 +56,12 @@ module _ (s : List ℕ) where
 module _ (n : List ℕ) (e : every isNameByte n ≡ true) where
   -- `<n>`, with the text w behind it
   pub start-tag : (w s : List ℕ) → take (front notOpen s) s ≡ w → forests (60 ∷ n ++ 62 ∷ s) ≡ opened (head n [] [] w) (forests s)
-  unfolding forests isNot put headOf front behind quoted isNameByte isLetter isSpace
+  unfolding trees isNot put headOf behindTag front behind quoted isNameByte isLetter isSpace
   start-tag w s h = rw (name-first s n e, name-past s n 0 e refl, name-front s n e, name-behind s n e, name-over s n e, h)
 
   -- `</n>`
   pub end-tag : (s : List ℕ) → forests (60 ∷ 47 ∷ n ++ 62 ∷ s) ≡ closed (forests s)
-  unfolding forests isNot put
+  unfolding trees isNot put
   end-tag s = rw (name-over s n e)
 
   -- `<n>w</n>`

@@ -8,7 +8,7 @@ use borrow.Author.Tests.{eq-eqb, ne-eqb, lt-ltb, eqb-false, ltb-true}
 use lib.Dec.{eqb, ltb}
 use lib.ListN.{length, take, drop, getD, length-append}
 use Rattle.xml.specs.Bytes.{isSpace, isLetter, isNameByte, declaration}
-use Rattle.xml.specs.Tree.{Head, Forest, none, node, past, quoteAfter, front, isNot, notOpen, behind, quoted, headOf, top, pop, closed, opened, alone, put, forests}
+use Rattle.xml.specs.Tree.{Head, Forest, none, node, past, quoteAfter, front, isNot, notOpen, behind, quoted, headOf, top, pop, closed, opened, alone, put, trees, behindTag, tagHead, forests}
 use Rattle.xml.specs.Grammar.{Spaces, NameBytes, Name, Char, Entity, Value, Quoted, Equals, Attribute, Start, End, Text, Elements, Document, head, utf8}
 use Rattle.xml.proofs.Classes.{space-low, space-no-name, letter-no-space, letter-not, space-not, name-not, letter-name}
 use Rattle.slices.specs.Words.{bytes}
@@ -132,7 +132,7 @@ text-free Text.end = Free.end
 text-free (Text.more _ c y) = join (char-free c) (text-free y)
 
 forests-free : {s t : List ℕ} → Free 60 s t → forests s ≡ forests t
-unfolding forests isNot
+unfolding trees isNot
 forests-free Free.end = refl
 forests-free (Free.more b h y) = simp (ne-eqb b 60 h) (forests-free y)
 
@@ -319,13 +319,13 @@ shut-empty : {r t : List ℕ} → Pass r (47 ∷ 62 ∷ t) → past 0 0 r ≡ re
 unfolding past quoteAfter
 shut-empty f = let (m, e, x) = f .goes 0 refl in x
 
-forests-60 : (r : List ℕ) → forests (60 ∷ r) ≡ put r (forests r)
-unfolding forests isNot
+forests-60 : (r : List ℕ) → forests (60 ∷ r) ≡ put tagHead r (forests r)
+unfolding trees isNot
 forests-60 r = refl
 
 -- a start tag
 forests-opened : {n k v s t : List ℕ} (w : List ℕ) → Tag n k v s 62 t → take (front notOpen t) t ≡ w → forests s ≡ opened (head n k v w) (forests t)
-unfolding put headOf
+unfolding put headOf behindTag
 forests-opened {t = t} w g e =
     let p : past 0 0 (g .rest) ≡ record { empty = false; rest = t } = shut-open (g .pass) in
     let f : forests (g .rest) ≡ forests t = forests-free (join (g .free) (Free.more 62 (omega arith) Free.end)) in
@@ -333,7 +333,7 @@ forests-opened {t = t} w g e =
 
 -- an empty-element tag
 forests-alone : {n k v s t : List ℕ} → Tag n k v s 47 (62 ∷ t) → forests s ≡ alone (head n k v []) (forests t)
-unfolding put headOf front
+unfolding put headOf behindTag front
 forests-alone {t = t} g =
     let p : past 0 0 (g .rest) ≡ record { empty = true; rest = t } = shut-empty (g .pass) in
     let f : forests (g .rest) ≡ forests t = forests-free (join (g .free) (Free.more 47 (omega arith) (Free.more 62 (omega arith) Free.end))) in
@@ -397,7 +397,7 @@ top-node (g ∷ fs) h k f e = ap (λ (x : Forest). x ∷ fs) e
 
 -- the tree of a derivation is read from the text behind the declaration
 pub tree-read : {f : Forest} {s : List ℕ} → Document f s → forests (drop 38 s) ≡ f ∷ []
-unfolding declaration top pop forests bytes
+unfolding declaration top pop trees bytes
 tree-read (Document.document {h} {k} {s} {s₁} x y) =
     let (a, b) = spells y refl in
     forests-free (spaces-free (omega arith) x) ∙ top-node (forests s₁) h k none a ∙ ap (λ (fs : List Forest). node h k none ∷ fs) b

@@ -14,10 +14,14 @@ pub record Head : Type 0 where
   pub value : List ℕ
   pub text : List ℕ
 
--- elements in a row: the first one's head and children, and the elements after it
-pub data Forest : Type 0 where
-  none : Forest
-  node : Head → Forest → Forest → Forest
+-- elements in a row: what is told of the first one, its children, and the elements after it
+pub data Tree (A : Type 0) : Type 0 where
+  none : Tree A
+  node : A → Tree A → Tree A → Tree A
+
+-- elements told by their heads
+abbrev pub Forest : Type 0
+Forest = Tree Head
 
 -- how many bytes of the list's front pass the test
 unfoldable pub front : (ℕ → Bool) → List ℕ → ℕ
@@ -66,34 +70,48 @@ headOf s t =
       text = take (front notOpen t) t;
     }
 
+-- what follows the tag that r begins with, from behind its `<` on; behind an empty-element tag nothing counts
+unfoldable pub behindTag : List ℕ → List ℕ
+behindTag r = cond (past 0 0 r .empty) [] (past 0 0 r .rest)
+
+-- the head of the element whose tag r begins with
+abbrev pub tagHead : List ℕ → Head
+tagHead r = headOf r (behindTag r)
+
 -- What is left to read at a place in a text: of the innermost open element, of the one around it, and so on.
+module _ {A : Type 0} where
+  -- of the innermost open element
+  unfoldable pub top : List (Tree A) → Tree A
+  top [] = none
+  top (f ∷ fs) = f
 
--- of the innermost open element
-unfoldable pub top : List Forest → Forest
-top [] = none
-top (f ∷ fs) = f
+  -- of those around it
+  unfoldable pub pop : List (Tree A) → List (Tree A)
+  pop [] = []
+  pop (f ∷ fs) = fs
 
--- of those around it
-unfoldable pub pop : List Forest → List Forest
-pop [] = []
-pop (f ∷ fs) = fs
+  -- an end tag before fs
+  unfoldable pub closed : List (Tree A) → List (Tree A)
+  closed fs = none ∷ fs
 
--- an end tag before fs
-unfoldable pub closed : List Forest → List Forest
-closed fs = none ∷ fs
+  -- a start tag before fs
+  unfoldable pub opened : A → List (Tree A) → List (Tree A)
+  opened h fs = node h (top fs) (top (pop fs)) ∷ pop (pop fs)
 
--- a start tag before fs
-unfoldable pub opened : Head → List Forest → List Forest
-opened h fs = node h (top fs) (top (pop fs)) ∷ pop (pop fs)
+  -- an empty-element tag before fs
+  unfoldable pub alone : A → List (Tree A) → List (Tree A)
+  alone h fs = node h none (top fs) ∷ pop fs
 
--- an empty-element tag before fs
-unfoldable pub alone : Head → List Forest → List Forest
-alone h fs = node h none (top fs) ∷ pop fs
+  -- An element is told by what follows the `<` of its tag, to the end of the text: `tell` says what.
 
--- the tag that s begins with, from behind its `<` on, before fs
-unfoldable pub put : List ℕ → List Forest → List Forest
-put s fs = cond (eqb (getD s 0 0) 47) (closed fs) (cond (past 0 0 s .empty) (alone (headOf s []) fs) (opened (headOf s (past 0 0 s .rest)) fs))
+  -- the tag that r begins with, before fs
+  unfoldable pub put : (List ℕ → A) → List ℕ → List (Tree A) → List (Tree A)
+  put tell r fs = cond (eqb (getD r 0 0) 47) (closed fs) (cond (past 0 0 r .empty) (alone (tell r) fs) (opened (tell r) fs))
 
-unfoldable pub forests : List ℕ → List Forest
-forests [] = []
-forests (b ∷ s) = let fs = forests s in cond (notOpen b) fs (put s fs)
+  unfoldable pub trees : (List ℕ → A) → List ℕ → List (Tree A)
+  trees tell [] = []
+  trees tell (b ∷ s) = let fs = trees tell s in cond (notOpen b) fs (put tell s fs)
+
+-- told by their heads
+abbrev pub forests : List ℕ → List Forest
+forests = trees tagHead

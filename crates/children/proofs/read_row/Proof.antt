@@ -4,29 +4,34 @@ use borrow.Author.Tests.{not-true, not-false}
 use native.Mathlib.Omega.{arith}
 use Prim.Native.Nat.{ℕ, _-_, _<_, _≤_}
 use mathlib.Core.Bool.{_&&_}
-use lib.ListN.{length, replicate, length-set}
+use lib.ListN.{length, take, replicate, length-take, length-set}
 use Rattle.elements.specs.Reading.{rowAt, headAt, childrenAt, NextChild}
 use Rattle.elements.specs.declared.tags.Child.the-variants.{Done, At}
-use Rattle.children.specs.Rules.{rules, placeOf, markOf}
+use Rattle.children.specs.Rules.{rules, tableOf, placeOf, markOf}
 use Rattle.children.specs.Children.{noAttribute, holds}
 use Rattle.children.proofs.Tables.{known}
+use Rattle.children.proofs.Counted.{place-counted, late, early, unfit, too-many}
 use Rattle.children.proofs.Seats.{no-seats}
-use Rattle.children.proofs.Passed.{Passed, none-passed, unknown-next, twice-next, pass-next, all-passed}
+use Rattle.children.proofs.Passed.{Passed, none-passed, unlawful, unknown-next, twice-next, pass-next, all-passed}
 use borrow.Author.Needs.{needs}
 use Rattle.children.proofs.read_row.Statement.{statement}
 use Rattle.children.proofs.read_row.Tie as tie
 
 abbrev Inv-loop : tie.InvT-loop
-Inv-loop text at table must seats₀ i₀ seats i = (must ≤ 16) × (length seats ≡ 16) × Passed text (rules table) (rowAt text at) (rowAt text i) seats
+Inv-loop text at table must seats₀ i₀ seats i = (must ≤ 16) × (length seats ≡ 16) × Passed text (tableOf table) at i seats
 
 abbrev μ-loop : tie.MeasureT-loop
 μ-loop text at table must seats₀ i₀ seats i = length text - i
 
 returns : tie.Need-returns Inv-loop μ-loop
-returns c = λ few m. absurd (omega arith)
+returns c =
+    let s = c .before .before .before .args .text .now in
+    let t = c .before .before .before .args .table .now in
+    unlawful s (tableOf t) (c .before .before .before .args .must) (c .before .before .before .args .at) (replicate 16 0)
+    (too-many (tableOf t) (c .before .before .before .args .must) (rowAt s (c .before .before .before .args .at)) (omega (arith, length-take 16 (rules t), c .if1 .taken)))
 
 loop-holds : tie.Need-loop-holds Inv-loop μ-loop
-loop-holds c = (search needs, refl, none-passed (c .before .before .before .args .text .now) (rules (c .before .before .before .args .table .now)) (rowAt (c .before .before .before .args .text .now) (c .before .before .before .args .at)) (replicate 16 0) no-seats)
+loop-holds c = (search needs, refl, none-passed (c .before .before .before .args .text .now) (tableOf (c .before .before .before .args .table .now)) (c .before .before .before .args .at) (replicate 16 0) no-seats)
 
 next-child-requires : tie.Need-next-child-requires Inv-loop μ-loop
 next-child-requires c κs = search needs
@@ -42,7 +47,7 @@ returns-2 c =
     let s = c .before .before .before .before .before .before .before .before .before .args .text .now in
     let l = c .before .before .before .before .before .loop in
     let e : NextChild s (l .i) Done = subst (NextChild s (l .i)) (c .before .before .enum-told .given .1) (c .before .before .before .before .next-child .ensures) in
-    λ few m. all-passed s (rules (c .before .before .before .before .before .before .before .before .before .args .table .now)) (rowAt s (c .before .before .before .before .before .before .before .before .before .args .at)) (rowAt s (l .i)) (l .seats) (l .inv .2) e (c .before .before .before .before .before .before .before .before .before .args .must) (c .all-seated .result) (c .all-seated .ensures)
+    all-passed s (tableOf (c .before .before .before .before .before .before .before .before .before .args .table .now)) (c .before .before .before .before .before .before .before .before .before .args .at) (l .i) (l .seats) (l .inv .2) e (c .before .before .before .before .before .before .before .before .before .args .must) (c .all-seated .result) (c .all-seated .ensures)
 
 enum-known-n : tie.Need-enum-known-n Inv-loop μ-loop
 enum-known-n c = search needs
@@ -71,7 +76,7 @@ returns-3 c =
     let mark : p .result .mark ≡ markOf rs (headAt s n .name) = p .ensures .1 ∙ ap (markOf rs) (w .ensures) in
     let fit : (noAttribute (headAt s n) && holds (markOf rs (headAt s n .name)) (headAt s n) (childrenAt s n)) ≡ c .before .is-known .result
     = ap (λ (m : ℕ). noAttribute (headAt s n) && holds m (headAt s n) (childrenAt s n)) (sym mark) ∙ sym (c .before .is-known .ensures) in
-    λ few m. unknown-next s rs (rowAt s (c .before .before .before .before .before .before .before .before .before .before .before .before .args .at)) (rowAt s (l .i)) (rowAt s j) (l .seats) n (l .inv .2) (q .row) (c .before .before .before .before .before .before .before .before .before .before .before .before .args .must) (fit ∙ not-true _ (c .if2 .taken))
+    unknown-next s (take 16 rs) (c .before .before .before .before .before .before .before .before .before .before .before .before .args .at) (l .i) j (l .seats) n (l .inv .2) q (c .before .before .before .before .before .before .before .before .before .before .before .before .args .must) (unfit 16 rs (headAt s n) (childrenAt s n) (fit ∙ not-true _ (c .if2 .taken)))
 
 returns-4 : tie.Need-returns-4 Inv-loop μ-loop
 returns-4 c =
@@ -88,7 +93,7 @@ returns-4 c =
     let mark : p .result .mark ≡ markOf rs (headAt s n .name) = p .ensures .1 ∙ ap (markOf rs) (w .ensures) in
     let fit : (noAttribute (headAt s n) && holds (markOf rs (headAt s n .name)) (headAt s n) (childrenAt s n)) ≡ c .before .before .is-known .result
     = ap (λ (m : ℕ). noAttribute (headAt s n) && holds m (headAt s n) (childrenAt s n)) (sym mark) ∙ sym (c .before .before .is-known .ensures) in
-    λ few m. absurd (omega (arith, place, known rs (headAt s n .name) (headAt s n) (childrenAt s n) (fit ∙ not-false _ (c .before .if2 .left))))
+    unknown-next s (take 16 rs) (c .before .before .before .before .before .before .before .before .before .before .before .before .before .args .at) (l .i) j (l .seats) n (l .inv .2) q (c .before .before .before .before .before .before .before .before .before .before .before .before .before .args .must) (late 16 rs (headAt s n) (childrenAt s n) (omega (arith, place, c .if3 .taken)))
 
 mul-if4 : tie.Need-mul-if4 Inv-loop μ-loop
 mul-if4 c = search needs
@@ -111,7 +116,9 @@ returns-5 c =
     let mark : p .result .mark ≡ markOf rs (headAt s n .name) = p .ensures .1 ∙ ap (markOf rs) (w .ensures) in
     let fit : (noAttribute (headAt s n) && holds (markOf rs (headAt s n .name)) (headAt s n) (childrenAt s n)) ≡ c .before .before .before .is-known .result
     = ap (λ (m : ℕ). noAttribute (headAt s n) && holds m (headAt s n) (childrenAt s n)) (sym mark) ∙ sym (c .before .before .before .is-known .ensures) in
-    λ few m. twice-next s rs (rowAt s (c .before .before .before .before .before .before .before .before .before .before .before .before .before .before .args .at)) (rowAt s (l .i)) (rowAt s j) (l .seats) n (l .inv .2) (q .row) (c .before .before .before .before .before .before .before .before .before .before .before .before .before .before .args .must) (p .result .number) place (subst (λ (k : ℕ). k < length rs) (sym place) (known rs (headAt s n .name) (headAt s n) (childrenAt s n) (fit ∙ not-false _ (c .before .before .if2 .left)))) (c .if4 .taken)
+    let few : placeOf rs (headAt s n .name) < 16 = omega (arith, place, c .before .if3 .left) in
+    let counted : p .result .number ≡ placeOf (take 16 rs) (headAt s n .name) = place ∙ sym (place-counted 16 rs (headAt s n .name) few) in
+    twice-next s (take 16 rs) (c .before .before .before .before .before .before .before .before .before .before .before .before .before .before .args .at) (l .i) j (l .seats) n (l .inv .2) q (c .before .before .before .before .before .before .before .before .before .before .before .before .before .before .args .must) (p .result .number) counted (subst (λ (k : ℕ). k < length (take 16 rs)) (sym counted) (known (take 16 rs) (headAt s n .name) (headAt s n) (childrenAt s n) (early 16 rs (headAt s n) (childrenAt s n) few ∙ fit ∙ not-false _ (c .before .before .if2 .left)))) (c .if4 .taken)
 
 mul-seats : tie.Need-mul-seats Inv-loop μ-loop
 mul-seats c = search needs
@@ -145,10 +152,12 @@ loop-again c =
     let mark : p .result .mark ≡ markOf rs (headAt s n .name) = p .ensures .1 ∙ ap (markOf rs) (w .ensures) in
     let fit : (noAttribute (headAt s n) && holds (markOf rs (headAt s n .name)) (headAt s n) (childrenAt s n)) ≡ c .before .before .before .is-known .result
     = ap (λ (m : ℕ). noAttribute (headAt s n) && holds m (headAt s n) (childrenAt s n)) (sym mark) ∙ sym (c .before .before .before .is-known .ensures) in
+    let few : placeOf rs (headAt s n .name) < 16 = omega (arith, place, c .before .if3 .left) in
+    let counted : p .result .number ≡ placeOf (take 16 rs) (headAt s n .name) = place ∙ sym (place-counted 16 rs (headAt s n .name) few) in
     let room : p .result .number < length (l .seats) = omega (arith, l .inv .1, c .before .if3 .left) in (
       l .inv .0,
       length-set (l .seats) (p .result .number) n ∙ l .inv .1,
-      pass-next s rs (rowAt s (c .before .before .before .before .before .before .before .before .before .before .before .before .before .before .args .at)) (rowAt s (l .i)) (rowAt s j) (l .seats) n (l .inv .2) (q .row) (p .result .number) place room (c .if4 .left) (omega (arith, q .place)) (fit ∙ not-false _ (c .before .before .if2 .left)),
+      pass-next s (take 16 rs) (c .before .before .before .before .before .before .before .before .before .before .before .before .before .before .args .at) (l .i) j (l .seats) n (l .inv .2) q (p .result .number) counted room (c .if4 .left) (early 16 rs (headAt s n) (childrenAt s n) few ∙ fit ∙ not-false _ (c .before .before .if2 .left)),
     )
 
 pub read-row-spec : {M : Type 1} → statement M

@@ -1,14 +1,14 @@
 -- `read_row` meets its contract. Invariant: the places noted so far and what is left of the row.
-use mathlib.Core.Path.{_≡_, refl, ap, sym, _∙_, subst}
+use mathlib.Core.Path.{_≡_, refl, ap, _∙_, subst}
 use Prim.Native.Nat.{_-_, _≤_, min}
 use native.Mathlib.Omega.{arith}
 use lib.ListN.{length}
 use Rattle.elements.specs.declared.starts.Next.the-variants.{End, Close, Opens}
-use Rattle.elements.specs.Reading.{rowAt, aroundAt, FirstOf}
+use Rattle.elements.specs.Tags.{tagsAround}
+use Rattle.elements.specs.Reading.{rowAt, FirstOf}
 use Rattle.elements.specs.Starts.{NextStart}
-use Rattle.elements.proofs.Left.{left-end}
 use Rattle.elements.proofs.Plain.{inner-first}
-use Rattle.elements.proofs.Rows.{row-end, row-close, around-end, around-close}
+use Rattle.elements.proofs.Rows.{row-end, row-close, behind-end, behind-close, behind-along}
 use Rattle.index_names.specs.Names.{names, numberIn}
 use Rattle.index_rows.proofs.Placing.{Noting, noting-none, noting-all, noting-more}
 use borrow.Author.Needs.{needs}
@@ -17,7 +17,7 @@ use Rattle.index_rows.proofs.read_row.Tie as tie
 
 abbrev Inv-loop : tie.InvT-loop
 Inv-loop text at kind i₀ places₀ i places =
-    (min at (length text) ≤ i) × (aroundAt text at ≡ aroundAt text i) × Noting text kind (rowAt text at) (rowAt text i) places
+    (min at (length text) ≤ i) × (tagsAround text at ≡ tagsAround text i) × Noting text kind (rowAt text at) (rowAt text i) places
 
 abbrev μ-loop : tie.MeasureT-loop
 μ-loop text at kind i₀ places₀ i places = length text - i
@@ -38,7 +38,7 @@ returns c =
     let l = c .before .before .before .loop in
     let t : NextStart s (l .i) End = subst (NextStart s (l .i)) (c .enum-told .given .1) (c .before .before .next-start .ensures) in (
       noting-all s (a .kind) (rowAt s (a .at)) (rowAt s (l .i)) (l .places) (row-end t) (l .inv .2),
-      record { left = left-end s (length s) (omega arith) ∙ sym (l .inv .1 ∙ around-end t); ahead = omega arith; inside = omega arith },
+      behind-along (l .inv .0) (l .inv .1) (behind-end t),
     )
 
 enum-known-n : tie.Need-enum-known-n Inv-loop μ-loop
@@ -51,7 +51,7 @@ returns-2 c =
     let l = c .before .before .before .before .loop in
     let t : NextStart s (l .i) (Close (c .before .n .given .0 .0)) = subst (NextStart s (l .i)) (c .before .n .given .1) (c .before .before .before .next-start .ensures) in (
       noting-all s (a .kind) (rowAt s (a .at)) (rowAt s (l .i)) (l .places) (row-close t) (l .inv .2),
-      record { left = sym (l .inv .1 ∙ around-close t); ahead = omega (arith, l .inv .0, t .place); inside = t .place .1 },
+      behind-along (l .inv .0) (l .inv .1) (behind-close t),
     )
 
 enum-known-h : tie.Need-enum-known-h Inv-loop μ-loop
@@ -85,7 +85,7 @@ loop-again c =
     let o : NextStart s (l .i) (Opens x) = subst (NextStart s (l .i)) (c .before .before .before .before .before .before .h .given .1) (c .before .before .before .before .before .before .before .before .next-start .ensures) in
     let first : FirstOf s (l .i) (x .at) (x .next) = o .next (c .if1 .taken) in (
       omega (arith, l .inv .0, first .place, first .after),
-      l .inv .1 ∙ first .around,
+      l .inv .1 ∙ first .tagsKept,
       noting-more s (a .kind) (c .before .before .before .number-in .result) (l .places) (c .before .note .last .0) first (c .before .before .before .number-in .ensures ∙ ap (numberIn (names (a .kind))) (c .before .before .before .before .part .ensures ∙ o .shape .name .part)) (c .before .note .ensures) (rowAt s (a .at)) (l .inv .2),
     )
 
@@ -111,7 +111,7 @@ loop-again-2 c =
     let o : NextStart s (l .i) (Opens x) = subst (NextStart s (l .i)) (c .before .before .before .before .before .before .before .h .given .1) (c .before .before .before .before .before .before .before .before .before .next-start .ensures) in
     let first : FirstOf s (l .i) (x .at) (c .leave .result) = inner-first o (c .before .if1 .left) (c .leave .ensures) in (
       omega (arith, l .inv .0, first .place, first .after),
-      l .inv .1 ∙ first .around,
+      l .inv .1 ∙ first .tagsKept,
       noting-more s (a .kind) (c .before .before .before .before .number-in .result) (l .places) (c .before .before .note .last .0) first (c .before .before .before .before .number-in .ensures ∙ ap (numberIn (names (a .kind))) (c .before .before .before .before .before .part .ensures ∙ o .shape .name .part)) (c .before .before .note .ensures) (rowAt s (a .at)) (l .inv .2),
     )
 

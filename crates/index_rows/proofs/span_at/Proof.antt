@@ -17,7 +17,7 @@ text-at-requires c κs = search needs
 returns-2 : tie.Need-returns-2
 unfolding textOf
 returns-2 c =
-    let t = c .text-at .ensures in
+    let t = c .text-at .ensures .spans in
     record { part = t .part ∙ sym (ap textOf (seat-some (c .before .before .before .args .text .now) (c .before .before .before .args .n) (c .before .if1 .left))); inside = t .inside }
 
 pub span-at-spec : {M : Type 1} → statement M

@@ -1,15 +1,15 @@
 -- `check` meets its contract: a check at each return; where all pass, the labels are read from parts of the stores.
-use mathlib.Core.Path.{_≡_, sym, _∙_, ap}
+use mathlib.Core.Path.{_≡_, sym, _∙_, ap, subst}
 use Prim.Native.Nat.{ℕ, _+_, _-_}
 use native.Mathlib.Omega.{arith}
-use lib.ListN.{take, drop}
 use lib.Seq.{length-take-le}
 use Rattle.tape.specs.Answers.{counted, orRefused}
 use Rattle.tape.proofs.Keeping.{Present, present, absent-list}
-use Rattle.label.specs.Reading.{means}
 use Rattle.label.proofs.Places.{refuses, reads-as}
+use Rattle.labels.specs.Reading.{BeginWithin, ChecksLabels}
+use Rattle.labels.proofs.Moving.{reads-moved, begins}
 use Rattle.labels.proofs.Blocks.{LaidOut, laid-out, not-laid}
-use Rattle.labels.proofs.Sides.{no-list, no-data-list, no-layout, no-data-layout, in-parts}
+use Rattle.labels.proofs.Sides.{no-list, no-data-list, no-layout, no-data-layout, in-parts, places-laid}
 use borrow.Author.Needs.{needs}
 use Rattle.labels.proofs.check.Statement.{statement}
 use Rattle.labels.proofs.check.Tie as tie
@@ -130,20 +130,25 @@ read-sides-requires : tie.Need-read-sides-requires
 read-sides-requires c κs = search needs
 
 in-store-requires : tie.Need-in-store-requires
-in-store-requires c κs = let w = index-laid (c .before .before .before .before .before .before .before .before .before) .within in search needs
+in-store-requires c κs =
+    let w = index-laid (c .before .before .before .before .before .before .before .before .before) .within in
+    let n = c .before .before .before .before .before .before .before .before .before .before .vol1 .given .0 .0 in
+    let m = c .before .before .before .before .before .before .before .before .before .before .vol1 .given .0 .1 .0 in
+    let z : n + m - n ≡ m = omega arith in
+    (subst (λ (k : ℕ). BeginWithin k (c .read-sides .result)) z (begins (c .before .before .before .before .before .before .before .before .before .before .before .before .before .before .before .before .before .before .before .before .before .before .before .args .index-store .now) (n + m - n) n (omega arith) (c .read-sides .result) (c .read-sides .ensures)), search needs)
 
 returns-5 : tie.Need-returns-5
 returns-5 c =
+    let a = c .before .before .before .before .before .before .before .before .before .before .before .before .before .before .before .before .before .before .before .before .before .before .before .before .args in
     let p = index-side (c .before .before .before .before .before .before .before .before .before .before .before .before .before .before .before .before .before) in
     let q = data-side (c .before .before .before .before .before .before .before .before .before .before .before .before .before .before) in
     let l = index-laid (c .before .before .before .before .before .before .before .before .before .before) in
+    let d = data-laid (c .before .before .before .before .before .before) in
     let n = c .before .before .before .before .before .before .before .before .before .before .before .vol1 .given .0 .0 in
     let m = c .before .before .before .before .before .before .before .before .before .before .before .vol1 .given .0 .1 .0 in
-    let z : m ≡ n + m - n = omega arith in
-    reads-as (ap (λ (k : ℕ). means (take k (drop n (c .before .before .before .before .before .before .before .before .before .before .before .before .before .before .before .before .before .before .before .before .before .before .before .before .args .index-store .now))) (c .before .read-sides .result)) z
-    ∙ c .before .read-sides .ensures
-    ∙ in-parts (c .before .before .before .before .before .before .before .before .before .before .before .before .before .before .before .before .before .before .before .before .before .before .before .before .args .index-list .now) (c .before .before .before .before .before .before .before .before .before .before .before .before .before .before .before .before .before .before .before .before .before .before .before .before .args .index-store .now) (c .before .before .before .before .before .before .before .before .before .before .before .before .before .before .before .before .before .before .before .before .before .before .before .before .args .data-list .now) (c .before .before .before .before .before .before .before .before .before .before .before .before .before .before .before .before .before .before .before .before .before .before .before .before .args .data-store .now) (ap orRefused (p .read)) (ap orRefused (q .read)) l (data-laid (c .before .before .before .before .before .before)))
-    (c .in-store .ensures (c .before .before .before .before .before .before .before .before .before .before .before .before .before .before .before .before .before .before .before .before .before .before .before .before .args .index-store .now) (omega (arith, l .within)))
+    subst (ChecksLabels (a .index-list .now) (a .index-store .now) (a .data-list .now) (a .data-store .now)) (sym (c .in-store .ensures))
+    (reads-as (in-parts (a .index-list .now) (a .index-store .now) (a .data-list .now) (a .data-store .now) (ap orRefused (p .read)) (ap orRefused (q .read)) l d) (places-laid (a .index-list .now) (a .index-store .now) (ap orRefused (p .read)) l)
+    (reads-moved (a .index-store .now) (n + m - n) n (omega (arith, l .within)) (c .before .read-sides .result) (c .before .read-sides .ensures)))
 
 pub check-spec : {M : Type 1} → statement M
 check-spec =

@@ -2,6 +2,7 @@
 use mathlib.Core.Path.{ap, sym, _∙_}
 use Rattle.vol1.specs.Vol1.{meansVol1}
 use Rattle.label.specs.Reading.{means}
+use Rattle.label.proofs.Places.{refuses, said-inside, said-places}
 use Rattle.labels.proofs.Sides.{vol1-refused, no-vol1, no-data-vol1, no-label, no-data-label, disagreed, agreed}
 use borrow.Author.Needs.{needs}
 use Rattle.labels.proofs.read_sides.Statement.{statement}
@@ -17,7 +18,7 @@ enum-told-2 : tie.Need-enum-told-2
 enum-told-2 c = search needs
 
 returns : tie.Need-returns
-returns c = no-vol1 (c .before .before .before .before .before .before .before .args .v .now) (c .before .before .before .before .before .before .before .args .s .now) (c .before .before .before .before .before .before .before .args .w .now) (c .before .before .before .before .before .before .before .args .t .now) (vol1-refused _ (c .enum-told2 .given .0 .0) (ap (meansVol1 (c .before .before .before .before .before .before .before .args .v .now)) (sym (c .enum-told2 .given .1)) ∙ c .before .before .read-vol1 .ensures))
+returns c = refuses (no-vol1 (c .before .before .before .before .before .before .before .args .v .now) (c .before .before .before .before .before .before .before .args .s .now) (c .before .before .before .before .before .before .before .args .w .now) (c .before .before .before .before .before .before .before .args .t .now) (vol1-refused _ (c .enum-told2 .given .0 .0) (ap (meansVol1 (c .before .before .before .before .before .before .before .args .v .now)) (sym (c .enum-told2 .given .1)) ∙ c .before .before .read-vol1 .ensures)))
 
 read-vol1-requires-2 : tie.Need-read-vol1-requires-2
 read-vol1-requires-2 c κs = search needs
@@ -29,7 +30,7 @@ enum-told-4 : tie.Need-enum-told-4
 enum-told-4 c = search needs
 
 returns-2 : tie.Need-returns-2
-returns-2 c = no-data-vol1 (c .before .before .before .before .before .before .before .before .before .before .args .v .now) (c .before .before .before .before .before .before .before .before .before .before .args .s .now) (c .before .before .before .before .before .before .before .before .before .before .args .w .now) (c .before .before .before .before .before .before .before .before .before .before .args .t .now) (sym (c .before .before .before .before .before .read-vol1 .ensures) ∙ ap (meansVol1 (c .before .before .before .before .before .before .before .before .before .before .args .v .now)) (c .before .before .before .enum-told .given .1)) (vol1-refused _ (c .enum-told4 .given .0 .0) (ap (meansVol1 (c .before .before .before .before .before .before .before .before .before .before .args .w .now)) (sym (c .enum-told4 .given .1)) ∙ c .before .before .read-vol12 .ensures))
+returns-2 c = refuses (no-data-vol1 (c .before .before .before .before .before .before .before .before .before .before .args .v .now) (c .before .before .before .before .before .before .before .before .before .before .args .s .now) (c .before .before .before .before .before .before .before .before .before .before .args .w .now) (c .before .before .before .before .before .before .before .before .before .before .args .t .now) (sym (c .before .before .before .before .before .read-vol1 .ensures) ∙ ap (meansVol1 (c .before .before .before .before .before .before .before .before .before .before .args .v .now)) (c .before .before .before .enum-told .given .1)) (vol1-refused _ (c .enum-told4 .given .0 .0) (ap (meansVol1 (c .before .before .before .before .before .before .before .before .before .before .args .w .now)) (sym (c .enum-told4 .given .1)) ∙ c .before .before .read-vol12 .ensures)))
 
 read-requires : tie.Need-read-requires
 read-requires c κs = search needs
@@ -53,16 +54,21 @@ labels-agree-requires : tie.Need-labels-agree-requires
 labels-agree-requires c κs = search needs
 
 returns-3 : tie.Need-returns-3
-returns-3 c = no-label (c .before .before .before .before .before .before .before .before .before .before .before .before .before .before .args .v .now) (c .before .before .before .before .before .before .before .before .before .before .before .before .before .before .args .s .now) (c .before .before .before .before .before .before .before .before .before .before .before .before .before .before .args .w .now) (c .before .before .before .before .before .before .before .before .before .before .before .before .before .before .args .t .now) (sym (c .before .before .before .before .before .before .before .before .before .read-vol1 .ensures) ∙ ap (meansVol1 (c .before .before .before .before .before .before .before .before .before .before .before .before .before .before .args .v .now)) (c .before .before .before .before .before .before .before .enum-told .given .1)) (sym (c .before .before .before .before .before .before .read-vol12 .ensures) ∙ ap (meansVol1 (c .before .before .before .before .before .before .before .before .before .before .before .before .before .before .args .w .now)) (c .before .before .before .before .enum-told3 .given .1)) (sym (c .before .before .before .read .ensures .says) ∙ ap (means (c .before .before .before .before .before .before .before .before .before .before .before .before .before .before .args .s .now)) (c .before .r .given .1))
+returns-3 c = refuses (no-label (c .before .before .before .before .before .before .before .before .before .before .before .before .before .before .args .v .now) (c .before .before .before .before .before .before .before .before .before .before .before .before .before .before .args .s .now) (c .before .before .before .before .before .before .before .before .before .before .before .before .before .before .args .w .now) (c .before .before .before .before .before .before .before .before .before .before .before .before .before .before .args .t .now) (sym (c .before .before .before .before .before .before .before .before .before .read-vol1 .ensures) ∙ ap (meansVol1 (c .before .before .before .before .before .before .before .before .before .before .before .before .before .before .args .v .now)) (c .before .before .before .before .before .before .before .enum-told .given .1)) (sym (c .before .before .before .before .before .before .read-vol12 .ensures) ∙ ap (meansVol1 (c .before .before .before .before .before .before .before .before .before .before .before .before .before .before .args .w .now)) (c .before .before .before .before .enum-told3 .given .1)) (sym (c .before .before .before .read .ensures .says) ∙ ap (means (c .before .before .before .before .before .before .before .before .before .before .before .before .before .before .args .s .now)) (c .before .r .given .1)))
 
 returns-4 : tie.Need-returns-4
-returns-4 c = no-data-label (c .before .before .before .before .before .before .before .before .before .before .before .before .before .before .before .before .before .before .args .v .now) (c .before .before .before .before .before .before .before .before .before .before .before .before .before .before .before .before .before .before .args .s .now) (c .before .before .before .before .before .before .before .before .before .before .before .before .before .before .before .before .before .before .args .w .now) (c .before .before .before .before .before .before .before .before .before .before .before .before .before .before .before .before .before .before .args .t .now) (sym (c .before .before .before .before .before .before .before .before .before .before .before .before .before .read-vol1 .ensures) ∙ ap (meansVol1 (c .before .before .before .before .before .before .before .before .before .before .before .before .before .before .before .before .before .before .args .v .now)) (c .before .before .before .before .before .before .before .before .before .before .before .enum-told .given .1)) (sym (c .before .before .before .before .before .before .before .before .before .before .read-vol12 .ensures) ∙ ap (meansVol1 (c .before .before .before .before .before .before .before .before .before .before .before .before .before .before .before .before .before .before .args .w .now)) (c .before .before .before .before .before .before .before .before .enum-told3 .given .1)) (sym (c .before .before .before .before .before .before .before .read .ensures .says) ∙ ap (means (c .before .before .before .before .before .before .before .before .before .before .before .before .before .before .before .before .before .before .args .s .now)) (c .before .before .before .before .before .f .given .1)) (sym (c .before .before .before .read2 .ensures .says) ∙ ap (means (c .before .before .before .before .before .before .before .before .before .before .before .before .before .before .before .before .before .before .args .t .now)) (c .before .r2 .given .1))
+returns-4 c = refuses (no-data-label (c .before .before .before .before .before .before .before .before .before .before .before .before .before .before .before .before .before .before .args .v .now) (c .before .before .before .before .before .before .before .before .before .before .before .before .before .before .before .before .before .before .args .s .now) (c .before .before .before .before .before .before .before .before .before .before .before .before .before .before .before .before .before .before .args .w .now) (c .before .before .before .before .before .before .before .before .before .before .before .before .before .before .before .before .before .before .args .t .now) (sym (c .before .before .before .before .before .before .before .before .before .before .before .before .before .read-vol1 .ensures) ∙ ap (meansVol1 (c .before .before .before .before .before .before .before .before .before .before .before .before .before .before .before .before .before .before .args .v .now)) (c .before .before .before .before .before .before .before .before .before .before .before .enum-told .given .1)) (sym (c .before .before .before .before .before .before .before .before .before .before .read-vol12 .ensures) ∙ ap (meansVol1 (c .before .before .before .before .before .before .before .before .before .before .before .before .before .before .before .before .before .before .args .w .now)) (c .before .before .before .before .before .before .before .before .enum-told3 .given .1)) (sym (c .before .before .before .before .before .before .before .read .ensures .says) ∙ ap (means (c .before .before .before .before .before .before .before .before .before .before .before .before .before .before .before .before .before .before .args .s .now)) (c .before .before .before .before .before .f .given .1)) (sym (c .before .before .before .read2 .ensures .says) ∙ ap (means (c .before .before .before .before .before .before .before .before .before .before .before .before .before .before .before .before .before .before .args .t .now)) (c .before .r2 .given .1)))
 
 returns-5 : tie.Need-returns-5
-returns-5 c = agreed (c .before .before .before .before .before .before .before .before .before .before .before .before .before .before .before .before .before .before .before .before .args .v .now) (c .before .before .before .before .before .before .before .before .before .before .before .before .before .before .before .before .before .before .before .before .args .s .now) (c .before .before .before .before .before .before .before .before .before .before .before .before .before .before .before .before .before .before .before .before .args .w .now) (c .before .before .before .before .before .before .before .before .before .before .before .before .before .before .before .before .before .before .before .before .args .t .now) (sym (c .before .before .before .before .before .before .before .before .before .before .before .before .before .before .before .read-vol1 .ensures) ∙ ap (meansVol1 (c .before .before .before .before .before .before .before .before .before .before .before .before .before .before .before .before .before .before .before .before .args .v .now)) (c .before .before .before .before .before .before .before .before .before .before .before .before .before .enum-told .given .1)) (sym (c .before .before .before .before .before .before .before .before .before .before .before .before .read-vol12 .ensures) ∙ ap (meansVol1 (c .before .before .before .before .before .before .before .before .before .before .before .before .before .before .before .before .before .before .before .before .args .w .now)) (c .before .before .before .before .before .before .before .before .before .before .enum-told3 .given .1)) (sym (c .before .before .before .before .before .before .before .before .before .read .ensures .says) ∙ ap (means (c .before .before .before .before .before .before .before .before .before .before .before .before .before .before .before .before .before .before .before .before .args .s .now)) (c .before .before .before .before .before .before .before .f .given .1)) (sym (c .before .before .before .before .before .read2 .ensures .says) ∙ ap (means (c .before .before .before .before .before .before .before .before .before .before .before .before .before .before .before .before .before .before .before .before .args .t .now)) (c .before .before .before .g .given .1)) (sym (c .before .labels-agree .ensures) ∙ c .if1 .taken)
+returns-5 c =
+    record {
+      says = agreed (c .before .before .before .before .before .before .before .before .before .before .before .before .before .before .before .before .before .before .before .before .args .v .now) (c .before .before .before .before .before .before .before .before .before .before .before .before .before .before .before .before .before .before .before .before .args .s .now) (c .before .before .before .before .before .before .before .before .before .before .before .before .before .before .before .before .before .before .before .before .args .w .now) (c .before .before .before .before .before .before .before .before .before .before .before .before .before .before .before .before .before .before .before .before .args .t .now) (sym (c .before .before .before .before .before .before .before .before .before .before .before .before .before .before .before .read-vol1 .ensures) ∙ ap (meansVol1 (c .before .before .before .before .before .before .before .before .before .before .before .before .before .before .before .before .before .before .before .before .args .v .now)) (c .before .before .before .before .before .before .before .before .before .before .before .before .before .enum-told .given .1)) (sym (c .before .before .before .before .before .before .before .before .before .before .before .before .read-vol12 .ensures) ∙ ap (meansVol1 (c .before .before .before .before .before .before .before .before .before .before .before .before .before .before .before .before .before .before .before .before .args .w .now)) (c .before .before .before .before .before .before .before .before .before .before .enum-told3 .given .1)) (sym (c .before .before .before .before .before .before .before .before .before .read .ensures .says) ∙ ap (means (c .before .before .before .before .before .before .before .before .before .before .before .before .before .before .before .before .before .before .before .before .args .s .now)) (c .before .before .before .before .before .before .before .f .given .1)) (sym (c .before .before .before .before .before .read2 .ensures .says) ∙ ap (means (c .before .before .before .before .before .before .before .before .before .before .before .before .before .before .before .before .before .before .before .before .args .t .now)) (c .before .before .before .g .given .1)) (sym (c .before .labels-agree .ensures) ∙ c .if1 .taken);
+      inside = said-inside (c .before .before .before .before .before .before .before .f .given .1) (c .before .before .before .before .before .before .before .before .before .read .ensures);
+      stands = said-places (c .before .before .before .before .before .before .before .f .given .1) (c .before .before .before .before .before .before .before .before .before .read .ensures);
+    }
 
 returns-6 : tie.Need-returns-6
-returns-6 c = disagreed (c .before .before .before .before .before .before .before .before .before .before .before .before .before .before .before .before .before .before .before .before .args .v .now) (c .before .before .before .before .before .before .before .before .before .before .before .before .before .before .before .before .before .before .before .before .args .s .now) (c .before .before .before .before .before .before .before .before .before .before .before .before .before .before .before .before .before .before .before .before .args .w .now) (c .before .before .before .before .before .before .before .before .before .before .before .before .before .before .before .before .before .before .before .before .args .t .now) (sym (c .before .before .before .before .before .before .before .before .before .before .before .before .before .before .before .read-vol1 .ensures) ∙ ap (meansVol1 (c .before .before .before .before .before .before .before .before .before .before .before .before .before .before .before .before .before .before .before .before .args .v .now)) (c .before .before .before .before .before .before .before .before .before .before .before .before .before .enum-told .given .1)) (sym (c .before .before .before .before .before .before .before .before .before .before .before .before .read-vol12 .ensures) ∙ ap (meansVol1 (c .before .before .before .before .before .before .before .before .before .before .before .before .before .before .before .before .before .before .before .before .args .w .now)) (c .before .before .before .before .before .before .before .before .before .before .enum-told3 .given .1)) (sym (c .before .before .before .before .before .before .before .before .before .read .ensures .says) ∙ ap (means (c .before .before .before .before .before .before .before .before .before .before .before .before .before .before .before .before .before .before .before .before .args .s .now)) (c .before .before .before .before .before .before .before .f .given .1)) (sym (c .before .before .before .before .before .read2 .ensures .says) ∙ ap (means (c .before .before .before .before .before .before .before .before .before .before .before .before .before .before .before .before .before .before .before .before .args .t .now)) (c .before .before .before .g .given .1)) (sym (c .before .labels-agree .ensures) ∙ c .if1 .left)
+returns-6 c = refuses (disagreed (c .before .before .before .before .before .before .before .before .before .before .before .before .before .before .before .before .before .before .before .before .args .v .now) (c .before .before .before .before .before .before .before .before .before .before .before .before .before .before .before .before .before .before .before .before .args .s .now) (c .before .before .before .before .before .before .before .before .before .before .before .before .before .before .before .before .before .before .before .before .args .w .now) (c .before .before .before .before .before .before .before .before .before .before .before .before .before .before .before .before .before .before .before .before .args .t .now) (sym (c .before .before .before .before .before .before .before .before .before .before .before .before .before .before .before .read-vol1 .ensures) ∙ ap (meansVol1 (c .before .before .before .before .before .before .before .before .before .before .before .before .before .before .before .before .before .before .before .before .args .v .now)) (c .before .before .before .before .before .before .before .before .before .before .before .before .before .enum-told .given .1)) (sym (c .before .before .before .before .before .before .before .before .before .before .before .before .read-vol12 .ensures) ∙ ap (meansVol1 (c .before .before .before .before .before .before .before .before .before .before .before .before .before .before .before .before .before .before .before .before .args .w .now)) (c .before .before .before .before .before .before .before .before .before .before .enum-told3 .given .1)) (sym (c .before .before .before .before .before .before .before .before .before .read .ensures .says) ∙ ap (means (c .before .before .before .before .before .before .before .before .before .before .before .before .before .before .before .before .before .before .before .before .args .s .now)) (c .before .before .before .before .before .before .before .f .given .1)) (sym (c .before .before .before .before .before .read2 .ensures .says) ∙ ap (means (c .before .before .before .before .before .before .before .before .before .before .before .before .before .before .before .before .before .before .before .before .args .t .now)) (c .before .before .before .g .given .1)) (sym (c .before .labels-agree .ensures) ∙ c .if1 .left))
 
 pub read-sides-spec : {M : Type 1} → statement M
 read-sides-spec =

@@ -1,6 +1,6 @@
 -- `first_child` meets its contract: the children's row begins behind the tag's `<`, or nowhere in the text.
 use native.Mathlib.Omega.{arith}
-use Rattle.elements.proofs.Parts.{children-none, children-some}
+use Rattle.elements.proofs.Parts.{children-none, children-some, tags-none, tags-some}
 use borrow.Author.Needs.{needs}
 use Rattle.elements.proofs.heads.first_child.Statement.{statement}
 use Rattle.elements.proofs.heads.first_child.Tie as tie
@@ -17,6 +17,7 @@ returns c =
     let t = c .before .tag-end in
     record {
       row = children-none s (c .before .before .before .before .args .n) (c .before .before .inside .result) (c .before .before .inside .ensures .1) (t .result .empty) (t .result .at) (t .ensures .0) (c .if1 .taken);
+      tags = tags-none s (c .before .before .before .before .args .n) (c .before .before .inside .result) (c .before .before .inside .ensures .1) (t .result .empty) (t .result .at) (t .ensures .0) (c .if1 .taken);
       inside = search needs;
     }
 
@@ -26,6 +27,7 @@ returns-2 c =
     let t = c .before .tag-end in
     record {
       row = children-some s (c .before .before .before .before .args .n) (c .before .before .inside .result) (c .before .before .inside .ensures .1) (t .result .empty) (t .result .at) (t .ensures .0) (c .if1 .left);
+      tags = tags-some s (c .before .before .before .before .args .n) (c .before .before .inside .result) (c .before .before .inside .ensures .1) (t .result .empty) (t .result .at) (t .ensures .0) (c .if1 .left);
       inside = omega arith;
     }
 

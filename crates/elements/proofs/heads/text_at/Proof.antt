@@ -1,6 +1,6 @@
 -- `text_at` meets its contract: the text goes from the tag's end to the next `<`.
 use native.Mathlib.Omega.{arith}
-use Rattle.elements.proofs.Parts.{text-none, text-part}
+use Rattle.elements.proofs.Parts.{text-empty, text-found}
 use Rattle.xml.proofs.Past.{past-ahead}
 use borrow.Author.Needs.{needs}
 use Rattle.elements.proofs.heads.text_at.Statement.{statement}
@@ -20,10 +20,7 @@ returns c =
     let s = c .before .before .before .before .before .args .text .now in
     let t = c .before .before .tag-end in
     let i = c .before .before .before .inside in
-    record {
-      part = text-none s (c .before .before .before .before .before .args .n) (i .result) (i .ensures .1) (t .result .empty) (t .result .at) (t .ensures .0) (c .if1 .taken);
-      inside = omega (arith, t .ensures .2);
-    }
+    text-empty s (c .before .before .before .before .before .args .n) (i .result) (i .ensures .1) (t .result .empty) (t .result .at) (t .ensures .0) (c .if1 .taken) (t .ensures .2)
 
 sub-t6 : tie.Need-sub-t6
 sub-t6 c = omega (arith, past-ahead (c .before .find .ensures))
@@ -33,10 +30,7 @@ returns-2 c =
     let s = c .before .before .before .before .before .args .text .now in
     let t = c .before .before .tag-end in
     let i = c .before .before .before .inside in
-    record {
-      part = text-part s (c .before .before .before .before .before .args .n) (i .result) (i .ensures .1) (t .result .empty) (t .result .at) (t .ensures .0) (c .before .find .result) (c .if1 .left) (c .before .find .ensures);
-      inside = omega (arith, past-ahead (c .before .find .ensures), c .before .find .ensures .inside);
-    }
+    text-found s (c .before .before .before .before .before .args .n) (i .result) (i .ensures .1) (t .result .empty) (t .result .at) (t .ensures .0) (c .before .find .result) (c .if1 .left) (c .before .find .ensures)
 
 pub text-at-spec : {M : Type 1} → statement M
 text-at-spec =

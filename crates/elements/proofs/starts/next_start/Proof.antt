@@ -1,13 +1,13 @@
 -- `next_start` meets its contract: what stands at the next `<`.
 use mathlib.Core.Path.{_∙_, sym}
-use Rattle.elements.proofs.Left.{left-end, none-next, close-next}
+use Rattle.elements.proofs.Left.{past-next, none-next, close-next}
 use Rattle.elements.proofs.Plain.{opens-next}
 use borrow.Author.Needs.{needs}
 use Rattle.elements.proofs.starts.next_start.Statement.{statement}
 use Rattle.elements.proofs.starts.next_start.Tie as tie
 
 returns : tie.Need-returns
-returns c = record { left = left-end (c .before .before .args .text .now) (c .before .before .args .at) (search needs); kind = tt; place = tt }
+returns c = past-next (c .before .before .args .text .now) (c .before .before .args .at) (search needs)
 
 find-requires : tie.Need-find-requires
 find-requires c κs = search needs

@@ -5,15 +5,17 @@ use mathlib.Core.List.{List, []}
 use native.Mathlib.Omega.{arith}
 use native.Mathlib.Numerals.{add-one}
 use lib.ListN.{length}
-use Rattle.xml.specs.Tree.{forests, pop, closed, opened, alone}
-use Rattle.elements.specs.Reading.{leftAt, aroundAt, NextTag}
+use Rattle.xml.specs.Tree.{pop, closed, opened, alone}
+use Rattle.elements.specs.Tags.{tagsOf, tagsLeft, tagsAround}
+use Rattle.elements.specs.Reading.{NextTag}
+use Rattle.elements.proofs.Rows.{behind}
 use Rattle.elements.proofs.Left.{left-end, pops, pops-none}
 use borrow.Author.Needs.{needs}
 use Rattle.elements.proofs.tags.leave.Statement.{statement}
 use Rattle.elements.proofs.tags.leave.Tie as tie
 
 abbrev Inv-loop : tie.InvT-loop
-Inv-loop text at i₀ d₀ i d = (min at (length text) ≤ i) × (i ≤ length text) × (d ≤ i) × (pops (suc d) (leftAt text i) ≡ aroundAt text at)
+Inv-loop text at i₀ d₀ i d = (min at (length text) ≤ i) × (i ≤ length text) × (d ≤ i) × (pops (suc d) (tagsLeft text i) ≡ tagsAround text at)
 
 abbrev μ-loop : tie.MeasureT-loop
 μ-loop text at i₀ d₀ i d = length text - i
@@ -23,7 +25,7 @@ inside-requires c κs = search needs
 
 loop-holds : tie.Need-loop-holds Inv-loop μ-loop
 unfolding pops
-loop-holds c = (omega arith, omega arith, search needs, ap (λ (l : List ℕ). pop (forests l)) (c .inside .ensures .1))
+loop-holds c = (omega arith, omega arith, search needs, ap (λ (l : List ℕ). pop (tagsOf l)) (c .inside .ensures .1))
 
 next-tag-requires : tie.Need-next-tag-requires Inv-loop μ-loop
 next-tag-requires c κs = search needs
@@ -36,12 +38,11 @@ returns c =
     let s = c .before .before .before .before .before .before .args .text .now in
     let l = c .before .before .before .loop in
     let w = subst (NextTag s (l .i)) (c .enum-told .given .1) (c .before .before .next-tag .ensures) in
-    let e : leftAt s (length s) ≡ [] = left-end s (length s) (search needs) in
-    record {
-      left = e ∙ sym (pops-none (suc (l .d))) ∙ ap (pops (suc (l .d))) (sym (w .left)) ∙ l .inv .3;
-      ahead = search needs;
-      inside = search needs;
-    }
+    let e : tagsLeft s (length s) ≡ [] = left-end (λ r. r) s (length s) (search needs) in
+    behind s (c .before .before .before .before .before .before .args .at) (length s)
+    (e ∙ sym (pops-none (suc (l .d))) ∙ ap (pops (suc (l .d))) (sym (w .tags)) ∙ l .inv .3)
+    (search needs)
+    (search needs)
 
 enum-known-n : tie.Need-enum-known-n Inv-loop μ-loop
 enum-known-n c = search needs
@@ -53,11 +54,10 @@ returns-2 c =
     let l = c .before .before .before .before .before .loop in
     let n = c .before .before .n .given in
     let w = subst (NextTag s (l .i)) (n .1) (c .before .before .before .before .next-tag .ensures) in
-    record {
-      left = ap (λ (d : ℕ). pops d (closed (leftAt s (n .0 .0)))) (sym (ap suc (c .if1 .taken))) ∙ ap (pops (suc (l .d))) (sym (w .left)) ∙ l .inv .3;
-      ahead = omega (arith, w .place);
-      inside = w .place .1;
-    }
+    behind s (c .before .before .before .before .before .before .before .before .args .at) (n .0 .0)
+    (ap (λ (d : ℕ). pops d (closed (tagsLeft s (n .0 .0)))) (sym (ap suc (c .if1 .taken))) ∙ ap (pops (suc (l .d))) (sym (w .tags)) ∙ l .inv .3)
+    (omega (arith, w .place))
+    (w .place .1)
 
 sub-d : tie.Need-sub-d Inv-loop μ-loop
 sub-d c = search needs
@@ -81,7 +81,7 @@ loop-again c =
       omega (arith, w .place),
       w .place .1,
       omega (arith, w .place),
-      ap (λ (d : ℕ). pops d (leftAt s (n .0 .0))) one ∙ ap (pops (suc (l .d))) (sym (w .left)) ∙ l .inv .3,
+      ap (λ (d : ℕ). pops d (tagsLeft s (n .0 .0))) one ∙ ap (pops (suc (l .d))) (sym (w .tags)) ∙ l .inv .3,
     )
 
 enum-known-n-2 : tie.Need-enum-known-n-2 Inv-loop μ-loop
@@ -108,7 +108,7 @@ loop-again-2 c =
       omega (arith, w .place),
       w .place .1,
       omega (arith, w .place),
-      ap (λ (d : ℕ). pops (suc d) (leftAt s (n .0 .0))) (add-one (l .d)) ∙ ap (pops (suc (l .d))) (sym (w .left)) ∙ l .inv .3,
+      ap (λ (d : ℕ). pops (suc d) (tagsLeft s (n .0 .0))) (add-one (l .d)) ∙ ap (pops (suc (l .d))) (sym (w .tags)) ∙ l .inv .3,
     )
 
 enum-known-n-3 : tie.Need-enum-known-n-3 Inv-loop μ-loop
@@ -129,7 +129,7 @@ loop-again-3 c =
     let l = c .before .before .before .before .loop in
     let n = c .before .n3 .given in
     let w = subst (NextTag s (l .i)) (n .1) (c .before .before .before .next-tag .ensures) in
-    (omega (arith, w .place), w .place .1, omega (arith, w .place), ap (pops (suc (l .d))) (sym (w .left)) ∙ l .inv .3)
+    (omega (arith, w .place), w .place .1, omega (arith, w .place), ap (pops (suc (l .d))) (sym (w .tags)) ∙ l .inv .3)
 
 pub leave-spec : {M : Type 1} → statement M
 leave-spec =

@@ -3,13 +3,13 @@ use mathlib.Core.Path.{ap, _∙_}
 use mathlib.Core.Logic.{⊎-elim}
 use Prim.Native.Nat.{_+_}
 use Rattle.xml.specs.Tree.{Rest}
-use Rattle.elements.proofs.Left.{left-end, none-next, close-next, empty-next, open-next, no-slash}
+use Rattle.elements.proofs.Left.{past-next, none-next, close-next, empty-next, open-next, no-slash}
 use borrow.Author.Needs.{needs}
 use Rattle.elements.proofs.tags.next_tag.Statement.{statement}
 use Rattle.elements.proofs.tags.next_tag.Tie as tie
 
 returns : tie.Need-returns
-returns c = record { left = left-end (c .before .before .args .text .now) (c .before .before .args .at) (search needs); kind = tt; place = tt }
+returns c = past-next (c .before .before .args .text .now) (c .before .before .args .at) (search needs)
 
 find-requires : tie.Need-find-requires
 find-requires c κs = search needs

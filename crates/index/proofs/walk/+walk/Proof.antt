@@ -9,10 +9,10 @@ use Rattle.xml.specs.Tree.{Forest, none}
 use Rattle.xml.specs.Form.{height}
 use Rattle.elements.specs.declared.tags.Tag.the-variants.{Open, Empty}
 use Rattle.elements.specs.declared.starts.Next.the-variants.{End, Close, Opens}
-use Rattle.elements.specs.Reading.{rowAt, headAt, aroundAt, childrenAt, NextTag, Behind, FirstOf}
+use Rattle.elements.specs.Tags.{tagsAround}
+use Rattle.elements.specs.Reading.{rowAt, headAt, childrenAt, NextTag, Behind, FirstOf}
 use Rattle.elements.specs.Starts.{NextStart}
-use Rattle.elements.proofs.Left.{left-end}
-use Rattle.elements.proofs.Rows.{row-end, row-close, around-end, around-close, first-open, first-empty, children-open, children-empty}
+use Rattle.elements.proofs.Rows.{row-end, row-close, behind-end, behind-close, behind-along, first-open, first-empty, children-open, children-empty}
 use Rattle.elements.proofs.Roots.{height-open, height-rest}
 use Rattle.index_values.specs.Elements.{numberOf}
 use Rattle.index_values.specs.Tests.{given}
@@ -71,7 +71,7 @@ claims t = (
 
 abbrev walk-Inv-loop : walk-lts.InvT-loop
 walk-Inv-loop text uuid uids₀ rows₀ at kind depth volume i₀ a₀ seen₀ places₀ uids rows i a seen places =
-    (at ≤ i) × (i ≤ length text) × (height (rowAt text i) ≤ depth) × (aroundAt text at ≡ aroundAt text i)
+    (at ≤ i) × (i ≤ length text) × (height (rowAt text i) ≤ depth) × (tagsAround text at ≡ tagsAround text i)
     × (sweep (given uuid volume) kind fresh (rowAt text at) (gathered a₀ uids₀) ≡ sweep (given uuid volume) kind seen (rowAt text i) (gathered a uids))
     × Noting text kind (rowAt text at) (rowAt text i) places
 
@@ -98,7 +98,7 @@ walk-returns t c =
     let l = c .before .before .before .before .before .loop in
     let g = given (a .uuid .now) (a .volume) in
     let tag : NextStart s (l .i) End = subst (NextStart s (l .i)) (c .before .before .enum-told .given .1) (c .before .before .before .before .next-start .ensures) in
-    let behind : Behind s (a .at) (length s) = record { left = left-end s (length s) (omega arith) ∙ sym (l .inv .3 ∙ around-end tag); ahead = search needs; inside = search needs } in
+    let behind : Behind s (a .at) (length s) = behind-along (omega (arith, l .inv .0)) (l .inv .3) (behind-end tag) in
     record {
       gathers = ap (λ (x : Sums). gathered x (l .uids)) (c .over .ensures .sums) ∙ sym (l .inv .4 ∙ row-over g (a .kind) (l .seen) (gathered (l .a) (l .uids)) (rowAt s (l .i)) (row-end tag));
       behind = subst (Behind s (a .at)) (sym (c .over .ensures .at)) behind;
@@ -120,7 +120,7 @@ walk-returns-2 t c =
     let g = given (a .uuid .now) (a .volume) in
     let n = c .before .before .before .n .given .0 .0 in
     let tag : NextStart s (l .i) (Close n) = subst (NextStart s (l .i)) (c .before .before .before .n .given .1) (c .before .before .before .before .before .next-start .ensures) in
-    let behind : Behind s (a .at) n = record { left = sym (l .inv .3 ∙ around-close tag); ahead = omega (arith, tag .place); inside = tag .place .1 } in
+    let behind : Behind s (a .at) n = behind-along (omega (arith, l .inv .0)) (l .inv .3) (behind-close tag) in
     record {
       gathers = ap (λ (x : Sums). gathered x (l .uids)) (c .over2 .ensures .sums) ∙ sym (l .inv .4 ∙ row-over g (a .kind) (l .seen) (gathered (l .a) (l .uids)) (rowAt s (l .i)) (row-close tag));
       behind = subst (Behind s (a .at)) (sym (c .over2 .ensures .at)) behind;
@@ -179,7 +179,7 @@ walk-loop-again t c =
       omega (arith, first .place, first .after),
       first .after .1,
       omega arith,
-      l .inv .3 ∙ first .around,
+      l .inv .3 ∙ first .tagsKept,
       l .inv .4 ∙ step-other g (a .kind) (l .seen) (gathered (l .a) (l .uids)) first srt _ (c .before .before .before .enter .result) (met .known) (met .seen) (c .before .before .before .enter .ensures) (sym (c .before .before .is-open .ensures) ∙ not-true _ (c .before .if1 .taken)),
       noting-more s (a .kind) (numberOf (a .kind) (headAt s (x .at))) (l .places) _ first refl (met .places) (rowAt s (a .at)) (l .inv .5),
     )
@@ -218,7 +218,7 @@ walk-loop-again-2 t c =
       omega (arith, first .place, first .after),
       first .after .1,
       omega arith,
-      l .inv .3 ∙ first .around,
+      l .inv .3 ∙ first .tagsKept,
       l .inv .4 ∙ step-holds g (a .kind) (l .seen) (gathered (l .a) (l .uids)) first srt _ (c .before .before .before .before .before .before .enter .result) (met .known) (met .seen) (c .before .before .before .before .before .before .enter .ensures) _ (sym (c .before .before .before .before .before .is-open .ensures) ∙ not-false _ (c .before .before .before .before .if1 .left)) closes,
       noting-more s (a .kind) (numberOf (a .kind) (headAt s (x .at))) (l .places) _ first refl (met .places) (rowAt s (a .at)) (l .inv .5),
     )
@@ -283,7 +283,7 @@ walk-loop-again-3 t c =
       omega (arith, first .place, first .after),
       first .after .1,
       omega arith,
-      l .inv .3 ∙ first .around,
+      l .inv .3 ∙ first .tagsKept,
       l .inv .4 ∙ step-holds g (a .kind) (l .seen) (gathered (l .a) (l .uids)) first srt _ (c .before .before .before .before .before .before .before .before .before .enter .result) (met .known) (met .seen) (c .before .before .before .before .before .before .before .before .before .enter .ensures) _ (sym (c .before .before .before .before .before .before .before .before .is-open .ensures) ∙ not-false _ (c .before .before .before .before .before .before .before .if1 .left)) closes,
       noting-more s (a .kind) (numberOf (a .kind) (headAt s (x .at))) (l .places) _ first refl (met .places) (rowAt s (a .at)) (l .inv .5),
     )

@@ -1,12 +1,13 @@
 -- `find_places` meets its contract: three rows, two of them of children of the first.
 use mathlib.Core.Path.{sym, subst, _∙_}
-use native.Mathlib.Omega.{arith}
+use lib.ListN.{drop}
 use Rattle.slices.specs.Words.{bytes}
+use Rattle.elements.specs.Tags.{Tags, tagsIn}
 use Rattle.elements.specs.Reading.{rowAt, childrenAt}
 use Rattle.children.specs.Rules.{isMark, rules, longer}
-use Rattle.children.specs.Rows.{Seated}
+use Rattle.children.specs.Rows.{Seated, Placed}
 use Rattle.label.specs.Label.{ofRoot, ofLocation, ofPartitions}
-use Rattle.label.proofs.Shape.{shaped, found}
+use Rattle.label.proofs.Shape.{shaped, found, standing}
 use Rattle.xml.specs.Tree.{Forest}
 use borrow.Author.Needs.{needs}
 use Rattle.label.proofs.reader.find_places.Statement.{statement}
@@ -80,12 +81,15 @@ returns c =
     let place = c .before .before .before .before .before .before .read-row2 in
     let parts = c .before .before .read-row3 in
     let A : Seated s ofRoot 7 (childrenAt s (c .before .before .before .before .before .before .before .before .before .before .before .before .before .before .args .n)) (all .result .ok) (all .result .seats)
-    = subst (λ (f : Forest). Seated s ofRoot 7 f (all .result .ok) (all .result .seats)) (c .before .before .before .before .before .before .before .before .before .before .before .before .first-child .ensures .row) (all .ensures (omega arith) (omega arith)) in
-    let P : Seated s ofLocation 1 (rowAt s (c .before .before .before .before .before .before .before .before .first-child2 .result)) (place .result .ok) (place .result .seats) = place .ensures (omega arith) (omega arith) in
-    let Q : Seated s ofPartitions 2 (rowAt s (c .before .before .before .before .first-child3 .result)) (parts .result .ok) (parts .result .seats) = parts .ensures (omega arith) (omega arith) in
+    = subst (λ (f : Forest). Seated s ofRoot 7 f (all .result .ok) (all .result .seats)) (c .before .before .before .before .before .before .before .before .before .before .before .before .first-child .ensures .row) (all .ensures .row) in
+    let P : Seated s ofLocation 1 (rowAt s (c .before .before .before .before .before .before .before .before .first-child2 .result)) (place .result .ok) (place .result .seats) = place .ensures .row in
+    let Q : Seated s ofPartitions 2 (rowAt s (c .before .before .before .before .first-child3 .result)) (parts .result .ok) (parts .result .seats) = parts .ensures .row in
+    let G : Placed s ofRoot (tagsIn (drop (c .before .before .before .before .before .before .before .before .before .before .before .before .before .before .args .n) s)) (all .result .ok) (all .result .seats)
+    = subst (λ (g : Tags). Placed s ofRoot g (all .result .ok) (all .result .seats)) (c .before .before .before .before .before .before .before .before .before .before .before .before .first-child .ensures .tags) (all .ensures .places) in
     record {
       shaped = c .all-three .ensures ∙ shaped A (c .before .before .before .before .before .before .before .before .first-child2 .ensures .row) P (c .before .before .before .before .first-child3 .ensures .row) Q;
       texts = λ t. found A (c .before .before .before .before .before .before .before .before .first-child2 .ensures .row) P (c .before .before .before .before .first-child3 .ensures .row) Q (sym (c .all-three .ensures) ∙ t);
+      places = λ t. standing A (c .before .before .before .before .before .before .before .before .first-child2 .ensures .row) P (c .before .before .before .before .first-child3 .ensures .row) Q (sym (c .all-three .ensures) ∙ t) G;
     }
 
 pub find-places-spec : {M : Type 1} → statement M

@@ -63,7 +63,7 @@ returns-4 c =
     let e₁ : version (h .value) ≡ some (c .before .before .before .before .before .release .given .0 .0) = ap version (sym (c .before .before .before .before .before .before .before .before .value-of .ensures)) ∙ sym (c .before .before .before .before .before .before .before .read-version .ensures) ∙ ap versionOf (c .before .before .before .before .before .release .given .1) in
     let ok = not-false _ (c .before .if2 .left) in
     reads-as (ap (labelFrom (c .before .before .before .before .before .release .given .0 .0)) (c .before .before .before .find-places .ensures .texts ok)
-    ∙ the-root h f (sym (c .before .before .before .before .before .before .before .before .before .before .is-root .ensures) ∙ not-false _ (c .before .before .before .before .before .before .before .before .before .if1 .left)) e₁ (sym (c .before .before .before .find-places .ensures .shaped) ∙ ok)) (c .read-values .ensures)
+    ∙ the-root h f (sym (c .before .before .before .before .before .before .before .before .before .before .is-root .ensures) ∙ not-false _ (c .before .before .before .before .before .before .before .before .before .if1 .left)) e₁ (sym (c .before .before .before .find-places .ensures .shaped) ∙ ok)) (c .before .before .before .find-places .ensures .places ok) (c .read-values .ensures)
 
 pub read-root-spec : {M : Type 1} → statement M
 read-root-spec =

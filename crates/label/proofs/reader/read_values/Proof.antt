@@ -10,7 +10,7 @@ use Rattle.values.specs.Values.{number, boolean, booleanOf, isTime, isUuid, isC
 use Rattle.label.specs.Reading.{textsAt}
 use Rattle.label.specs.Parts.{sized, lettersOf}
 use Rattle.label.proofs.Values.{texts-same, letters-same, no-texts, no-letters, no-size, no-compression, the-label}
-use Rattle.label.proofs.Places.{refuses}
+use Rattle.label.proofs.Places.{refuses, same-places}
 use borrow.Author.Needs.{needs}
 use Rattle.label.proofs.reader.read_values.Statement.{statement}
 use Rattle.label.proofs.reader.read_values.Tie as tie
@@ -118,8 +118,9 @@ returns-5 c =
     let e₂ = ap (λ (x : List ℕ). sized (number x)) (sym (c .before .before .before .before .before .before .before .before .before .before .before .before .text-of7 .ensures)) ∙ sym (c .before .before .before .before .before .before .before .before .before .before .before .read-size .ensures) ∙ ap valueOf (c .before .before .before .before .before .before .before .before .before .block-size .given .1) in
     let e₃ = ap boolean (sym (c .before .before .before .before .before .before .before .text-of8 .ensures)) ∙ sym (c .before .before .before .before .before .before .read-boolean .ensures) ∙ ap booleanOf (c .before .before .before .before .compression .given .1) in
     record {
-      says = the-label (c .before .before .before .before .before .before .before .before .before .before .before .before .before .before .before .before .before .before .before .before .before .before .before .before .before .before .args .release) t e₀ e₁ e₂ e₃ _ _ _ (c .before .before .text-at .ensures .part) (c .before .text-at2 .ensures .part) (c .text-at3 .ensures .part);
-      inside = record { creator = c .before .before .text-at .ensures .inside; time = c .before .text-at2 .ensures .inside; uuid = c .text-at3 .ensures .inside };
+      says = the-label (c .before .before .before .before .before .before .before .before .before .before .before .before .before .before .before .before .before .before .before .before .before .before .before .before .before .before .args .release) t e₀ e₁ e₂ e₃ _ _ _ (c .before .before .text-at .ensures .spans .part) (c .before .text-at2 .ensures .spans .part) (c .text-at3 .ensures .spans .part);
+      inside = record { creator = c .before .before .text-at .ensures .spans .inside; time = c .before .text-at2 .ensures .spans .inside; uuid = c .text-at3 .ensures .spans .inside };
+      stands = same-places (c .before .before .text-at .ensures .place) (c .before .text-at2 .ensures .place) (c .text-at3 .ensures .place);
     }
 
 pub read-values-spec : {M : Type 1} → statement M
