@@ -12,20 +12,20 @@ use Rattle.refusals.specs.declared.Refusal.{Refusal}
 use Rattle.refusals.specs.declared.Refusal.the-variants.{List as BadList, Short}
 use Rattle.refusals.specs.Refusals.{Answer, refused, answer, require, andThen}
 use Rattle.slices.specs.Slices.{written}
-use Rattle.slices.specs.Writers.{stored, room}
+use Rattle.slices.specs.Writers.{heldAfter, room}
 use Rattle.slices.proofs.Writing.{front-written}
 use Rattle.tape.specs.Tape.{Tape, maxElements}
-use Rattle.tape.specs.Reading.{tapeOf}
+use Rattle.tape.specs.ReadingSteps.{tapeOf}
 use Rattle.tape.specs.Answers.{orRefused, tapeIn, elementCount}
 use Rattle.tape.proofs.Encoding.{Bytes, encodes-read}
 use Rattle.tape.proofs.Keeping.{Present, absent-list}
-use Rattle.ansi.specs.declared.Read.{Read}
-use Rattle.ansi.specs.declared.Read.the-variants as readIs
+use Rattle.ansi.specs.declared.FilesRead.{FilesRead}
+use Rattle.ansi.specs.declared.FilesRead.the-variants as readIs
 use Rattle.ansi.specs.Layout.{TapeFile, Layout, maxFiles}
 use Rattle.ansi.specs.Places.{LongestFront}
-use Rattle.ansi.specs.Reading.{ansiOf, frontOf}
-use Rattle.ansi.specs.Answers.{allBytes, roomFor, filesOn, filesAfter, ReadsFiles, frontIn, ByLayout}
-use Rattle.ansi.specs.Owed.{AllRead, Stopped, HandsOut}
+use Rattle.ansi.specs.ReadingSteps.{ansiOf, frontOf}
+use Rattle.ansi.specs.Answers.{allBytes, roomFor, filesOn, filesAfter, frontIn, ByLayout}
+use Rattle.ansi.specs.Steps.{ReadsFiles, AllRead, Stopped, HandsOut}
 use Rattle.ansi.proofs.Form.{same-layout}
 use Rattle.ansi.proofs.Refused.{means, one-meaning, longest-front}
 use Rattle.ansi.proofs.Few.{few-files}
@@ -49,8 +49,8 @@ module _ (l s : List ℕ) (count : ℕ) (p : Present l s count) where
     files-are : filesOn (length before) l s ≡ roomFor (length before) fs
     files-are = rw (p .read, read)
 
-  pub reads-found : {b text : List ℕ} {end : ℕ} (before after : List ℕ) (r : Read) → AllRead (p .tape) b text end → HandsOut (take end text) before after r → ReadsFiles l s before after r
-  unfolding stored
+  pub reads-found : {b text : List ℕ} {end : ℕ} (before after : List ℕ) (r : FilesRead) → AllRead (p .tape) b text end → HandsOut (take end text) before after r → ReadsFiles l s before after r
+  unfolding heldAfter
   reads-found {b} {text} {end} before after r f h =
       let fs = f .files in
       let w : take end text ≡ allBytes fs = ap (λ (n : ℕ). take n text) (f .ends) ∙ ap (take (length (allBytes fs))) (f .holds) ∙ rows-are fs b in
@@ -61,7 +61,7 @@ module _ (l s : List ℕ) (count : ℕ) (p : Present l s count) where
         answers = h .answers ∙ ap (λ (x : ℕ). require (leb x (length before)) Short (answer (length (take end text) / 36))) n
             ∙ counted-room (leb (36 * length fs) (length before)) (length (take end text) / 36) fs k
             ∙ ap (λ (a : Answer (List TapeFile)). andThen a (λ gs. answer (length gs))) (sym i);
-        holds = h .holds ∙ ap (λ (x : List ℕ). stored 0 x before) w
+        holds = h .holds ∙ ap (λ (x : List ℕ). heldAfter 0 x before) w
             ∙ ap (λ (x : ℕ). cond (leb x (length before)) (written 0 (allBytes fs) before) before) (zero-add (length (allBytes fs)) ∙ f .sized)
             ∙ stored-room (leb (36 * length fs) (length before)) fs before ∙ ap (λ (a : Answer (List TapeFile)). filesAfter a before) (sym i);
       }

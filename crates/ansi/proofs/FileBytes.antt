@@ -14,12 +14,12 @@ use Rattle.slices.specs.Writers.{Puts}
 use Rattle.slices.proofs.Writers.{reached, unreached}
 use Rattle.big_endian.specs.BigEndian.{bigEndian}
 use Rattle.big_endian.proofs.Left.{length-big-endian}
-use Rattle.writing.specs.Writing.{AddsAtMost}
+use Rattle.writing.specs.Steps.{AddsAtMost}
 use Rattle.writing.proofs.Adding.{adds-none}
-use Rattle.ansi.specs.declared.Read.the-variants as readIs
+use Rattle.ansi.specs.declared.FilesRead.the-variants as readIs
 use Rattle.ansi.specs.Layout.{TapeFile, tapeFileOf}
 use Rattle.ansi.specs.Answers.{fileBytes, allBytes}
-use Rattle.ansi.specs.Owed.{HandsOut}
+use Rattle.ansi.specs.Steps.{HandsOut}
 
 pub all-append : (fs gs : List TapeFile) → allBytes (fs ++ gs) ≡ allBytes fs ++ allBytes gs
 unfolding allBytes

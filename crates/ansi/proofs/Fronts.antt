@@ -10,16 +10,16 @@ use Rattle.refusals.specs.Refusals.{Answer, refused, answer, andThen}
 use Rattle.tape.specs.Tape.{Tape, Element}
 use Rattle.ansi.specs.Layout.{TapeFile}
 use Rattle.ansi.specs.Places.{Begins}
-use Rattle.ansi.specs.Reading.{Stage, start, volume, header, headers, blocks, trailer, second, trailers, between, done, Step, go, found, stop, step, ending, follow, run, ansiOf, passedOn, passedFrom}
-use Rattle.ansi.specs.Phases.{unfiled, known}
+use Rattle.ansi.specs.ReadingSteps.{Stage, start, volume, header, headers, blocks, trailer, second, trailers, between, done, Step, go, found, stop, readStep, ending, follow, readRun, ansiOf, passedOn, passedFrom}
+use Rattle.ansi.specs.PhaseSteps.{unfiled, known}
 use Rattle.ansi.proofs.Form.{same-layout}
 use Rattle.ansi.proofs.Live.{Live, LiveAt, step-live, Ends}
 
 -- reading the front t from element n and stage σ on comes to element m and stage τ, with the files fs made known
 pub data Reach : Tape → ℕ → Stage → ℕ → Stage → List TapeFile → Type 0 where
   here : {n : ℕ} {σ : Stage} → Reach [] n σ n σ []
-  next : {e : Element} {t : Tape} {n m : ℕ} {σ τ υ : Stage} {fs : List TapeFile} → step n σ e ≡ go υ → Reach t (suc n) υ m τ fs → Reach (e ∷ t) n σ m τ fs
-  file : {e : Element} {t : Tape} {n m : ℕ} {σ τ υ : Stage} {f : TapeFile} {fs : List TapeFile} → step n σ e ≡ found f υ → Reach t (suc n) υ m τ fs
+  next : {e : Element} {t : Tape} {n m : ℕ} {σ τ υ : Stage} {fs : List TapeFile} → readStep n σ e ≡ go υ → Reach t (suc n) υ m τ fs → Reach (e ∷ t) n σ m τ fs
+  file : {e : Element} {t : Tape} {n m : ℕ} {σ τ υ : Stage} {f : TapeFile} {fs : List TapeFile} → readStep n σ e ≡ found f υ → Reach t (suc n) υ m τ fs
       → Reach (e ∷ t) n σ m τ (f ∷ fs)
 
 pub reach-length : {t : Tape} {n m : ℕ} {σ τ : Stage} {fs : List TapeFile} → Reach t n σ m τ fs → m ≡ n + length t
@@ -28,14 +28,14 @@ reach-length (Reach.next q r) = omega (arith, reach-length r)
 reach-length (Reach.file q r) = omega (arith, reach-length r)
 
 -- one element more
-pub reach-next : {t : Tape} {n m : ℕ} {σ τ : Stage} {fs : List TapeFile} (e : Element) (υ : Stage) → Reach t n σ m τ fs → unfiled (step m τ e) ≡ go υ
-    → Reach (t ++ (e ∷ [])) n σ (suc m) υ (fs ++ known (step m τ e))
-reach-next {n} {σ} e υ Reach.here q = by (step n σ e) refl q
+pub reach-next : {t : Tape} {n m : ℕ} {σ τ : Stage} {fs : List TapeFile} (e : Element) (υ : Stage) → Reach t n σ m τ fs → unfiled (readStep m τ e) ≡ go υ
+    → Reach (t ++ (e ∷ [])) n σ (suc m) υ (fs ++ known (readStep m τ e))
+reach-next {n} {σ} e υ Reach.here q = by (readStep n σ e) refl q
   where
     same-state : {σ τ : Stage} → go σ ≡ go τ → σ ≡ τ
     same-state e = cc
 
-    by : (s : Step) → step n σ e ≡ s → unfiled s ≡ go υ → Reach (e ∷ []) n σ (suc n) υ (known s)
+    by : (s : Step) → readStep n σ e ≡ s → unfiled s ≡ go υ → Reach (e ∷ []) n σ (suc n) υ (known s)
     by (go ρ) h z = Reach.next (h ∙ z) Reach.here
     by (found f ρ) h z = Reach.file (h ∙ ap (λ (x : Stage). found f x) (same-state z)) Reach.here
     by (stop r) h z = let w : _≡_ {A = ℕ} 0 1 = cc in absurd (omega arith)
@@ -55,11 +55,11 @@ behind-more f fs (refused r) = refl
 behind-more f fs (answer gs) = refl
 
 -- the reading goes on from there
-pub reach-run : {t : Tape} {n m : ℕ} {σ τ : Stage} {fs : List TapeFile} (s : Tape) → Reach t n σ m τ fs → run (t ++ s) n σ ≡ behind fs (run s m τ)
-unfolding run follow
-reach-run {n} {σ} s Reach.here = behind-none (run s n σ)
+pub reach-run : {t : Tape} {n m : ℕ} {σ τ : Stage} {fs : List TapeFile} (s : Tape) → Reach t n σ m τ fs → readRun (t ++ s) n σ ≡ behind fs (readRun s m τ)
+unfolding readRun follow
+reach-run {n} {σ} s Reach.here = behind-none (readRun s n σ)
 reach-run s (Reach.next q r) = rw q (reach-run s r)
-reach-run {m} {τ} s (Reach.file {f} {fs} q r) = rw q (ap (λ (a : Answer (List TapeFile)). andThen a (λ gs. answer (f ∷ gs))) (reach-run s r) ∙ behind-more f fs (run s m τ))
+reach-run {m} {τ} s (Reach.file {f} {fs} q r) = rw q (ap (λ (a : Answer (List TapeFile)). andThen a (λ gs. answer (f ∷ gs))) (reach-run s r) ∙ behind-more f fs (readRun s m τ))
 
 -- and passes as many elements
 pub reach-passed : {t : Tape} {n m : ℕ} {σ τ : Stage} {fs : List TapeFile} (s : Tape) → Reach t n σ m τ fs → passedFrom (t ++ s) n σ ≡ passedFrom s m τ
@@ -68,23 +68,23 @@ reach-passed s Reach.here = refl
 reach-passed s (Reach.next q r) = rw q (reach-passed s r)
 reach-passed s (Reach.file q r) = rw q (reach-passed s r)
 
-pub reach-on : {t : Tape} {n m : ℕ} {σ τ : Stage} {fs : List TapeFile} (s : Tape) (gs : List TapeFile) → Reach t n σ m τ fs → run s m τ ≡ answer gs → run (t ++ s) n σ ≡ answer (fs ++ gs)
+pub reach-on : {t : Tape} {n m : ℕ} {σ τ : Stage} {fs : List TapeFile} (s : Tape) (gs : List TapeFile) → Reach t n σ m τ fs → readRun s m τ ≡ answer gs → readRun (t ++ s) n σ ≡ answer (fs ++ gs)
 reach-on {fs} s gs r e = reach-run s r ∙ ap (behind fs) e
 
 pub answered : (fs : List TapeFile) (a : Answer (List TapeFile)) (gs : List TapeFile) → behind fs a ≡ answer gs → (hs : List TapeFile) × (a ≡ answer hs)
 answered fs (refused r) gs e = let z : _≡_ {A = ℕ} 0 1 = cc in absurd (omega arith)
 answered fs (answer hs) gs e = (hs, refl)
 
-pub reach-back : {t : Tape} {n m : ℕ} {σ τ : Stage} {fs : List TapeFile} (s : Tape) (gs : List TapeFile) → Reach t n σ m τ fs → run (t ++ s) n σ ≡ answer gs
-    → (hs : List TapeFile) × (run s m τ ≡ answer hs)
-reach-back {m} {τ} {fs} s gs r e = answered fs (run s m τ) gs (sym (reach-run s r) ∙ e)
+pub reach-back : {t : Tape} {n m : ℕ} {σ τ : Stage} {fs : List TapeFile} (s : Tape) (gs : List TapeFile) → Reach t n σ m τ fs → readRun (t ++ s) n σ ≡ answer gs
+    → (hs : List TapeFile) × (readRun s m τ ≡ answer hs)
+reach-back {m} {τ} {fs} s gs r e = answered fs (readRun s m τ) gs (sym (reach-run s r) ∙ e)
 
-follow-go : (t : Tape) (n : ℕ) (σ υ : Stage) (e : Element) → step n σ e ≡ go υ → run (e ∷ t) n σ ≡ run t (suc n) υ
-unfolding run follow
+follow-go : (t : Tape) (n : ℕ) (σ υ : Stage) (e : Element) → readStep n σ e ≡ go υ → readRun (e ∷ t) n σ ≡ readRun t (suc n) υ
+unfolding readRun follow
 follow-go t n σ υ e q = rw q
 
-pub follow-stop : (t : Tape) (n : ℕ) (σ : Stage) (r : Refusal) (e : Element) → step n σ e ≡ stop r → run (e ∷ t) n σ ≡ refused r
-unfolding run follow
+pub follow-stop : (t : Tape) (n : ℕ) (σ : Stage) (r : Refusal) (e : Element) → readStep n σ e ≡ stop r → readRun (e ∷ t) n σ ≡ refused r
+unfolding readRun follow
 follow-stop t n σ r e q = rw q
 
 module _ (front : Tape) (m : ℕ) (τ : Stage) (fs : List TapeFile) (reach : Reach front 0 start m τ fs) where
@@ -94,14 +94,14 @@ module _ (front : Tape) (m : ℕ) (τ : Stage) (fs : List TapeFile) (reach : Rea
   front-begins (t, gs, e) = (t, fs ++ gs, same-layout (front ++ t) (fs ++ gs) .0 (reach-on t gs reach e))
 
   -- so it does with one element more
-  pub next-begins : (e : Element) (υ : Stage) → step m τ e ≡ go υ → Ends (suc m) υ → Begins (front ++ (e ∷ []))
+  pub next-begins : (e : Element) (υ : Stage) → readStep m τ e ≡ go υ → Ends (suc m) υ → Begins (front ++ (e ∷ []))
   unfolding ansiOf
   next-begins e υ q (t, gs, r) =
       let g : ansiOf (front ++ (e ∷ t)) ≡ answer (fs ++ gs) = reach-on (e ∷ t) gs reach (follow-go t m τ υ e q ∙ r) in
       (t, fs ++ gs, rw (append-assoc front (e ∷ []) t) (same-layout (front ++ (e ∷ t)) (fs ++ gs) .0 g))
 
   -- and not where the element can't stand
-  pub next-stops : (e : Element) (r : Refusal) → step m τ e ≡ stop r → Begins (front ++ (e ∷ [])) → ⊥
+  pub next-stops : (e : Element) (r : Refusal) → readStep m τ e ≡ stop r → Begins (front ++ (e ∷ [])) → ⊥
   unfolding ansiOf
   next-stops e r q (t, gs, l) =
       let g : ansiOf (front ++ (e ∷ t)) ≡ answer gs = same-layout (front ++ (e ∷ t)) gs .1 (rw (append-assoc front (e ∷ []) t) at l) in
@@ -113,7 +113,7 @@ module _ (front : Tape) (m : ℕ) (τ : Stage) (fs : List TapeFile) (reach : Rea
 -- why a reading is refused: the tape ends, or an element can't stand
 pub data Reason (m : ℕ) (τ : Stage) (r : Refusal) : Tape → Type 0 where
   ends : r ≡ Labels → Reason m τ r []
-  stops : {e : Element} {t : Tape} → step m τ e ≡ stop r → Reason m τ r (e ∷ t)
+  stops : {e : Element} {t : Tape} → readStep m τ e ≡ stop r → Reason m τ r (e ∷ t)
 
 -- where a reading is refused
 pub record Halt (t : Tape) (n : ℕ) (σ : Stage) (r : Refusal) : Type 0 where
@@ -144,11 +144,11 @@ refused-behind : (a : Answer (List TapeFile)) (f : TapeFile) (r : Refusal) → a
 refused-behind (refused q) f r e = cc
 refused-behind (answer gs) f r e = let z : _≡_ {A = ℕ} 0 1 = cc in absurd (omega arith)
 
-pub halts : (t : Tape) (n : ℕ) (σ : Stage) (r : Refusal) → Live n σ → run t n σ ≡ refused r → Halt t n σ r
-unfolding run follow
+pub halts : (t : Tape) (n : ℕ) (σ : Stage) (r : Refusal) → Live n σ → readRun t n σ ≡ refused r → Halt t n σ r
+unfolding readRun follow
 halts [] n σ r l e =
     record { front = []; back = []; is = refl; number = n; state = σ; files = []; reach = Reach.here; live = l; reason = Reason.ends (ending-labels σ r e) }
-halts (x ∷ t) n σ r l e = by (step n σ x) refl (step-live n σ x l) e (halts t (suc n))
+halts (x ∷ t) n σ r l e = by (readStep n σ x) refl (step-live n σ x l) e (halts t (suc n))
   where
     go-on : (υ : Stage) (more : List TapeFile) → ((m : ℕ) (τ : Stage) (s : Tape) (gs : List TapeFile) → Reach s (suc n) υ m τ gs → Reach (x ∷ s) n σ m τ (more ++ gs))
         → Halt t (suc n) υ r → Halt (x ∷ t) n σ r
@@ -165,10 +165,10 @@ halts (x ∷ t) n σ r l e = by (step n σ x) refl (step-live n σ x l) e (halts
           reason = h .reason;
         }
 
-    by : (s : Step) → step n σ x ≡ s → LiveAt (suc n) s → follow (run t (suc n)) s ≡ refused r
-        → ((υ : Stage) (q : Refusal) → Live (suc n) υ → run t (suc n) υ ≡ refused q → Halt t (suc n) υ q) → Halt (x ∷ t) n σ r
+    by : (s : Step) → readStep n σ x ≡ s → LiveAt (suc n) s → follow (readRun t (suc n)) s ≡ refused r
+        → ((υ : Stage) (q : Refusal) → Live (suc n) υ → readRun t (suc n) υ ≡ refused q → Halt t (suc n) υ q) → Halt (x ∷ t) n σ r
     by (go υ) h (LiveAt.goes τ v) f k = go-on υ [] (λ m ρ s gs y. Reach.next h y) (k υ r v f)
-    by (found g υ) h (LiveAt.finds f′ τ v) f k = go-on υ (g ∷ []) (λ m ρ s gs y. Reach.file h y) (k υ r v (refused-behind (run t (suc n) υ) g r f))
+    by (found g υ) h (LiveAt.finds f′ τ v) f k = go-on υ (g ∷ []) (λ m ρ s gs y. Reach.file h y) (k υ r v (refused-behind (readRun t (suc n) υ) g r f))
     by (stop q) h (LiveAt.halts p) f k =
         let z : q ≡ r = cc in
         record { front = []; back = x ∷ t; is = refl; number = n; state = σ; files = []; reach = Reach.here; live = l; reason = Reason.stops (h ∙ ap stop z) }

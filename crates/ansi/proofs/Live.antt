@@ -16,7 +16,7 @@ use Rattle.slices.proofs.Booleans.{and-left, and-right}
 use Rattle.tape.specs.Tape.{Tape, Element, mark, block}
 use Rattle.ansi_labels.specs.Labels.{isLabel, isNumbered, labelNumber, isVolume, isHeader2, isTrailer, blockCount, isData}
 use Rattle.ansi.specs.Layout.{TapeFile}
-use Rattle.ansi.specs.Reading.{Stage, start, volume, header, headers, blocks, trailer, second, trailers, between, done, Step, go, found, stop, passing, opening, closing, step, ending, follow, run}
+use Rattle.ansi.specs.ReadingSteps.{Stage, start, volume, header, headers, blocks, trailer, second, trailers, between, done, Step, go, found, stop, passing, opening, closing, readStep, ending, follow, readRun}
 use Rattle.ansi_labels.proofs.Tests.{label-length}
 use Rattle.ansi.proofs.Counts.{counted, counted-trailer, counted-count, trailerOf, trailer-label, trailer-5-54, trailer-61-80}
 
@@ -62,8 +62,8 @@ module _ (n : ℕ) where
       (λ e. either (eqb (blockCount x) m) (λ f. LiveAt.goes second tt) (LiveAt.halts BlockCount))
       (either (isLabel (bytes "EOV1") x) (λ f. LiveAt.halts EndOfVolume) (LiveAt.halts Labels))
 
-pub step-live : (n : ℕ) (σ : Stage) (e : Element) → Live n σ → LiveAt (suc n) (step n σ e)
-unfolding step
+pub step-live : (n : ℕ) (σ : Stage) (e : Element) → Live n σ → LiveAt (suc n) (readStep n σ e)
+unfolding readStep
 step-live n start mark l = LiveAt.halts Labels
 step-live n start (block x) l = either (suc n) (isVolume x) (λ e. LiveAt.goes (volume 2) tt) (LiveAt.halts Labels)
 step-live n (volume k) mark l = LiveAt.halts Labels
@@ -86,15 +86,15 @@ step-live n done e l = LiveAt.halts Labels
 
 -- some tape ends a layout from here
 abbrev pub Ends : ℕ → Stage → Type 0
-Ends n σ = (t : Tape) × (fs : List TapeFile) × (run t n σ ≡ answer fs)
+Ends n σ = (t : Tape) × (fs : List TapeFile) × (readRun t n σ ≡ answer fs)
 
 -- a step, and then the rest
-pub ends-go : (n : ℕ) (σ τ : Stage) (e : Element) → step n σ e ≡ go τ → Ends (suc n) τ → Ends n σ
-unfolding run follow
+pub ends-go : (n : ℕ) (σ τ : Stage) (e : Element) → readStep n σ e ≡ go τ → Ends (suc n) τ → Ends n σ
+unfolding readRun follow
 ends-go n σ τ e q (t, fs, r) = (e ∷ t, fs, rw q r)
 
-ends-found : (n : ℕ) (σ τ : Stage) (f : TapeFile) (e : Element) → step n σ e ≡ found f τ → Ends (suc n) τ → Ends n σ
-unfolding run follow
+ends-found : (n : ℕ) (σ τ : Stage) (f : TapeFile) (e : Element) → readStep n σ e ≡ found f τ → Ends (suc n) τ → Ends n σ
+unfolding readRun follow
 ends-found n σ τ f e q (t, fs, r) = (e ∷ t, f ∷ fs, rw (q, r))
 
 -- labels of no more than their words
@@ -130,19 +130,19 @@ unfolding eof2 blank isLabel bytes same
 eof2-is = refl
 
 ends-done : (n : ℕ) → Ends n done
-unfolding run ending
+unfolding readRun ending
 ends-done n = ([], [], refl)
 
 ends-between : (n : ℕ) → Ends n between
-unfolding step
+unfolding readStep
 ends-between n = ends-go n between done mark refl (ends-done (suc n))
 
 ends-trailers : (n k : ℕ) → Ends n (trailers k)
-unfolding step
+unfolding readStep
 ends-trailers n k = ends-go n (trailers k) between mark refl (ends-between (suc n))
 
 pub ends-second : (n : ℕ) → Ends n second
-unfolding step
+unfolding readStep
 ends-second n = ends-go n second (trailers 3) (block eof2) (rw eof2-is) (ends-trailers (suc n) 3)
 
 -- an EOF1 with the right count ends the data
@@ -170,27 +170,27 @@ module _ (h : List ℕ) (m : ℕ) (e : isLabel (bytes "HDR1") h ≡ true) (small
 
 module _ (h : List ℕ) (e : isLabel (bytes "HDR1") h ≡ true) where
   ends-trailer : (n m : ℕ) → m < 1000000 → Ends n (trailer h m)
-  unfolding step
+  unfolding readStep
   ends-trailer n m s = ends-go n (trailer h m) second (block (eof1 h m)) (eof1-closes h m e s) (ends-second (suc n))
 
   ends-blocks : (n m : ℕ) → m < 1000000 → Ends n (blocks h m)
-  unfolding step
+  unfolding readStep
   ends-blocks n m s = ends-go n (blocks h m) (trailer h m) mark refl (ends-trailer (suc n) m s)
 
   ends-headers : (n : ℕ) (g : List ℕ) (k : ℕ) → Ends n (headers h g k)
-  unfolding step
+  unfolding readStep
   ends-headers n g k = ends-found n (headers h g k) (blocks h 0) _ mark refl (ends-blocks (suc n) 0 (omega arith))
 
   ends-header : (n : ℕ) → Ends n (header h)
-  unfolding step
+  unfolding readStep
   ends-header n = ends-go n (header h) (headers h hdr2 3) (block hdr2) (rw hdr2-is) (ends-headers (suc n) hdr2 3)
 
 ends-volume : (n k : ℕ) → Ends n (volume k)
-unfolding step passing opening isNumbered isLabel hdr1 blank bytes same
+unfolding readStep passing opening isNumbered isLabel hdr1 blank bytes same
 ends-volume n k = ends-go n (volume k) (header hdr1) (block hdr1) refl (ends-header hdr1 hdr1-is (suc n))
 
 pub ends : (n : ℕ) (σ : Stage) → n < 1000000 → Live n σ → Ends n σ
-unfolding step
+unfolding readStep
 ends n start s l = ends-go n start (volume 2) (block vol1) (rw vol1-is) (ends-volume (suc n) 2)
 ends n (volume k) s l = ends-volume n k
 ends n (header h) s l = ends-header h l n

@@ -15,11 +15,12 @@ use Rattle.refusals.specs.Refusals.{refused, answer}
 use Rattle.slices.specs.Slices.{written}
 use Rattle.slices.specs.Words.{bytes}
 use Rattle.slices.proofs.Writing.{length-written, written-nil}
-use Rattle.writing.specs.Writing.{AddsAtMost}
+use Rattle.writing.specs.Steps.{AddsAtMost}
 use Rattle.tape.specs.Tape.{Tape, Element, mark, block, list, store, content, Encodes}
-use Rattle.tape.specs.Answers.{Encoded, bytesBefore}
+use Rattle.tape.specs.Answers.{bytesBefore}
+use Rattle.tape.specs.Steps.{Encoded}
 use Rattle.tape.specs.declared.Entry.{Entry}
-use Rattle.tape.specs.Reading.{entryAt}
+use Rattle.tape.specs.ReadingSteps.{entryAt}
 use Rattle.tape.proofs.Elements.{MarkAt, BlockAt, Says, says-at}
 use Rattle.tape.proofs.Encoding.{one-tape}
 use Rattle.tape.proofs.Passing.{take-next, drop-next, bytes-next, bytes-within, drop-store}
@@ -28,10 +29,10 @@ use Rattle.ansi.specs.declared.phases.Phase.{Phase}
 use Rattle.ansi.specs.declared.phases.Phase.the-variants as phase
 use Rattle.ansi_labels.specs.Labels.{isLabel, isNumbered, labelNumber, isVolume, isHeader2, isTrailer, blockCount, isData}
 use Rattle.ansi.specs.Layout.{TapeFile}
-use Rattle.ansi.specs.Reading.{Stage, start, volume, header, headers, blocks, trailer, second, trailers, between, done, Step, go, found, stop, passing, opening, closing, step, ending, run, ansiOf, passedOn, passedFrom, frontOf}
-use Rattle.ansi.specs.Phases.{stageOf, blockStep, markStep, unfiled, known, knownAt, Small}
+use Rattle.ansi.specs.ReadingSteps.{Stage, start, volume, header, headers, blocks, trailer, second, trailers, between, done, Step, go, found, stop, passing, opening, closing, readStep, ending, readRun, ansiOf, passedOn, passedFrom, frontOf}
+use Rattle.ansi.specs.PhaseSteps.{stageOf, blockStep, markStep, unfiled, known, knownAt, Small}
 use Rattle.ansi.specs.Answers.{fileBytes, allBytes}
-use Rattle.ansi.specs.Owed.{AllRead, Stopped, WalkedAs, Walks, rowsLength, atEnd}
+use Rattle.ansi.specs.Steps.{AllRead, Stopped, WalkedAs, Walks, rowsLength, atEnd}
 use Rattle.ansi_labels.proofs.Tests.{label-length}
 use Rattle.ansi.proofs.Walks.{header2-length}
 use Rattle.ansi.proofs.Live.{Live, LiveAt, step-live}
@@ -71,8 +72,8 @@ opening-spends : (k : ℕ) (x : List ℕ) → 5 ≤ k → Spends k (opening x)
 unfolding opening
 opening-spends k x h = either k (isLabel (bytes "HDR1") x) (go (header x)) (stop Labels) h tt
 
-step-spends : (n : ℕ) (σ : Stage) (e : Element) → Live n σ → Spends (suc (spent σ)) (step n σ e)
-unfolding step closing
+step-spends : (n : ℕ) (σ : Stage) (e : Element) → Live n σ → Spends (suc (spent σ)) (readStep n σ e)
+unfolding readStep closing
 step-spends n start mark l = tt
 step-spends n start (block x) l = either 4 (isVolume x) (go (volume 2)) (stop Labels) (omega arith) tt
 step-spends n (volume k) mark l = tt
@@ -95,8 +96,8 @@ step-spends n between (block x) l = opening-spends 5 x (omega arith)
 step-spends n done e l = tt
 
 -- an element's number matters to the file that a mark makes known, and to nothing else
-pub mark-step : (n : ℕ) (σ : Stage) → unfiled (step n σ mark) ≡ unfiled (step 0 σ mark)
-unfolding step
+pub mark-step : (n : ℕ) (σ : Stage) → unfiled (readStep n σ mark) ≡ unfiled (readStep 0 σ mark)
+unfolding readStep
 mark-step n start = refl
 mark-step n (volume k) = refl
 mark-step n (header h) = refl
@@ -108,8 +109,8 @@ mark-step n (trailers k) = refl
 mark-step n between = refl
 mark-step n done = refl
 
-pub block-step : (n : ℕ) (σ : Stage) (x : List ℕ) → step n σ (block x) ≡ step 0 σ (block x)
-unfolding step
+pub block-step : (n : ℕ) (σ : Stage) (x : List ℕ) → readStep n σ (block x) ≡ readStep 0 σ (block x)
+unfolding readStep
 block-step n start x = refl
 block-step n (volume k) x = refl
 block-step n (header h) x = refl
@@ -183,16 +184,16 @@ module _ {l s : List ℕ} {count : ℕ} {b rows : List ℕ} {place at off end : 
 
   -- one element more
   matched-next : (next : ℕ) (e : Element) (rest : Tape) (q : Phase) (rows′ : List ℕ) (end′ : ℕ) → drop at (m .tape) ≡ e ∷ rest → drop next l ≡ list rest
-      → unfiled (step at (stageOf s p) e) ≡ go (stageOf s q)
-      → rows′ ≡ written 0 (allBytes (m .files) ++ allBytes (known (step at (stageOf s p) e))) b
-      → end′ ≡ length (allBytes (m .files) ++ allBytes (known (step at (stageOf s p) e)))
+      → unfiled (readStep at (stageOf s p) e) ≡ go (stageOf s q)
+      → rows′ ≡ written 0 (allBytes (m .files) ++ allBytes (known (readStep at (stageOf s p) e))) b
+      → end′ ≡ length (allBytes (m .files) ++ allBytes (known (readStep at (stageOf s p) e)))
       → Matched l s count b rows′ next (at + 1) (off + length (content e)) end′ q
   matched-next next e rest q rows′ end′ d left z h k =
       let t = m .tape in
       let σ = stageOf s p in
       let fs = m .files in
-      let gs = known (step at σ e) in
-      let g = goes (suc at) (suc (spent σ)) (step at σ e) (stageOf s q) (step-live at σ e (m .live)) (step-spends at σ e (m .live)) z in
+      let gs = known (readStep at σ e) in
+      let g = goes (suc at) (suc (spent σ)) (readStep at σ e) (stageOf s q) (step-live at σ e (m .live)) (step-spends at σ e (m .live)) z in
       let a : allBytes (fs ++ gs) ≡ allBytes fs ++ allBytes gs = all-append fs gs in
       let n : length (fs ++ gs) ≡ length fs + length gs = length-append fs gs in
       rw (add-one at)
@@ -239,34 +240,34 @@ module _ {l s : List ℕ} {count : ℕ} {b rows : List ℕ} {place at off end : 
       ∙ ap (λ (i : ℕ). take i (x ++ store (w .rest))) (w .size)
       ∙ take-append-seam x (store (w .rest))
 
-  step-here : {next k : ℕ} (w : BlockAt l next k (m .tape) at) → blockStep s p off k ≡ step at (stageOf s p) (block (w .bytes))
-  step-here w = ap (λ (x : List ℕ). step 0 (stageOf s p) (block x)) (block-here w) ∙ sym (block-step at (stageOf s p) (w .bytes))
+  step-here : {next k : ℕ} (w : BlockAt l next k (m .tape) at) → blockStep s p off k ≡ readStep at (stageOf s p) (block (w .bytes))
+  step-here w = ap (λ (x : List ℕ). readStep 0 (stageOf s p) (block x)) (block-here w) ∙ sym (block-step at (stageOf s p) (w .bytes))
 
   pub matched-block : {next k : ℕ} (q : Phase) → BlockAt l next k (m .tape) at → go (stageOf s q) ≡ blockStep s p off k
       → Matched l s count b rows next (at + 1) (off + k) end q
   unfolding content allBytes
   matched-block {next} {k} q w z =
       let x = w .bytes in
-      let c : step at (stageOf s p) (block x) ≡ go (stageOf s q) = sym (z ∙ step-here w) in
+      let c : readStep at (stageOf s p) (block x) ≡ go (stageOf s q) = sym (z ∙ step-here w) in
       let v = allBytes (m .files) in
-      let e : v ++ allBytes (known (step at (stageOf s p) (block x))) ≡ v = ap (λ (y : Step). v ++ allBytes (known y)) c ∙ append-nil v in
+      let e : v ++ allBytes (known (readStep at (stageOf s p) (block x))) ≡ v = ap (λ (y : Step). v ++ allBytes (known y)) c ∙ append-nil v in
       rw (w .size)
       (matched-next next (block x) (w .rest) q rows end (w .is) (w .left) (ap unfiled c) (m .holds ∙ ap (λ (y : List ℕ). written 0 y b) (sym e)) (m .ends ∙ ap length (sym e)))
 
   -- an element that can't stand
-  stopped-here : (e : Element) (rest : Tape) (r : Refusal) → drop at (m .tape) ≡ e ∷ rest → step at (stageOf s p) e ≡ stop r → (t : Tape) → Encodes l s t → Stopped t r at
+  stopped-here : (e : Element) (rest : Tape) (r : Refusal) → drop at (m .tape) ≡ e ∷ rest → readStep at (stageOf s p) e ≡ stop r → (t : Tape) → Encodes l s t → Stopped t r at
   unfolding ansiOf frontOf passedFrom passedOn
   stopped-here e rest r d z t w =
       let same : m .tape ≡ t = one-tape (m .encodes) w in
       let u : m .tape ≡ take at (m .tape) ++ (e ∷ rest) = sym (take-append-drop at (m .tape)) ∙ ap (λ (x : Tape). take at (m .tape) ++ x) d in
       rw (sym same)
       record {
-        read = ap (λ (x : Tape). run x 0 start) u ∙ reach-run (e ∷ rest) (m .reach) ∙ ap (behind (m .files)) (follow-stop rest at (stageOf s p) r e z);
+        read = ap (λ (x : Tape). readRun x 0 start) u ∙ reach-run (e ∷ rest) (m .reach) ∙ ap (behind (m .files)) (follow-stop rest at (stageOf s p) r e z);
         passed = ap (λ (x : Tape). passedFrom x 0 start) u ∙ reach-passed (e ∷ rest) (m .reach) ∙ rw z;
       }
 
   pub stopped-mark : {next : ℕ} (r : Refusal) → MarkAt l next (m .tape) at → stop r ≡ markStep s p → (t : Tape) → Encodes l s t → Stopped t r at
-  stopped-mark r k z = stopped-here mark (k .rest) r (k .is) (by (step at (stageOf s p) mark) (mark-step at (stageOf s p) ∙ sym z))
+  stopped-mark r k z = stopped-here mark (k .rest) r (k .is) (by (readStep at (stageOf s p) mark) (mark-step at (stageOf s p) ∙ sym z))
     where
       by : (y : Step) → unfiled y ≡ stop r → y ≡ stop r
       by (go σ) e = e
@@ -310,9 +311,9 @@ module _ {l s : List ℕ} {count : ℕ} {b rows : List ℕ} {place at off end : 
   all-passed = take-all at (m .tape) (omega (arith, m .counted))
 
   read-all : ansiOf (m .tape) ≡ behind (m .files) (ending (stageOf s p))
-  unfolding ansiOf run
+  unfolding ansiOf readRun
   read-all =
-      ap (λ (x : Tape). run x 0 start) (sym all-passed ∙ sym (append-nil (take at (m .tape)))) ∙ reach-run [] (m .reach)
+      ap (λ (x : Tape). readRun x 0 start) (sym all-passed ∙ sym (append-nil (take at (m .tape)))) ∙ reach-run [] (m .reach)
 
   place-all : frontOf (m .tape) ≡ count
   unfolding frontOf passedFrom

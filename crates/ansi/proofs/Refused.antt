@@ -22,7 +22,7 @@ use Rattle.digits.specs.Decimal.{isDigit}
 use Rattle.ansi_labels.specs.Labels.{labelPart, isLabel, isTrailer, blockCount, isData}
 use Rattle.ansi.specs.Layout.{TapeFile, Layout}
 use Rattle.ansi.specs.Places.{Begins, CouldStand, LongestFront, IsEndOfVolume, IsOtherCount, RefusalAt, Refuses, TapeMeans}
-use Rattle.ansi.specs.Reading.{Stage, start, blocks, trailer, second, Step, go, found, stop, wrong, closing, step, follow, run, ansiOf, passedOn, passedFrom, frontOf}
+use Rattle.ansi.specs.ReadingSteps.{Stage, start, blocks, trailer, second, Step, go, found, stop, wrong, closing, readStep, follow, readRun, ansiOf, passedOn, passedFrom, frontOf}
 use Rattle.ansi_labels.proofs.Tests.{label-length, label-word, other-word}
 use Rattle.ansi.proofs.Counts.{same-5-54, same-word, counted, counted-front, counted-back, counted-trailer, counted-count}
 use Rattle.ansi.proofs.Live.{Live, ends, ends-second, closes, eof1, eof1-trailer, eof1-closes}
@@ -94,15 +94,15 @@ closing-eof h m x e q = by (eqb (blockCount x) m) (rw e at q)
     by false z = 18-not-wrong z
 
 -- where a block y with the word EOF1 can stand, a label EOV1 is data or 17
-not-16-eov : (n : ℕ) (x y : List ℕ) {τ : Stage} → isLabel (bytes "EOV1") x ≡ true → EofAt y τ → step n τ (block x) ≡ wrong → ⊥
-unfolding step
+not-16-eov : (n : ℕ) (x y : List ℕ) {τ : Stage} → isLabel (bytes "EOV1") x ≡ true → EofAt y τ → readStep n τ (block x) ≡ wrong → ⊥
+unfolding readStep
 not-16-eov n x y e (EofAt.in-data h m) q = go-not-wrong (blocks h (suc m)) (rw (label-data (bytes "EOV1") x e) at q)
 not-16-eov n x y e (EofAt.in-place h m f) q = 17-not-wrong (sym (closing-eov h m x e) ∙ q)
 
 -- and a label EOF1 that differs in its digits alone is data or 18
 not-16-eof : (n : ℕ) (x y : List ℕ) {τ : Stage} → isLabel (bytes "EOF1") x ≡ true → every isDigit (labelPart 55 60 x) ≡ true
-    → labelPart 1 54 y ≡ labelPart 1 54 x → labelPart 61 80 y ≡ labelPart 61 80 x → EofAt y τ → step n τ (block x) ≡ wrong → ⊥
-unfolding step
+    → labelPart 1 54 y ≡ labelPart 1 54 x → labelPart 61 80 y ≡ labelPart 61 80 x → EofAt y τ → readStep n τ (block x) ≡ wrong → ⊥
+unfolding readStep
 not-16-eof n x y e d f b (EofAt.in-data h m) q = go-not-wrong (blocks h (suc m)) (rw (label-data (bytes "EOF1") x e) at q)
 not-16-eof n x y e d f b (EofAt.in-place h m g) q =
     let p = trailer-parts h y g in
@@ -111,14 +111,14 @@ not-16-eof n x y e d f b (EofAt.in-place h m g) q =
 
 module _ (front : Tape) (m : ℕ) (τ : Stage) (fs : List TapeFile) (reach : Reach front 0 start m τ fs) (live : Live m τ) (small : m < 1000000) where
   -- a block that could stand here doesn't stop the reading
-  could-go : (t : Tape) (x : List ℕ) → CouldStand (front ++ t) (length front) x → (r : Refusal) → step m τ (block x) ≡ stop r → ⊥
+  could-go : (t : Tape) (x : List ℕ) → CouldStand (front ++ t) (length front) x → (r : Refusal) → readStep m τ (block x) ≡ stop r → ⊥
   could-go t x c r q = next-stops front m τ fs reach (block x) r q (rw (take-append-seam front t) at c)
 
-  go-could : (t : Tape) (x : List ℕ) → step m τ (block x) ≡ go second → CouldStand (front ++ t) (length front) x
+  go-could : (t : Tape) (x : List ℕ) → readStep m τ (block x) ≡ go second → CouldStand (front ++ t) (length front) x
   go-could t x q = rw (take-append-seam front t) (next-begins front m τ fs reach (block x) second q (ends-second (suc m)))
 
   -- 16 is given where neither 17 nor 18 is
-  no-17 : (e : Element) (t : Tape) → step m τ e ≡ wrong → IsEndOfVolume (front ++ (e ∷ t)) (length front) → ⊥
+  no-17 : (e : Element) (t : Tape) → readStep m τ e ≡ wrong → IsEndOfVolume (front ++ (e ∷ t)) (length front) → ⊥
   unfolding bytes
   no-17 e t q c =
       let z : e ≡ block (c .label) = cc (element-behind front e t) in
@@ -126,7 +126,7 @@ module _ (front : Tape) (m : ℕ) (τ : Stage) (fs : List TapeFile) (reach : Rea
       (eof-at (c .other) (label-word (bytes "EOF1") (c .other) (c .eof1)) m τ live (could-go (e ∷ t) (c .other) (c .could)))
       (rw z at q)
 
-  no-18 : (e : Element) (t : Tape) → step m τ e ≡ wrong → IsOtherCount (front ++ (e ∷ t)) (length front) → ⊥
+  no-18 : (e : Element) (t : Tape) → readStep m τ e ≡ wrong → IsOtherCount (front ++ (e ∷ t)) (length front) → ⊥
   unfolding bytes
   no-18 e t q c =
       let z : e ≡ block (c .label) = cc (element-behind front e t) in
@@ -135,7 +135,7 @@ module _ (front : Tape) (m : ℕ) (τ : Stage) (fs : List TapeFile) (reach : Rea
       (eof-at (c .other) w m τ live (could-go (e ∷ t) (c .other) (c .could)))
       (rw z at q)
 
-  labels-here : (e : Element) (t : Tape) → step m τ e ≡ wrong → RefusalAt (front ++ (e ∷ t)) (length front) Labels
+  labels-here : (e : Element) (t : Tape) → readStep m τ e ≡ wrong → RefusalAt (front ++ (e ∷ t)) (length front) Labels
   labels-here e t q = RefusalAt.labels (no-17 e t q) (no-18 e t q)
 
   labels-at-end : RefusalAt (front ++ []) (length front) Labels
@@ -148,7 +148,7 @@ module _ (front : Tape) (m : ℕ) (τ : Stage) (fs : List TapeFile) (reach : Rea
 -- 17 and 18 are given behind the data blocks
 module _ (front : Tape) (m : ℕ) (fs : List TapeFile) (small : m < 1000000) where
   trailer-here : {τ : Stage} (e : Element) (t : Tape) (r : Refusal) → Reach front 0 start m τ fs → Live m τ → AtTrailer τ e r → RefusalAt (front ++ (e ∷ t)) (length front) r
-  unfolding step
+  unfolding readStep
   trailer-here e t r reach live (AtTrailer.volume-ends h k x f) =
       let s : k < 1000000 = omega arith in
       RefusalAt.end-of-volume record {
@@ -299,15 +299,15 @@ one-meaning t a b (TapeMeans.laid-out {fs} l) = same-layout t fs .1 l
 one-meaning t a b (TapeMeans.refuses {r} f) = same-refusal t r b .1 f
 
 -- a tape that is read to its end is its own longest front
-run-passed : (t : Tape) (n : ℕ) (σ : Stage) (fs : List TapeFile) → run t n σ ≡ answer fs → passedFrom t n σ ≡ n + length t
-unfolding run follow passedFrom passedOn
+run-passed : (t : Tape) (n : ℕ) (σ : Stage) (fs : List TapeFile) → readRun t n σ ≡ answer fs → passedFrom t n σ ≡ n + length t
+unfolding readRun follow passedFrom passedOn
 run-passed [] n σ fs e = omega arith
-run-passed (x ∷ t) n σ fs e = by (step n σ x) (run-passed t (suc n)) e
+run-passed (x ∷ t) n σ fs e = by (readStep n σ x) (run-passed t (suc n)) e
   where
-    by : (s : Step) → ((τ : Stage) (gs : List TapeFile) → run t (suc n) τ ≡ answer gs → passedFrom t (suc n) τ ≡ suc n + length t) → follow (run t (suc n)) s ≡ answer fs
+    by : (s : Step) → ((τ : Stage) (gs : List TapeFile) → readRun t (suc n) τ ≡ answer gs → passedFrom t (suc n) τ ≡ suc n + length t) → follow (readRun t (suc n)) s ≡ answer fs
         → passedOn n (passedFrom t (suc n)) s ≡ n + suc (length t)
     by (go τ) k f = k τ fs f ∙ omega arith
-    by (found g τ) k f = let (gs, q) = answered (g ∷ []) (run t (suc n) τ) fs f in k τ gs q ∙ omega arith
+    by (found g τ) k f = let (gs, q) = answered (g ∷ []) (readRun t (suc n) τ) fs f in k τ gs q ∙ omega arith
     by (stop r) k f = let z : _≡_ {A = ℕ} 0 1 = cc in absurd (omega arith)
 
 whole-front : (t : Tape) (fs : List TapeFile) → Layout t fs → LongestFront t (length t)

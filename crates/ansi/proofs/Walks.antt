@@ -11,8 +11,8 @@ use borrow.Author.Tests.{leb-true, leb-false, eq-eqb}
 use Rattle.slices.specs.Words.{bytes}
 use Rattle.slices.proofs.Booleans.{and-left}
 use Rattle.ansi_labels.specs.Labels.{byte, isLabel, isNumbered, labelNumber, isFormat, isHeader2, isTrailer, blockCount}
-use Rattle.ansi.specs.Reading.{Stage, header, headers, Step, go, wrong, passing, opening}
-use Rattle.ansi.specs.Phases.{labelAt, passedTo}
+use Rattle.ansi.specs.ReadingSteps.{Stage, header, headers, Step, go, wrong, passing, opening}
+use Rattle.ansi.specs.PhaseSteps.{labelAt, passedTo}
 use Rattle.ansi_labels.proofs.Tests.{label-length}
 use Rattle.ansi.proofs.Refused.{trailer-parts}
 

@@ -11,11 +11,10 @@ use Rattle.slices.specs.Slices.{written}
 use Rattle.big_endian.specs.BigEndian.{bigEndian}
 use Rattle.tape.specs.Tape.{Tape}
 use Rattle.tape.specs.Answers.{tapeIn}
-use Rattle.ansi.specs.declared.Read.{Read}
-use Rattle.ansi.specs.declared.Read.the-variants as readIs
+use Rattle.ansi.specs.declared.FilesRead.the-variants as readIs
 use Rattle.ansi.specs.Layout.{TapeFile}
 use Rattle.ansi.specs.Places.{TapeMeans}
-use Rattle.ansi.specs.Reading.{ansiOf, frontOf}
+use Rattle.ansi.specs.ReadingSteps.{ansiOf, frontOf}
 
 -- the bytes of a file: ID, record format, block length, record length, and the element's number in 8 bytes, high byte first
 abbrev pub fileBytes : TapeFile → List ℕ
@@ -41,15 +40,6 @@ filesOn room l s = andThen (tapeIn l s) (λ t. andThen (ansiOf t) (roomFor room)
 abbrev pub filesAfter : Answer (List TapeFile) → List ℕ → List ℕ
 filesAfter (refused r) before = before
 filesAfter (answer fs) before = written 0 (allBytes fs) before
-
-abbrev pub readCount : Read → Answer ℕ
-readCount (readIs.Files n) = answer n
-readCount (readIs.Refused r) = refused r
-
--- what reading answers, and what the buffer holds after
-pub record ReadsFiles (l s before after : List ℕ) (r : Read) : Type 0 where
-  pub answers : readCount r ≡ andThen (filesOn (length before) l s) (λ fs. answer (length fs))
-  pub holds : after ≡ filesAfter (filesOn (length before) l s) before
 
 -- how many elements of a list are passed before one can't stand
 abbrev pub frontIn : List ℕ → List ℕ → Answer ℕ

@@ -2,20 +2,20 @@
 mod phases;
 mod rows;
 
-use phases::Next;
 use phases::Phase;
+use phases::PhaseNext;
 use refusals::Refusal;
 use slices::Written;
-use tape::Checked;
 use tape::Entry;
+use tape::ListChecked;
 ghost use mathlib.Core.Path.{_≡_};
 ghost use Prim.Native.Nat.{_<_};
 ghost use lib.ListN.{length, take};
-ghost use Rattle.tape.specs.Answers.{Encoded, counted};
-ghost use Rattle.writing.specs.Writing.{AddsAtMost};
-ghost use Rattle.ansi.specs.Phases.{knownAt};
-ghost use Rattle.ansi.specs.Answers.{allBytes, ReadsFiles, frontIn};
-ghost use Rattle.ansi.specs.Owed.{Walks, rowsLength, atEnd, HandsOut};
+ghost use Rattle.tape.specs.Steps.{Encoded, counted};
+ghost use Rattle.writing.specs.Steps.{AddsAtMost};
+ghost use Rattle.ansi.specs.PhaseSteps.{knownAt};
+ghost use Rattle.ansi.specs.Answers.{allBytes, frontIn};
+ghost use Rattle.ansi.specs.Steps.{ReadsFiles, Walks, rowsLength, atEnd, HandsOut};
 
 // Adds the file that a mark, element at, makes known, and answers where the rows end then.
 fn note(out: &mut [u8], end: usize, phase: Phase, store: &[u8], at: usize) -> usize
@@ -81,23 +81,23 @@ fn walk(list: &[u8], store: &[u8], count: usize, out: &mut [u8]) -> Walked
             Entry::Mark(next) => {
                 end = note(out, end, phase, store, at);
                 match phases::after_mark(phase, store) {
-                    Next::Go(p) => {
+                    PhaseNext::Go(p) => {
                         phase = p;
                         place = next;
                         at += 1;
                     }
-                    Next::Stop(r) => return Walked::Refused(r, at),
+                    PhaseNext::Stop(r) => return Walked::Refused(r, at),
                 }
             }
             Entry::Block(k, next) => {
                 match phases::after_block(phase, store, off, k) {
-                    Next::Go(p) => {
+                    PhaseNext::Go(p) => {
                         phase = p;
                         off += k;
                         place = next;
                         at += 1;
                     }
-                    Next::Stop(r) => return Walked::Refused(r, at),
+                    PhaseNext::Stop(r) => return Walked::Refused(r, at),
                 }
             }
             Entry::End => return Walked::Refused(Refusal::List, at),
@@ -115,46 +115,46 @@ fn empty() -> [u8; 337068]
 }
 
 // What is read of a tape: so many files, or a refusal.
-pub enum Read {
+pub enum FilesRead {
     Files(usize),
     Refused(Refusal),
 }
 
 // Puts the rows that stand in so many bytes of a text to the front of out.
-fn hand_out(text: &[u8], end: usize, out: &mut [u8]) -> Read
+fn hand_out(text: &[u8], end: usize, out: &mut [u8]) -> FilesRead
     ensures { λ r. ⌜ HandsOut (take end (now (text .entry))) (now (out .entry)) (now (out .exit)) r ⌝ }
 {
     let rows = slices::part(text, 0, end);
     match slices::put(out, 0, rows) {
-        Written::To(_) => Read::Files(rows.len() / 36),
-        Written::Refused(r) => Read::Refused(r),
+        Written::To(_) => FilesRead::Files(rows.len() / 36),
+        Written::Refused(r) => FilesRead::Refused(r),
     }
 }
 
 // Reads the files of an ANSI labelled tape to the front of out, 36 bytes each.
-pub fn files(list: &[u8], store: &[u8], out: &mut [u8]) -> Read
+pub fn files(list: &[u8], store: &[u8], out: &mut [u8]) -> FilesRead
     ensures { λ r. ⌜ ReadsFiles (now (list .entry)) (now (store .entry)) (now (out .entry)) (now (out .exit)) r ⌝ }
 {
-    let Checked::Elements(count) = tape::check(list, store) else {
-        return Read::Refused(Refusal::List);
+    let ListChecked::Elements(count) = tape::check(list, store) else {
+        return FilesRead::Refused(Refusal::List);
     };
     let mut text = empty();
     match walk(list, store, count, &mut text) {
         Walked::Files(end) => hand_out(&text, end, out),
-        Walked::Refused(r, _) => Read::Refused(r),
+        Walked::Refused(r, _) => FilesRead::Refused(r),
     }
 }
 
 // How many elements at the front of a tape some tape in the layout begins with.
-pub fn place(list: &[u8], store: &[u8]) -> Checked
+pub fn place(list: &[u8], store: &[u8]) -> ListChecked
     ensures { λ r. ⌜ counted r ≡ frontIn (now (list .entry)) (now (store .entry)) ⌝ }
 {
-    let Checked::Elements(count) = tape::check(list, store) else {
-        return Checked::Refused(Refusal::List);
+    let ListChecked::Elements(count) = tape::check(list, store) else {
+        return ListChecked::Refused(Refusal::List);
     };
     let mut text = empty();
     match walk(list, store, count, &mut text) {
-        Walked::Files(_) => Checked::Elements(count),
-        Walked::Refused(_, at) => Checked::Elements(at),
+        Walked::Files(_) => ListChecked::Elements(count),
+        Walked::Refused(_, at) => ListChecked::Elements(at),
     }
 }

@@ -3,9 +3,9 @@ use refusals::Refusal;
 ghost use mathlib.Core.Path.{_≡_};
 ghost use Prim.Native.Nat.{_+_, _<_};
 ghost use lib.ListN.{take, drop};
-ghost use Rattle.ansi.specs.declared.phases.Phase.the-variants as is;
-ghost use Rattle.ansi.specs.Reading.{opening};
-ghost use Rattle.ansi.specs.Phases.{stepOf, blockStep, markStep, passedTo, Small};
+ghost use Rattle.ansi.specs.declared.phases.Phase.the-variants as refusal;
+ghost use Rattle.ansi.specs.ReadingSteps.{opening};
+ghost use Rattle.ansi.specs.PhaseSteps.{stepOf, blockStep, markStep, passedTo, Small};
 
 // What was read last; a label is told by its place in the store.
 pub enum Phase {
@@ -22,26 +22,26 @@ pub enum Phase {
 }
 
 // What an element does: another phase, or it can't stand.
-pub enum Next {
+pub enum PhaseNext {
     Go(Phase),
     Stop(Refusal),
 }
 
 // The phase behind a mark.
-pub fn after_mark(phase: Phase, store: &[u8]) -> Next
+pub fn after_mark(phase: Phase, store: &[u8]) -> PhaseNext
     ensures { λ r. ⌜ stepOf (now (store .entry)) r ≡ markStep (now (store .entry)) phase ⌝ }
 {
     match phase {
-        Phase::Start => Next::Stop(Refusal::Labels),
-        Phase::Volume(_) => Next::Stop(Refusal::Labels),
-        Phase::Header(_) => Next::Stop(Refusal::Labels),
-        Phase::Headers(h, _, _) => Next::Go(Phase::Blocks(h, 0)),
-        Phase::Blocks(h, m) => Next::Go(Phase::Trailer(h, m)),
-        Phase::Trailer(_, _) => Next::Stop(Refusal::Labels),
-        Phase::Second => Next::Stop(Refusal::Labels),
-        Phase::Trailers(_) => Next::Go(Phase::Between),
-        Phase::Between => Next::Go(Phase::Done),
-        Phase::Done => Next::Stop(Refusal::Labels),
+        Phase::Start => PhaseNext::Stop(Refusal::Labels),
+        Phase::Volume(_) => PhaseNext::Stop(Refusal::Labels),
+        Phase::Header(_) => PhaseNext::Stop(Refusal::Labels),
+        Phase::Headers(h, _, _) => PhaseNext::Go(Phase::Blocks(h, 0)),
+        Phase::Blocks(h, m) => PhaseNext::Go(Phase::Trailer(h, m)),
+        Phase::Trailer(_, _) => PhaseNext::Stop(Refusal::Labels),
+        Phase::Second => PhaseNext::Stop(Refusal::Labels),
+        Phase::Trailers(_) => PhaseNext::Go(Phase::Between),
+        Phase::Between => PhaseNext::Go(Phase::Done),
+        Phase::Done => PhaseNext::Stop(Refusal::Labels),
     }
 }
 
@@ -59,116 +59,116 @@ fn passed(x: &[u8], w: &[u8], u: &[u8], k: usize) -> usize
 }
 
 // A block at the tape's start.
-fn in_start(store: &[u8], from: usize, len: usize) -> Next
-    ensures { λ r. ⌜ stepOf (now (store .entry)) r ≡ blockStep (now (store .entry)) is.Start from len ⌝ }
+fn in_start(store: &[u8], from: usize, len: usize) -> PhaseNext
+    ensures { λ r. ⌜ stepOf (now (store .entry)) r ≡ blockStep (now (store .entry)) refusal.Start from len ⌝ }
 {
     let x = slices::part(store, from, len);
     if !ansi_labels::is_volume(x) {
-        return Next::Stop(Refusal::Labels);
+        return PhaseNext::Stop(Refusal::Labels);
     }
-    Next::Go(Phase::Volume(2))
+    PhaseNext::Go(Phase::Volume(2))
 }
 
 // A block where a file may begin.
-fn begin_file(store: &[u8], from: usize, len: usize) -> Next
+fn begin_file(store: &[u8], from: usize, len: usize) -> PhaseNext
     ensures { λ r. ⌜ stepOf (now (store .entry)) r ≡ opening (take len (drop from (now (store .entry)))) ⌝ }
 {
     let x = slices::part(store, from, len);
     if !ansi_labels::is_label(x, b"HDR1") {
-        return Next::Stop(Refusal::Labels);
+        return PhaseNext::Stop(Refusal::Labels);
     }
-    Next::Go(Phase::Header(from))
+    PhaseNext::Go(Phase::Header(from))
 }
 
 // A block among the volume's labels.
-fn in_volume(store: &[u8], from: usize, len: usize, k: usize) -> Next
-    ensures { λ r. ⌜ stepOf (now (store .entry)) r ≡ blockStep (now (store .entry)) (is.Volume k) from len ⌝ }
+fn in_volume(store: &[u8], from: usize, len: usize, k: usize) -> PhaseNext
+    ensures { λ r. ⌜ stepOf (now (store .entry)) r ≡ blockStep (now (store .entry)) (refusal.Volume k) from len ⌝ }
 {
     let x = slices::part(store, from, len);
     let next = passed(x, b"VOL", b"UVL", k);
     if next == 0 {
         return begin_file(store, from, len);
     }
-    Next::Go(Phase::Volume(next))
+    PhaseNext::Go(Phase::Volume(next))
 }
 
 // A block behind HDR1.
-fn in_header(store: &[u8], from: usize, len: usize, h: usize) -> Next
-    ensures { λ r. ⌜ stepOf (now (store .entry)) r ≡ blockStep (now (store .entry)) (is.Header h) from len ⌝ }
+fn in_header(store: &[u8], from: usize, len: usize, h: usize) -> PhaseNext
+    ensures { λ r. ⌜ stepOf (now (store .entry)) r ≡ blockStep (now (store .entry)) (refusal.Header h) from len ⌝ }
 {
     let x = slices::part(store, from, len);
     if !ansi_labels::is_header2(x) {
-        return Next::Stop(Refusal::Labels);
+        return PhaseNext::Stop(Refusal::Labels);
     }
-    Next::Go(Phase::Headers(h, from, 3))
+    PhaseNext::Go(Phase::Headers(h, from, 3))
 }
 
 // A block among the header labels.
-fn in_headers(store: &[u8], from: usize, len: usize, h: usize, g: usize, k: usize) -> Next
-    ensures { λ r. ⌜ stepOf (now (store .entry)) r ≡ blockStep (now (store .entry)) (is.Headers h g k) from len ⌝ }
+fn in_headers(store: &[u8], from: usize, len: usize, h: usize, g: usize, k: usize) -> PhaseNext
+    ensures { λ r. ⌜ stepOf (now (store .entry)) r ≡ blockStep (now (store .entry)) (refusal.Headers h g k) from len ⌝ }
 {
     let x = slices::part(store, from, len);
     let next = passed(x, b"HDR", b"UHL", k);
     if next == 0 {
-        return Next::Stop(Refusal::Labels);
+        return PhaseNext::Stop(Refusal::Labels);
     }
-    Next::Go(Phase::Headers(h, g, next))
+    PhaseNext::Go(Phase::Headers(h, g, next))
 }
 
 // A block among the data blocks.
-fn in_blocks(store: &[u8], from: usize, len: usize, h: usize, m: usize) -> Next
+fn in_blocks(store: &[u8], from: usize, len: usize, h: usize, m: usize) -> PhaseNext
     requires { ⌜ m < 65536 ⌝ }
-    ensures { λ r. ⌜ stepOf (now (store .entry)) r ≡ blockStep (now (store .entry)) (is.Blocks h m) from len ⌝ }
+    ensures { λ r. ⌜ stepOf (now (store .entry)) r ≡ blockStep (now (store .entry)) (refusal.Blocks h m) from len ⌝ }
 {
     let x = slices::part(store, from, len);
     if !ansi_labels::is_data(x) {
-        return Next::Stop(Refusal::Labels);
+        return PhaseNext::Stop(Refusal::Labels);
     }
-    Next::Go(Phase::Blocks(h, m + 1))
+    PhaseNext::Go(Phase::Blocks(h, m + 1))
 }
 
 // A block behind the data blocks.
-fn in_trailer(store: &[u8], from: usize, len: usize, h: usize, m: usize) -> Next
-    ensures { λ r. ⌜ stepOf (now (store .entry)) r ≡ blockStep (now (store .entry)) (is.Trailer h m) from len ⌝ }
+fn in_trailer(store: &[u8], from: usize, len: usize, h: usize, m: usize) -> PhaseNext
+    ensures { λ r. ⌜ stepOf (now (store .entry)) r ≡ blockStep (now (store .entry)) (refusal.Trailer h m) from len ⌝ }
 {
     let x = slices::part(store, from, len);
     if ansi_labels::is_trailer(x, slices::part(store, h, 80)) {
         if ansi_labels::has_count(x, m) {
-            return Next::Go(Phase::Second);
+            return PhaseNext::Go(Phase::Second);
         }
-        return Next::Stop(Refusal::BlockCount);
+        return PhaseNext::Stop(Refusal::BlockCount);
     }
     if ansi_labels::is_label(x, b"EOV1") {
-        return Next::Stop(Refusal::EndOfVolume);
+        return PhaseNext::Stop(Refusal::EndOfVolume);
     }
-    Next::Stop(Refusal::Labels)
+    PhaseNext::Stop(Refusal::Labels)
 }
 
 // A block behind EOF1.
-fn in_second(store: &[u8], from: usize, len: usize) -> Next
-    ensures { λ r. ⌜ stepOf (now (store .entry)) r ≡ blockStep (now (store .entry)) is.Second from len ⌝ }
+fn in_second(store: &[u8], from: usize, len: usize) -> PhaseNext
+    ensures { λ r. ⌜ stepOf (now (store .entry)) r ≡ blockStep (now (store .entry)) refusal.Second from len ⌝ }
 {
     let x = slices::part(store, from, len);
     if !ansi_labels::is_label(x, b"EOF2") {
-        return Next::Stop(Refusal::Labels);
+        return PhaseNext::Stop(Refusal::Labels);
     }
-    Next::Go(Phase::Trailers(3))
+    PhaseNext::Go(Phase::Trailers(3))
 }
 
 // A block among the trailer labels.
-fn in_trailers(store: &[u8], from: usize, len: usize, k: usize) -> Next
-    ensures { λ r. ⌜ stepOf (now (store .entry)) r ≡ blockStep (now (store .entry)) (is.Trailers k) from len ⌝ }
+fn in_trailers(store: &[u8], from: usize, len: usize, k: usize) -> PhaseNext
+    ensures { λ r. ⌜ stepOf (now (store .entry)) r ≡ blockStep (now (store .entry)) (refusal.Trailers k) from len ⌝ }
 {
     let x = slices::part(store, from, len);
     let next = passed(x, b"EOF", b"UTL", k);
     if next == 0 {
-        return Next::Stop(Refusal::Labels);
+        return PhaseNext::Stop(Refusal::Labels);
     }
-    Next::Go(Phase::Trailers(next))
+    PhaseNext::Go(Phase::Trailers(next))
 }
 
 // The phase behind the block of so many bytes that begins at a place of the store.
-pub fn after_block(phase: Phase, store: &[u8], from: usize, len: usize) -> Next
+pub fn after_block(phase: Phase, store: &[u8], from: usize, len: usize) -> PhaseNext
     requires { ⌜ Small phase ⌝ }
     ensures { λ r. ⌜ stepOf (now (store .entry)) r ≡ blockStep (now (store .entry)) phase from len ⌝ }
 {
@@ -182,6 +182,6 @@ pub fn after_block(phase: Phase, store: &[u8], from: usize, len: usize) -> Next
         Phase::Second => in_second(store, from, len),
         Phase::Trailers(k) => in_trailers(store, from, len, k),
         Phase::Between => begin_file(store, from, len),
-        Phase::Done => Next::Stop(Refusal::Labels),
+        Phase::Done => PhaseNext::Stop(Refusal::Labels),
     }
 }

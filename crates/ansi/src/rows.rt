@@ -2,7 +2,7 @@
 use slices::Written;
 use writing::add;
 ghost use Rattle.big_endian.specs.BigEndian.{bigEndian};
-ghost use Rattle.writing.specs.Writing.{AddsAtMost};
+ghost use Rattle.writing.specs.Steps.{AddsAtMost};
 ghost use Rattle.ansi.specs.Layout.{tapeFileOf};
 ghost use Rattle.ansi.specs.Answers.{fileBytes};
 

@@ -1,6 +1,6 @@
 // Cases of ANSI labelled tapes (02, Item 1), read from files beside the program: the files of a tape, and where it leaves the layout.
-use ansi::Read;
-use tape::Checked;
+use ansi::FilesRead;
+use tape::ListChecked;
 
 // The number of a refusal, or 0, and the number of files, or 0.
 struct Answer {
@@ -10,8 +10,8 @@ struct Answer {
 
 fn read(list: &[u8], store: &[u8], out: &mut [u8]) -> Answer {
     match ansi::files(list, store, out) {
-        Read::Files(files) => Answer { refusal: 0, files },
-        Read::Refused(r) => Answer {
+        FilesRead::Files(files) => Answer { refusal: 0, files },
+        FilesRead::Refused(r) => Answer {
             refusal: refusals::number(r),
             files: 0,
         },
@@ -51,14 +51,14 @@ fn place_case(list: &[u8], store: &[u8], fd: i32) -> bool {
         return false;
     }
     match ansi::place(list, store) {
-        Checked::Elements(n) => {
+        ListChecked::Elements(n) => {
             // Only a bad list or store has no place.
             if refusal == 1 {
                 return false;
             }
             n == place
         }
-        Checked::Refused(r) => refusals::number(r) == refusal,
+        ListChecked::Refused(r) => refusals::number(r) == refusal,
     }
 }
 

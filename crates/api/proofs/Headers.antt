@@ -7,28 +7,32 @@ use Prim.Native.Nat.{ℕ, _-_, min}
 use native.Mathlib.Omega.{arith}
 use lib.ListN.{length, drop, length-take, length-drop}
 use Rattle.refusals.specs.Refusals.{Answer, refused, answer, andThen}
-use Rattle.quantities.specs.Places.{Place}
-use Rattle.constructs.specs.declared.Place.{Place as Spot}
-use Rattle.index.specs.Index.{Index, File, Summary, summary, summaryIn, Definite, ReadsIndex}
+use Rattle.quantities.specs.Locations.{Location}
+use Rattle.constructs.specs.declared.Bounds.{Bounds as Spot}
+use Rattle.index.specs.Index.{Index, File, Summary, summary}
+use Rattle.index.specs.Steps.{summaryIn, Definite, ReadsIndex}
 use Rattle.index.specs.declared.read.Header.{Header}
 use Rattle.index.specs.declared.read.Read.the-variants.{Found}
-use Rattle.index_files.specs.Asked.{Shown as Head, shown as headOf, fileSaid, nameInside}
-use Rattle.index_files.specs.Filling.{countSaid, counted, Puts, SaysFile}
+use Rattle.index_files.specs.AskedSteps.{FileShown as Head, shown as headOf, fileAnswered, nameInside}
+use Rattle.index_files.specs.Filling.{SaysFile}
+use Rattle.index_files.specs.FillingSteps.{countAnswered, countOf, FillsBuffer}
 use Rattle.index_files.specs.declared.asked.FileHead.{FileHead}
 use Rattle.index_files.specs.declared.asked.FileRead.the-variants as file
 use Rattle.index_files.specs.declared.filling.Filled.{Filled}
 use Rattle.index_files.proofs.Mapped.{mapped}
-use Rattle.volume.specs.Steps.{textIn}
-use Rattle.volume.specs.Chosen.{Indexed, indexedIn, Lies, Chooses}
+use Rattle.volume.specs.Steps.{boundsText}
+use Rattle.volume.specs.Chosen.{Indexed}
+use Rattle.volume.specs.ChosenSteps.{indexedIn, LiesInStore, Chooses}
 use Rattle.volume.specs.declared.chosen.Chosen.the-variants as chosenIs
-use Rattle.api.specs.Outputs.{Told, Shown, bit, one}
-use Rattle.api.specs.Indexes.{backNumbers, SaysHeader, SaysIndex, SaysConstruct, headerNumbers, constructNumbers, howMany, FillsOut}
+use Rattle.api.specs.Outputs.{ShownAs, Shown, bit, one}
+use Rattle.api.specs.Indexes.{backNumbers, SaysHeader, SaysIndex, SaysConstruct, howMany, FillsOut}
+use Rattle.api.specs.Steps.{headerNumbers, constructNumbers}
 use Rattle.api.proofs.Showing.{told as tells}
 
-back-numbers : (b : Bool) (l k : ℕ) → (b ≡ false → _≡_ {A = Place} (record { letter = l; block = k }) (record { letter = 0; block = 0 }))
+back-numbers : (b : Bool) (l k : ℕ) → (b ≡ false → _≡_ {A = Location} (record { letter = l; block = k }) (record { letter = 0; block = 0 }))
     → bit b ∷ l ∷ k ∷ [] ≡ backNumbers (cond b (some (record { letter = l; block = k })) none)
 back-numbers true l k z = refl
-back-numbers false l k z = ap (λ (p : Place). 0 ∷ p .letter ∷ p .block ∷ []) (z refl)
+back-numbers false l k z = ap (λ (p : Location). 0 ∷ p .letter ∷ p .block ∷ []) (z refl)
 
 says-header : (s : List ℕ) (h : Header) → Definite s h → SaysHeader s (summaryIn s h) (headerNumbers h)
 says-header s h d =
@@ -45,12 +49,12 @@ says-header s h d =
       files = refl;
     }
 
-pub says-index : (s : List ℕ) (a : Answer Index) (h : Header) {out : List ℕ} → ReadsIndex s a (Found h) → out ≡ headerNumbers h → Told 13 (SaysIndex s) a 0 out
+pub says-index : (s : List ℕ) (a : Answer Index) (h : Header) {out : List ℕ} → ReadsIndex s a (Found h) → out ≡ headerNumbers h → ShownAs 13 (SaysIndex s) a 0 out
 says-index s a h {out} w q =
     let (x, g, p) = mapped summary a _ (w .answers) in
     tells x g (subst (λ (o : List ℕ). SaysIndex s x o) (sym q) (subst (λ (t : Summary). SaysHeader s t (headerNumbers h)) p (says-header s h (w .header))))
 
-says-place : (s : List ℕ) (p : Spot) (h : Header) → Lies s p h → SaysConstruct s (indexedIn s p h) (constructNumbers p h)
+says-place : (s : List ℕ) (p : Spot) (h : Header) → LiesInStore s p h → SaysConstruct s (indexedIn s p h) (constructNumbers p h)
 says-place s p h i =
     record {
       first = refl;
@@ -58,19 +62,19 @@ says-place s p h i =
       from = refl;
       length = sym (length-take (p .to - p .from) (drop (p .from) s) ∙ whole);
       text = record { part = refl; inside = i .text };
-      header = says-header (textIn s p) h (i .header);
+      header = says-header (boundsText s p) h (i .header);
     }
   where
     whole : min (p .to - p .from) (length (drop (p .from) s)) ≡ p .to - p .from
     whole = omega (arith, length-drop (p .from) s, i .text)
 
 pub says-construct : (s : List ℕ) (a : Answer Indexed) (p : Spot) (h : Header) {out : List ℕ} → Chooses s a (chosenIs.Found p h)
-    → out ≡ constructNumbers p h → Told 17 (SaysConstruct s) a 0 out
+    → out ≡ constructNumbers p h → ShownAs 17 (SaysConstruct s) a 0 out
 says-construct s a p h w q =
     tells (indexedIn s p h) (w .answers) (subst (λ (o : List ℕ). SaysConstruct s (indexedIn s p h) o) (sym q) (says-place s p h (w .inside)))
 
-pub says-file : (s : List ℕ) (a : Answer File) (h : FileHead) → fileSaid s (file.Found h) ≡ andThen a (λ f. answer (headOf f)) → nameInside s (file.Found h)
-    → Told 4 (SaysFile s) a 0 (h .length .0 ∷ h .name .from ∷ h .name .len ∷ h .rows ∷ [])
+pub says-file : (s : List ℕ) (a : Answer File) (h : FileHead) → fileAnswered s (file.Found h) ≡ andThen a (λ f. answer (headOf f)) → nameInside s (file.Found h)
+    → ShownAs 4 (SaysFile s) a 0 (h .length .0 ∷ h .name .from ∷ h .name .len ∷ h .rows ∷ [])
 says-file s a h e i =
     let (f, g, p) = mapped headOf a _ e in
     tells f g
@@ -82,11 +86,11 @@ says-file s a h e i =
 
 -- a buffer filled, and the number of what was written
 module _ {A : Type 0} where
-  pub shown-counted : (a : Answer (List A)) {returned : ℕ} {out : List ℕ} → Shown 1 one (counted a) returned out → Shown 1 howMany a returned out
+  pub shown-counted : (a : Answer (List A)) {returned : ℕ} {out : List ℕ} → Shown 1 one (countOf a) returned out → Shown 1 howMany a returned out
   shown-counted (refused r) s = record { refusal = s .refusal; holds = s .holds }
   shown-counted (answer l) s = record { refusal = s .refusal; holds = s .holds }
 
   pub fills-out : {holds : List A → List ℕ → List ℕ → Type 0} {a : Answer (List A)} {before after : List ℕ} {r : Filled} {returned told : ℕ}
-      → Puts holds a before after r → Shown 1 one (countSaid r) returned (one told) → FillsOut holds a before after returned told
+      → FillsBuffer holds a before after r → Shown 1 one (countAnswered r) returned (one told) → FillsOut holds a before after returned told
   fills-out {a = a} {returned = returned} {told = told} p s =
       record { answers = shown-counted a (subst (λ (n : Answer ℕ). Shown 1 one n returned (one told)) (p .says) s); stored = p .stored }

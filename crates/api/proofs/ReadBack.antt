@@ -15,13 +15,13 @@ use Rattle.slices.proofs.Writers.{reached}
 use Rattle.slices.proofs.Writing.{part-written}
 use Rattle.elements.specs.Reading.{Spans}
 use Rattle.writing.specs.Writing.{Writes}
-use Rattle.vol1.specs.Vol1.{Fields, areFields, vol1}
+use Rattle.vol1.specs.Vol1.{Vol1Fields, areFields, vol1}
 use Rattle.vol1.proofs.Blocks.{given-identifier, given-owner, identifier-vol1, owner-vol1, vol1-reads}
 use Rattle.label.specs.Label.{Label}
 use Rattle.label.specs.TextPlaces.{textPlaces}
-use Rattle.label_writer.specs.Text.{textOf, isGiven}
+use Rattle.label_writer.specs.Text.{labelText, isGiven}
 use Rattle.label_writer.proofs.RoundTrip.{text-reads}
-use Rattle.api.specs.Outputs.{Shown, Told, one, writtenLength, WritesOut, Stores}
+use Rattle.api.specs.Outputs.{Shown, ShownAs, one, writtenLength, WritesOut, Stores}
 use Rattle.api.specs.Labels.{vol1Places, SaysLabel, ReadAsVol1, ReadAsLabel, WritesVol1, WritesLabel, isWritable}
 use Rattle.api.proofs.Showing.{not-zero}
 
@@ -71,7 +71,7 @@ read-as-vol1 i o ok r out q =
     let a = given-identifier i o ok in
     let b = given-owner i o ok in
     let t : Shown 4 vol1Places (answer (record { identifier = i; owner = o })) r out
-    = subst (λ (x : Answer Fields). Shown 4 vol1Places x r out) (vol1-reads i o ok) q in (
+    = subst (λ (x : Answer Vol1Fields). Shown 4 vol1Places x r out) (vol1-reads i o ok) q in (
       t .refusal,
       subst (λ (x : List ℕ). Spans (vol1 i o) (getD x 0 0) (getD x 1 0) i) (sym (t .holds)) (part-inside 4 6 (vol1 i o) i (omega arith) (identifier-vol1 i o a b) a),
       subst (λ (x : List ℕ). Spans (vol1 i o) (getD x 2 0) (getD x 3 0) o) (sym (t .holds)) (part-inside 37 14 (vol1 i o) o (omega arith) (owner-vol1 i o a b) b),
@@ -80,13 +80,13 @@ read-as-vol1 i o ok r out q =
 pub vol1-stored : {i o before after : List ℕ} {r n : ℕ} → WritesOut (areFields i o) (vol1 i o) before after r n → WritesVol1 i o before after r n
 vol1-stored {i} {o} {before} {after} {r} {n} = stores (areFields i o) (vol1 i o) (ReadAsVol1 i o) before after r n (read-as-vol1 i o)
 
-read-as-label : (f : Label) → f .release ≡ 1 → isGiven f ≡ true → ReadAsLabel f (textOf f)
+read-as-label : (f : Label) → f .release ≡ 1 → isGiven f ≡ true → ReadAsLabel f (labelText f)
 read-as-label f e g r out q =
-    let t : Told 12 (SaysLabel (textOf f) (textPlaces (textOf f))) (answer f) r out
-    = subst (λ (a : Answer Label). Told 12 (SaysLabel (textOf f) (textPlaces (textOf f))) a r out) (text-reads f g e) q in
+    let t : ShownAs 12 (SaysLabel (labelText f) (textPlaces (labelText f))) (answer f) r out
+    = subst (λ (a : Answer Label). ShownAs 12 (SaysLabel (labelText f) (textPlaces (labelText f))) a r out) (text-reads f g e) q in
     (t .refusal, t .tells)
 
-pub label-stored : (compression : ℕ) {f : Label} {before after : List ℕ} {r n : ℕ} → f .release ≡ 1 → WritesOut (isWritable compression f) (textOf f) before after r n
+pub label-stored : (compression : ℕ) {f : Label} {before after : List ℕ} {r n : ℕ} → f .release ≡ 1 → WritesOut (isWritable compression f) (labelText f) before after r n
     → WritesLabel compression f before after r n
 label-stored compression {f} {before} {after} {r} {n} e =
-    stores (isWritable compression f) (textOf f) (ReadAsLabel f) before after r n (λ ok. read-as-label f e (and-right (leb compression 1) (isGiven f) ok))
+    stores (isWritable compression f) (labelText f) (ReadAsLabel f) before after r n (λ ok. read-as-label f e (and-right (leb compression 1) (isGiven f) ok))

@@ -3,11 +3,12 @@ use mathlib.Core.Path.{_≡_, refl, subst, sym}
 use mathlib.Core.List.{List}
 use Prim.Native.Nat.{ℕ}
 use Rattle.label.specs.TextPlaces.{TextPlaces}
-use Rattle.label.specs.Reading.{fieldsIn, LieIn, placesOf}
-use Rattle.label.specs.declared.reader.Fields.{Fields}
-use Rattle.api.specs.Labels.{SaysLabel, labelNumbers}
+use Rattle.label.specs.Steps.{fieldsIn, LieIn, placesOf}
+use Rattle.label.specs.declared.reader.LabelFields.{LabelFields}
+use Rattle.api.specs.Labels.{SaysLabel}
+use Rattle.api.specs.Steps.{labelNumbers}
 
-pub says-label : (s : List ℕ) (f : Fields) {w : TextPlaces} {out : List ℕ} → LieIn s f → placesOf f ≡ w → out ≡ labelNumbers f → SaysLabel s w (fieldsIn s f) out
+pub says-label : (s : List ℕ) (f : LabelFields) {w : TextPlaces} {out : List ℕ} → LieIn s f → placesOf f ≡ w → out ≡ labelNumbers f → SaysLabel s w (fieldsIn s f) out
 says-label s f {w} i p e =
     subst (λ (out : List ℕ). SaysLabel s w (fieldsIn s f) out) (sym e)
     record {

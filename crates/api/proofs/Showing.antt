@@ -6,30 +6,30 @@ use Prim.Native.Nat.{ℕ}
 use lib.Dec.{eqb}
 use lib.ListN.{replicate}
 use Rattle.refusals.specs.declared.Refusal.{Refusal}
-use Rattle.refusals.specs.declared.Refusal.the-variants as is
+use Rattle.refusals.specs.declared.Refusal.the-variants as refusal
 use Rattle.refusals.specs.Refusals.{Answer, refused, answer, numberOf}
-use Rattle.api.specs.Outputs.{Shown, Told}
+use Rattle.api.specs.Outputs.{Shown, ShownAs}
 
 -- no refusal has the number 0
 pub not-zero : (r : Refusal) → eqb (numberOf r) 0 ≡ false
-not-zero is.List = refl
-not-zero is.Missing = refl
-not-zero is.Vol1 = refl
-not-zero is.Form = refl
-not-zero is.Structure = refl
-not-zero is.Value = refl
-not-zero is.Version = refl
-not-zero is.Foreign = refl
-not-zero is.Layout = refl
-not-zero is.Short = refl
-not-zero is.Extents = refl
-not-zero is.Location = refl
-not-zero is.NoCut = refl
-not-zero is.Caller = refl
-not-zero is.TooMany = refl
-not-zero is.Labels = refl
-not-zero is.EndOfVolume = refl
-not-zero is.BlockCount = refl
+not-zero refusal.List = refl
+not-zero refusal.Missing = refl
+not-zero refusal.Vol1 = refl
+not-zero refusal.Form = refl
+not-zero refusal.Structure = refl
+not-zero refusal.Value = refl
+not-zero refusal.Version = refl
+not-zero refusal.Foreign = refl
+not-zero refusal.Layout = refl
+not-zero refusal.Short = refl
+not-zero refusal.Extents = refl
+not-zero refusal.Location = refl
+not-zero refusal.NoCut = refl
+not-zero refusal.Caller = refl
+not-zero refusal.TooMany = refl
+not-zero refusal.Labels = refl
+not-zero refusal.EndOfVolume = refl
+not-zero refusal.BlockCount = refl
 
 module _ {A : Type 0} {n : ℕ} {a : Answer A} where
   pub shown : {show : A → List ℕ} (v : A) → answer v ≡ a → Shown n show a 0 (show v)
@@ -38,8 +38,8 @@ module _ {A : Type 0} {n : ℕ} {a : Answer A} where
   pub not-shown : {show : A → List ℕ} (r : Refusal) {k : ℕ} → refused r ≡ a → k ≡ numberOf r → Shown n show a k (replicate n 0)
   not-shown {show} r {k} e h = subst (λ (x : Answer A). Shown n show x k (replicate n 0)) e record { refusal = h; holds = refl }
 
-  pub told : {says : A → List ℕ → Type 0} (v : A) {out : List ℕ} → answer v ≡ a → says v out → Told n says a 0 out
-  told {says} v {out} e h = subst (λ (x : Answer A). Told n says x 0 out) e record { refusal = refl; tells = h }
+  pub told : {says : A → List ℕ → Type 0} (v : A) {out : List ℕ} → answer v ≡ a → says v out → ShownAs n says a 0 out
+  told {says} v {out} e h = subst (λ (x : Answer A). ShownAs n says x 0 out) e record { refusal = refl; tells = h }
 
-  pub not-told : {says : A → List ℕ → Type 0} (r : Refusal) {k : ℕ} → refused r ≡ a → k ≡ numberOf r → Told n says a k (replicate n 0)
-  not-told {says} r {k} e h = subst (λ (x : Answer A). Told n says x k (replicate n 0)) e record { refusal = h; tells = refl }
+  pub not-told : {says : A → List ℕ → Type 0} (r : Refusal) {k : ℕ} → refused r ≡ a → k ≡ numberOf r → ShownAs n says a k (replicate n 0)
+  not-told {says} r {k} e h = subst (λ (x : Answer A). ShownAs n says x k (replicate n 0)) e record { refusal = h; tells = refl }

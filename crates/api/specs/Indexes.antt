@@ -5,17 +5,15 @@ use mathlib.Core.Option.{Option, none, some}
 use Prim.Native.Nat.{ℕ, _-_}
 use lib.ListN.{length, take, drop, getD}
 use Rattle.refusals.specs.Refusals.{Answer}
-use Rattle.quantities.specs.Places.{Place}
+use Rattle.quantities.specs.Locations.{Location}
 use Rattle.index.specs.Index.{Index, Summary, summary, indexOf}
-use Rattle.index.specs.declared.read.Header.{Header}
 use Rattle.index_files.specs.Asked.{fileIn}
 use Rattle.index_files.specs.Filling.{TellsPart, Stored, SaysFile, rowsFor, filesFor, allRowsFor, HoldsRows, HoldsFiles}
-use Rattle.constructs.specs.declared.Place.{Place as Spot}
 use Rattle.volume.specs.Chosen.{Indexed, chosenIn}
-use Rattle.api.specs.Outputs.{Told, Shown, bit, one}
+use Rattle.api.specs.Outputs.{ShownAs, Shown, bit, one}
 
 -- whether there is a back pointer, its letter, its block
-abbrev pub backNumbers : Option Place → List ℕ
+abbrev pub backNumbers : Option Location → List ℕ
 backNumbers none = 0 ∷ 0 ∷ 0 ∷ []
 backNumbers (some p) = 1 ∷ p .letter ∷ p .block ∷ []
 
@@ -46,17 +44,6 @@ pub record SaysConstruct (s : List ℕ) (c : Indexed) (out : List ℕ) : Type 0 
   pub text : TellsPart s out 2 (c .construct .text)
   pub header : SaysHeader (c .construct .text) (c .summary) (drop 4 out)
 
--- a header that a reader read, in numbers
-abbrev pub headerNumbers : Header → List ℕ
-headerNumbers h =
-    h .release ∷ h .generation .0 ∷ h .time .from ∷ h .time .len ∷ h .letter ∷ h .block .0
-    ∷ bit (h .back) ∷ h .«back_letter» ∷ h .«back_block» .0
-    ∷ bit (h .allow) ∷ h .highest ∷ h .directories ∷ h .files ∷ []
-
--- that of a construct that was found in a store, with its place
-abbrev pub constructNumbers : Spot → Header → List ℕ
-constructNumbers p h = p .first .0 ∷ p .end ∷ p .from ∷ (p .to - p .from) ∷ headerNumbers h
-
 module _ {A : Type 0} where
   -- how many there are
   abbrev pub howMany : List A → List ℕ
@@ -72,13 +59,13 @@ module _ (uuid : List ℕ) (index other size : ℕ) where
   -- the index that a text is, at a partition letter and a block number: its header, a file by its number, the rows of a file, all files, all rows
   module _ (s : List ℕ) (letter block : ℕ) where
     abbrev pub indexIn : Answer Index
-    indexIn = indexOf (record { uuid = uuid; first = index; other = other; size = size }) letter block s
+    indexIn = indexOf (record { uuid = uuid; indexLetter = index; dataLetter = other; blockSize = size }) letter block s
 
     abbrev pub ReadsIndexOut : ℕ → List ℕ → Type 0
-    ReadsIndexOut = Told 13 (SaysIndex s) indexIn
+    ReadsIndexOut = ShownAs 13 (SaysIndex s) indexIn
 
     abbrev pub ReadsFileOut : ℕ → ℕ → List ℕ → Type 0
-    ReadsFileOut file = Told 4 (SaysFile s) (fileIn file indexIn)
+    ReadsFileOut file = ShownAs 4 (SaysFile s) (fileIn file indexIn)
 
     abbrev pub FillsRows : ℕ → List ℕ → List ℕ → ℕ → ℕ → Type 0
     FillsRows file rows = FillsOut HoldsRows (rowsFor (length rows) (fileIn file indexIn)) rows
@@ -92,4 +79,4 @@ module _ (uuid : List ℕ) (index other size : ℕ) where
   -- the index of a construct of a partition, by its number
   abbrev pub ReadsConstructOut : List ℕ → List ℕ → ℕ → ℕ → ℕ → List ℕ → Type 0
   ReadsConstructOut l s letter number =
-      Told 17 (SaysConstruct s) (chosenIn (record { uuid = uuid; first = index; other = other; size = size }) letter number l s)
+      ShownAs 17 (SaysConstruct s) (chosenIn (record { uuid = uuid; indexLetter = index; dataLetter = other; blockSize = size }) letter number l s)

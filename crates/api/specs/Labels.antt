@@ -7,19 +7,18 @@ use lib.Dec.{leb, eqb}
 use lib.ListN.{getD}
 use Rattle.elements.specs.Reading.{Inside}
 use Rattle.texts.specs.Decoded.{decoded}
-use Rattle.vol1.specs.Vol1.{Fields, identifierAt, identifierLength, ownerAt, ownerLength, vol1Of, areFields, vol1}
+use Rattle.vol1.specs.Vol1.{Vol1Fields, identifierAt, identifierLength, ownerAt, ownerLength, vol1Of, areFields, vol1}
 use Rattle.label.specs.Label.{Label, labelOf}
 use Rattle.label.specs.TextPlaces.{TextPlaces, textPlaces}
-use Rattle.label_writer.specs.Text.{isGiven, labelOfGiven, textOf}
-use Rattle.label.specs.declared.reader.Fields.{Fields as Read}
+use Rattle.label_writer.specs.Text.{isGiven, labelOfGiven, labelText}
 use Rattle.tape.specs.Answers.{tapeIn}
 use Rattle.labels.specs.Labels.{labelsIn}
-use Rattle.labels.specs.Reading.{placesOn}
+use Rattle.labels.specs.Places.{placesOn}
 use Rattle.index_files.specs.Filling.{partTold, TellsPart}
-use Rattle.api.specs.Outputs.{Shown, Told, Stores, bit}
+use Rattle.api.specs.Outputs.{Shown, ShownAs, Stores, bit}
 
 -- the places and lengths of VOL1's identifier and owner
-abbrev pub vol1Places : Fields → List ℕ
+abbrev pub vol1Places : Vol1Fields → List ℕ
 vol1Places f = identifierAt ∷ identifierLength ∷ ownerAt ∷ ownerLength ∷ []
 
 -- what the reader of VOL1 answers of a block
@@ -33,13 +32,6 @@ ReadAsVol1 identifier owner s = (r : ℕ) (out : List ℕ) → ReadsVol1Out s r 
 -- what the writer of VOL1 promises
 abbrev pub WritesVol1 : List ℕ → List ℕ → List ℕ → List ℕ → ℕ → ℕ → Type 0
 WritesVol1 identifier owner = Stores (areFields identifier owner) (vol1 identifier owner) (ReadAsVol1 identifier owner)
-
--- a label that a reader read, in numbers: the R of its version; where its creator, its time and its UUID stand, each with its length; its
--- location, the index letter, the data letter, the block size, and the compression
-abbrev pub labelNumbers : Read → List ℕ
-labelNumbers f =
-    f .release ∷ f .creator .from ∷ f .creator .len ∷ f .time .from ∷ f .time .len ∷ f .uuid .from ∷ f .uuid .len
-    ∷ f .location ∷ f .«index_letter» ∷ f .«data_letter» ∷ f .«block_size» ∷ bit (f .compression) ∷ []
 
 -- the places that six of them tell
 abbrev pub placesTold : List ℕ → TextPlaces
@@ -67,11 +59,11 @@ pub record SaysLabel (s : List ℕ) (w : TextPlaces) (f : Label) (out : List ℕ
 
 -- what the reader of a label answers of a text
 abbrev pub ReadsLabelOut : List ℕ → ℕ → List ℕ → Type 0
-ReadsLabelOut s = Told 12 (SaysLabel s (textPlaces s)) (labelOf s)
+ReadsLabelOut s = ShownAs 12 (SaysLabel s (textPlaces s)) (labelOf s)
 
 -- what the check of the labels of two sides answers, the places being in the index store
 abbrev pub ChecksOut : List ℕ → List ℕ → List ℕ → List ℕ → ℕ → List ℕ → Type 0
-ChecksOut il is dl ds = Told 12 (SaysLabel is (placesOn (tapeIn il is))) (labelsIn il is dl ds)
+ChecksOut indexList indexStore dataList dataStore = ShownAs 12 (SaysLabel indexStore (placesOn (tapeIn indexList indexStore))) (labelsIn indexList indexStore dataList dataStore)
 
 -- it reads the text as that label
 abbrev pub ReadAsLabel : Label → List ℕ → Type 0
@@ -89,4 +81,4 @@ isWritable compression f = leb compression 1 && isGiven f
 
 -- what the writer of a label promises
 abbrev pub WritesLabel : ℕ → Label → List ℕ → List ℕ → ℕ → ℕ → Type 0
-WritesLabel compression f = Stores (isWritable compression f) (textOf f) (ReadAsLabel f)
+WritesLabel compression f = Stores (isWritable compression f) (labelText f) (ReadAsLabel f)

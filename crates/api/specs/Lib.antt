@@ -5,3 +5,4 @@ pub mod Files
 pub mod Indexes
 pub mod Volumes
 pub mod Tapes
+pub mod Steps

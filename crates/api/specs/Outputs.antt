@@ -25,7 +25,7 @@ module _ {A : Type 0} where
   Tells n says (refused r) outputs = outputs ≡ replicate n 0
   Tells n says (answer a) outputs = says a outputs
 
-  pub record Told (n : ℕ) (says : A → List ℕ → Type 0) (a : Answer A) (returned : ℕ) (outputs : List ℕ) : Type 0 where
+  pub record ShownAs (n : ℕ) (says : A → List ℕ → Type 0) (a : Answer A) (returned : ℕ) (outputs : List ℕ) : Type 0 where
     pub refusal : returned ≡ shownNumber a
     pub tells : Tells n says a outputs
 

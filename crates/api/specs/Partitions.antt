@@ -7,7 +7,7 @@ use Rattle.refusals.specs.declared.Refusal.the-variants.{Caller}
 use Rattle.refusals.specs.Refusals.{Answer, answer, require, andThen}
 use Rattle.quantities.specs.Sizes.{isBlockSize}
 use Rattle.tape.specs.Tape.{Tape}
-use Rattle.tape.specs.Answers.{tapeIn, Lengths, lengths, keeping, Place, placeOf, blockOf, Holds}
+use Rattle.tape.specs.Answers.{tapeIn, Lengths, lengths, keeping, StorePart, placeOf, blockOf, Holds}
 use Rattle.constructs.specs.Constructs.{standing}
 use Rattle.constructs.specs.Tables.{tableAfter}
 use Rattle.api.specs.Outputs.{Shown, one, bit}
@@ -21,12 +21,12 @@ abbrev pub fronts : Lengths → List ℕ
 fronts f = f .list ∷ f .store ∷ []
 
 -- the side, 0 for the index side and 1 for the data side; where the block begins in that side's store, and its length
-abbrev pub place : Place → List ℕ
-place p = bit (not (p .onIndex)) ∷ p .from ∷ p .size ∷ []
+abbrev pub partNumbers : StorePart → List ℕ
+partNumbers p = bit (not (p .onIndex)) ∷ p .from ∷ p .size ∷ []
 
 -- what asking for a block shows: its place, which holds it
 pub record ShowsPlace (i d letter n : ℕ) (l s l′ s′ : List ℕ) (returned : ℕ) (outputs : List ℕ) : Type 0 where
-  pub shown : Shown 3 place (placeOf i d letter n l s l′ s′) returned outputs
+  pub shown : Shown 3 partNumbers (placeOf i d letter n l s l′ s′) returned outputs
   pub holds : Holds s s′ (placeOf i d letter n l s l′ s′) (blockOf i d letter n l s l′ s′)
 
 -- the elements of a partition that is asked for its constructs: 14 for the block size, then 1

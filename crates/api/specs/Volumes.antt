@@ -25,12 +25,12 @@ abbrev pub NoBreak : ℕ → List ℕ → Type 0
 NoBreak returned out = (returned ≡ 0) × (getD out 0 0 ≡ 0)
 
 -- the answers, and demand 3 of what is told
-pub record JudgesOut (il is dl ds : List ℕ) (returned : ℕ) (out : List ℕ) : Type 0 where
-  pub answers : Shown 2 breakNumbers (verdictIn il is dl ds) returned out
-  pub demand : VerdictOwes il is dl ds (NoBreak returned out)
+pub record JudgesOut (indexList indexStore dataList dataStore : List ℕ) (returned : ℕ) (out : List ℕ) : Type 0 where
+  pub answers : Shown 2 breakNumbers (verdictIn indexList indexStore dataList dataStore) returned out
+  pub demand : VerdictOwes indexList indexStore dataList dataStore (NoBreak returned out)
 
 -- the rescue's answer, which keeps demand 3, and how it is shown
-pub record RescuesOut (il is dl ds : List ℕ) (returned : ℕ) (out : List ℕ) : Type 0 where
+pub record RescuesOut (indexList indexStore dataList dataStore : List ℕ) (returned : ℕ) (out : List ℕ) : Type 0 where
   pub rescue : Rescue
-  pub rescues : Rescues il is dl ds rescue
+  pub rescues : Rescues indexList indexStore dataList dataStore rescue
   pub shows : Shown 5 cutNumbers (rescued rescue) returned out

@@ -1,6 +1,6 @@
 // ANSI labelled tapes: their files, and where a tape leaves the layout.
-use ansi::Read;
-use tape::Checked;
+use ansi::FilesRead;
+use tape::ListChecked;
 ghost use Rattle.api.specs.Tapes.{ReadsAnsi, PlacesAnsi};
 
 // The files of an ANSI labelled tape, 36 bytes each, at the front of buffer.
@@ -14,11 +14,11 @@ pub extern "C" fn klapouzen_ansi(
     ensures { λ r. ⌜ ReadsAnsi (now (list .entry)) (now (store .entry)) (now (buffer .entry)) (now (buffer .exit)) r (now (count .exit)) ⌝ }
 {
     match ansi::files(list, store, buffer) {
-        Read::Files(n) => {
+        FilesRead::Files(n) => {
             *count = n as u64;
             0
         }
-        Read::Refused(r) => {
+        FilesRead::Refused(r) => {
             *count = 0;
             refusals::number(r)
         }
@@ -31,11 +31,11 @@ pub extern "C" fn klapouzen_ansi_place(list: &[u8], store: &[u8], place: &mut u6
     ensures { λ r. ⌜ PlacesAnsi (now (list .entry)) (now (store .entry)) r (now (place .exit)) ⌝ }
 {
     match ansi::place(list, store) {
-        Checked::Elements(n) => {
+        ListChecked::Elements(n) => {
             *place = n as u64;
             0
         }
-        Checked::Refused(r) => {
+        ListChecked::Refused(r) => {
             *place = 0;
             refusals::number(r)
         }

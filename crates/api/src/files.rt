@@ -2,10 +2,10 @@
 use extents::ByteAt;
 use quantities::ByteCount;
 use refusals::Refusal;
-use xml::Checked;
+use xml::FormChecked;
 ghost use mathlib.Core.Path.{_≡_};
 ghost use Rattle.refusals.specs.Refusals.{answer, shownNumber};
-ghost use Rattle.xml.specs.Machine.{requireForm};
+ghost use Rattle.xml.specs.CheckSteps.{requireForm};
 ghost use Rattle.extents.specs.Map.{byteMap};
 ghost use Rattle.api.specs.Outputs.{Shown};
 ghost use Rattle.api.specs.Files.{bytePlace};
@@ -16,8 +16,8 @@ pub extern "C" fn klapouzen_check_form(text: &[u8]) -> u64
     ensures { λ r. ⌜ r ≡ shownNumber (requireForm (now (text .entry)) (answer (now (text .entry)))) ⌝ }
 {
     match xml::check(text) {
-        Checked::Good => 0,
-        Checked::Broken(_) => refusals::number(Refusal::Form),
+        FormChecked::Good => 0,
+        FormChecked::Broken(_) => refusals::number(Refusal::Form),
     }
 }
 

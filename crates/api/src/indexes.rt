@@ -1,17 +1,18 @@
 // Indexes: an index's text read, its files, and their rows.
 use crate::numbers::flag;
-use constructs::Place;
+use constructs::Bounds;
 use index::Header;
 use index::Read;
 use index_files::FileRead;
 use index_files::Filled;
-use index_values::Volume;
+use index_values::Partitions;
 use quantities::BlockNumber;
 use volume::Chosen;
 ghost use mathlib.Core.Path.{_≡_};
-ghost use Rattle.index_files.specs.Filling.{countSaid};
+ghost use Rattle.index_files.specs.FillingSteps.{countAnswered};
 ghost use Rattle.api.specs.Outputs.{Shown, one};
-ghost use Rattle.api.specs.Indexes.{headerNumbers, constructNumbers, ReadsIndexOut, ReadsFileOut, FillsRows, FillsFiles, FillsAllRows, ReadsConstructOut};
+ghost use Rattle.api.specs.Indexes.{ReadsIndexOut, ReadsFileOut, FillsRows, FillsFiles, FillsAllRows, ReadsConstructOut};
+ghost use Rattle.api.specs.Steps.{headerNumbers, constructNumbers};
 
 fn in_numbers(h: Header) -> [u64; 13]
     ensures { λ r. ⌜ r ≡ headerNumbers h ⌝ }
@@ -49,10 +50,10 @@ pub extern "C" fn klapouzen_read_index(
     ensures { λ r. ⌜ ReadsIndexOut (now (uuid .entry)) «index_letter» «data_letter» «block_size» (now (text .entry)) letter block
         r (now (out .exit)) ⌝ }
 {
-    let volume = Volume {
-        first: index_letter,
-        other: data_letter,
-        size: block_size,
+    let volume = Partitions {
+        index_letter,
+        data_letter,
+        block_size,
     };
     match index::read_index(text, uuid, volume, letter, BlockNumber(block)) {
         Read::Found(h) => {
@@ -82,10 +83,10 @@ pub extern "C" fn klapouzen_read_file(
     ensures { λ r. ⌜ ReadsFileOut (now (uuid .entry)) «index_letter» «data_letter» «block_size» (now (text .entry)) letter block file
         r (now (out .exit)) ⌝ }
 {
-    let volume = Volume {
-        first: index_letter,
-        other: data_letter,
-        size: block_size,
+    let volume = Partitions {
+        index_letter,
+        data_letter,
+        block_size,
     };
     match index_files::file(text, uuid, volume, letter, BlockNumber(block), file) {
         FileRead::Found(h) => {
@@ -101,7 +102,7 @@ pub extern "C" fn klapouzen_read_file(
 
 // How many were written; 0 where refused.
 fn counted(filled: Filled, count: &mut u64) -> u64
-    ensures { λ r. ⌜ Shown 1 one (countSaid filled) r (one (now (count .exit))) ⌝ }
+    ensures { λ r. ⌜ Shown 1 one (countAnswered filled) r (one (now (count .exit))) ⌝ }
 {
     match filled {
         Filled::Count(n) => {
@@ -132,10 +133,10 @@ pub extern "C" fn klapouzen_read_rows(
     ensures { λ r. ⌜ FillsRows (now (uuid .entry)) «index_letter» «data_letter» «block_size» (now (text .entry)) letter block file
         (now (rows .entry)) (now (rows .exit)) r (now (count .exit)) ⌝ }
 {
-    let volume = Volume {
-        first: index_letter,
-        other: data_letter,
-        size: block_size,
+    let volume = Partitions {
+        index_letter,
+        data_letter,
+        block_size,
     };
     let filled = index_files::rows(text, uuid, volume, letter, BlockNumber(block), file, rows);
     counted(filled, count)
@@ -157,10 +158,10 @@ pub extern "C" fn klapouzen_read_files(
     ensures { λ r. ⌜ FillsFiles (now (uuid .entry)) «index_letter» «data_letter» «block_size» (now (text .entry)) letter block
         (now (files .entry)) (now (files .exit)) r (now (count .exit)) ⌝ }
 {
-    let volume = Volume {
-        first: index_letter,
-        other: data_letter,
-        size: block_size,
+    let volume = Partitions {
+        index_letter,
+        data_letter,
+        block_size,
     };
     let filled = index_files::all_files(text, uuid, volume, letter, BlockNumber(block), files);
     counted(filled, count)
@@ -182,17 +183,17 @@ pub extern "C" fn klapouzen_read_all_rows(
     ensures { λ r. ⌜ FillsAllRows (now (uuid .entry)) «index_letter» «data_letter» «block_size» (now (text .entry)) letter block
         (now (rows .entry)) (now (rows .exit)) r (now (count .exit)) ⌝ }
 {
-    let volume = Volume {
-        first: index_letter,
-        other: data_letter,
-        size: block_size,
+    let volume = Partitions {
+        index_letter,
+        data_letter,
+        block_size,
     };
     let filled = index_files::all_rows(text, uuid, volume, letter, BlockNumber(block), rows);
     counted(filled, count)
 }
 
 // A construct's place in a store, and its header.
-fn in_place(p: Place, h: Header) -> [u64; 17]
+fn in_place(p: Bounds, h: Header) -> [u64; 17]
     ensures { λ r. ⌜ r ≡ constructNumbers p h ⌝ }
 {
     let a = in_numbers(h);
@@ -233,10 +234,10 @@ pub extern "C" fn klapouzen_index(
     ensures { λ r. ⌜ ReadsConstructOut (now (uuid .entry)) «index_letter» «data_letter» «block_size» (now (list .entry)) (now (store .entry))
         letter number r (now (out .exit)) ⌝ }
 {
-    let letters = Volume {
-        first: index_letter,
-        other: data_letter,
-        size: block_size,
+    let letters = Partitions {
+        index_letter,
+        data_letter,
+        block_size,
     };
     match volume::read_construct(list, store, uuid, letters, letter, number) {
         Chosen::Found(p, h) => {

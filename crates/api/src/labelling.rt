@@ -1,16 +1,17 @@
 // Labels: read, written, and the labels of a volume.
 use crate::numbers::flag;
-use label::Fields;
 use label::Label;
+use label::LabelFields;
 use label_writer::Given;
 use refusals::Refusal;
 use slices::Written;
 use vol1::Vol1;
 use vol1::Vol1Read;
 ghost use mathlib.Core.Path.{_≡_};
-ghost use Rattle.api.specs.Labels.{labelNumbers, givenLabel, ReadsVol1Out, WritesVol1, ReadsLabelOut, ChecksOut, WritesLabel};
+ghost use Rattle.api.specs.Labels.{givenLabel, ReadsVol1Out, WritesVol1, ReadsLabelOut, ChecksOut, WritesLabel};
+ghost use Rattle.api.specs.Steps.{labelNumbers};
 
-fn in_numbers(f: Fields) -> [u64; 12]
+fn in_numbers(f: LabelFields) -> [u64; 12]
     ensures { λ r. ⌜ r ≡ labelNumbers f ⌝ }
 {
     [

@@ -2,8 +2,8 @@
 use constructs::Scanned;
 use quantities::BlockNumber;
 use refusals::Refusal;
-use tape::Checked;
 use tape::Kept;
+use tape::ListChecked;
 use tape::Located;
 ghost use Rattle.tape.specs.Answers.{elementCount};
 ghost use Rattle.api.specs.Outputs.{Shown, one};
@@ -15,11 +15,11 @@ pub extern "C" fn klapouzen_check_list(list: &[u8], store: &[u8], count: &mut u6
     ensures { λ r. ⌜ Shown 1 one (elementCount (now (list .entry)) (now (store .entry))) r (one (now (count .exit))) ⌝ }
 {
     match tape::check(list, store) {
-        Checked::Elements(n) => {
+        ListChecked::Elements(n) => {
             *count = n as u64;
             0
         }
-        Checked::Refused(r) => {
+        ListChecked::Refused(r) => {
             *count = 0;
             refusals::number(r)
         }

@@ -49,9 +49,9 @@ linesOf (refused r) k = refusedLine r
 linesOf (answer b) k = verdictLine b ++ rescueLine k
 
 -- the bounds of the files: lists, then stores
-abbrev pub bounded : List ℕ → List ℕ → List ℕ → List ℕ → Bool
-bounded il is dl ds = leb (length il) 4096 && leb (length is) 24576 && leb (length dl) 4096 && leb (length ds) 24576
+abbrev pub filesBounded : List ℕ → List ℕ → List ℕ → List ℕ → Bool
+filesBounded indexList indexStore dataList dataStore = leb (length indexList) 4096 && leb (length indexStore) 24576 && leb (length dataList) 4096 && leb (length dataStore) 24576
 
 -- a file past its bound is 15 before all else
 abbrev pub linesIn : List ℕ → List ℕ → List ℕ → List ℕ → List ℕ
-linesIn il is dl ds = cond (bounded il is dl ds) (linesOf (verdictIn il is dl ds) (rescueIn il is dl ds)) (refusedLine TooMany)
+linesIn indexList indexStore dataList dataStore = cond (filesBounded indexList indexStore dataList dataStore) (linesOf (verdictIn indexList indexStore dataList dataStore) (rescueIn indexList indexStore dataList dataStore)) (refusedLine TooMany)

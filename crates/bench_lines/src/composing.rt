@@ -1,16 +1,17 @@
 // The lines, put together piece by piece. Each has a bound of its length, so that a buffer of 256 bytes has room for all.
 use refusals::Refusal;
-use volume::Kept;
+use volume::FoundCut;
 use volume::Rescue;
 use volume::Verdict;
 use writing::add;
 use writing::add_number;
 ghost use Prim.Native.Nat.{_+_};
 ghost use lib.ListN.{length};
-ghost use Rattle.volume.specs.Answers.{judged, rescued};
+ghost use Rattle.volume.specs.Answers.{rescued};
+ghost use Rattle.volume.specs.AnswerSteps.{judged};
 ghost use Rattle.volume.specs.Steps.{cutIs};
 ghost use Rattle.bench_lines.specs.Lines.{pair, refusedLine, breakLine, cutLine, rescueLine, linesOf};
-ghost use Rattle.writing.specs.Writing.{AddsAtMost};
+ghost use Rattle.writing.specs.Steps.{AddsAtMost};
 
 // Adds a word and two numbers with a space between.
 fn add_pair(out: &mut [u8], from: usize, word: &[u8], a: u64, b: u64) -> usize
@@ -40,7 +41,7 @@ fn add_break(out: &mut [u8], from: usize, which: u64, number: u64) -> usize
 }
 
 // Adds the line of a cut.
-fn add_cut(out: &mut [u8], from: usize, cut: Kept) -> usize
+fn add_cut(out: &mut [u8], from: usize, cut: FoundCut) -> usize
     ensures { λ r. ⌜ AddsAtMost 125 (now (out .entry)) from (cutLine (cutIs cut)) (now (out .exit)) r ⌝ }
 {
     let mut at = add_pair(out, from, b"cut ", cut.index_construct, cut.data_construct);

@@ -5,11 +5,11 @@ use refusals::Refusal;
 use slices::Written;
 ghost use mathlib.Core.Path.{_≡_};
 ghost use Rattle.slices.specs.Writers.{Puts};
-ghost use Rattle.bench_lines.specs.Lines.{bounded, linesIn};
+ghost use Rattle.bench_lines.specs.Lines.{filesBounded, linesIn};
 
 // Whether each file is within its bound.
 fn is_bounded(index_list: &[u8], index_store: &[u8], data_list: &[u8], data_store: &[u8]) -> bool
-    ensures { λ r. ⌜ r ≡ bounded (now («index_list» .entry)) (now («index_store» .entry))
+    ensures { λ r. ⌜ r ≡ filesBounded (now («index_list» .entry)) (now («index_store» .entry))
         (now («data_list» .entry)) (now («data_store» .entry)) ⌝ }
 {
     if 4096 < index_list.len() {

@@ -11,72 +11,72 @@ use lib.ListN.{length, take}
 use Rattle.slices.specs.Slices.{same}
 use Rattle.slices.proofs.Booleans.{and-left, and-right}
 use Rattle.xml.specs.Tree.{Head, Forest, none, node}
-use Rattle.elements.specs.Reading.{isRow}
-use Rattle.children.specs.Rules.{Rule, placeOf, markOf}
-use Rattle.children.specs.Children.{noAttribute, holds, kept, allKnown, pick, atMostOne, below, lawful}
+use Rattle.elements.specs.Reading.{hasElement}
+use Rattle.children.specs.Rules.{Rule, ruleNumber, markOf}
+use Rattle.children.specs.Children.{noAttribute, mayHold, matching, allKnown, pick, atMostOne, below, lawfulChildren}
 use Rattle.children.proofs.Below.{below-false}
 use Rattle.children.proofs.Tables.{known}
 
-pub place-counted : (n : ℕ) (rs : List Rule) (w : List ℕ) → placeOf rs w < n → placeOf (take n rs) w ≡ placeOf rs w
-unfolding placeOf
+pub place-counted : (n : ℕ) (rs : List Rule) (w : List ℕ) → ruleNumber rs w < n → ruleNumber (take n rs) w ≡ ruleNumber rs w
+unfolding ruleNumber
 place-counted zero rs w h = absurd (not-suc-le-zero h)
 place-counted (suc n) [] w h = refl
 place-counted (suc n) (r ∷ rs) w h = go (same (r .name) w) refl (place-counted n rs w) h
   where
-    go : (t : Bool) → same (r .name) w ≡ t → (placeOf rs w < n → placeOf (take n rs) w ≡ placeOf rs w) → placeOf (r ∷ rs) w < suc n
-        → placeOf (take (suc n) (r ∷ rs)) w ≡ placeOf (r ∷ rs) w
+    go : (t : Bool) → same (r .name) w ≡ t → (ruleNumber rs w < n → ruleNumber (take n rs) w ≡ ruleNumber rs w) → ruleNumber (r ∷ rs) w < suc n
+        → ruleNumber (take (suc n) (r ∷ rs)) w ≡ ruleNumber (r ∷ rs) w
     go true e i g = simp e
-    go false e i g = let z : placeOf rs w < n = le-of-suc-le-suc (simp e at g) in simp e (ap suc (i z))
+    go false e i g = let z : ruleNumber rs w < n = le-of-suc-le-suc (simp e at g) in simp e (ap suc (i z))
 
-pub mark-counted : (n : ℕ) (rs : List Rule) (w : List ℕ) → placeOf rs w < n → markOf (take n rs) w ≡ markOf rs w
-unfolding placeOf markOf
+pub mark-counted : (n : ℕ) (rs : List Rule) (w : List ℕ) → ruleNumber rs w < n → markOf (take n rs) w ≡ markOf rs w
+unfolding ruleNumber markOf
 mark-counted zero rs w h = absurd (not-suc-le-zero h)
 mark-counted (suc n) [] w h = refl
 mark-counted (suc n) (r ∷ rs) w h = go (same (r .name) w) refl (mark-counted n rs w) h
   where
-    go : (t : Bool) → same (r .name) w ≡ t → (placeOf rs w < n → markOf (take n rs) w ≡ markOf rs w) → placeOf (r ∷ rs) w < suc n
+    go : (t : Bool) → same (r .name) w ≡ t → (ruleNumber rs w < n → markOf (take n rs) w ≡ markOf rs w) → ruleNumber (r ∷ rs) w < suc n
         → markOf (take (suc n) (r ∷ rs)) w ≡ markOf (r ∷ rs) w
     go true e i g = simp e
-    go false e i g = let z : placeOf rs w < n = le-of-suc-le-suc (simp e at g) in simp e (i z)
+    go false e i g = let z : ruleNumber rs w < n = le-of-suc-le-suc (simp e at g) in simp e (i z)
 
-pub mark-uncounted : (n : ℕ) (rs : List Rule) (w : List ℕ) → n ≤ placeOf rs w → markOf (take n rs) w ≡ 0
-unfolding placeOf markOf
+pub mark-uncounted : (n : ℕ) (rs : List Rule) (w : List ℕ) → n ≤ ruleNumber rs w → markOf (take n rs) w ≡ 0
+unfolding ruleNumber markOf
 mark-uncounted zero rs w h = refl
 mark-uncounted (suc n) [] w h = absurd (not-suc-le-zero h)
 mark-uncounted (suc n) (r ∷ rs) w h = go (same (r .name) w) refl (mark-uncounted n rs w) h
   where
-    go : (t : Bool) → same (r .name) w ≡ t → (n ≤ placeOf rs w → markOf (take n rs) w ≡ 0) → suc n ≤ placeOf (r ∷ rs) w → markOf (take (suc n) (r ∷ rs)) w ≡ 0
+    go : (t : Bool) → same (r .name) w ≡ t → (n ≤ ruleNumber rs w → markOf (take n rs) w ≡ 0) → suc n ≤ ruleNumber (r ∷ rs) w → markOf (take (suc n) (r ∷ rs)) w ≡ 0
     go true e i g = absurd (not-suc-le-zero (simp e at g))
-    go false e i g = let z : n ≤ placeOf rs w = le-of-suc-le-suc (simp e at g) in simp e (i z)
+    go false e i g = let z : n ≤ ruleNumber rs w = le-of-suc-le-suc (simp e at g) in simp e (i z)
 
 -- what an element may hold by those rules
 module _ (n : ℕ) (rs : List Rule) (h : Head) (k : Forest) where
-  pub late : n ≤ placeOf rs (h .name) → (noAttribute h && holds (markOf (take n rs) (h .name)) h k) ≡ false
-  unfolding holds
-  late g = ap (λ (m : ℕ). noAttribute h && holds m h k) (mark-uncounted n rs (h .name) g) ∙ and-false (noAttribute h)
+  pub late : n ≤ ruleNumber rs (h .name) → (noAttribute h && mayHold (markOf (take n rs) (h .name)) h k) ≡ false
+  unfolding mayHold
+  late g = ap (λ (m : ℕ). noAttribute h && mayHold m h k) (mark-uncounted n rs (h .name) g) ∙ and-false (noAttribute h)
 
-  pub early : placeOf rs (h .name) < n → (noAttribute h && holds (markOf (take n rs) (h .name)) h k) ≡ (noAttribute h && holds (markOf rs (h .name)) h k)
-  early g = ap (λ (m : ℕ). noAttribute h && holds m h k) (mark-counted n rs (h .name) g)
+  pub early : ruleNumber rs (h .name) < n → (noAttribute h && mayHold (markOf (take n rs) (h .name)) h k) ≡ (noAttribute h && mayHold (markOf rs (h .name)) h k)
+  early g = ap (λ (m : ℕ). noAttribute h && mayHold m h k) (mark-counted n rs (h .name) g)
 
-  pub unfit : (noAttribute h && holds (markOf rs (h .name)) h k) ≡ false → (noAttribute h && holds (markOf (take n rs) (h .name)) h k) ≡ false
-  unfit e = go (ltb (placeOf rs (h .name)) n) refl
+  pub unfit : (noAttribute h && mayHold (markOf rs (h .name)) h k) ≡ false → (noAttribute h && mayHold (markOf (take n rs) (h .name)) h k) ≡ false
+  unfit e = go (ltb (ruleNumber rs (h .name)) n) refl
     where
-      go : (t : Bool) → ltb (placeOf rs (h .name)) n ≡ t → (noAttribute h && holds (markOf (take n rs) (h .name)) h k) ≡ false
+      go : (t : Bool) → ltb (ruleNumber rs (h .name)) n ≡ t → (noAttribute h && mayHold (markOf (take n rs) (h .name)) h k) ≡ false
       go true q = early (ltb-true _ _ q) ∙ e
       go false q = late (ltb-false _ _ q)
 
 -- where every element has a rule, none has a number past the last
 no-more : (rs : List Rule) (f : Forest) → allKnown rs f ≡ true → pick rs (length rs) f ≡ none
-unfolding allKnown kept
+unfolding allKnown matching
 no-more rs none e = refl
 no-more rs (node h k f) e =
-    let own : (noAttribute h && holds (markOf rs (h .name)) h k) ≡ true = and-left (noAttribute h && holds (markOf rs (h .name)) h k) (allKnown rs f) e in
-    let p : placeOf rs (h .name) < length rs = known rs (h .name) h k own in
-    rw (ne-eqb (placeOf rs (h .name)) (length rs) (λ z. omega arith)) (no-more rs f (and-right (noAttribute h && holds (markOf rs (h .name)) h k) (allKnown rs f) e))
+    let own : (noAttribute h && mayHold (markOf rs (h .name)) h k) ≡ true = and-left (noAttribute h && mayHold (markOf rs (h .name)) h k) (allKnown rs f) e in
+    let p : ruleNumber rs (h .name) < length rs = known rs (h .name) h k own in
+    rw (ne-eqb (ruleNumber rs (h .name)) (length rs) (λ z. omega arith)) (no-more rs f (and-right (noAttribute h && mayHold (markOf rs (h .name)) h k) (allKnown rs f) e))
 
 -- more required rules than there are
-pub too-many : (rs : List Rule) (must : ℕ) (f : Forest) → length rs < must → lawful rs must f ≡ false
-unfolding lawful isRow
+pub too-many : (rs : List Rule) (must : ℕ) (f : Forest) → length rs < must → lawfulChildren rs must f ≡ false
+unfolding lawfulChildren hasElement
 too-many rs must f h = go (allKnown rs f) refl
   where
     last : (a b c : Bool) → c ≡ false → (a && b && c) ≡ false
@@ -84,8 +84,8 @@ too-many rs must f h = go (allKnown rs f) refl
     last true false c e = refl
     last false b c e = refl
 
-    go : (t : Bool) → allKnown rs f ≡ t → lawful rs must f ≡ false
+    go : (t : Bool) → allKnown rs f ≡ t → lawfulChildren rs must f ≡ false
     go false e = rw e
     go true e =
-        last (allKnown rs f) (below (length rs) (λ k. atMostOne (pick rs k f))) (below must (λ k. isRow (pick rs k f)))
-        (below-false (λ k. isRow (pick rs k f)) must (length rs) h (ap isRow (no-more rs f e)))
+        last (allKnown rs f) (below (length rs) (λ k. atMostOne (pick rs k f))) (below must (λ k. hasElement (pick rs k f)))
+        (below-false (λ k. hasElement (pick rs k f)) must (length rs) h (ap hasElement (no-more rs f e)))

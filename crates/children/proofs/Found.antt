@@ -11,11 +11,11 @@ use lib.ListN.{length, drop, getD}
 use Rattle.slices.proofs.Booleans.{and-left, and-right}
 use Rattle.xml.specs.Tree.{Forest, none, node}
 use Rattle.elements.specs.Tags.{Tags, tagsIn, textPlace}
-use Rattle.elements.specs.Reading.{headAt, childrenAt, isRow}
+use Rattle.elements.specs.Reading.{headAt, childrenAt, hasElement}
 use Rattle.children.specs.Rules.{Rule}
-use Rattle.children.specs.Children.{allKnown, pick, atMostOne, below, lawful, only, textOf, childrenOf}
+use Rattle.children.specs.Children.{allKnown, pick, atMostOne, below, lawfulChildren, only, textOfFirst, childrenOfFirst}
 use Rattle.children.specs.Places.{tagsNamed, firstText}
-use Rattle.children.specs.Rows.{Seated, Placed}
+use Rattle.children.specs.RowSteps.{Seated, PlacedSeats}
 use Rattle.children.proofs.Named.{nameOf, fresh, pick-only, tags-only}
 use Rattle.children.proofs.Seats.{row-seat, tag-some, seat-text, seat-children}
 
@@ -30,21 +30,21 @@ below-at test (suc n) k e h = go (eqb k n) refl (below-at test n k (and-right (t
 
 module _ {s : List ℕ} {rs : List Rule} {must : ℕ} {f : Forest} {ok : Bool} {seats : List ℕ} (row : Seated s rs must f ok seats) (t : ok ≡ true)
     (k : ℕ) (h : k < must) (new : fresh rs k ≡ true) where
-  here : isRow (pick rs k f) ≡ true
-  unfolding lawful
-  here = below-at (λ j. isRow (pick rs j f)) must k (and-right (allKnown rs f && below (length rs) (λ j. atMostOne (pick rs j f))) (below must (λ j. isRow (pick rs j f))) (sym (row .told) ∙ t)) h
+  here : hasElement (pick rs k f) ≡ true
+  unfolding lawfulChildren
+  here = below-at (λ j. hasElement (pick rs j f)) must k (and-right (allKnown rs f && below (length rs) (λ j. atMostOne (pick rs j f))) (below must (λ j. hasElement (pick rs j f))) (sym (row .told) ∙ t)) h
 
   there : getD seats k 0 ≡ 0 → ⊥
-  there e = false≢true (ap not (sym (eq-eqb _ _ e)) ∙ sym (row-seat s (getD seats k 0)) ∙ sym (ap isRow (row .found t k)) ∙ here)
+  there e = false≢true (ap not (sym (eq-eqb _ _ e)) ∙ sym (row-seat s (getD seats k 0)) ∙ sym (ap hasElement (row .found t k)) ∙ here)
 
-  pub found-text : textOf (only (nameOf rs k) f) ≡ headAt s (getD seats k 0) .text
-  found-text = ap textOf (sym (pick-only rs k new f) ∙ row .found t k) ∙ seat-text s (getD seats k 0) there
+  pub found-text : textOfFirst (only (nameOf rs k) f) ≡ headAt s (getD seats k 0) .text
+  found-text = ap textOfFirst (sym (pick-only rs k new f) ∙ row .found t k) ∙ seat-text s (getD seats k 0) there
 
-  pub found-children : childrenOf (only (nameOf rs k) f) ≡ childrenAt s (getD seats k 0)
-  found-children = ap childrenOf (sym (pick-only rs k new f) ∙ row .found t k) ∙ seat-children s (getD seats k 0) there
+  pub found-children : childrenOfFirst (only (nameOf rs k) f) ≡ childrenAt s (getD seats k 0)
+  found-children = ap childrenOfFirst (sym (pick-only rs k new f) ∙ row .found t k) ∙ seat-children s (getD seats k 0) there
 
   -- and it is the tag there
-  module _ {g : Tags} (stand : Placed s rs g ok seats) where
+  module _ {g : Tags} (stand : PlacedSeats s rs g ok seats) where
     pub found-tag : tagsNamed (nameOf rs k) g ≡ node (drop (getD seats k 0) s) (tagsIn (drop (getD seats k 0) s)) none
     found-tag = sym (tags-only rs k new g) ∙ stand .tags t k ∙ tag-some s (getD seats k 0) there
 

@@ -8,8 +8,8 @@ use lib.Dec.{eqb}
 use lib.ListN.{length, getD, set}
 use lib.Seq.{getD-set-same, getD-set-other}
 use Rattle.xml.specs.Tree.{Tree, none, node}
-use Rattle.children.specs.Rules.{Rule, placeOf}
-use Rattle.children.specs.Children.{kept}
+use Rattle.children.specs.Rules.{Rule, ruleNumber}
+use Rattle.children.specs.Children.{matching}
 
 module _ {A : Type 0} where
   -- a row, and then another
@@ -22,15 +22,15 @@ module _ {A : Type 0} where
   join-none none = refl
   join-none (node h k f) = ap (node h k) (join-none f)
 
-  pub kept-same : (p q : A → Bool) → ((x : A) → p x ≡ q x) → (f : Tree A) → kept p f ≡ kept q f
-  unfolding kept
+  pub kept-same : (p q : A → Bool) → ((x : A) → p x ≡ q x) → (f : Tree A) → matching p f ≡ matching q f
+  unfolding matching
   kept-same p q e none = refl
   kept-same p q e (node h c f) = rw (e h, kept-same p q e f)
 
 -- an element has a name, and the one at a place stands alone there
 module _ {A : Type 0} (name : A → List ℕ) (rs : List Rule) (alone : ℕ → Tree A) (empty : alone 0 ≡ none) where
   abbrev pub chosen : ℕ → Tree A → Tree A
-  chosen k = kept (λ x. eqb (placeOf rs (name x)) k)
+  chosen k = matching (λ x. eqb (ruleNumber rs (name x)) k)
 
   -- of the row f the elements before g are passed
   pub record Noted (f g : Tree A) (seats : List ℕ) : Type 0 where
@@ -41,13 +41,13 @@ module _ {A : Type 0} (name : A → List ℕ) (rs : List Rule) (alone : ℕ → 
   noted-none f seats z = record { each = λ k. sym (ap (λ (n : ℕ). join (alone n) (chosen k f)) (z k) ∙ ap (λ (t : Tree A). join t (chosen k f)) empty) }
 
   pub noted-all : (f g : Tree A) (seats : List ℕ) → Noted f g seats → g ≡ none → (k : ℕ) → chosen k f ≡ alone (getD seats k 0)
-  unfolding kept
+  unfolding matching
   noted-all f g seats p e k = p .each k ∙ ap (λ (h : Tree A). join (alone (getD seats k 0)) (chosen k h)) e ∙ join-none (alone (getD seats k 0))
 
   -- the next element is x with the children c, at n, before the elements g′
   pub noted-next : (f g g′ : Tree A) (x : A) (c : Tree A) (seats : List ℕ) (n k : ℕ) → Noted f g seats → g ≡ node x c g′ → alone n ≡ node x c none
-      → k ≡ placeOf rs (name x) → k < length seats → getD seats k 0 ≡ 0 → Noted f g′ (set seats k n)
-  unfolding kept join
+      → k ≡ ruleNumber rs (name x) → k < length seats → getD seats k 0 ≡ 0 → Noted f g′ (set seats k n)
+  unfolding matching join
   noted-next f g g′ x c seats n k p next here e h q = record { each = λ j. at j (eqb j k) refl }
     where
       own : chosen k g ≡ node x c (chosen k g′)

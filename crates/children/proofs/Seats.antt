@@ -8,11 +8,11 @@ use lib.Dec.{eqb, ltb}
 use lib.ListN.{length, drop, getD, replicate, getD-replicate, List·getD-eq-default}
 use Rattle.xml.specs.Tree.{none, node}
 use Rattle.elements.specs.Tags.{tagsIn}
-use Rattle.elements.specs.Reading.{headAt, childrenAt, isRow}
+use Rattle.elements.specs.Reading.{headAt, childrenAt, hasElement}
 use Rattle.elements.proofs.ByTag.{place-kept}
-use Rattle.children.specs.Children.{atMostOne, textOf, childrenOf}
+use Rattle.children.specs.Children.{atMostOne, textOfFirst, childrenOfFirst}
 use Rattle.children.specs.Places.{firstPlace}
-use Rattle.children.specs.Rows.{seat, tagSeat}
+use Rattle.children.specs.RowSteps.{seat, tagSeat}
 
 module _ (s : List ℕ) (n : ℕ) where
   pub seat-none : n ≡ 0 → seat s n ≡ none
@@ -23,16 +23,16 @@ module _ (s : List ℕ) (n : ℕ) where
   unfolding seat
   seat-some e = rw (ne-eqb _ _ e)
 
-  pub row-seat : isRow (seat s n) ≡ not (eqb n 0)
-  unfolding isRow
+  pub row-seat : hasElement (seat s n) ≡ not (eqb n 0)
+  unfolding hasElement
   row-seat = go (eqb n 0) refl
     where
-      go : (t : Bool) → eqb n 0 ≡ t → isRow (seat s n) ≡ not t
-      go true e = ap isRow (seat-none (eqb-true _ _ e))
-      go false e = ap isRow (seat-some (eqb-false _ _ e))
+      go : (t : Bool) → eqb n 0 ≡ t → hasElement (seat s n) ≡ not t
+      go true e = ap hasElement (seat-none (eqb-true _ _ e))
+      go false e = ap hasElement (seat-some (eqb-false _ _ e))
 
   pub one-seat : atMostOne (seat s n) ≡ true
-  unfolding atMostOne isRow
+  unfolding atMostOne hasElement
   one-seat = go (eqb n 0) refl
     where
       go : (t : Bool) → eqb n 0 ≡ t → atMostOne (seat s n) ≡ true
@@ -55,13 +55,13 @@ module _ (s : List ℕ) (n : ℕ) where
       go true e = rw (tag-none (eqb-true _ _ e)) (eqb-true _ _ e)
       go false e = rw (tag-some (eqb-false _ _ e)) (sym (place-kept s n h))
 
-  pub seat-text : (n ≡ 0 → ⊥) → textOf (seat s n) ≡ headAt s n .text
-  unfolding textOf
-  seat-text e = ap textOf (seat-some e)
+  pub seat-text : (n ≡ 0 → ⊥) → textOfFirst (seat s n) ≡ headAt s n .text
+  unfolding textOfFirst
+  seat-text e = ap textOfFirst (seat-some e)
 
-  pub seat-children : (n ≡ 0 → ⊥) → childrenOf (seat s n) ≡ childrenAt s n
-  unfolding childrenOf
-  seat-children e = ap childrenOf (seat-some e)
+  pub seat-children : (n ≡ 0 → ⊥) → childrenOfFirst (seat s n) ≡ childrenAt s n
+  unfolding childrenOfFirst
+  seat-children e = ap childrenOfFirst (seat-some e)
 
 -- no seat is taken
 pub no-seats : (k : ℕ) → getD {A = ℕ} (replicate 16 0) k 0 ≡ 0

@@ -7,8 +7,8 @@ use lib.ListN.{length}
 use Rattle.slices.specs.Slices.{every, same}
 use Rattle.xml.specs.Bytes.{isSpace}
 use Rattle.xml.specs.Tree.{Head, Tree, Forest, none, node}
-use Rattle.elements.specs.Reading.{isRow}
-use Rattle.children.specs.Rules.{Rule, placeOf, markOf}
+use Rattle.elements.specs.Reading.{hasElement}
+use Rattle.children.specs.Rules.{Rule, ruleNumber, markOf}
 
 -- only the root has an attribute
 abbrev pub noAttribute : Head → Bool
@@ -16,30 +16,30 @@ noAttribute h = eqb (length (h .key)) 0
 
 -- no text where only children belong: white space beside children is the XML form's duty, so it is text without children
 abbrev pub noText : Head → Forest → Bool
-noText h k = isRow k || every isSpace (h .text)
+noText h k = hasElement k || every isSpace (h .text)
 
 -- what a child may hold by its mark: `=` (61) a value, `/` (47) children, `*` (42) anything; a child without a rule has mark 0 and may not stand here
-unfoldable pub holds : ℕ → Head → Forest → Bool
-holds mark h k = cond (eqb mark 61) (not (isRow k)) (cond (eqb mark 47) (noText h k) (eqb mark 42))
+unfoldable pub mayHold : ℕ → Head → Forest → Bool
+mayHold mark h k = cond (eqb mark 61) (not (hasElement k)) (cond (eqb mark 47) (noText h k) (eqb mark 42))
 
 -- the elements of a row: each has a rule, no attribute, and holds what it may
 unfoldable pub allKnown : List Rule → Forest → Bool
 allKnown rs none = true
-allKnown rs (node h k f) = noAttribute h && holds (markOf rs (h .name)) h k && allKnown rs f
+allKnown rs (node h k f) = noAttribute h && mayHold (markOf rs (h .name)) h k && allKnown rs f
 
 module _ {A : Type 0} where
   -- those that pass a test
-  unfoldable pub kept : (A → Bool) → Tree A → Tree A
-  kept test none = none
-  kept test (node h k f) = cond (test h) (node h k (kept test f)) (kept test f)
+  unfoldable pub matching : (A → Bool) → Tree A → Tree A
+  matching test none = none
+  matching test (node h k f) = cond (test h) (node h k (matching test f)) (matching test f)
 
 -- those that the rule of this number is for
 abbrev pub pick : List Rule → ℕ → Forest → Forest
-pick rs k = kept (λ h. eqb (placeOf rs (h .name)) k)
+pick rs k = matching (λ h. eqb (ruleNumber rs (h .name)) k)
 
 unfoldable pub atMostOne : Forest → Bool
 atMostOne none = true
-atMostOne (node h k f) = not (isRow f)
+atMostOne (node h k f) = not (hasElement f)
 
 -- a test of each number below n
 unfoldable pub below : ℕ → (ℕ → Bool) → Bool
@@ -47,19 +47,19 @@ below zero test = true
 below (suc n) test = test n && below n test
 
 -- each child has a rule, none stands twice, and none of the first `must` rules is left out; the rules after those are optional
-unfoldable pub lawful : List Rule → ℕ → Forest → Bool
-lawful rs must f = allKnown rs f && below (length rs) (λ k. atMostOne (pick rs k f)) && below must (λ k. isRow (pick rs k f))
+unfoldable pub lawfulChildren : List Rule → ℕ → Forest → Bool
+lawfulChildren rs must f = allKnown rs f && below (length rs) (λ k. atMostOne (pick rs k f)) && below must (λ k. hasElement (pick rs k f))
 
 -- the elements of a row that have a name
 abbrev pub only : List ℕ → Forest → Forest
-only name = kept (λ h. same name (h .name))
+only name = matching (λ h. same name (h .name))
 
 -- of the first element of a row: its text, its children
-unfoldable pub textOf : Forest → List ℕ
-textOf none = []
-textOf (node h k f) = h .text
+unfoldable pub textOfFirst : Forest → List ℕ
+textOfFirst none = []
+textOfFirst (node h k f) = h .text
 
 module _ {A : Type 0} where
-  unfoldable pub childrenOf : Tree A → Tree A
-  childrenOf none = none
-  childrenOf (node h k f) = k
+  unfoldable pub childrenOfFirst : Tree A → Tree A
+  childrenOfFirst none = none
+  childrenOfFirst (node h k f) = k

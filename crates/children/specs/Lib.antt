@@ -1,4 +1,4 @@
 pub mod Rules
 pub mod Children
 pub mod Places
-pub mod Rows
+pub mod RowSteps

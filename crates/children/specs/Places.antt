@@ -6,16 +6,16 @@ use Rattle.slices.specs.Slices.{same}
 use Rattle.xml.specs.Tree.{none, node, tagHead}
 use Rattle.elements.specs.Tags.{Tags, tagPlace, textPlace}
 use Rattle.elements.specs.declared.heads.Span.{Span}
-use Rattle.children.specs.Rules.{Rule, placeOf}
-use Rattle.children.specs.Children.{kept}
+use Rattle.children.specs.Rules.{Rule, ruleNumber}
+use Rattle.children.specs.Children.{matching}
 
 -- the tags of a row that the rule of this number is for
 abbrev pub tagsFor : List Rule → ℕ → Tags → Tags
-tagsFor rs k = kept (λ r. eqb (placeOf rs (tagHead r .name)) k)
+tagsFor rs k = matching (λ r. eqb (ruleNumber rs (tagHead r .name)) k)
 
 -- those of a name
 abbrev pub tagsNamed : List ℕ → Tags → Tags
-tagsNamed name = kept (λ r. same name (tagHead r .name))
+tagsNamed name = matching (λ r. same name (tagHead r .name))
 
 -- the place of a row's first tag in the text s; 0 where the row has none
 abbrev pub firstPlace : List ℕ → Tags → ℕ

@@ -5,27 +5,27 @@ ghost use mathlib.Core.Bool.{not, _&&_};
 ghost use Prim.Native.Nat.{_+_, _≤_, _<_};
 ghost use lib.Dec.{eqb};
 ghost use lib.ListN.{length, getD};
-ghost use Rattle.xml.specs.Scans.{Past};
+ghost use Rattle.xml.specs.ScanSteps.{Past};
 ghost use Rattle.elements.specs.Reading.{headAt, childrenAt};
-ghost use Rattle.children.specs.Rules.{isMark, notMark, rules, tableOf, placeOf, markOf};
-ghost use Rattle.children.specs.Children.{noAttribute, holds, below};
-ghost use Rattle.children.specs.Rows.{ReadsRow};
+ghost use Rattle.children.specs.Rules.{ruleNumber, markOf};
+ghost use Rattle.children.specs.RowSteps.{isRuleMark, notRuleMark, rules, tableOf, ReadsRow};
+ghost use Rattle.children.specs.Children.{noAttribute, mayHold, below};
 
 // A rule's number in its table, and its mark.
-pub struct Place {
+pub struct RuleFound {
     pub number: usize,
     pub mark: u8,
 }
 
 // Whether the row is lawful, and where the element of each rule stands, 0 for none.
-pub struct Row {
+pub struct RowRead {
     pub ok: bool,
     pub seats: [usize; 16],
 }
 
 // `=`, `/` or `*`.
 fn is_mark(b: u8) -> bool
-    ensures { λ r. ⌜ r ≡ isMark b ⌝ }
+    ensures { λ r. ⌜ r ≡ isRuleMark b ⌝ }
 {
     if b == b'=' {
         return true;
@@ -39,7 +39,7 @@ fn is_mark(b: u8) -> bool
 // The next mark from at on, or the end.
 fn rule_end(table: &[u8], at: usize) -> usize
     requires { ⌜ at ≤ length (now table) ⌝ }
-    ensures { λ r. ⌜ Past notMark (now (table .entry)) at r ⌝ }
+    ensures { λ r. ⌜ Past notRuleMark (now (table .entry)) at r ⌝ }
 {
     let mut i = at;
     while i < table.len() {
@@ -52,18 +52,18 @@ fn rule_end(table: &[u8], at: usize) -> usize
 }
 
 // The rule for a name.
-pub fn place_of(table: &[u8], name: &[u8]) -> Place
-    ensures { λ r. ⌜ (r .number ≡ placeOf (rules (now (table .entry))) (now (name .entry))) × (r .mark ≡ markOf (rules (now (table .entry))) (now (name .entry))) ⌝ }
+pub fn place_of(table: &[u8], name: &[u8]) -> RuleFound
+    ensures { λ r. ⌜ (r .number ≡ ruleNumber (rules (now (table .entry))) (now (name .entry))) × (r .mark ≡ markOf (rules (now (table .entry))) (now (name .entry))) ⌝ }
 {
     let mut i: usize = 0;
     let mut k: usize = 0;
     while i < table.len() {
         let e = rule_end(table, i);
         if table.len() <= e {
-            return Place { number: k, mark: 0 };
+            return RuleFound { number: k, mark: 0 };
         }
         if slices::same(&table[i..e], name) {
-            return Place {
+            return RuleFound {
                 number: k,
                 mark: table[e],
             };
@@ -71,7 +71,7 @@ pub fn place_of(table: &[u8], name: &[u8]) -> Place
         i = e + 1;
         k += 1;
     }
-    Place { number: k, mark: 0 }
+    RuleFound { number: k, mark: 0 }
 }
 
 // Whether the element at n has no attribute.
@@ -81,9 +81,9 @@ pub fn no_attribute(text: &[u8], n: usize) -> bool
     elements::key_of(text, n).len() == 0
 }
 
-// Whether the element at n holds what a mark allows.
+// Whether the element at n mayHold what a mark allows.
 pub fn holds_at(text: &[u8], n: usize, mark: u8) -> bool
-    ensures { λ r. ⌜ r ≡ holds mark (headAt (now (text .entry)) n) (childrenAt (now (text .entry)) n) ⌝ }
+    ensures { λ r. ⌜ r ≡ mayHold mark (headAt (now (text .entry)) n) (childrenAt (now (text .entry)) n) ⌝ }
 {
     if mark == b'=' {
         return !elements::has_children(text, n);
@@ -99,7 +99,7 @@ pub fn holds_at(text: &[u8], n: usize, mark: u8) -> bool
 
 // Whether the element at n may stand where its rule has this mark.
 fn is_known(text: &[u8], n: usize, mark: u8) -> bool
-    ensures { λ r. ⌜ r ≡ (noAttribute (headAt (now (text .entry)) n) && holds mark (headAt (now (text .entry)) n) (childrenAt (now (text .entry)) n)) ⌝ }
+    ensures { λ r. ⌜ r ≡ (noAttribute (headAt (now (text .entry)) n) && mayHold mark (headAt (now (text .entry)) n) (childrenAt (now (text .entry)) n)) ⌝ }
 {
     if !no_attribute(text, n) {
         return false;
@@ -123,31 +123,31 @@ fn all_seated(seats: &[usize; 16], must: usize) -> bool
 }
 
 // Reads the row that goes on at `at` by a table of rules, of which the first `must` are required.
-pub fn read_row(text: &[u8], at: usize, table: &[u8], must: usize) -> Row
+pub fn read_row(text: &[u8], at: usize, table: &[u8], must: usize) -> RowRead
     ensures { λ r. ⌜ ReadsRow (now (text .entry)) at (tableOf (now (table .entry))) must (r .ok) (r .seats) ⌝ }
 {
     let mut seats = [0usize; 16];
     if 16 < must {
-        return Row { ok: false, seats };
+        return RowRead { ok: false, seats };
     }
     let mut i = at;
     loop {
         match elements::next_child(text, i) {
             Child::Done => {
                 let ok = all_seated(&seats, must);
-                return Row { ok, seats };
+                return RowRead { ok, seats };
             }
             Child::At(n, j) => {
                 let p = place_of(table, elements::name_of(text, n));
                 if !is_known(text, n, p.mark) {
-                    return Row { ok: false, seats };
+                    return RowRead { ok: false, seats };
                 }
                 let k = p.number;
                 if 16 <= k {
-                    return Row { ok: false, seats };
+                    return RowRead { ok: false, seats };
                 }
                 if seats[k] != 0 {
-                    return Row { ok: false, seats };
+                    return RowRead { ok: false, seats };
                 }
                 seats[k] = n;
                 i = j;

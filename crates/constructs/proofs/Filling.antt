@@ -12,15 +12,17 @@ use Rattle.tape.proofs.Elements.{MarkAt, BlockAt}
 use Rattle.tape.proofs.Encoding.{one-tape}
 use Rattle.tape.proofs.Keeping.{Present, absent}
 use Rattle.tape.proofs.Passing.{drop-next, bytes-next, bytes-within}
-use Rattle.tape.specs.Answers.{elementCount, Encoded, bytesBefore}
+use Rattle.tape.specs.Answers.{elementCount, bytesBefore}
+use Rattle.tape.specs.Steps.{Encoded}
 use Rattle.refusals.specs.declared.Refusal.{Refusal}
 use Rattle.refusals.specs.Refusals.{refused, answer}
 use Rattle.constructs.specs.declared.Scanned.the-variants as Scanned·is
 use Rattle.constructs.specs.declared.Phase.{Phase}
 use Rattle.constructs.specs.declared.Phase.the-variants.{Labels}
-use Rattle.constructs.specs.Constructs.{Construct, Scan, step, scan, start, standing}
-use Rattle.constructs.specs.Phases.{afterMark, afterBlock, closedCount, closedTable, Roomy}
-use Rattle.constructs.specs.Tables.{entries, Finds, Scans}
+use Rattle.constructs.specs.Constructs.{Construct, Scan, scanStep, scan, scanStart, standing}
+use Rattle.constructs.specs.PhaseSteps.{afterMark, afterBlock, closedCount, closedTable, Roomy}
+use Rattle.constructs.specs.Tables.{constructEntries}
+use Rattle.constructs.specs.TableSteps.{FindsConstructs, ScansPartition}
 use Rattle.constructs.proofs.Scanning.{scanned, scanned-next, scanned-at, phaseOf, phase-mark, phase-block, count-mark, done-block, table-mark, room-here}
 
 -- the walk is at element at, which stands at a place of the list
@@ -33,10 +35,10 @@ pub record Matched (B : ℕ) (l s : List ℕ) (count : ℕ) (T table : List ℕ)
   pub bytes : off ≡ bytesBefore tape at
   pub phaseIs : phase ≡ phaseOf tape (scanned B tape at .run)
   pub number : n ≡ length (scanned B tape at .done)
-  pub holds : table ≡ sets T 0 (entries tape (scanned B tape at .done))
+  pub holds : table ≡ sets T 0 (constructEntries tape (scanned B tape at .done))
 
 pub matched-start : (B : ℕ) (l s : List ℕ) (count : ℕ) (T : List ℕ) → Encoded l s count → Matched B l s count T T 0 0 0 0 (Labels 3)
-unfolding scan store entries
+unfolding scan store constructEntries
 matched-start B l s count T w =
     record {
       tape = w .tape;
@@ -60,12 +62,12 @@ module _ {B : ℕ} {l s : List ℕ} {count : ℕ} {T table : List ℕ} {place at
 
   pub matched-mark : {next : ℕ} → MarkAt l next (m .tape) at
       → Matched B l s count T (closedTable table n phase at off) next (at + 1) off (closedCount n phase at) (afterMark phase at off)
-  unfolding step content
+  unfolding scanStep content
   matched-mark {next} k =
       let t = m .tape in
       let u = scanned B t at in
       let a : u .at ≡ at = scanned-at B t at mark (k .rest) (k .is) in
-      let e : scanned B t (suc at) ≡ step B u mark = scanned-next B t at mark (k .rest) (k .is) in
+      let e : scanned B t (suc at) ≡ scanStep B u mark = scanned-next B t at mark (k .rest) (k .is) in
       let b : off ≡ bytesBefore t (suc at) = m .bytes ∙ sym (bytes-next t at mark (k .rest) (k .is) ∙ add-zero (bytesBefore t at)) in
       record {
         tape = t;
@@ -83,13 +85,13 @@ module _ {B : ℕ} {l s : List ℕ} {count : ℕ} {T table : List ℕ} {place at
       }
 
   pub matched-block : {next k : ℕ} → BlockAt l next k (m .tape) at → Matched B l s count T table next (at + 1) (off + k) n (afterBlock phase B k)
-  unfolding step content
+  unfolding scanStep content
   matched-block {next} {k} w =
       let t = m .tape in
       let x = w .bytes in
       let u = scanned B t at in
       let a : u .at ≡ at = scanned-at B t at (block x) (w .rest) (w .is) in
-      let e : scanned B t (suc at) ≡ step B u (block x) = scanned-next B t at (block x) (w .rest) (w .is) in
+      let e : scanned B t (suc at) ≡ scanStep B u (block x) = scanned-next B t at (block x) (w .rest) (w .is) in
       let c : scanned B t (suc at) .done ≡ u .done = ap (λ (y : Scan). y .done) e ∙ done-block (u .at) (u .run) (u .done) x in
       record {
         tape = t;
@@ -100,18 +102,18 @@ module _ {B : ℕ} {l s : List ℕ} {count : ℕ} {T table : List ℕ} {place at
         bytes = rw (add-one at, m .bytes, w .size) (sym (bytes-next t at (block x) (w .rest) (w .is)));
         phaseIs = rw (m .phaseIs, w .size, add-one at, e, a) (phase-block B t at (u .run) x);
         number = m .number ∙ ap length (sym c) ∙ rw (add-one at);
-        holds = m .holds ∙ ap (λ (d : List Construct). sets T 0 (entries t d)) (sym c) ∙ rw (add-one at);
+        holds = m .holds ∙ ap (λ (d : List Construct). sets T 0 (constructEntries t d)) (sym c) ∙ rw (add-one at);
       }
 
 -- all elements passed: the constructs that stand
 pub matched-end : {B : ℕ} {l s : List ℕ} {count : ℕ} {T table : List ℕ} {place at off n : ℕ} {phase : Phase}
-    → Matched B l s count T table place at off n phase → count ≤ at → Finds B l s T table n
+    → Matched B l s count T table place at off n phase → count ≤ at → FindsConstructs B l s T table n
 unfolding standing
 matched-end {B} {l} {s} {count} {T} {table} {place} {at} {off} {n} m done t e =
     let same : m .tape ≡ t = one-tape (m .encodes) e in
     let whole : take at (m .tape) ≡ t = take-all at (m .tape) (let all = m .counted in omega arith) ∙ same in
     record {
-      number = m .number ∙ ap (λ (u : Tape). length (scan B start u .done)) whole;
+      number = m .number ∙ ap (λ (u : Tape). length (scan B scanStart u .done)) whole;
       table = m .holds ∙ rw (whole, same);
     }
 
@@ -124,10 +126,10 @@ bytes-bound {at} m =
     omega (arith, ap length (m .encodes .stores), bytes-within (m .tape) at)
 
 -- what a scan answers of a tape that is there, or is not
-pub scans-found : (B n : ℕ) (l s before after : List ℕ) (count : ℕ) (p : Present l s count) → Finds B l s before after n → Scans B l s before after (Scanned·is.Constructs n)
+pub scans-found : (B n : ℕ) (l s before after : List ℕ) (count : ℕ) (p : Present l s count) → FindsConstructs B l s before after n → ScansPartition B l s before after (Scanned·is.Constructs n)
 scans-found B n l s before after count p f =
     let r = f (p .tape) (p .encodes) in
     record { answers = rw (p .read) (ap answer (r .number)); holds = rw (p .read) (r .table) }
 
-pub scans-refused : (B : ℕ) (l s table : List ℕ) (r : Refusal) → refused r ≡ elementCount l s → Scans B l s table table (Scanned·is.Refused r)
+pub scans-refused : (B : ℕ) (l s table : List ℕ) (r : Refusal) → refused r ≡ elementCount l s → ScansPartition B l s table table (Scanned·is.Refused r)
 scans-refused B l s table r e = let a = absent l s r e in record { answers = rw a; holds = rw a }

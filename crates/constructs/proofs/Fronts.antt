@@ -8,8 +8,9 @@ use native.Mathlib.Omega.{arith}
 use lib.ListN.{length, take}
 use lib.Dec.{ltb, eqb}
 use Rattle.tape.specs.Tape.{Element, mark, block}
-use Rattle.constructs.specs.Constructs.{Construct, Run, labels, dataRun, indexRun, defect, pastLabel, runAfter, closedBy, Scan, step, scan, start, standing, dataLengthsFrom}
-use Rattle.constructs.proofs.Suffixes.{Suffix, here, there, suffix-trans, nil-suffix}
+use Rattle.constructs.specs.Constructs.{Construct, Run, labels, dataRun, indexRun, defect, pastLabel, runAfter, closedBy, Scan, scanStep, scan, scanStart, standing, dataLengthsFrom}
+use Rattle.constructs.specs.Steps.{Suffix, here, there}
+use Rattle.constructs.proofs.Suffixes.{suffix-trans, nil-suffix}
 
 -- an element closes nothing, or one construct that ends with it
 abbrev pub Closes : ℕ → List Construct → List Construct → Type 0
@@ -34,15 +35,15 @@ closes-suffix n cs cs′ (inr r) = rw (r .1) (there (here refl))
 module _ (b : ℕ) where
   -- what a scan has closed it keeps
   pub grows : (s : Scan) (t : List Element) → Suffix (s .done) ((scan b s t) .done)
-  unfolding scan step
+  unfolding scan scanStep
   grows s [] = here refl
-  grows s (e ∷ es) = suffix-trans (closes-suffix _ _ _ (closes (s .at) (s .run) (s .done) e)) (grows (step b s e) es)
+  grows s (e ∷ es) = suffix-trans (closes-suffix _ _ _ (closes (s .at) (s .run) (s .done) e)) (grows (scanStep b s e) es)
 
   pub front : (s : Scan) (n : ℕ) (t : List Element) → Suffix ((scan b s (take n t)) .done) ((scan b s t) .done)
   unfolding scan
   front s zero t = grows s t
   front s (suc n) [] = here refl
-  front s (suc n) (e ∷ es) = front (step b s e) n es
+  front s (suc n) (e ∷ es) = front (scanStep b s e) n es
 
   -- each construct that a scan has closed is the last one of the front through it
   abbrev Reached : Scan → List Element → Construct → List Construct → Type 0
@@ -51,21 +52,21 @@ module _ (b : ℕ) where
   reached : (s : Scan) (t : List Element) (c : Construct) (cs : List Construct)
       → Suffix (c ∷ cs) ((scan b s t) .done)
       → Suffix (c ∷ cs) (s .done) ⊎ Reached s t c cs
-  unfolding scan step
+  unfolding scan scanStep
   reached s [] c cs h = inl h
-  reached s (e ∷ es) c cs h = from (reached (step b s e) es c cs h)
+  reached s (e ∷ es) c cs h = from (reached (scanStep b s e) es c cs h)
     where
-      new : (d : Construct) → (step b s e) .done ≡ d ∷ s .done → d .upTo ≡ suc (s .at) → Suffix (c ∷ cs) (d ∷ s .done)
+      new : (d : Construct) → (scanStep b s e) .done ≡ d ∷ s .done → d .upTo ≡ suc (s .at) → Suffix (c ∷ cs) (d ∷ s .done)
           → Suffix (c ∷ cs) (s .done) ⊎ Reached s (e ∷ es) c cs
       new d q u (here p) = let z : c ≡ d = cc in inr (1, omega arith, omega (arith, ap (λ (x : Construct). x .upTo) z), q ∙ sym p)
       new d q u (there p) = inl p
 
-      split : Closes (s .at) (s .done) ((step b s e) .done) → Suffix (c ∷ cs) ((step b s e) .done)
+      split : Closes (s .at) (s .done) ((scanStep b s e) .done) → Suffix (c ∷ cs) ((scanStep b s e) .done)
           → Suffix (c ∷ cs) (s .done) ⊎ Reached s (e ∷ es) c cs
       split (inl q) p = inl (rw q at p)
       split (inr r) p = new (r .0) (r .1) (r .2) (rw (r .1) at p)
 
-      from : Suffix (c ∷ cs) ((step b s e) .done) ⊎ Reached (step b s e) es c cs
+      from : Suffix (c ∷ cs) ((scanStep b s e) .done) ⊎ Reached (scanStep b s e) es c cs
           → Suffix (c ∷ cs) (s .done) ⊎ Reached s (e ∷ es) c cs
       from (inl p) = split (closes (s .at) (s .run) (s .done) e) p
       from (inr (k, l, u, q)) = inr (suc k, omega arith, omega arith, q)
@@ -73,21 +74,21 @@ module _ (b : ℕ) where
   -- the constructs of a front are the first constructs of the tape
   pub standing-front : (n : ℕ) (t : List Element) → Suffix (standing b (take n t)) (standing b t)
   unfolding standing
-  standing-front n t = front start n t
+  standing-front n t = front scanStart n t
 
   -- the front through a standing construct has that construct and those before it
   pub standing-at : (t : List Element) (c : Construct) (cs : List Construct) → Suffix (c ∷ cs) (standing b t)
       → (c .upTo ≤ length t) × (standing b (take (c .upTo) t) ≡ c ∷ cs)
   unfolding standing
-  standing-at t c cs h = from (reached start t c cs h)
+  standing-at t c cs h = from (reached scanStart t c cs h)
     where
-      from : Suffix (c ∷ cs) [] ⊎ Reached start t c cs → (c .upTo ≤ length t) × ((scan b start (take (c .upTo) t)) .done ≡ c ∷ cs)
+      from : Suffix (c ∷ cs) [] ⊎ Reached scanStart t c cs → (c .upTo ≤ length t) × ((scan b scanStart (take (c .upTo) t)) .done ≡ c ∷ cs)
       from (inl p) = absurd (nil-suffix p)
-      from (inr (k, l, u, q)) = let z : c .upTo ≡ k = omega arith in (omega arith, ap (λ (n : ℕ). (scan b start (take n t)) .done) z ∙ q)
+      from (inr (k, l, u, q)) = let z : c .upTo ≡ k = omega arith in (omega arith, ap (λ (n : ℕ). (scan b scanStart (take n t)) .done) z ∙ q)
 
   -- under four elements nothing stands
   pub standing-short : (t : List Element) → length t < 4 → standing b t ≡ []
-  unfolding standing scan step runAfter closedBy pastLabel
+  unfolding standing scan scanStep runAfter closedBy pastLabel
   standing-short [] h = refl
   standing-short (e₀ ∷ []) h = refl
   standing-short (e₀ ∷ e₁ ∷ []) h = refl
@@ -157,14 +158,14 @@ below-of n defect cs w = w
 
 sane-run : (b : ℕ) (s : Scan) (t : List Element) → Sane (s .at) (s .run) (s .done)
     → Below ((scan b s t) .at) ((scan b s t) .done)
-unfolding scan step
+unfolding scan scanStep
 sane-run b s [] w = below-of (s .at) (s .run) (s .done) w
-sane-run b s (e ∷ es) w = sane-run b (step b s e) es (sane-step b (s .at) (s .run) (s .done) e w)
+sane-run b s (e ∷ es) w = sane-run b (scanStep b s e) es (sane-step b (s .at) (s .run) (s .done) e w)
 
 -- standing constructs are in order and apart
-pub standing-below : (b : ℕ) (t : List Element) → Below ((scan b start t) .at) (standing b t)
+pub standing-below : (b : ℕ) (t : List Element) → Below ((scan b scanStart t) .at) (standing b t)
 unfolding standing
-standing-below b t = sane-run b start t tt
+standing-below b t = sane-run b scanStart t tt
 
 pub below-first : {n : ℕ} {c : Construct} {cs ds : List Construct} → Below n ds → Suffix (c ∷ cs) ds → c .first < n
 below-first {ds = []} w h = absurd (nil-suffix h)

@@ -14,9 +14,9 @@ use Rattle.tape.specs.Tape.{Element, mark, block, Tape, list, Encodes}
 use Rattle.tape.proofs.Encoding.{one-tape}
 use Rattle.tape.proofs.Elements.{MarkAt, BlockAt}
 use Rattle.tape.proofs.Passing.{drop-next}
-use Rattle.tape.specs.Answers.{Encoded}
+use Rattle.tape.specs.Steps.{Encoded}
 use Rattle.constructs.specs.Constructs.{dataLengths, dataLengthsFrom}
-use Rattle.constructs.specs.Reach.{labelsAfter, evenAfter, dataLength, PutsLengths}
+use Rattle.constructs.specs.ReachSteps.{labelsAfter, evenAfter, dataLength, PutsLengths}
 use Rattle.constructs.proofs.Sequences.{set-next}
 
 lengths-mark : (k : ℕ) (even : Bool) (t : Tape) → dataLengthsFrom k even (mark ∷ t) ≡ 0 ∷ dataLengthsFrom (labelsAfter k) (evenAfter k even) t

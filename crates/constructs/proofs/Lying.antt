@@ -14,7 +14,7 @@ use Rattle.slices.proofs.Booleans.{split, same-leb}
 use Rattle.slices.proofs.Parts.{drop-front}
 use Rattle.extents.specs.Rows.{Row}
 use Rattle.extents.specs.Tape.{liesOnTape}
-use Rattle.constructs.specs.Reach.{reaches, liesBy}
+use Rattle.constructs.specs.ReachSteps.{reaches, liesBy}
 use Rattle.constructs.proofs.Reaching.{length-reaches}
 
 drop-reaches : (B n : ℕ) (xs : List ℕ) → drop n (reaches B xs) ≡ reaches B (drop n xs)

@@ -12,12 +12,12 @@ use Rattle.slices.proofs.Booleans.{split}
 use Rattle.refusals.specs.declared.Refusal.{Refusal}
 use Rattle.refusals.specs.declared.Refusal.the-variants as refusal
 use Rattle.refusals.specs.Refusals.{refused}
-use Rattle.tape.specs.declared.Checked.the-variants as checked
+use Rattle.tape.specs.declared.ListChecked.the-variants as checked
 use Rattle.tape.specs.Tape.{Tape, mark, block, store, content}
 use Rattle.tape.specs.Answers.{elementCount}
 use Rattle.tape.proofs.Keeping.{Present, absent}
 use Rattle.constructs.specs.Constructs.{dataLengths, dataLengthsFrom}
-use Rattle.constructs.specs.Reach.{reachOne, reaches, sumOf, Reaches}
+use Rattle.constructs.specs.ReachSteps.{reachOne, reaches, sumOf, Reaches}
 use Rattle.constructs.proofs.Lengths.{length-lengths}
 
 pub length-reaches : (B : ℕ) (xs : List ℕ) → length (reaches B xs) ≡ length xs

@@ -18,30 +18,30 @@ use Rattle.tape.specs.Answers.{bytesBefore}
 use Rattle.constructs.proofs.Sequences.{sets-append}
 use Rattle.constructs.specs.declared.Phase.{Phase}
 use Rattle.constructs.specs.declared.Phase.the-variants.{Labels, Data, Index, Defect}
-use Rattle.constructs.specs.Constructs.{Construct, Run, labels, dataRun, indexRun, defect, pastLabel, runAfter, closedBy, Scan, step, scan, start, standing}
-use Rattle.constructs.specs.Phases.{pastLabels, afterMark, afterBlock, closedCount, closedTable, Roomy}
-use Rattle.constructs.specs.Tables.{entry, entries}
+use Rattle.constructs.specs.Constructs.{Construct, Run, labels, dataRun, indexRun, defect, pastLabel, runAfter, closedBy, Scan, scanStep, scan, scanStart, standing}
+use Rattle.constructs.specs.PhaseSteps.{pastLabels, afterMark, afterBlock, closedCount, closedTable, Roomy}
+use Rattle.constructs.specs.Tables.{constructEntry, constructEntries}
 
 -- the scan of the first n elements
 abbrev pub scanned : ℕ → Tape → ℕ → Scan
-scanned B t n = scan B start (take n t)
+scanned B t n = scan B scanStart (take n t)
 
-scan-snoc : (B : ℕ) (s : Scan) (t : Tape) (e : Element) → scan B s (t ++ e ∷ []) ≡ step B (scan B s t) e
+scan-snoc : (B : ℕ) (s : Scan) (t : Tape) (e : Element) → scan B s (t ++ e ∷ []) ≡ scanStep B (scan B s t) e
 unfolding scan
 scan-snoc B s [] e = refl
-scan-snoc B s (f ∷ t) e = scan-snoc B (step B s f) t e
+scan-snoc B s (f ∷ t) e = scan-snoc B (scanStep B s f) t e
 
 pub scan-at : (B : ℕ) (s : Scan) (t : Tape) → scan B s t .at ≡ s .at + length t
-unfolding scan step
+unfolding scan scanStep
 scan-at B s [] = sym (add-zero (s .at))
-scan-at B s (e ∷ t) = scan-at B (step B s e) t ∙ omega arith
+scan-at B s (e ∷ t) = scan-at B (scanStep B s e) t ∙ omega arith
 
 module _ (B : ℕ) (t : Tape) (n : ℕ) (e : Element) (rest : Tape) (d : drop n t ≡ e ∷ rest) where
-  pub scanned-next : scanned B t (suc n) ≡ step B (scanned B t n) e
-  scanned-next = ap (scan B start) (take-next t n e rest d) ∙ scan-snoc B start (take n t) e
+  pub scanned-next : scanned B t (suc n) ≡ scanStep B (scanned B t n) e
+  scanned-next = ap (scan B scanStart) (take-next t n e rest d) ∙ scan-snoc B scanStart (take n t) e
 
   pub scanned-at : scanned B t n .at ≡ n
-  scanned-at = scan-at B start (take n t) ∙ omega (arith, length-taken t n e rest d)
+  scanned-at = scan-at B scanStart (take n t) ∙ omega (arith, length-taken t n e rest d)
 
 -- the run in numbers
 abbrev pub phaseOf : Tape → Run → Phase
@@ -91,29 +91,29 @@ done-block n dataRun cs x = refl
 done-block n (indexRun f y short) cs x = refl
 done-block n defect cs x = refl
 
-pub length-entries : (t : Tape) (cs : List Construct) → length (entries t cs) ≡ length cs * 4
-unfolding entries
+pub length-entries : (t : Tape) (cs : List Construct) → length (constructEntries t cs) ≡ length cs * 4
+unfolding constructEntries
 length-entries t [] = refl
 length-entries t (c ∷ cs) =
-    let h : length (entries t cs) ≡ length cs * 4 = length-entries t cs in
-    let k : length (entries t cs ++ entry t c) ≡ length (entries t cs) + 4 = length-append (entries t cs) (entry t c) in
+    let h : length (constructEntries t cs) ≡ length cs * 4 = length-entries t cs in
+    let k : length (constructEntries t cs ++ constructEntry t c) ≡ length (constructEntries t cs) + 4 = length-append (constructEntries t cs) (constructEntry t c) in
     omega arith
 
-entered : (T : List ℕ) (t : Tape) (cs : List Construct) (c : Construct) → sets (sets T 0 (entries t cs)) (length cs * 4) (entry t c) ≡ sets T 0 (entries t (c ∷ cs))
-unfolding entries
+entered : (T : List ℕ) (t : Tape) (cs : List Construct) (c : Construct) → sets (sets T 0 (constructEntries t cs)) (length cs * 4) (constructEntry t c) ≡ sets T 0 (constructEntries t (c ∷ cs))
+unfolding constructEntries
 entered T t cs c =
-    ap (λ (i : ℕ). sets (sets T 0 (entries t cs)) i (entry t c)) (sym (length-entries t cs) ∙ sym (zero-add (length (entries t cs))))
-    ∙ sets-append T 0 (entries t cs) (entry t c)
+    ap (λ (i : ℕ). sets (sets T 0 (constructEntries t cs)) i (constructEntry t c)) (sym (length-entries t cs) ∙ sym (zero-add (length (constructEntries t cs))))
+    ∙ sets-append T 0 (constructEntries t cs) (constructEntry t c)
 
 pub table-mark : (T : List ℕ) (t : Tape) (n off : ℕ) (r : Run) (cs : List Construct) → off ≡ bytesBefore t n
-    → closedTable (sets T 0 (entries t cs)) (length cs) (phaseOf t r) n off ≡ sets T 0 (entries t (closedBy n r cs mark))
+    → closedTable (sets T 0 (constructEntries t cs)) (length cs) (phaseOf t r) n off ≡ sets T 0 (constructEntries t (closedBy n r cs mark))
 unfolding closedBy
 table-mark T t n off (labels k) cs h = refl
 table-mark T t n off dataRun cs h = refl
 table-mark T t n off (indexRun f x short) cs h =
     split
-    (λ b. cond b (sets T 0 (entries t cs)) (sets (sets T 0 (entries t cs)) (length cs * 4) (f ∷ (n + 1) ∷ bytesBefore t f ∷ off ∷ []))
-    ≡ sets T 0 (entries t (cond b cs (record { first = f; upTo = suc n; text = x } ∷ cs))))
+    (λ b. cond b (sets T 0 (constructEntries t cs)) (sets (sets T 0 (constructEntries t cs)) (length cs * 4) (f ∷ (n + 1) ∷ bytesBefore t f ∷ off ∷ []))
+    ≡ sets T 0 (constructEntries t (cond b cs (record { first = f; upTo = suc n; text = x } ∷ cs))))
     (eqb f n) (λ e. refl)
     (λ e. let w : suc n - 1 ≡ n = omega arith in
     let q : off ≡ bytesBefore t (suc n - 1) = h ∙ ap (bytesBefore t) (sym w) in
@@ -146,19 +146,19 @@ room-step B n (indexRun f y short) cs (block x) w =
 room-step B n defect cs e w = omega arith
 
 room-scan : (B : ℕ) (s : Scan) (t : Tape) → RoomIn (s .at) (s .run) (s .done) → RoomIn (scan B s t .at) (scan B s t .run) (scan B s t .done)
-unfolding scan step
+unfolding scan scanStep
 room-scan B s [] w = w
-room-scan B s (e ∷ t) w = room-scan B (step B s e) t (room-step B (s .at) (s .run) (s .done) e w)
+room-scan B s (e ∷ t) w = room-scan B (scanStep B s e) t (room-step B (s .at) (s .run) (s .done) e w)
 
 pub standing-few : (B : ℕ) (t : Tape) → length (standing B t) * 3 ≤ length t
 unfolding standing
-standing-few B t = go (scan B start t .run) (room-scan B start t (refl, refl))
+standing-few B t = go (scan B scanStart t .run) (room-scan B scanStart t (refl, refl))
   where
-    go : (r : Run) → RoomIn (scan B start t .at) r (standing B t) → length (standing B t) * 3 ≤ length t
+    go : (r : Run) → RoomIn (scan B scanStart t .at) r (standing B t) → length (standing B t) * 3 ≤ length t
     go (labels k) w = omega (arith, w .0)
-    go dataRun w = omega (arith, scan-at B start t)
-    go (indexRun f x short) w = omega (arith, scan-at B start t)
-    go defect w = omega (arith, scan-at B start t)
+    go dataRun w = omega (arith, scan-at B scanStart t)
+    go (indexRun f x short) w = omega (arith, scan-at B scanStart t)
+    go defect w = omega (arith, scan-at B scanStart t)
 
 -- there is room for a construct that closes
 roomy : (t : Tape) (n off : ℕ) (r : Run) (cs : List Construct) → n < 65536 → length (store t) ≤ 16777216 → off ≤ length (store t)
@@ -175,4 +175,4 @@ module _ (B : ℕ) (t : Tape) (n : ℕ) (e : Element) (rest : Tape) (d : drop n 
   room-here off h b o =
       roomy t n off (scanned B t n .run) (scanned B t n .done) h b (omega (arith, bytes-within t n))
       (subst (λ (k : ℕ). RoomIn k (scanned B t n .run) (scanned B t n .done)) (scanned-at B t n e rest d)
-      (room-scan B start (take n t) (refl, refl)))
+      (room-scan B scanStart (take n t) (refl, refl)))

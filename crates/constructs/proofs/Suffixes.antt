@@ -4,10 +4,7 @@ use mathlib.Core.List.{List, [], _∷_}
 use Prim.Native.Nat.{_≤_}
 use native.Mathlib.Omega.{arith}
 use lib.ListN.{length}
-
-pub data Suffix {A : Type 0} (xs : List A) : List A → Type 0 where
-  here : {ys : List A} → xs ≡ ys → Suffix xs ys
-  there : {y : A} {ys : List A} → Suffix xs ys → Suffix xs (y ∷ ys)
+use Rattle.constructs.specs.Steps.{Suffix, here, there}
 
 module _ {A : Type 0} where
   pub suffix-trans : {xs ys zs : List A} → Suffix xs ys → Suffix ys zs → Suffix xs zs

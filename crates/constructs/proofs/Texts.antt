@@ -11,9 +11,10 @@ use Rattle.slices.proofs.Booleans.{split}
 use Rattle.tape.specs.Tape.{Element, mark, block, Tape, store, content}
 use Rattle.tape.specs.Answers.{bytesBefore}
 use Rattle.tape.proofs.Passing.{bytes-next, drop-store}
-use Rattle.constructs.specs.Constructs.{Construct, Run, labels, dataRun, indexRun, defect, pastLabel, runAfter, closedBy, step, scan, standing}
-use Rattle.constructs.specs.Tables.{entry, entries}
-use Rattle.constructs.proofs.Suffixes.{Suffix, here, there, nil-suffix, suffix-length}
+use Rattle.constructs.specs.Constructs.{Construct, Run, labels, dataRun, indexRun, defect, pastLabel, runAfter, closedBy, scanStep, scan, standing}
+use Rattle.constructs.specs.Tables.{constructEntry, constructEntries}
+use Rattle.constructs.specs.Steps.{Suffix, here, there}
+use Rattle.constructs.proofs.Suffixes.{nil-suffix, suffix-length}
 use Rattle.constructs.proofs.Scanning.{scanned, scanned-next, scanned-at, length-entries}
 
 -- the bytes of the blocks from element a to element b, b not included
@@ -91,7 +92,7 @@ next-of (e ∷ t) zero h = (e, t, refl)
 next-of (e ∷ t) (suc n) h = next-of t n (omega arith)
 
 texts-scanned : (B : ℕ) (t : Tape) (n : ℕ) → n ≤ length t → TextIn t n (scanned B t n .run) × Texts t (scanned B t n .done)
-unfolding scan step
+unfolding scan scanStep
 texts-scanned B t zero h = (tt, tt)
 texts-scanned B t (suc n) h =
     let ih = texts-scanned B t n (omega arith) in
@@ -111,22 +112,22 @@ text-at {c} {ds = d ∷ ds} t (here q) w = let z : c ≡ d = cc in rw z (w .0)
 text-at {c} {ds = d ∷ ds} t (there s) w = text-at t s (w .1)
 
 -- a construct's numbers in the table
-entries-at : {c : Construct} {cs ds : List Construct} (t : Tape) → Suffix (c ∷ cs) ds → (j : ℕ) → j < 4 → getD (entries t ds) (length cs * 4 + j) 0 ≡ getD (entry t c) j 0
-unfolding entries
+entries-at : {c : Construct} {cs ds : List Construct} (t : Tape) → Suffix (c ∷ cs) ds → (j : ℕ) → j < 4 → getD (constructEntries t ds) (length cs * 4 + j) 0 ≡ getD (constructEntry t c) j 0
+unfolding constructEntries
 entries-at {c} {cs} {ds = []} t s j h = absurd (nil-suffix s)
 entries-at {c} {cs} {ds = d ∷ ds} t (here q) j h =
     let z : c ≡ d = cc in
     let y : cs ≡ ds = cc in
-    let n : length (entries t ds) ≡ length cs * 4 = length-entries t ds ∙ ap (λ (x : List Construct). length x * 4) (sym y) in
-    ap (λ (k : ℕ). getD (entries t ds ++ entry t d) (k + j) 0) (sym n) ∙ getD-append-add (entries t ds) (entry t d) j 0
-    ∙ ap (λ (x : Construct). getD (entry t x) j 0) (sym z)
+    let n : length (constructEntries t ds) ≡ length cs * 4 = length-entries t ds ∙ ap (λ (x : List Construct). length x * 4) (sym y) in
+    ap (λ (k : ℕ). getD (constructEntries t ds ++ constructEntry t d) (k + j) 0) (sym n) ∙ getD-append-add (constructEntries t ds) (constructEntry t d) j 0
+    ∙ ap (λ (x : Construct). getD (constructEntry t x) j 0) (sym z)
 entries-at {c} {cs} {ds = d ∷ ds} t (there s) j h =
-    List·getD-append (entries t ds) (entry t d) 0 (length cs * 4 + j) (omega (arith, length-entries t ds, suffix-length s)) ∙ entries-at t s j h
+    List·getD-append (constructEntries t ds) (constructEntry t d) 0 (length cs * 4 + j) (omega (arith, length-entries t ds, suffix-length s)) ∙ entries-at t s j h
 
 pub table-at : {c : Construct} {cs ds : List Construct} (t : Tape) (T : List ℕ) → length ds * 4 ≤ length T → Suffix (c ∷ cs) ds → (j : ℕ) → j < 4
-    → getD (sets T 0 (entries t ds)) (length cs * 4 + j) 0 ≡ getD (entry t c) j 0
+    → getD (sets T 0 (constructEntries t ds)) (length cs * 4 + j) 0 ≡ getD (constructEntry t c) j 0
 table-at {c} {cs} {ds} t T room s j h =
-    let n : 0 + length (entries t ds) ≤ length T = omega (arith, length-entries t ds) in
-    ap (λ (l : List ℕ). getD l (length cs * 4 + j) 0) (sets-eq (entries t ds) T 0 n)
-    ∙ List·getD-append (entries t ds) (drop (0 + length (entries t ds)) T) 0 (length cs * 4 + j) (omega (arith, length-entries t ds, suffix-length s))
+    let n : 0 + length (constructEntries t ds) ≤ length T = omega (arith, length-entries t ds) in
+    ap (λ (l : List ℕ). getD l (length cs * 4 + j) 0) (sets-eq (constructEntries t ds) T 0 n)
+    ∙ List·getD-append (constructEntries t ds) (drop (0 + length (constructEntries t ds)) T) 0 (length cs * 4 + j) (omega (arith, length-entries t ds, suffix-length s))
     ∙ entries-at t s j h

@@ -53,19 +53,19 @@ pub record Scan : Type 0 where
   pub run : Run
   pub done : List Construct
 
-unfoldable pub step : ℕ → Scan → Element → Scan
-step B s e = record { at = suc (s .at); run = runAfter B (s .at) (s .run) e; done = closedBy (s .at) (s .run) (s .done) e }
+unfoldable pub scanStep : ℕ → Scan → Element → Scan
+scanStep B s e = record { at = suc (s .at); run = runAfter B (s .at) (s .run) e; done = closedBy (s .at) (s .run) (s .done) e }
 
 unfoldable pub scan : ℕ → Scan → Tape → Scan
 scan B s [] = s
-scan B s (e ∷ t) = scan B (step B s e) t
+scan B s (e ∷ t) = scan B (scanStep B s e) t
 
-abbrev pub start : Scan
-start = record { at = 0; run = labels 3; done = [] }
+abbrev pub scanStart : Scan
+scanStart = record { at = 0; run = labels 3; done = [] }
 
 -- the constructs that stand on a tape, the last one first; the first of all has number 0
 unfoldable pub standing : ℕ → Tape → List Construct
-standing B t = scan B start t .done
+standing B t = scan B scanStart t .done
 
 -- for each element the length of the data block that it is, or 0. So many elements of the labels are still to come; behind them a run
 -- is a data run where the number of marks passed is even

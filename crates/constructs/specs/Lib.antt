@@ -1,4 +1,6 @@
 pub mod Constructs
-pub mod Phases
+pub mod PhaseSteps
 pub mod Tables
-pub mod Reach
+pub mod ReachSteps
+pub mod TableSteps
+pub mod Steps

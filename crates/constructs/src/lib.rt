@@ -9,12 +9,12 @@ pub mod reach;
 
 use quantities::BlockNumber;
 use refusals::Refusal;
-use tape::Checked;
 use tape::Entry;
+use tape::ListChecked;
 ghost use Rattle.tape.specs.Tape.{maxElements};
-ghost use Rattle.tape.specs.Answers.{Encoded};
-ghost use Rattle.constructs.specs.Tables.{Finds, Scans, placeIn};
-ghost use Rattle.constructs.specs.Phases.{pastLabels, afterMark, afterBlock, closedCount, closedTable, Roomy, Fitting};
+ghost use Rattle.tape.specs.Steps.{Encoded};
+ghost use Rattle.constructs.specs.TableSteps.{FindsConstructs, ScansPartition, boundsIn};
+ghost use Rattle.constructs.specs.PhaseSteps.{pastLabels, afterMark, afterBlock, closedCount, closedTable, Roomy, FitsTable};
 
 // The most standing constructs of a partition, and the numbers of a table of them, four for each.
 pub const CONSTRUCTS: usize = 21845;
@@ -96,7 +96,7 @@ fn after_block(phase: Phase, size: usize, n: usize) -> Phase
 
 // Puts a construct into the table behind the n that are there.
 fn enter(table: &mut [u32; NUMBERS], n: usize, first: usize, end: usize, from: usize, to: usize)
-    requires { ⌜ Fitting n first end from to ⌝ }
+    requires { ⌜ FitsTable n first end from to ⌝ }
     ensures { λ r. ⌜ now (table .exit) ≡ sets (now (table .entry)) (n * 4) (first ∷ end ∷ from ∷ to ∷ []) ⌝ }
 {
     let k = n * 4;
@@ -132,7 +132,7 @@ fn close(table: &mut [u32; NUMBERS], n: usize, phase: Phase, at: usize, off: usi
 // Puts the standing constructs of a list of so many elements into the table; their number.
 fn fill(list: &[u8], store: &[u8], count: usize, size: usize, table: &mut [u32; NUMBERS]) -> usize
     requires { ⌜ Encoded (now list) (now store) count ⌝ }
-    ensures { λ r. ⌜ Finds size (now (list .entry)) (now (store .entry)) (now (table .entry)) (now (table .exit)) r ⌝ }
+    ensures { λ r. ⌜ FindsConstructs size (now (list .entry)) (now (store .entry)) (now (table .entry)) (now (table .exit)) r ⌝ }
 {
     let mut place: usize = 0;
     let mut at: usize = 0;
@@ -173,22 +173,22 @@ pub enum Scanned {
 // Puts the standing constructs of a partition into a table, four numbers for each: its first block, the elements through its closing
 // mark, and where its text begins and ends in the store.
 pub fn scan(list: &[u8], store: &[u8], block_size: usize, table: &mut [u32; NUMBERS]) -> Scanned
-    ensures { λ r. ⌜ Scans «block_size» (now (list .entry)) (now (store .entry)) (now (table .entry)) (now (table .exit)) r ⌝ }
+    ensures { λ r. ⌜ ScansPartition «block_size» (now (list .entry)) (now (store .entry)) (now (table .entry)) (now (table .exit)) r ⌝ }
 {
     match tape::check(list, store) {
-        Checked::Elements(count) => Scanned::Constructs(fill(
+        ListChecked::Elements(count) => Scanned::Constructs(fill(
             list,
             store,
             count,
             block_size,
             table,
         )),
-        Checked::Refused(r) => Scanned::Refused(r),
+        ListChecked::Refused(r) => Scanned::Refused(r),
     }
 }
 
 // Where a construct lies: its first block, the elements through its closing mark, and where its text begins and ends in the store.
-pub struct Place {
+pub struct Bounds {
     pub first: BlockNumber,
     pub end: usize,
     pub from: usize,
@@ -202,11 +202,11 @@ fn wide(x: u32) -> usize
 }
 
 // The construct with number k of a table.
-pub fn construct(table: &[u32; NUMBERS], k: usize) -> Place
-    ensures { λ r. ⌜ r ≡ placeIn (now (table .entry)) k ⌝ }
+pub fn construct(table: &[u32; NUMBERS], k: usize) -> Bounds
+    ensures { λ r. ⌜ r ≡ boundsIn (now (table .entry)) k ⌝ }
 {
     if CONSTRUCTS <= k {
-        return Place {
+        return Bounds {
             first: BlockNumber(0),
             end: 0,
             from: 0,
@@ -214,7 +214,7 @@ pub fn construct(table: &[u32; NUMBERS], k: usize) -> Place
         };
     }
     let i = k * 4;
-    Place {
+    Bounds {
         first: BlockNumber(wide(table[i]) as u64),
         end: wide(table[i + 1]),
         from: wide(table[i + 2]),

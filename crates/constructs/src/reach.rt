@@ -2,15 +2,15 @@
 use quantities::BlockNumber;
 use quantities::ByteCount;
 use refusals::Refusal;
-use tape::Checked;
 use tape::Entry;
+use tape::ListChecked;
 ghost use mathlib.Core.Path.{_≡_};
 ghost use Prim.Native.Nat.{_+_, _≤_, _<_, _/_, _-_};
 ghost use mathlib.Core.List.{_++_};
 ghost use lib.ListN.{take, drop, length, getD};
-ghost use Rattle.constructs.specs.Reach.{reachOne, labelsAfter, evenAfter, dataLength, PutsLengths, reaches, sumOf, Reaches, liesBy};
+ghost use Rattle.constructs.specs.ReachSteps.{reachOne, labelsAfter, evenAfter, dataLength, PutsLengths, reaches, sumOf, Reaches, liesBy};
 ghost use Rattle.tape.specs.Tape.{maxStore};
-ghost use Rattle.tape.specs.Answers.{Encoded};
+ghost use Rattle.tape.specs.Steps.{Encoded};
 
 fn labels_after(k: usize) -> usize
     ensures { λ r. ⌜ r ≡ labelsAfter k ⌝ }
@@ -104,19 +104,19 @@ fn extend(count: usize, size: usize, table: &mut [u32])
 }
 
 // Puts into a table, for each element of a partition, how far data blocks reach from there; the number of elements.
-pub fn reach(list: &[u8], store: &[u8], block_size: usize, table: &mut [u32]) -> Checked
+pub fn reach(list: &[u8], store: &[u8], block_size: usize, table: &mut [u32]) -> ListChecked
     ensures { λ r. ⌜ Reaches «block_size» (now (list .entry)) (now (store .entry)) (now (table .entry)) (now (table .exit)) r ⌝ }
 {
     match tape::check(list, store) {
-        Checked::Elements(count) => {
+        ListChecked::Elements(count) => {
             if table.len() < count {
-                return Checked::Refused(Refusal::Short);
+                return ListChecked::Refused(Refusal::Short);
             }
             put_lengths(list, store, count, table);
             extend(count, block_size, table);
-            Checked::Elements(count)
+            ListChecked::Elements(count)
         }
-        Checked::Refused(r) => Checked::Refused(r),
+        ListChecked::Refused(r) => ListChecked::Refused(r),
     }
 }
 

@@ -6,8 +6,6 @@ use Prim.Native.Nat.{ℕ, _+_, _-_}
 use lib.Dec.{leb, eqb}
 use Rattle.slices.specs.Slices.{within, every}
 use Rattle.digits.specs.Runs.{value, digits, width}
-use Rattle.digits.specs.declared.Number.{Number}
-use Rattle.digits.specs.declared.Number.the-variants.{Value, Nothing}
 
 -- the ASCII digits, and what each counts
 abbrev pub isDigit : ℕ → Bool
@@ -40,11 +38,6 @@ isNumber s = every isDigit s && plain s && leb (decimal 0 s) largest
 -- the number that a text says
 unfoldable pub number : List ℕ → Option ℕ
 number s = cond (isNumber s) (some (decimal 0 s)) none
-
--- what an answer says
-abbrev pub valueOf : Number → Option ℕ
-valueOf (Value n) = some n
-valueOf Nothing = none
 
 -- the short form: the digits of n, as many as it has
 unfoldable pub short : ℕ → List ℕ

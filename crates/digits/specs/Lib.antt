@@ -1,3 +1,4 @@
 pub mod Runs
 pub mod Decimal
 pub mod Hex
+pub mod Steps

@@ -7,7 +7,8 @@ ghost use mathlib.Core.Path.{_≡_};
 ghost use Prim.Native.Nat.{_%_};
 ghost use lib.ListN.{length};
 ghost use Rattle.slices.specs.Writers.{Puts};
-ghost use Rattle.digits.specs.Decimal.{plain, number, valueOf, byteOf, short};
+ghost use Rattle.digits.specs.Decimal.{plain, number, byteOf, short};
+ghost use Rattle.digits.specs.Steps.{valueOf};
 
 // What a text says as a number.
 pub enum Number {

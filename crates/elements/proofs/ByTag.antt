@@ -8,7 +8,8 @@ use lib.Dec.{eqb}
 use lib.ListN.{length, drop, getD, length-drop}
 use Rattle.xml.specs.Tree.{Tree, none, node, past, notOpen, tagHead, top, pop, closed, opened, alone, put, trees}
 use Rattle.elements.specs.Tags.{Tags, tagsOf, tagsLeft, tagsAt, tagsAround, tagsIn, tagPlace}
-use Rattle.elements.specs.Reading.{leftAt, rowAt, aroundAt, childrenAt}
+use Rattle.elements.specs.Reading.{leftAt, forestAt, childrenAt}
+use Rattle.elements.specs.TagSteps.{aroundAt}
 
 module _ {A : Type 0} (tell : List ℕ → A) where
   unfoldable pub told : Tags → Tree A
@@ -57,13 +58,13 @@ module _ (s : List ℕ) where
   left-told i = trees-each tagHead (drop i s)
 
   -- a row's heads
-  pub row-told : (i : ℕ) → rowAt s i ≡ told tagHead (tagsAt s i)
+  pub row-told : (i : ℕ) → forestAt s i ≡ told tagHead (tagsAt s i)
   row-told i = ap top (left-told i) ∙ top-each tagHead (tagsLeft s i)
 
   pub around-told : (i : ℕ) → aroundAt s i ≡ each tagHead (tagsAround s i)
   around-told i = ap pop (left-told i) ∙ pop-each tagHead (tagsLeft s i)
 
-  pub no-tags : (i : ℕ) → rowAt s i ≡ none → tagsAt s i ≡ none
+  pub no-tags : (i : ℕ) → forestAt s i ≡ none → tagsAt s i ≡ none
   no-tags i e = told-none tagHead (tagsAt s i) (sym (row-told i) ∙ e)
 
   pub children-told : (n : ℕ) → childrenAt s n ≡ told tagHead (tagsIn (drop n s))

@@ -7,7 +7,7 @@ use native.Mathlib.Omega.{arith}
 use borrow.Author.Tests.{eq-eqb, ne-eqb}
 use lib.ListN.{length, drop, getD}
 use Rattle.xml.specs.Tree.{front, isNot}
-use Rattle.xml.specs.Scans.{Past}
+use Rattle.xml.specs.ScanSteps.{Past}
 use Rattle.xml.proofs.Past.{front-more, front-none}
 
 -- what is found from i on is what is found from at on

@@ -11,9 +11,10 @@ use lib.Dec.{eqb}
 use lib.ListN.{length, drop, getD, drop-of-length-le, List·getD-eq-default}
 use lib.Seq.{drop-cons, drop-drop, getD-drop}
 use Rattle.xml.specs.Tree.{Tree, front, past, quoteAfter, put, notOpen, tagHead, closed, alone, opened, pop, trees}
-use Rattle.elements.specs.Reading.{emptyAt, Next, NextTag}
+use Rattle.elements.specs.Reading.{emptyAt}
+use Rattle.elements.specs.TagSteps.{Next, NextTag}
 use Rattle.elements.specs.declared.tags.Tag.the-variants.{End, Close, Open, Empty}
-use Rattle.xml.specs.Scans.{Past}
+use Rattle.xml.specs.ScanSteps.{Past}
 use Rattle.xml.proofs.Past.{past-stop}
 
 -- a tag, from its byte at i on

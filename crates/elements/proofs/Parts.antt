@@ -13,8 +13,9 @@ use Rattle.xml.specs.Bytes.{isNameByte, isSpace}
 use Rattle.xml.specs.Tree.{front, behind, isNot, notOpen, past, quoted, headOf, behindTag, tagHead, top, trees}
 use Rattle.elements.specs.declared.heads.Span.{Span}
 use Rattle.elements.specs.Tags.{tagsOf, tagsAt, tagsIn}
-use Rattle.elements.specs.Reading.{rowAt, emptyAt, headAt, childrenAt, TextAt}
-use Rattle.xml.specs.Scans.{Past}
+use Rattle.elements.specs.Reading.{forestAt, emptyAt, headAt, childrenAt}
+use Rattle.elements.specs.TagSteps.{TextAt}
+use Rattle.xml.specs.ScanSteps.{Past}
 use Rattle.xml.proofs.Past.{past-ahead}
 use Rattle.elements.proofs.Left.{left-end}
 
@@ -89,11 +90,11 @@ module _ (s : List ℕ) (n a : ℕ) (here : drop a s ≡ drop n s) where
         run-part found
         ∙ ap (λ (r : List ℕ). take (front notOpen r) r) (sym (rw (empty-told, z) (ap (λ (r : List ℕ). past 0 0 r .rest) (sym here) ∙ rw ends)))
 
-    pub children-none : b ≡ true → rowAt s (length s) ≡ childrenAt s n
+    pub children-none : b ≡ true → forestAt s (length s) ≡ childrenAt s n
     unfolding childrenAt top
     children-none e = ap top (left-end tagHead s (length s) (omega arith)) ∙ rw (empty-told, e)
 
-    pub children-some : b ≡ false → rowAt s a ≡ childrenAt s n
+    pub children-some : b ≡ false → forestAt s a ≡ childrenAt s n
     unfolding childrenAt
     children-some e = ap (λ (r : List ℕ). top (trees tagHead r)) here ∙ rw (empty-told, e)
 

@@ -9,15 +9,16 @@ use borrow.Author.Tests.{eq-eqb, eqb-true, eqb-false}
 use lib.Dec.{eqb}
 use lib.ListN.{length, drop, getD}
 use lib.Seq.{drop-drop, getD-drop}
-use Rattle.xml.specs.Bytes.{isNameByte, isLetter, isSpace}
+use Rattle.xml.specs.Bytes.{isNameByte, isAsciiLetter, isSpace}
 use Rattle.xml.specs.Tree.{Forest, none, front, past, quoteAfter, isNot, notOpen, top, opened, alone}
-use Rattle.xml.specs.Scans.{Past}
+use Rattle.xml.specs.ScanSteps.{Past}
 use Rattle.xml.proofs.Past.{front-more, front-none, past-ahead}
 use Rattle.elements.specs.declared.starts.Start.{Start}
 use Rattle.elements.specs.declared.heads.Span.{Span}
 use Rattle.elements.specs.declared.tags.Tag.the-variants.{End, Close, Open, Empty}
-use Rattle.elements.specs.Reading.{rowAt, headAt, emptyAt, childrenAt, isRow, TextAt, NextTag, Behind, FirstOf}
-use Rattle.elements.specs.Starts.{Shape, Opening, Starts}
+use Rattle.elements.specs.Reading.{forestAt, headAt, emptyAt, childrenAt, hasElement}
+use Rattle.elements.specs.TagSteps.{TextAt, NextTag, Behind, FirstOf}
+use Rattle.elements.specs.StartSteps.{Shape, Opening, StartsElement}
 use Rattle.elements.proofs.Left.{none-next, close-next, empty-next, open-next}
 use Rattle.elements.proofs.Parts.{no-part, name-part, key-part, text-found, empty-told, children-some}
 use Rattle.elements.proofs.Rows.{row-end, row-close, behind-close, behind-end, first-open, first-empty}
@@ -34,23 +35,23 @@ name-byte b k e f = go (eqb b k) refl
         absurd (omega arith)
 
 no-shut : isNameByte 62 ≡ false
-unfolding isNameByte isLetter
+unfolding isNameByte isAsciiLetter
 no-shut = refl
 
 no-solidus : isNameByte 47 ≡ false
-unfolding isNameByte isLetter
+unfolding isNameByte isAsciiLetter
 no-solidus = refl
 
 no-quote : isNameByte 34 ≡ false
-unfolding isNameByte isLetter
+unfolding isNameByte isAsciiLetter
 no-quote = refl
 
 no-apostrophe : isNameByte 39 ≡ false
-unfolding isNameByte isLetter
+unfolding isNameByte isAsciiLetter
 no-apostrophe = refl
 
 no-open : isNameByte 60 ≡ false
-unfolding isNameByte isLetter
+unfolding isNameByte isAsciiLetter
 no-open = refl
 
 no-space : isSpace 62 ≡ false
@@ -129,7 +130,7 @@ module _ (s : List ℕ) (n e : ℕ) (named : Past isNameByte s n e) (h : e < len
         sym (key-part s n n refl e named e e (past-at isSpace s e h (ap isSpace shut ∙ no-space)) (past-at isNameByte s e h (ap isNameByte shut ∙ no-shut)))
         ∙ no-part s e
 
-    kids : childrenAt s n ≡ rowAt s n
+    kids : childrenAt s n ≡ forestAt s n
     kids = sym (children-some s n n refl false (e + 1) named-past refl)
 
     said : TextAt s n (record { from = e + 1; len = z - (e + 1) })
@@ -147,7 +148,7 @@ module _ (s : List ℕ) (n e : ℕ) (named : Past isNameByte s n e) (h : e < len
           next = next;
         }
 
-    shape : (leaf : Bool) (next : ℕ) → leaf ≡ not (isRow (rowAt s n)) → Shape s (start leaf next)
+    shape : (leaf : Bool) (next : ℕ) → leaf ≡ not (hasElement (forestAt s n)) → Shape s (start leaf next)
     shape leaf next el =
         record {
           name = record { part = name-part s n n refl e named; inside = omega (arith, past-ahead named) };
@@ -155,42 +156,42 @@ module _ (s : List ℕ) (n e : ℕ) (named : Past isNameByte s n e) (h : e < len
           empty = empty-told s n n refl false (e + 1) named-past;
           text = said .spans;
           place = said .place;
-          leaf = el ∙ ap (λ (f : Forest). not (isRow f)) (sym kids);
+          leaf = el ∙ ap (λ (f : Forest). not (hasElement f)) (sym kids);
         }
 
     pub start-last : length s ≤ z → Opening s n (start true (length s))
-    unfolding isRow
+    unfolding hasElement
     start-last l =
         let t : NextTag s n End = none-next s n z whole l in
         record {
           here = refl;
-          shape = shape true (length s) (sym (ap (λ (f : Forest). not (isRow f)) (row-end t)));
+          shape = shape true (length s) (sym (ap (λ (f : Forest). not (hasElement f)) (row-end t)));
           alone = λ w. let y : _≡_ {A = ℕ} 0 1 = cc in absurd (omega arith);
           left = λ w v. behind-end t;
         }
 
     pub start-before : z < length s → (leaf : Bool) → leaf ≡ eqb (getD s (z + 1) 0) 47 → Opening s n (start leaf (z + 1))
-    unfolding isRow top opened alone
+    unfolding hasElement top opened alone
     start-before l leaf el = go leaf el
       where
         slash : true ≡ eqb (getD s (z + 1) 0) 47 → NextTag s n (Close (z + 1))
         slash q = close-next s n z whole l (eqb-true (getD s (z + 1) 0) 47 (sym q))
 
-        inner : false ≡ eqb (getD s (z + 1) 0) 47 → isRow (rowAt s n) ≡ true
+        inner : false ≡ eqb (getD s (z + 1) 0) 47 → hasElement (forestAt s n) ≡ true
         inner q = more (emptyAt s (z + 1)) refl
           where
             no : getD s (z + 1) 0 ≡ 47 → ⊥
             no = eqb-false (getD s (z + 1) 0) 47 (sym q)
 
-            more : (b : Bool) → emptyAt s (z + 1) ≡ b → isRow (rowAt s n) ≡ true
-            more true w = ap (λ x. isRow (top x)) (empty-next s n z whole l no w .left)
-            more false w = ap (λ x. isRow (top x)) (open-next s n z whole l no w .left)
+            more : (b : Bool) → emptyAt s (z + 1) ≡ b → hasElement (forestAt s n) ≡ true
+            more true w = ap (λ x. hasElement (top x)) (empty-next s n z whole l no w .left)
+            more false w = ap (λ x. hasElement (top x)) (open-next s n z whole l no w .left)
 
         go : (leaf : Bool) → leaf ≡ eqb (getD s (z + 1) 0) 47 → Opening s n (start leaf (z + 1))
         go true q =
             record {
               here = refl;
-              shape = shape true (z + 1) (sym (ap (λ (f : Forest). not (isRow f)) (row-close (slash q))));
+              shape = shape true (z + 1) (sym (ap (λ (f : Forest). not (hasElement f)) (row-close (slash q))));
               alone = λ w. let y : _≡_ {A = ℕ} 0 1 = cc in absurd (omega arith);
               left = λ w v. behind-close (slash q);
             }
@@ -205,7 +206,7 @@ module _ (s : List ℕ) (n e : ℕ) (named : Past isNameByte s n e) (h : e < len
 -- the tag at n, read part by part
 module _ (s : List ℕ) (n e : ℕ) (named : Past isNameByte s n e) (b : Bool) (t : ℕ) (ends : past 0 0 (drop n s) ≡ record { empty = b; rest = drop t s })
     (plain : Bool) (ep : plain ≡ eqb (length (headAt s n .key)) 0) (said : Span) (es : TextAt s n said)
-    (leaf : Bool) (el : leaf ≡ not (isRow (childrenAt s n))) where
+    (leaf : Bool) (el : leaf ≡ not (hasElement (childrenAt s n))) where
   abbrev other : Bool → Bool → ℕ → Start
   other empty leaf next =
       record { at = n; name = record { from = n; len = e - n }; plain = plain; empty = empty; text = said; leaf = leaf; next = next }
@@ -256,7 +257,7 @@ module _ (s : List ℕ) (i j : ℕ) (found : Past notOpen s i j) (h : j < length
   open-tag : x .empty ≡ false → NextTag s i (Open (x .at))
   open-tag e = subst (λ (n : ℕ). NextTag s i (Open n)) (sym (o .here)) (open-next s i j found h no (ap (emptyAt s) (sym (o .here)) ∙ o .shape .empty ∙ e))
 
-  pub opens-next : Starts s i x
+  pub opens-next : StartsElement s i x
   opens-next =
       record {
         tag = tag (x .empty) refl;
@@ -273,16 +274,16 @@ module _ (s : List ℕ) (i j : ℕ) (found : Past notOpen s i j) (h : j < length
       next false e l = first-open (open-tag e) (subst (λ (n : ℕ). Behind s n (x .next)) (sym (o .here)) (o .left e l))
 
 -- an element with children is no empty-element tag
-module _ {s : List ℕ} {i : ℕ} {x : Start} (t : Starts s i x) (inner : x .leaf ≡ false) where
+module _ {s : List ℕ} {i : ℕ} {x : Start} (t : StartsElement s i x) (inner : x .leaf ≡ false) where
   pub not-empty : x .empty ≡ false
-  unfolding isRow childrenAt
+  unfolding hasElement childrenAt
   not-empty = go (x .empty) refl
     where
       go : (b : Bool) → x .empty ≡ b → b ≡ false
       go false e = refl
       go true e =
           let k : childrenAt s (x .at) ≡ none = rw (t .shape .empty ∙ e) in
-          let z : true ≡ false = sym (ap (λ (f : Forest). not (isRow f)) k) ∙ sym (t .shape .leaf) ∙ inner in
+          let z : true ≡ false = sym (ap (λ (f : Forest). not (hasElement f)) k) ∙ sym (t .shape .leaf) ∙ inner in
           let y : _≡_ {A = ℕ} 0 1 = cc in
           absurd (omega arith)
 

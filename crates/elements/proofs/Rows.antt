@@ -7,13 +7,14 @@ use native.Mathlib.Omega.{arith}
 use lib.ListN.{length, drop}
 use Rattle.xml.specs.Tree.{Forest, none, node, tagHead, closed, opened, alone, top, pop}
 use Rattle.elements.specs.declared.tags.Tag.the-variants.{End, Close, Open, Empty}
-use Rattle.elements.specs.Reading.{leftAt, rowAt, aroundAt, headAt, childrenAt, NextTag, Behind, FirstOf}
+use Rattle.elements.specs.Reading.{leftAt, forestAt, headAt, childrenAt}
+use Rattle.elements.specs.TagSteps.{aroundAt, NextTag, Behind, FirstOf}
 use Rattle.elements.specs.Tags.{tagsLeft, tagsAt, tagsAround, tagsIn}
 use Rattle.elements.proofs.ByTag.{left-kept}
 use Rattle.elements.proofs.Left.{left-end}
 
 -- past the end there is nothing
-pub row-past : (s : List ℕ) (i : ℕ) → length s ≤ i → rowAt s i ≡ none
+pub row-past : (s : List ℕ) (i : ℕ) → length s ≤ i → forestAt s i ≡ none
 unfolding top
 row-past s i h = ap top (left-end tagHead s i h)
 
@@ -27,7 +28,7 @@ behind s i j e a b = record { left = left-kept s i j e; tags = e; ahead = a; ins
 
 module _ {s : List ℕ} {i : ℕ} where
   -- the text ends
-  pub row-end : NextTag s i End → rowAt s i ≡ none
+  pub row-end : NextTag s i End → forestAt s i ≡ none
   unfolding top
   row-end t = ap top (t .left)
 
@@ -37,7 +38,7 @@ module _ {s : List ℕ} {i : ℕ} where
 
   module _ {n : ℕ} where
     -- an end tag comes next
-    pub row-close : NextTag s i (Close n) → rowAt s i ≡ none
+    pub row-close : NextTag s i (Close n) → forestAt s i ≡ none
     unfolding top closed
     row-close t = ap top (t .left)
 
@@ -46,7 +47,7 @@ module _ {s : List ℕ} {i : ℕ} where
     around-close t = ap pop (t .left)
 
     -- an empty-element tag comes next
-    pub row-empty : NextTag s i (Empty n) → rowAt s i ≡ node (headAt s n) none (rowAt s n)
+    pub row-empty : NextTag s i (Empty n) → forestAt s i ≡ node (headAt s n) none (forestAt s n)
     unfolding top alone
     row-empty t = ap top (t .left)
 
@@ -56,7 +57,7 @@ module _ {s : List ℕ} {i : ℕ} where
 
     -- a start tag comes next; its element is left at j
     module _ {j : ℕ} where
-      pub row-open : NextTag s i (Open n) → Behind s n j → rowAt s i ≡ node (headAt s n) (rowAt s n) (rowAt s j)
+      pub row-open : NextTag s i (Open n) → Behind s n j → forestAt s i ≡ node (headAt s n) (forestAt s n) (forestAt s j)
       unfolding top opened
       row-open t l = ap top (t .left) ∙ rw (l .left)
 
@@ -65,7 +66,7 @@ module _ {s : List ℕ} {i : ℕ} where
       around-open t l = ap pop (t .left) ∙ sym (ap pop (l .left))
 
     -- the children of the element at n
-    pub children-open : NextTag s i (Open n) → childrenAt s n ≡ rowAt s n
+    pub children-open : NextTag s i (Open n) → childrenAt s n ≡ forestAt s n
     unfolding childrenAt
     children-open t = rw (t .kind)
 
@@ -74,12 +75,12 @@ module _ {s : List ℕ} {i : ℕ} where
     children-empty t = rw (t .kind)
 
     -- the row begins with the element at n
-    pub node-open : NextTag s i (Open n) → rowAt s i ≡ node (headAt s n) (childrenAt s n) (top (aroundAt s n))
+    pub node-open : NextTag s i (Open n) → forestAt s i ≡ node (headAt s n) (childrenAt s n) (top (aroundAt s n))
     unfolding top opened
     node-open t = ap top (t .left) ∙ ap (λ (k : Forest). node (headAt s n) k (top (aroundAt s n))) (sym (children-open t))
 
-    pub node-empty : NextTag s i (Empty n) → rowAt s i ≡ node (headAt s n) (childrenAt s n) (rowAt s n)
-    node-empty t = row-empty t ∙ ap (λ (k : Forest). node (headAt s n) k (rowAt s n)) (sym (children-empty t))
+    pub node-empty : NextTag s i (Empty n) → forestAt s i ≡ node (headAt s n) (childrenAt s n) (forestAt s n)
+    node-empty t = row-empty t ∙ ap (λ (k : Forest). node (headAt s n) k (forestAt s n)) (sym (children-empty t))
 
     -- the same by tags
     tags-open : {j : ℕ} → NextTag s i (Open n) → Behind s n j → tagsAt s i ≡ node (drop n s) (tagsIn (drop n s)) (tagsAt s j)
@@ -95,7 +96,7 @@ module _ {s : List ℕ} {i : ℕ} where
     unfolding pop opened
     first-open {j} t l =
         record {
-          row = row-open t l ∙ ap (λ (k : Forest). node (headAt s n) k (rowAt s j)) (sym (children-open t));
+          row = row-open t l ∙ ap (λ (k : Forest). node (headAt s n) k (forestAt s j)) (sym (children-open t));
           around = around-open t l;
           tags = tags-open t l;
           tagsKept = ap pop (t .tags) ∙ sym (ap pop (l .tags));

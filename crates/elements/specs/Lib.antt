@@ -1,3 +1,4 @@
 pub mod Tags
 pub mod Reading
-pub mod Starts
+pub mod StartSteps
+pub mod TagSteps

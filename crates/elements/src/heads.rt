@@ -10,7 +10,8 @@ ghost use lib.ListN.{length, drop};
 ghost use Rattle.slices.specs.Slices as slices;
 ghost use Rattle.xml.specs.Bytes.{isSpace};
 ghost use Rattle.xml.specs.Tree.{quoted};
-ghost use Rattle.elements.specs.Reading.{headAt, childrenAt, isRow, ChildrenFrom, TextAt};
+ghost use Rattle.elements.specs.Reading.{headAt, childrenAt, hasElement};
+ghost use Rattle.elements.specs.TagSteps.{ChildrenFrom, TextAt};
 
 // Its name.
 pub fn name_of(text: &[u8], n: usize) -> &[u8]
@@ -140,7 +141,7 @@ pub fn first_child(text: &[u8], n: usize) -> usize
 
 // Whether it has children.
 pub fn has_children(text: &[u8], n: usize) -> bool
-    ensures { λ r. ⌜ r ≡ isRow (childrenAt (now (text .entry)) n) ⌝ }
+    ensures { λ r. ⌜ r ≡ hasElement (childrenAt (now (text .entry)) n) ⌝ }
 {
     match tags::next_tag(text, first_child(text, n)) {
         Tag::End => false,

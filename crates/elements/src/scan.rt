@@ -3,7 +3,7 @@ ghost use mathlib.Core.Path.{_≡_};
 ghost use Prim.Native.Nat.{_≤_, min};
 ghost use lib.ListN.{length, drop};
 ghost use Rattle.xml.specs.Bytes.{isNameByte, isSpace};
-ghost use Rattle.xml.specs.Scans.{Past};
+ghost use Rattle.xml.specs.ScanSteps.{Past};
 ghost use Rattle.xml.specs.Tree.{isNot, past, quoteAfter};
 
 // The place at, or the text's end where that comes first.

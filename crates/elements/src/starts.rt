@@ -7,9 +7,9 @@ ghost use mathlib.Core.Path.{_≡_};
 ghost use Prim.Native.Nat.{_<_, _≤_};
 ghost use lib.ListN.{length, getD};
 ghost use Rattle.xml.specs.Bytes.{isNameByte};
-ghost use Rattle.xml.specs.Scans.{Past};
+ghost use Rattle.xml.specs.ScanSteps.{Past};
 ghost use Rattle.elements.specs.Reading.{partAt};
-ghost use Rattle.elements.specs.Starts.{Opening, NextStart, NextItem};
+ghost use Rattle.elements.specs.StartSteps.{Opening, NextStart, NextItem};
 
 // An element as its start tag shows it: the tag's place; its name; whether it has no attribute; whether its tag is an empty-element tag; its
 // text; whether it has no children, and if so where its row goes on.

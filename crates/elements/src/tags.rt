@@ -1,6 +1,6 @@
 // From tag to tag, and from element to element.
 use crate::scan;
-ghost use Rattle.elements.specs.Reading.{NextTag, Behind, NextChild};
+ghost use Rattle.elements.specs.TagSteps.{NextTag, Behind, NextChild};
 
 // A tag, with the place behind its `<`: an end tag, a start tag, an empty-element tag; or the end of the text.
 pub enum Tag {

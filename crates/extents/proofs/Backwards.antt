@@ -10,8 +10,9 @@ use lib.ListN.{length, drop}
 use Rattle.slices.specs.Slices.{every}
 use Rattle.slices.proofs.Booleans.{and-both}
 use Rattle.slices.proofs.Every.{every-weaker}
-use Rattle.extents.specs.Rows.{Row, rowsOf, rowAt}
-use Rattle.extents.specs.Lawful.{end, clear, apart}
+use Rattle.extents.specs.Rows.{Row, rowsOf}
+use Rattle.extents.specs.Steps.{rowFrom}
+use Rattle.extents.specs.Lawful.{rowEnd, clear, apart}
 use Rattle.extents.proofs.Rows.{rows-on, rows-end}
 
 -- no row begins below a position
@@ -19,11 +20,11 @@ abbrev pub above : ℕ → List Row → Bool
 above low rows = every (λ (q : Row). leb low (q .fileoffset)) rows
 
 -- a row that ends by the position is clear of such rows
-pub clear-above : (r : Row) (low : ℕ) (rows : List Row) → end r ≤ low → above low rows ≡ true → every (clear r) rows ≡ true
+pub clear-above : (r : Row) (low : ℕ) (rows : List Row) → rowEnd r ≤ low → above low rows ≡ true → every (clear r) rows ≡ true
 clear-above r low rows h e = every-weaker (λ (q : Row). leb low (q .fileoffset)) (clear r) weaker rows e
   where
     weaker : (q : Row) → leb low (q .fileoffset) ≡ true → clear r q ≡ true
-    weaker q t = let g = leb-true low (q .fileoffset) t in rw (le-leb (end r) (q .fileoffset) (omega arith))
+    weaker q t = let g = leb-true low (q .fileoffset) t in rw (le-leb (rowEnd r) (q .fileoffset) (omega arith))
 
 pub above-lower : (low lower : ℕ) (rows : List Row) → lower ≤ low → above low rows ≡ true → above lower rows ≡ true
 above-lower low lower rows h e = every-weaker (λ (q : Row). leb low (q .fileoffset)) (λ (q : Row). leb lower (q .fileoffset)) weaker rows e
@@ -41,7 +42,7 @@ not-apart (r ∷ rows) (suc i) e = rw (not-apart rows i e) (and-false (every (cl
 -- the row before the rows from k on
 module _ (s : List ℕ) (k : ℕ) (some : 0 < k) (inside : k ≤ length s / 5) where
   abbrev before : Row
-  before = rowAt s ((k - 1) * 5)
+  before = rowFrom s ((k - 1) * 5)
 
   row-back : drop (k - 1) (rowsOf s) ≡ before ∷ drop k (rowsOf s)
   row-back =

@@ -11,9 +11,10 @@ use lib.ListN.{length, drop, getD}
 use Rattle.refusals.specs.Refusals.{refused, answer, require}
 use Rattle.refusals.specs.declared.Refusal.the-variants.{Caller, TooMany, Extents, Missing}
 use Rattle.quantities.specs.Sizes.{isBlockSize}
-use Rattle.extents.specs.Rows.{Row, rowsOf, numbersOf, rowAt}
+use Rattle.extents.specs.Rows.{Row, rowsOf, numbersOf}
+use Rattle.extents.specs.Steps.{rowFrom}
 use Rattle.extents.specs.Lawful.{inRow, lawful, holders}
-use Rattle.extents.specs.Map.{stored, unstored, placeIn, placeOf, lettered, byteMap}
+use Rattle.extents.specs.Map.{stored, unstored, byteInRow, byteAt, lettered, byteMap}
 use Rattle.extents.proofs.Rows.{rows-on, rows-end, rows-count, rows-numbers, length-numbers}
 
 module _ (s : List ℕ) (L B p : ℕ) where
@@ -47,34 +48,34 @@ module _ (s : List ℕ) (L B p : ℕ) where
       unfolding byteMap
       unlawful e = rw (caller-right, few-rows, e)
 
-      pub mapped : lawful L B (rowsOf s) ≡ true → byteMap s L B p ≡ require (ltb p L) Missing (answer (placeOf B p (rowsOf s)))
+      pub mapped : lawful L B (rowsOf s) ≡ true → byteMap s L B p ≡ require (ltb p L) Missing (answer (byteAt B p (rowsOf s)))
       unfolding byteMap
       mapped e = rw (caller-right, few-rows, e)
 
 -- rows by their numbers, where each test passes
 pub numbers-mapped : (rows : List Row) (L B p : ℕ) → isBlockSize B ≡ true → lettered rows ≡ true → length rows ≤ 1024 → lawful L B rows ≡ true
-    → byteMap (numbersOf rows) L B p ≡ require (ltb p L) Missing (answer (placeOf B p rows))
+    → byteMap (numbersOf rows) L B p ≡ require (ltb p L) Missing (answer (byteAt B p rows))
 numbers-mapped rows L B p size letters few law =
     mapped (numbersOf rows) L B p size (rw (rows-numbers rows) letters) (omega (arith, length-numbers rows)) (omega (arith, length-numbers rows)) (rw (rows-numbers rows) law)
-    ∙ ap (λ (l : List Row). require (ltb p L) Missing (answer (placeOf B p l))) (rows-numbers rows)
+    ∙ ap (λ (l : List Row). require (ltb p L) Missing (answer (byteAt B p l))) (rows-numbers rows)
 
 -- along the rows, of which i were passed
 module _ (s : List ℕ) (B p i : ℕ) where
-  pub place-here : i < length s / 5 → inRow p (rowAt s (i * 5)) ≡ true → placeOf B p (drop i (rowsOf s)) ≡ placeIn B p (rowAt s (i * 5))
-  unfolding placeOf
+  pub place-here : i < length s / 5 → inRow p (rowFrom s (i * 5)) ≡ true → byteAt B p (drop i (rowsOf s)) ≡ byteInRow B p (rowFrom s (i * 5))
+  unfolding byteAt
   place-here h e = rw (rows-on s i h, e)
 
-  pub place-on : i < length s / 5 → inRow p (rowAt s (i * 5)) ≡ false → placeOf B p (drop i (rowsOf s)) ≡ placeOf B p (drop (i + 1) (rowsOf s))
-  unfolding placeOf
+  pub place-on : i < length s / 5 → inRow p (rowFrom s (i * 5)) ≡ false → byteAt B p (drop i (rowsOf s)) ≡ byteAt B p (drop (i + 1) (rowsOf s))
+  unfolding byteAt
   place-on h e = rw (rows-on s i h, e)
 
-  pub place-end : length s / 5 ≤ i → placeOf B p (drop i (rowsOf s)) ≡ unstored
-  unfolding placeOf
-  place-end h = ap (placeOf B p) (rows-end s i h)
+  pub place-end : length s / 5 ≤ i → byteAt B p (drop i (rowsOf s)) ≡ unstored
+  unfolding byteAt
+  place-end h = ap (byteAt B p) (rows-end s i h)
 
 -- a place by its numbers
 pub placed : (B p : ℕ) (r : Row) (letter blocks byte : ℕ) → letter ≡ r .letter → blocks ≡ (r .byteoffset + (p - r .fileoffset)) / B → byte ≡ (r .byteoffset + (p - r .fileoffset)) % B
-    → stored letter (r .startblock + blocks) byte ≡ placeIn B p r
+    → stored letter (r .startblock + blocks) byte ≡ byteInRow B p r
 placed B p r letter blocks byte e f g = cc
 
 -- the paper's two sentences: in a row, by that row, whichever it is; in no row, unstored
@@ -85,8 +86,8 @@ module _ (d : Row) (B p : ℕ) where
   held (r ∷ rows) zero h e = rw e (omega arith)
   held (r ∷ rows) (suc i) h e = omega (arith, held rows i (le-of-suc-le-suc h) e)
 
-  pub place-in-row : (rows : List Row) (i : ℕ) → i < length rows → inRow p (getD rows i d) ≡ true → holders p rows ≤ 1 → placeOf B p rows ≡ placeIn B p (getD rows i d)
-  unfolding placeOf holders
+  pub place-in-row : (rows : List Row) (i : ℕ) → i < length rows → inRow p (getD rows i d) ≡ true → holders p rows ≤ 1 → byteAt B p rows ≡ byteInRow B p (getD rows i d)
+  unfolding byteAt holders
   place-in-row [] i h e u = absurd (not-suc-le-zero h)
   place-in-row (r ∷ rows) zero h e u = rw e
   place-in-row (r ∷ rows) (suc i) h e u = go (inRow p r) refl (place-in-row rows i g e)
@@ -94,16 +95,16 @@ module _ (d : Row) (B p : ℕ) where
       g : i < length rows
       g = le-of-suc-le-suc h
 
-      go : (t : Bool) → inRow p r ≡ t → (holders p rows ≤ 1 → placeOf B p rows ≡ placeIn B p (getD rows i d))
-          → cond t (placeIn B p r) (placeOf B p rows) ≡ placeIn B p (getD rows i d)
+      go : (t : Bool) → inRow p r ≡ t → (holders p rows ≤ 1 → byteAt B p rows ≡ byteInRow B p (getD rows i d))
+          → cond t (byteInRow B p r) (byteAt B p rows) ≡ byteInRow B p (getD rows i d)
       go true f next = let z : 1 + holders p rows ≤ 1 = rw f at u in absurd (omega (arith, held rows i g e))
       go false f next = next (omega (arith, u))
 
-pub place-in-none : (B p : ℕ) (rows : List Row) → holders p rows ≡ 0 → placeOf B p rows ≡ unstored
-unfolding placeOf holders
+pub place-in-none : (B p : ℕ) (rows : List Row) → holders p rows ≡ 0 → byteAt B p rows ≡ unstored
+unfolding byteAt holders
 place-in-none B p [] e = refl
 place-in-none B p (r ∷ rows) e = go (inRow p r) refl (place-in-none B p rows)
   where
-    go : (t : Bool) → inRow p r ≡ t → (holders p rows ≡ 0 → placeOf B p rows ≡ unstored) → cond t (placeIn B p r) (placeOf B p rows) ≡ unstored
+    go : (t : Bool) → inRow p r ≡ t → (holders p rows ≡ 0 → byteAt B p rows ≡ unstored) → cond t (byteInRow B p r) (byteAt B p rows) ≡ unstored
     go true f next = let z : 1 + holders p rows ≡ 0 = rw f at e in absurd (omega arith)
     go false f next = next (omega (arith, e))

@@ -8,13 +8,13 @@ use lib.Dec.{leb, ltb}
 use Rattle.slices.proofs.Booleans.{and-left, and-right, and-both}
 use Rattle.quantities.specs.Letters.{isLetter}
 use Rattle.extents.specs.Rows.{Row}
-use Rattle.extents.specs.Lawful.{end, inRow, lastBlock, rowLawful}
+use Rattle.extents.specs.Lawful.{rowEnd, inRow, lastBlock, rowLawful}
 use Rattle.extents.proofs.Blocks.{div-mono}
 
-pub in-row : (p : ℕ) (r : Row) → inRow p r ≡ true → (r .fileoffset ≤ p) × (p < end r)
+pub in-row : (p : ℕ) (r : Row) → inRow p r ≡ true → (r .fileoffset ≤ p) × (p < rowEnd r)
 in-row p r e = (leb-true _ _ (and-left _ _ e), ltb-true _ _ (and-right (leb (r .fileoffset) p) _ e))
 
-pub in-row-if : (p : ℕ) (r : Row) → r .fileoffset ≤ p → p < end r → inRow p r ≡ true
+pub in-row-if : (p : ℕ) (r : Row) → r .fileoffset ≤ p → p < rowEnd r → inRow p r ≡ true
 in-row-if p r h g = and-both _ _ (le-leb _ _ h) (lt-ltb _ _ g)
 
 module _ (L B : ℕ) (r : Row) where
@@ -26,11 +26,11 @@ module _ (L B : ℕ) (r : Row) where
   unfolding rowLawful
   outside-block h = rw (le-ltb (r .byteoffset) B h, and-false (leb 1 (r .bytecount)))
 
-  pub past-length : leb (end r) L ≡ false → rowLawful L B r ≡ false
+  pub past-length : leb (rowEnd r) L ≡ false → rowLawful L B r ≡ false
   unfolding rowLawful
   past-length e = rw (e, and-false (leb 1 (r .bytecount) && ltb (r .byteoffset) B))
 
-  pub block-fits : 0 < r .bytecount → r .byteoffset < B → leb (end r) L ≡ true
+  pub block-fits : 0 < r .bytecount → r .byteoffset < B → leb (rowEnd r) L ≡ true
       → rowLawful L B r ≡ leb (r .startblock + (r .byteoffset + (r .bytecount - 1)) / B) 18446744073709551615
   unfolding rowLawful
   block-fits h g e =
@@ -44,7 +44,7 @@ module _ (L B : ℕ) (r : Row) where
 
     last-fits : lastBlock B r ≤ 18446744073709551615
     unfolding rowLawful
-    last-fits = leb-true _ _ (and-right (leb 1 (r .bytecount) && ltb (r .byteoffset) B && leb (end r) L) _ e)
+    last-fits = leb-true _ _ (and-right (leb 1 (r .bytecount) && ltb (r .byteoffset) B && leb (rowEnd r) L) _ e)
 
     -- the block of a position of the row
     pub block-of-position : (p : ℕ) → inRow p r ≡ true → r .startblock + (r .byteoffset + (p - r .fileoffset)) / B ≤ 18446744073709551615

@@ -10,7 +10,8 @@ use lib.ListN.{length, drop, getD, drop-of-length-le}
 use lib.Seq.{getD-drop, drop-cons}
 use Rattle.slices.specs.Slices.{every}
 use Rattle.slices.proofs.Every.{every-at}
-use Rattle.extents.specs.Rows.{Row, rowsOf, numbersOf, rowAt}
+use Rattle.extents.specs.Rows.{Row, rowsOf, numbersOf}
+use Rattle.extents.specs.Steps.{rowFrom}
 
 pub rows-count : (s : List ℕ) → length (rowsOf s) ≡ length s / 5
 unfolding rowsOf
@@ -32,7 +33,7 @@ length-numbers [] = refl
 length-numbers (r ∷ rows) = omega (arith, length-numbers rows)
 
 -- a row of what follows the first five numbers
-row-past : (s : List ℕ) (k : ℕ) → rowAt s (5 + k) ≡ rowAt (drop 5 s) k
+row-past : (s : List ℕ) (k : ℕ) → rowFrom s (5 + k) ≡ rowFrom (drop 5 s) k
 row-past s k = λ i. record {
   letter = sym (getD-drop 5 s k 0) i;
   startblock = at 1 i;
@@ -45,7 +46,7 @@ row-past s k = λ i. record {
     at n = rw add-assoc (sym (getD-drop 5 s (k + n) 0))
 
 module _ (d : Row) where
-  pub row-at : (s : List ℕ) (i : ℕ) → i < length (rowsOf s) → getD (rowsOf s) i d ≡ rowAt s (i * 5)
+  pub row-at : (s : List ℕ) (i : ℕ) → i < length (rowsOf s) → getD (rowsOf s) i d ≡ rowFrom s (i * 5)
   unfolding rowsOf
   row-at [] i h = absurd (not-suc-le-zero h)
   row-at (a ∷ []) i h = absurd (not-suc-le-zero h)
@@ -56,32 +57,32 @@ module _ (d : Row) where
   row-at (a ∷ b ∷ c ∷ e ∷ f ∷ s) (suc i) h =
       let z : suc i * 5 ≡ 5 + i * 5 = omega arith in
       row-at s i (le-of-suc-le-suc h)
-      ∙ sym (ap (rowAt (a ∷ b ∷ c ∷ e ∷ f ∷ s)) z ∙ row-past (a ∷ b ∷ c ∷ e ∷ f ∷ s) (i * 5))
+      ∙ sym (ap (rowFrom (a ∷ b ∷ c ∷ e ∷ f ∷ s)) z ∙ row-past (a ∷ b ∷ c ∷ e ∷ f ∷ s) (i * 5))
 
 -- along the rows of s, of which i were passed
 module _ (s : List ℕ) (i : ℕ) where
   -- any row, for places past the last
   default : Row
-  default = rowAt s 0
+  default = rowFrom s 0
 
   below : i < length s / 5 → i < length (rowsOf s)
   below h = rw (rows-count s) h
 
-  pub rows-on : i < length s / 5 → drop i (rowsOf s) ≡ rowAt s (i * 5) ∷ drop (i + 1) (rowsOf s)
+  pub rows-on : i < length s / 5 → drop i (rowsOf s) ≡ rowFrom s (i * 5) ∷ drop (i + 1) (rowsOf s)
   rows-on h =
       drop-cons (rowsOf s) i default (below h)
       ∙ ap (λ (r : Row). r ∷ drop (suc i) (rowsOf s)) (row-at default s i (below h))
-      ∙ ap (λ (k : ℕ). rowAt s (i * 5) ∷ drop k (rowsOf s)) (sym (add-one i))
+      ∙ ap (λ (k : ℕ). rowFrom s (i * 5) ∷ drop k (rowsOf s)) (sym (add-one i))
 
   pub rows-end : length s / 5 ≤ i → drop i (rowsOf s) ≡ []
   rows-end h = let g : length (rowsOf s) ≤ i = rw (rows-count s) h in drop-of-length-le (rowsOf s) g
 
   module _ (test : Row → Bool) where
-    pub each-on : i < length s / 5 → test (rowAt s (i * 5)) ≡ true → every test (drop i (rowsOf s)) ≡ every test (drop (i + 1) (rowsOf s))
+    pub each-on : i < length s / 5 → test (rowFrom s (i * 5)) ≡ true → every test (drop i (rowsOf s)) ≡ every test (drop (i + 1) (rowsOf s))
     unfolding every
     each-on h e = rw (rows-on h, e)
 
-    pub each-off : i < length s / 5 → test (rowAt s (i * 5)) ≡ false → every test (drop i (rowsOf s)) ≡ false
+    pub each-off : i < length s / 5 → test (rowFrom s (i * 5)) ≡ false → every test (drop i (rowsOf s)) ≡ false
     unfolding every
     each-off h e = rw (rows-on h, e)
 
@@ -90,7 +91,7 @@ module _ (s : List ℕ) (i : ℕ) where
     each-end h = ap (every test) (rows-end h)
 
 -- a test that each row passes, at a row
-pub each-at : (test : Row → Bool) (s : List ℕ) (i : ℕ) → i < length s / 5 → every test (rowsOf s) ≡ true → test (rowAt s (i * 5)) ≡ true
+pub each-at : (test : Row → Bool) (s : List ℕ) (i : ℕ) → i < length s / 5 → every test (rowsOf s) ≡ true → test (rowFrom s (i * 5)) ≡ true
 each-at test s i h e =
     let g : i < length (rowsOf s) = rw (rows-count s) h in
-    sym (ap test (row-at (rowAt s 0) s i g)) ∙ every-at test (rowAt s 0) (rowsOf s) e i g
+    sym (ap test (row-at (rowFrom s 0) s i g)) ∙ every-at test (rowFrom s 0) (rowsOf s) e i g

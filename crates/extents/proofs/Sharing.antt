@@ -10,18 +10,18 @@ use lib.Dec.{leb}
 use Rattle.slices.specs.Slices.{every}
 use Rattle.slices.proofs.Booleans.{split, and-left, and-right, and-both}
 use Rattle.extents.specs.Rows.{Row}
-use Rattle.extents.specs.Lawful.{end, inRow, rowLawful, eachLawful, clear, apart, lawful, holders, Lawful}
+use Rattle.extents.specs.Lawful.{rowEnd, inRow, rowLawful, eachLawful, clear, apart, lawful, holders, Lawful}
 use Rattle.extents.proofs.OneRow.{in-row, in-row-if}
 
 -- one of two clear rows has the position, so the other hasn't
 not-both : (p : ℕ) (r q : Row) → clear r q ≡ true → inRow p r ≡ true → inRow p q ≡ false
-not-both p r q e h = split (λ (t : Bool). t ≡ false) (inRow p q) (λ g. absurd (go (leb (end r) (q .fileoffset)) refl (in-row p r h) (in-row p q g))) (λ g. refl)
+not-both p r q e h = split (λ (t : Bool). t ≡ false) (inRow p q) (λ g. absurd (go (leb (rowEnd r) (q .fileoffset)) refl (in-row p r h) (in-row p q g))) (λ g. refl)
   where
-    go : (t : Bool) → leb (end r) (q .fileoffset) ≡ t → (r .fileoffset ≤ p) × (p < end r) → (q .fileoffset ≤ p) × (p < end q) → ⊥
-    go true f a b = let z = leb-true (end r) (q .fileoffset) f in omega arith
+    go : (t : Bool) → leb (rowEnd r) (q .fileoffset) ≡ t → (r .fileoffset ≤ p) × (p < rowEnd r) → (q .fileoffset ≤ p) × (p < rowEnd q) → ⊥
+    go true f a b = let z = leb-true (rowEnd r) (q .fileoffset) f in omega arith
     go false f a b =
-        let y : leb (end q) (r .fileoffset) ≡ true = rw f at e in
-        let z = leb-true (end q) (r .fileoffset) y in
+        let y : leb (rowEnd q) (r .fileoffset) ≡ true = rw f at e in
+        let z = leb-true (rowEnd q) (r .fileoffset) y in
         omega arith
 
 no-holder : (p : ℕ) (r : Row) (rows : List Row) → every (clear r) rows ≡ true → inRow p r ≡ true → holders p rows ≡ 0
@@ -40,14 +40,14 @@ apart-unshared (r ∷ rows) e p =
 
 -- two rows of at least a byte that no position shares are clear of each other: the later begin would be shared
 unshared-clear : (r q : Row) → 0 < r .bytecount → 0 < q .bytecount → ((p : ℕ) → inRow p r ≡ true → inRow p q ≡ true → ⊥) → clear r q ≡ true
-unshared-clear r q m n f = go (leb (end r) (q .fileoffset)) refl (leb (end q) (r .fileoffset)) refl
+unshared-clear r q m n f = go (leb (rowEnd r) (q .fileoffset)) refl (leb (rowEnd q) (r .fileoffset)) refl
   where
-    go : (t : Bool) → leb (end r) (q .fileoffset) ≡ t → (u : Bool) → leb (end q) (r .fileoffset) ≡ u → (t || u) ≡ true
+    go : (t : Bool) → leb (rowEnd r) (q .fileoffset) ≡ t → (u : Bool) → leb (rowEnd q) (r .fileoffset) ≡ u → (t || u) ≡ true
     go true e u g = refl
     go false e true g = refl
     go false e false g =
-        let a = leb-false (end r) (q .fileoffset) e in
-        let b = leb-false (end q) (r .fileoffset) g in
+        let a = leb-false (rowEnd r) (q .fileoffset) e in
+        let b = leb-false (rowEnd q) (r .fileoffset) g in
         let p : ℕ = max (r .fileoffset) (q .fileoffset) in
         absurd (f p (in-row-if p r (omega arith) (omega arith)) (in-row-if p q (omega arith) (omega arith)))
 

@@ -8,12 +8,12 @@ use Rattle.slices.specs.Slices.{every}
 use Rattle.extents.specs.Rows.{Row}
 
 -- the file position after a row's last
-abbrev pub end : Row → ℕ
-end r = r .fileoffset + r .bytecount
+abbrev pub rowEnd : Row → ℕ
+rowEnd r = r .fileoffset + r .bytecount
 
 -- whether a file position is in a row
 abbrev pub inRow : ℕ → Row → Bool
-inRow p r = leb (r .fileoffset) p && ltb p (end r)
+inRow p r = leb (r .fileoffset) p && ltb p (rowEnd r)
 
 -- the number of a row's last block
 abbrev pub lastBlock : ℕ → Row → ℕ
@@ -21,7 +21,7 @@ lastBlock B r = r .startblock + (r .byteoffset + r .bytecount - 1) / B
 
 -- bytecount at least 1; byteoffset below B; fileoffset + bytecount at most L; the last block number fits 64 bits
 unfoldable pub rowLawful : ℕ → ℕ → Row → Bool
-rowLawful L B r = leb 1 (r .bytecount) && ltb (r .byteoffset) B && leb (end r) L && leb (lastBlock B r) 18446744073709551615
+rowLawful L B r = leb 1 (r .bytecount) && ltb (r .byteoffset) B && leb (rowEnd r) L && leb (lastBlock B r) 18446744073709551615
 
 -- such is each row
 abbrev pub eachLawful : ℕ → ℕ → List Row → Bool
@@ -29,7 +29,7 @@ eachLawful L B rows = every (rowLawful L B) rows
 
 -- one of two rows ends before the other begins
 abbrev pub clear : Row → Row → Bool
-clear r q = leb (end r) (q .fileoffset) || leb (end q) (r .fileoffset)
+clear r q = leb (rowEnd r) (q .fileoffset) || leb (rowEnd q) (r .fileoffset)
 
 -- so it is for every two rows
 unfoldable pub apart : List Row → Bool

@@ -2,3 +2,4 @@ pub mod Rows
 pub mod Lawful
 pub mod Map
 pub mod Tape
+pub mod Steps

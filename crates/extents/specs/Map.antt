@@ -4,46 +4,38 @@ use mathlib.Core.List.{List, [], _∷_}
 use Prim.Native.Nat.{ℕ, _+_, _-_, _/_, _%_}
 use lib.Dec.{leb, ltb, eqb}
 use lib.ListN.{length}
-use Rattle.refusals.specs.Refusals.{Answer, refused, answer, require}
+use Rattle.refusals.specs.Refusals.{Answer, answer, require}
 use Rattle.refusals.specs.declared.Refusal.the-variants.{Caller, TooMany, Extents, Missing}
 use Rattle.slices.specs.Slices.{every}
 use Rattle.quantities.specs.Letters.{isLetter}
 use Rattle.quantities.specs.Sizes.{isBlockSize}
 use Rattle.extents.specs.Rows.{Row, rowsOf}
 use Rattle.extents.specs.Lawful.{inRow, lawful}
-use Rattle.extents.specs.declared.ByteAt.{ByteAt}
-use Rattle.extents.specs.declared.ByteAt.the-variants.{Stored, Unstored, Refused}
 
 -- a byte of a block, or a zero byte that is not stored
-pub data Place : Type 0 where
-  stored : (letter block byte : ℕ) → Place
-  unstored : Place
+pub data BytePlace : Type 0 where
+  stored : (letter block byte : ℕ) → BytePlace
+  unstored : BytePlace
 
 -- in a row: the block is startblock + (byteoffset + p - fileoffset) div B, at the remainder
-abbrev pub placeIn : ℕ → ℕ → Row → Place
-placeIn B p r =
+abbrev pub byteInRow : ℕ → ℕ → Row → BytePlace
+byteInRow B p r =
     stored (r .letter) (r .startblock + (r .byteoffset + (p - r .fileoffset)) / B) ((r .byteoffset + (p - r .fileoffset)) % B)
 
 -- in no row: unstored
-unfoldable pub placeOf : ℕ → ℕ → List Row → Place
-placeOf B p [] = unstored
-placeOf B p (r ∷ rows) = cond (inRow p r) (placeIn B p r) (placeOf B p rows)
+unfoldable pub byteAt : ℕ → ℕ → List Row → BytePlace
+byteAt B p [] = unstored
+byteAt B p (r ∷ rows) = cond (inRow p r) (byteInRow B p r) (byteAt B p rows)
 
 -- each row's letter is `a` to `z`
 abbrev pub lettered : List Row → Bool
 lettered rows = every (λ (r : Row). isLetter (r .letter)) rows
 
 -- 14 for block size, letters and numbers not in fives; 15; 11; 2 (01, Refusal numbers)
-unfoldable pub byteMap : List ℕ → ℕ → ℕ → ℕ → Answer Place
+unfoldable pub byteMap : List ℕ → ℕ → ℕ → ℕ → Answer BytePlace
 byteMap numbers L B p =
     require (isBlockSize B && lettered (rowsOf numbers) && eqb (length numbers % 5) 0) Caller
     (require (leb (length (rowsOf numbers)) 1024) TooMany
     (require (lawful L B (rowsOf numbers)) Extents
     (require (ltb p L) Missing
-    (answer (placeOf B p (rowsOf numbers))))))
-
--- what an answer says
-abbrev pub saying : ByteAt → Answer Place
-saying (Stored letter block byte) = answer (stored letter (block .0) (byte .0))
-saying Unstored = answer unstored
-saying (Refused r) = refused r
+    (answer (byteAt B p (rowsOf numbers))))))

@@ -28,14 +28,3 @@ five r = r .letter ∷ r .startblock ∷ r .byteoffset ∷ r .bytecount ∷ r .f
 unfoldable pub numbersOf : List Row → List ℕ
 numbersOf [] = []
 numbersOf (r ∷ rows) = five r ++ numbersOf rows
-
--- the row whose numbers begin at a place
-abbrev pub rowAt : List ℕ → ℕ → Row
-rowAt numbers at =
-    record {
-      letter = getD numbers at 0;
-      startblock = getD numbers (at + 1) 0;
-      byteoffset = getD numbers (at + 2) 0;
-      bytecount = getD numbers (at + 3) 0;
-      fileoffset = getD numbers (at + 4) 0;
-    }

@@ -8,31 +8,32 @@ use lib.Dec.{eqb, leb}
 use lib.ListN.{length}
 use native.Mathlib.Omega.{arith}
 use Rattle.refusals.specs.declared.Refusal.{Refusal}
-use Rattle.refusals.specs.Refusals.{Answer, refused, answer, andThen}
+use Rattle.refusals.specs.Refusals.{Answer, refused, answer}
 use Rattle.refusals.specs.declared.Refusal.the-variants.{Caller, TooMany, Form, Structure, Version, Value, Foreign, Extents, Location}
 use Rattle.slices.specs.Slices.{same}
 use Rattle.slices.specs.Words.{bytes}
 use Rattle.quantities.specs.Letters.{isLetter}
 use Rattle.quantities.specs.Sizes.{isBlockSize}
-use Rattle.quantities.specs.Places.{Place}
+use Rattle.quantities.specs.Locations.{Location}
 use Rattle.xml.specs.Tree.{Head, Forest, none as noElement, node}
-use Rattle.xml.specs.Machine.{inForm}
-use Rattle.elements.specs.Reading.{rowAt, isRow}
-use Rattle.values.specs.Values as is
+use Rattle.xml.specs.CheckSteps.{inForm}
+use Rattle.elements.specs.Reading.{forestAt, hasElement}
+use Rattle.values.specs.Values as values
 use Rattle.index_names.specs.Sorts.{index, file}
-use Rattle.index_values.specs.Elements.{Element, elements, textIn, rowIn}
-use Rattle.index_values.specs.Entries.{numberSaid, many, entriesOf}
+use Rattle.index_values.specs.Elements.{IndexElement, elements, textIn, childrenIn}
+use Rattle.index_values.specs.Entries.{numberOrZero, many, entriesOf}
 use Rattle.index_values.specs.Tests.{Given}
 use Rattle.index_values.proofs.Seated.{no-number}
-use Rattle.index_rows.specs.Places.{Placed}
+use Rattle.index_rows.specs.Steps.{Placed}
 use Rattle.index.specs.declared.read.Header.{Header}
 use Rattle.index.specs.declared.read.Read.{Read}
 use Rattle.index.specs.declared.read.Read.the-variants.{Found, Refused}
-use Rattle.index.specs.Index.{Index, Summary, ReadsIndex, HeaderOf, headingOf, indexWith, summaryOf, isTrue, structured, bounded, allValued, allOwn, allLawful, standsAt, placeIn, locationIn, filesOf, fileOf, fileCount, childrenRead, tagRead, rootRead, callerRight, indexOf}
+use Rattle.index.specs.Index.{Index, Summary, headingOf, indexWith, summaryOf, isTrue, structured, bounded, allValued, allOwn, allLawful, standsAt, locationOf, locationIn, filesOf, fileOf, fileCount, childrenRead, tagRead, rootRead, callerRight, indexOf}
+use Rattle.index.specs.Steps.{ReadsIndex, HeaderOf}
 
-pub caller-last : (g : Given) (letter : ℕ) → isLetter (g .first) ≡ true → isLetter (g .other) ≡ true → eqb (g .first) (g .other) ≡ false
-    → isBlockSize (g .size) ≡ true → is.isUuid (g .uuid) ≡ true
-    → callerRight g letter ≡ (eqb letter (g .first) || eqb letter (g .other))
+pub caller-last : (g : Given) (letter : ℕ) → isLetter (g .indexLetter) ≡ true → isLetter (g .dataLetter) ≡ true → eqb (g .indexLetter) (g .dataLetter) ≡ false
+    → isBlockSize (g .blockSize) ≡ true → values.isUuid (g .uuid) ≡ true
+    → callerRight g letter ≡ (eqb letter (g .indexLetter) || eqb letter (g .dataLetter))
 unfolding callerRight
 caller-last g letter a b c d e = rw (a, b, c, d, e, and-true, and-true)
 
@@ -71,7 +72,7 @@ module _ (g : Given) (letter block release : ℕ) (k : Forest) where
             unfolding childrenRead
             children-read f = rw (a, b, c, d, e, f)
 
-files-length : (l : List Element) → length (filesOf l) ≡ fileCount l
+files-length : (l : List IndexElement) → length (filesOf l) ≡ fileCount l
 unfolding filesOf many
 files-length [] = refl
 files-length (e ∷ l) = go (eqb (e .sort) file) (files-length l)
@@ -119,11 +120,11 @@ module _ (g : Given) (letter block : ℕ) (h : Head) (k : Forest) where
     root-key b = rw (a, b)
 
     module _ (b : same (h .key) (bytes "version") ≡ true) where
-      pub root-version : is.version (h .value) ≡ none → tagRead g letter block h k ≡ refused Version
+      pub root-version : values.version (h .value) ≡ none → tagRead g letter block h k ≡ refused Version
       unfolding tagRead
       root-version c = rw (a, b, c)
 
-      pub root-read : (release : ℕ) → is.version (h .value) ≡ some release → childrenRead g letter block release k ≡ tagRead g letter block h k
+      pub root-read : (release : ℕ) → values.version (h .value) ≡ some release → childrenRead g letter block release k ≡ tagRead g letter block h k
       unfolding tagRead
       root-read release c = sym (rw (a, b, c))
 
@@ -142,26 +143,26 @@ module _ (g : Given) (letter block : ℕ) (text : List ℕ) where
       unfolding indexOf
       index-4 c = rw (a, b, c)
 
-      pub index-read : inForm text ≡ true → rootRead g letter block (rowAt text 38) ≡ indexOf g letter block text
+      pub index-read : inForm text ≡ true → rootRead g letter block (forestAt text 38) ≡ indexOf g letter block text
       unfolding indexOf
       index-read c = sym (rw (a, b, c))
 
 -- without a back pointer its letter and its block are 0
-no-back : (f : Forest) → isRow f ≡ false → placeIn f ≡ record { letter = 0; block = 0 }
-unfolding isRow textIn is.letter
+no-back : (f : Forest) → hasElement f ≡ false → locationOf f ≡ record { letter = 0; block = 0 }
+unfolding hasElement textIn values.letter
 no-back noElement e = rw no-number
 no-back (node h k r) e = let z : _≡_ {A = ℕ} 0 1 = cc in absurd (omega arith)
 
-pub no-back-at : (f : Forest) (back : Bool) (letter block : ℕ) → back ≡ isRow f → letter ≡ placeIn f .letter → block ≡ placeIn f .block → back ≡ false
-    → _≡_ {A = Place} (record { letter = letter; block = block }) (record { letter = 0; block = 0 })
+pub no-back-at : (f : Forest) (back : Bool) (letter block : ℕ) → back ≡ hasElement f → letter ≡ locationOf f .letter → block ≡ locationOf f .block → back ≡ false
+    → _≡_ {A = Location} (record { letter = letter; block = block }) (record { letter = 0; block = 0 })
 no-back-at f back letter block b l n e = rw (l, n) (no-back f (sym b ∙ e))
 
 pub same-heading : (release : ℕ) (k : Forest) (entries files generation highest directories : ℕ) (time : List ℕ) (letter block letter₂ block₂ : ℕ) (back allow : Bool)
     → entries ≡ entriesOf (elements index k) → files ≡ fileCount (elements index k)
-    → generation ≡ numberSaid (textIn (bytes "generationnumber") k) → time ≡ textIn (bytes "updatetime") k → letter ≡ locationIn k .letter → block ≡ locationIn k .block
-    → back ≡ isRow (rowIn (bytes "previousgenerationlocation") k)
-    → letter₂ ≡ placeIn (rowIn (bytes "previousgenerationlocation") k) .letter → block₂ ≡ placeIn (rowIn (bytes "previousgenerationlocation") k) .block
-    → allow ≡ isTrue (is.boolean (textIn (bytes "allowpolicyupdate") k)) → highest ≡ numberSaid (textIn (bytes "highestfileuid") k)
+    → generation ≡ numberOrZero (textIn (bytes "generationnumber") k) → time ≡ textIn (bytes "updatetime") k → letter ≡ locationIn k .letter → block ≡ locationIn k .block
+    → back ≡ hasElement (childrenIn (bytes "previousgenerationlocation") k)
+    → letter₂ ≡ locationOf (childrenIn (bytes "previousgenerationlocation") k) .letter → block₂ ≡ locationOf (childrenIn (bytes "previousgenerationlocation") k) .block
+    → allow ≡ isTrue (values.boolean (textIn (bytes "allowpolicyupdate") k)) → highest ≡ numberOrZero (textIn (bytes "highestfileuid") k)
     → directories ≡ entries - files
     → _≡_ {A = Summary}
     (record {

@@ -8,10 +8,10 @@ use lib.Dec.{eqb}
 use lib.ListN.{set}
 use Rattle.xml.specs.Tree.{Head, Forest}
 use Rattle.index_names.specs.Sorts.{root, directory, file}
-use Rattle.index.specs.Structure.{fits}
+use Rattle.index.specs.Structure.{mayStand}
 use Rattle.index_values.specs.Entries.{isEntry, uidOf}
-use Rattle.index_values.specs.Tests.{Given, valued, own, few, lawful}
-use Rattle.index.specs.Sweep.{All, gathered, more, done, endedSums, begun, settled, closed}
+use Rattle.index_values.specs.Tests.{Given, valued, own, few, lawfulFile}
+use Rattle.index.specs.SweepSteps.{All, gathered, oneMore, rowDone, endedSums, begun, settled, afterElement}
 use Rattle.index.specs.declared.walk.Sums.{Sums}
 
 abbrev with-structure : Bool → Sums → Sums
@@ -19,11 +19,11 @@ with-structure b a =
     record { structure = b; few = a .few; values = a .values; own = a .own; lawful = a .lawful; entries = a .entries; files = a .files }
 
 module _ (kind : ℕ) (m : List ℕ) (a : Sums) where
-  pub ended-done : done kind m ≡ true → a ≡ endedSums kind m a
+  pub ended-done : rowDone kind m ≡ true → a ≡ endedSums kind m a
   unfolding endedSums
   ended-done e = sym (ap (λ (b : Bool). with-structure (a .structure && b) a) e ∙ ap (λ (b : Bool). with-structure b a) (and-true (a .structure)))
 
-  pub ended-open : done kind m ≡ false → with-structure false a ≡ endedSums kind m a
+  pub ended-open : rowDone kind m ≡ false → with-structure false a ≡ endedSums kind m a
   unfolding endedSums
   ended-open e = sym (ap (λ (b : Bool). with-structure (a .structure && b) a) e ∙ ap (λ (b : Bool). with-structure b a) (and-false (a .structure)))
 
@@ -36,9 +36,9 @@ same-parts : {a1 a2 a3 a4 a5 b1 b2 b3 b4 b5 : Bool} {m1 m2 n1 n2 : ℕ}
 same-parts e1 e2 e3 e4 e5 e6 e7 = cc
 
 pub begun-parts : (g : Given) (s : ℕ) (h : Head) (c : Forest) (a r : Sums)
-    → r .structure ≡ (a .structure && fits s h c) → r .few ≡ a .few → r .values ≡ (a .values && valued s (h .text))
+    → r .structure ≡ (a .structure && mayStand s h c) → r .few ≡ a .few → r .values ≡ (a .values && valued s (h .text))
     → r .own ≡ (a .own && own g s (h .text)) → r .lawful ≡ a .lawful
-    → r .entries ≡ cond (isEntry s) (more (a .entries)) (a .entries) → r .files ≡ cond (eqb s file) (more (a .files)) (a .files)
+    → r .entries ≡ cond (isEntry s) (oneMore (a .entries)) (a .entries) → r .files ≡ cond (eqb s file) (oneMore (a .files)) (a .files)
     → r ≡ begun g s h c a
 unfolding begun pack
 begun-parts g s h c a r e1 e2 e3 e4 e5 e6 e7 = same-parts e1 e2 e3 e4 e5 e6 e7
@@ -49,12 +49,12 @@ unfolding settled pack
 settled-parts x y a r e1 e2 e3 e4 e5 e6 e7 = same-parts e1 e2 e3 e4 e5 e6 e7
 
 -- the end of an element, from the outcomes of the tests and the table
-pub closed-parts : (g : Given) (s : ℕ) (c : Forest) (n : ℕ) (a r : Sums) (x y : Bool) (u u′ : List ℕ) → x ≡ few s c → y ≡ lawful g s c
-    → r ≡ settled x y a → u′ ≡ cond (isEntry s) (set u n (uidOf c)) u → gathered r u′ ≡ closed g s c n (gathered a u)
-unfolding closed
+pub closed-parts : (g : Given) (s : ℕ) (c : Forest) (n : ℕ) (a r : Sums) (x y : Bool) (u u′ : List ℕ) → x ≡ few s c → y ≡ lawfulFile g s c
+    → r ≡ settled x y a → u′ ≡ cond (isEntry s) (set u n (uidOf c)) u → gathered r u′ ≡ afterElement g s c n (gathered a u)
+unfolding afterElement
 closed-parts g s c n a r x y u u′ e f q w =
     ap (λ (z : Sums). gathered z u′) (q ∙ ap (λ (b : Bool). settled b y a) e ∙ ap (λ (b : Bool). settled (few s c) b a) f)
-    ∙ ap (gathered (settled (few s c) (lawful g s c) a)) w
+    ∙ ap (gathered (settled (few s c) (lawfulFile g s c) a)) w
 
 -- the fileuid, by what is noted of an element that has one
 pub uid-parts : (s : ℕ) (c : Forest) (n v : ℕ) (u : List ℕ) → (isEntry s ≡ true → uidOf c ≡ v)
@@ -76,8 +76,8 @@ module _ (g : Given) (s : ℕ) (c : Forest) (no : isEntry s ≡ false) where
       go false true true e = let z : _≡_ {A = ℕ} 0 1 = cc in absurd (omega arith)
       go false false true e = e
 
-  pub closed-other : (n : ℕ) (a : All) → closed g s c n a ≡ a
-  unfolding closed settled few lawful
+  pub closed-other : (n : ℕ) (a : All) → afterElement g s c n a ≡ a
+  unfolding afterElement settled few lawfulFile
   closed-other n a =
       rw (no, no-file)
       (ap (λ (b : Bool). put b (a .sums .lawful && true)) (and-true (a .sums .few)) ∙ ap (put (a .sums .few)) (and-true (a .sums .lawful)))

@@ -1,4 +1,4 @@
--- Children once each in any order: a row in an element of an index is right exactly where it is `lawful` of children's specs/Children by the table
+-- Children once each in any order: a row in an element of an index is right exactly where it is `lawfulChildren` of children's specs/Children by the table
 -- of its kind, which has the kind's names in their order, each with a mark for what an element of its sort may hold.
 use mathlib.Core.Path.{_≡_, refl, ap, sym, _∙_}
 use mathlib.Core.Bool.{Bool, true, false, cond, not, _&&_, _||_, and-true, and-false, false≢true}
@@ -13,22 +13,22 @@ use Rattle.slices.specs.Slices.{every, same}
 use Rattle.slices.proofs.Booleans.{split, and-left, and-right}
 use Rattle.xml.specs.Bytes.{isSpace}
 use Rattle.xml.specs.Tree.{Head, Forest, none, node}
-use Rattle.elements.specs.Reading.{isRow}
-use Rattle.children.specs.Rules.{Rule, placeOf, markOf}
-use Rattle.children.specs.Children.{noAttribute, holds as heldBy, kept, allKnown, pick, atMostOne, below, lawful}
+use Rattle.elements.specs.Reading.{hasElement}
+use Rattle.children.specs.Rules.{Rule, ruleNumber, markOf}
+use Rattle.children.specs.Children.{noAttribute, mayHold as heldBy, matching, allKnown, pick, atMostOne, below, lawfulChildren}
 use Rattle.children.proofs.Below.{below-false}
-use Rattle.index_names.specs.Sorts.{index, extent, skipped, unknown, holds}
+use Rattle.index_names.specs.Sorts.{index, extent, skipped, unknown, holdsElements}
 use Rattle.index_names.specs.Rows.{countOnce}
 use Rattle.index_names.specs.Tables.{indexTable, placeTable, times, entryTable, ofDirectory, contentsTable, ofFile, extentinfoTable, extentTable, table, sort, must, repeats}
 use Rattle.index_names.specs.Names.{names, numberIn}
 use Rattle.index_rows.proofs.Named.{same-flip, namesOf, number-place}
-use Rattle.index_values.specs.Elements.{numberOf, sortOf}
-use Rattle.index.specs.Structure.{fits, count, once, complete}
+use Rattle.index_values.specs.Elements.{nameNumber, sortOf}
+use Rattle.index.specs.Structure.{mayStand, count, rightOften, complete}
 use Rattle.index.proofs.Counted.{below-ext}
 
 -- the mark for what an element of a sort may hold
 abbrev pub mark : ℕ → ℕ
-mark s = cond (holds s) 47 (cond (eqb s skipped) 42 61)
+mark s = cond (holdsElements s) 47 (cond (eqb s skipped) 42 61)
 
 -- the rules of a kind's names from number j on
 unfoldable pub rulesFrom : ℕ → ℕ → List (List ℕ) → List Rule
@@ -41,7 +41,7 @@ rulesOf kind = rulesFrom kind 0 (names kind)
 -- each element of a row may stand there, and holds what it may
 unfoldable pub allFit : ℕ → Forest → Bool
 allFit kind none = true
-allFit kind (node h c r) = fits (sortOf kind h) h c && allFit kind r
+allFit kind (node h c r) = mayStand (sortOf kind h) h c && allFit kind r
 
 -- a rule's number and mark are the name's
 module _ (kind : ℕ) where
@@ -55,7 +55,7 @@ module _ (kind : ℕ) where
   names-rules j [] = refl
   names-rules j (x ∷ xs) = ap (λ (l : List (List ℕ)). x ∷ l) (names-rules (suc j) xs)
 
-  place-number : (n : List ℕ) → placeOf (rulesOf kind) n ≡ numberIn (names kind) n
+  place-number : (n : List ℕ) → ruleNumber (rulesOf kind) n ≡ numberIn (names kind) n
   place-number n = number-place (rulesOf kind) n ∙ ap (λ (l : List (List ℕ)). numberIn l n) (names-rules 0 (names kind))
 
   mark-number : (j : ℕ) (xs : List (List ℕ)) (n : List ℕ)
@@ -135,7 +135,7 @@ below-cut f n (suc m) h t =
     less d = split (λ (b : Bool). leb n m ≡ b → n ≤ m) (leb n m) (λ q z. leb-true n m q) (λ q z. absurd (d (omega (arith, leb-false n m q)))) refl
 
 -- once is at most once, and at least once where it must be
-once-two : (needed j n : ℕ) → once needed j n ≡ (leb n 1 && (not (ltb j needed) || leb 1 n))
+once-two : (needed j n : ℕ) → rightOften needed j n ≡ (leb n 1 && (not (ltb j needed) || leb 1 n))
 once-two needed j n = go (ltb j needed)
   where
     go : (b : Bool) → cond b (eqb n 1) (leb n 1) ≡ (leb n 1 && (not b || leb 1 n))
@@ -177,20 +177,20 @@ module _ (kind : ℕ) (one : kind < 9) where
       (and-right (leb (must kind) size && leb size 16) _ passed) (omega (arith, number-most (names kind) n)))
 
   -- what an element may hold by its sort is what it may by its mark
-  held : (s : ℕ) (h : Head) (c : Forest) → cond (holds s) (isRow c || every isSpace (h .text)) (eqb s skipped || not (isRow c)) ≡ heldBy (mark s) h c
+  held : (s : ℕ) (h : Head) (c : Forest) → cond (holdsElements s) (hasElement c || every isSpace (h .text)) (eqb s skipped || not (hasElement c)) ≡ heldBy (mark s) h c
   unfolding heldBy
-  held s h c = go (holds s) (eqb s skipped)
+  held s h c = go (holdsElements s) (eqb s skipped)
     where
-      go : (a b : Bool) → cond a (isRow c || every isSpace (h .text)) (b || not (isRow c))
-          ≡ cond (eqb (cond a 47 (cond b 42 61)) 61) (not (isRow c)) (cond (eqb (cond a 47 (cond b 42 61)) 47) (isRow c || every isSpace (h .text)) (eqb (cond a 47 (cond b 42 61)) 42))
+      go : (a b : Bool) → cond a (hasElement c || every isSpace (h .text)) (b || not (hasElement c))
+          ≡ cond (eqb (cond a 47 (cond b 42 61)) 61) (not (hasElement c)) (cond (eqb (cond a 47 (cond b 42 61)) 47) (hasElement c || every isSpace (h .text)) (eqb (cond a 47 (cond b 42 61)) 42))
       go true b = refl
       go false true = refl
       go false false = refl
 
-  fits-rule : (h : Head) (c : Forest) → fits (sortOf kind h) h c ≡ (noAttribute h && heldBy (markOf rs (h .name)) h c)
-  unfolding fits heldBy
+  fits-rule : (h : Head) (c : Forest) → mayStand (sortOf kind h) h c ≡ (noAttribute h && heldBy (markOf rs (h .name)) h c)
+  unfolding mayStand heldBy
   fits-rule h c =
-      split (λ (t : Bool). leb size j ≡ t → fits (sort kind j) h c ≡ (noAttribute h && heldBy (markOf rs (h .name)) h c)) (leb size j)
+      split (λ (t : Bool). leb size j ≡ t → mayStand (sort kind j) h c ≡ (noAttribute h && heldBy (markOf rs (h .name)) h c)) (leb size j)
       (λ q z.
       let u : eqb (sort kind j) unknown ≡ true = sorted (h .name) ∙ q in
       let m : markOf rs (h .name) ≡ 0 = mark-number kind 0 (names kind) (h .name) ∙ rw (le-ltb j size (leb-true size j q)) in
@@ -211,20 +211,20 @@ module _ (kind : ℕ) (one : kind < 9) where
       ap (λ (b : Bool). b && allFit kind r) (fits-rule h c) ∙ ap (λ (b : Bool). (noAttribute h && heldBy (markOf rs (h .name)) h c) && b) (all-fit r)
 
   -- so many elements have a name as its rule picks
-  there : (j : ℕ) (f : Forest) → isRow (pick rs j f) ≡ leb 1 (count j kind f)
-  unfolding kept count isRow
+  there : (j : ℕ) (f : Forest) → hasElement (pick rs j f) ≡ leb 1 (count j kind f)
+  unfolding matching count hasElement
   there j none = refl
-  there j (node h c r) = ap (λ (k : ℕ). isRow (cond (eqb k j) (node h c (pick rs j r)) (pick rs j r))) (place-number kind (h .name)) ∙ go (eqb (numberOf kind h) j) (there j r)
+  there j (node h c r) = ap (λ (k : ℕ). hasElement (cond (eqb k j) (node h c (pick rs j r)) (pick rs j r))) (place-number kind (h .name)) ∙ go (eqb (nameNumber kind h) j) (there j r)
     where
-      go : (b : Bool) → isRow (pick rs j r) ≡ leb 1 (count j kind r)
-          → isRow (cond b (node h c (pick rs j r)) (pick rs j r)) ≡ leb 1 (cond b (suc (count j kind r)) (count j kind r))
+      go : (b : Bool) → hasElement (pick rs j r) ≡ leb 1 (count j kind r)
+          → hasElement (cond b (node h c (pick rs j r)) (pick rs j r)) ≡ leb 1 (cond b (suc (count j kind r)) (count j kind r))
       go true i = sym (le-leb 1 (suc (count j kind r)) (omega arith))
       go false i = i
 
   not-twice : (j : ℕ) (f : Forest) → atMostOne (pick rs j f) ≡ leb (count j kind f) 1
-  unfolding kept count atMostOne
+  unfolding matching count atMostOne
   not-twice j none = refl
-  not-twice j (node h c r) = ap (λ (k : ℕ). atMostOne (cond (eqb k j) (node h c (pick rs j r)) (pick rs j r))) (place-number kind (h .name)) ∙ go (eqb (numberOf kind h) j) (not-twice j r)
+  not-twice j (node h c r) = ap (λ (k : ℕ). atMostOne (cond (eqb k j) (node h c (pick rs j r)) (pick rs j r))) (place-number kind (h .name)) ∙ go (eqb (nameNumber kind h) j) (not-twice j r)
     where
       n : ℕ
       n = count j kind r
@@ -237,23 +237,23 @@ module _ (kind : ℕ) (one : kind < 9) where
 
   -- where each element may stand, none has a number past the names
   none-past : (j : ℕ) → size ≤ j → (f : Forest) → allFit kind f ≡ true → count j kind f ≡ 0
-  unfolding allFit fits count
+  unfolding allFit mayStand count
   none-past j past none e = refl
   none-past j past (node h c r) e =
-      let u : eqb (sortOf kind h) unknown ≡ false = no (eqb (sortOf kind h) unknown) (and-left (not (eqb (sortOf kind h) unknown)) (noAttribute h) (and-left (not (eqb (sortOf kind h) unknown) && noAttribute h) _ (and-left (fits (sortOf kind h) h c) (allFit kind r) e))) in
-      let l : numberOf kind h < size = leb-false size (numberOf kind h) (sym (sorted (h .name)) ∙ u) in
-      ap (λ (b : Bool). cond b (suc (count j kind r)) (count j kind r)) (ne-eqb (numberOf kind h) j (λ z. omega arith))
-      ∙ none-past j past r (and-right (fits (sortOf kind h) h c) (allFit kind r) e)
+      let u : eqb (sortOf kind h) unknown ≡ false = no (eqb (sortOf kind h) unknown) (and-left (not (eqb (sortOf kind h) unknown)) (noAttribute h) (and-left (not (eqb (sortOf kind h) unknown) && noAttribute h) _ (and-left (mayStand (sortOf kind h) h c) (allFit kind r) e))) in
+      let l : nameNumber kind h < size = leb-false size (nameNumber kind h) (sym (sorted (h .name)) ∙ u) in
+      ap (λ (b : Bool). cond b (suc (count j kind r)) (count j kind r)) (ne-eqb (nameNumber kind h) j (λ z. omega arith))
+      ∙ none-past j past r (and-right (mayStand (sortOf kind h) h c) (allFit kind r) e)
     where
       no : (b : Bool) → not b ≡ true → b ≡ false
       no true z = sym z
       no false z = refl
 
   -- children once each in any order, nothing else
-  lawful-row : repeats kind ≡ false → (f : Forest) → (allFit kind f && complete kind f) ≡ lawful rs (must kind) f
-  unfolding complete lawful
+  lawful-row : repeats kind ≡ false → (f : Forest) → (allFit kind f && complete kind f) ≡ lawfulChildren rs (must kind) f
+  unfolding complete lawfulChildren
   lawful-row single f =
-      split (λ (t : Bool). allFit kind f ≡ t → (t && (repeats kind || below 16 (λ j. once (must kind) j (count j kind f)))) ≡ (allKnown rs f && below (length rs) (λ k. atMostOne (pick rs k f)) && below (must kind) (λ k. isRow (pick rs k f)))) (allFit kind f)
+      split (λ (t : Bool). allFit kind f ≡ t → (t && (repeats kind || below 16 (λ j. rightOften (must kind) j (count j kind f)))) ≡ (allKnown rs f && below (length rs) (λ k. atMostOne (pick rs k f)) && below (must kind) (λ k. hasElement (pick rs k f)))) (allFit kind f)
       (λ q z. rw (sym (all-fit f) ∙ q, single) (numbers q)) (λ q z. rw (sym (all-fit f) ∙ q)) refl
     where
       a : ℕ → Bool
@@ -262,16 +262,16 @@ module _ (kind : ℕ) (one : kind < 9) where
       b : ℕ → Bool
       b j = not (ltb j (must kind)) || leb 1 (count j kind f)
 
-      numbers : allFit kind f ≡ true → below 16 (λ j. once (must kind) j (count j kind f)) ≡ (below (length rs) (λ k. atMostOne (pick rs k f)) && below (must kind) (λ k. isRow (pick rs k f)))
+      numbers : allFit kind f ≡ true → below 16 (λ j. rightOften (must kind) j (count j kind f)) ≡ (below (length rs) (λ k. atMostOne (pick rs k f)) && below (must kind) (λ k. hasElement (pick rs k f)))
       numbers q =
-          below-ext (λ j. once (must kind) j (count j kind f)) (λ j. a j && b j) 16 (λ j h. once-two (must kind) j (count j kind f))
+          below-ext (λ j. rightOften (must kind) j (count j kind f)) (λ j. a j && b j) 16 (λ j h. once-two (must kind) j (count j kind f))
           ∙ below-and a b 16
           ∙ ap (λ (t : Bool). t && below 16 b)
           (below-cut a size 16 size-most (λ j h. ap (λ (n : ℕ). leb n 1) (none-past j h f q)) ∙ ap (λ (n : ℕ). below n a) (sym (length-rules kind 0 (names kind)))
           ∙ below-ext a (λ k. atMostOne (pick rs k f)) (length rs) (λ j h. sym (not-twice j f)))
           ∙ ap (λ (t : Bool). below (length rs) (λ k. atMostOne (pick rs k f)) && t)
           (below-cut b (must kind) 16 (omega (arith, must-named, size-most)) (λ j h. rw (le-ltb j (must kind) h))
-          ∙ below-ext b (λ k. isRow (pick rs k f)) (must kind) (λ j h. rw (lt-ltb j (must kind) h) (sym (there j f))))
+          ∙ below-ext b (λ k. hasElement (pick rs k f)) (must kind) (λ j h. rw (lt-ltb j (must kind) h) (sym (there j f))))
 
-pub row-lawful : (kind : ℕ) → holds kind ≡ true → repeats kind ≡ false → (f : Forest) → (allFit kind f && complete kind f) ≡ lawful (rulesOf kind) (must kind) f
+pub row-lawful : (kind : ℕ) → holdsElements kind ≡ true → repeats kind ≡ false → (f : Forest) → (allFit kind f && complete kind f) ≡ lawfulChildren (rulesOf kind) (must kind) f
 row-lawful kind h single f = let l = leb-true kind extent (and-right (leb index kind) (leb kind extent) h) in lawful-row kind (omega arith) single f

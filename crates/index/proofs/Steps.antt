@@ -7,26 +7,27 @@ use native.Mathlib.Omega.{arith}
 use borrow.Author.Tests.{eqb-true}
 use lib.Dec.{eqb}
 use Rattle.xml.specs.Tree.{Forest, none}
-use Rattle.elements.specs.Reading.{rowAt, headAt, childrenAt, FirstOf}
-use Rattle.index_names.specs.Sorts.{root, directory, file, holds}
-use Rattle.index_values.specs.Elements.{numberOf, sortOf}
+use Rattle.elements.specs.Reading.{forestAt, headAt, childrenAt}
+use Rattle.elements.specs.TagSteps.{FirstOf}
+use Rattle.index_names.specs.Sorts.{root, directory, file, holdsElements}
+use Rattle.index_values.specs.Elements.{nameNumber, sortOf}
 use Rattle.index_values.specs.Entries.{isEntry}
 use Rattle.index_values.specs.Tests.{Given}
-use Rattle.index.specs.Sweep.{All, gathered, fresh, marked, ended, begun, closed, sweep}
+use Rattle.index.specs.SweepSteps.{All, gathered, noneSeen, marked, afterRow, begun, afterElement, sweep}
 use Rattle.index.specs.declared.walk.Sums.{Sums}
 use Rattle.index.proofs.Gathering.{closed-other}
 
 -- the elements in an element of sort s are swept, if it holds elements
 abbrev inside : Given → ℕ → Forest → All → All
-inside g s c a = cond (holds s) (sweep g s fresh c a) a
+inside g s c a = cond (holdsElements s) (sweep g s noneSeen c a) a
 
 -- directories and files hold elements
-no-entry : (s : ℕ) → holds s ≡ false → isEntry s ≡ false
+no-entry : (s : ℕ) → holdsElements s ≡ false → isEntry s ≡ false
 no-entry s h = go (eqb s root) (eqb s directory) (eqb s file) refl refl refl
   where
-    no : (k : ℕ) → eqb s k ≡ true → holds k ≡ true → isEntry s ≡ false
+    no : (k : ℕ) → eqb s k ≡ true → holdsElements k ≡ true → isEntry s ≡ false
     no k q e =
-        let z : true ≡ false = sym e ∙ sym (ap holds (eqb-true s k q)) ∙ h in
+        let z : true ≡ false = sym e ∙ sym (ap holdsElements (eqb-true s k q)) ∙ h in
         let y : _≡_ {A = ℕ} 0 1 = cc in
         absurd (omega arith)
 
@@ -37,34 +38,34 @@ no-entry s h = go (eqb s root) (eqb s directory) (eqb s file) refl refl refl
     go false false false p q r = rw (p, q, r)
 
 module _ (g : Given) (kind : ℕ) (m : List ℕ) (a : All) where
-  pub row-over : (f : Forest) → f ≡ none → sweep g kind m f a ≡ ended kind m a
+  pub row-over : (f : Forest) → f ≡ none → sweep g kind m f a ≡ afterRow kind m a
   unfolding sweep
   row-over f e = ap (λ (f : Forest). sweep g kind m f a) e
 
   module _ {s : List ℕ} {i n j : ℕ} (first : FirstOf s i n j) where
-    first-step : sweep g kind m (rowAt s i) a
-        ≡ sweep g kind (marked (numberOf kind (headAt s n)) m) (rowAt s j)
-        (closed g (sortOf kind (headAt s n)) (childrenAt s n) (a .sums .entries)
+    first-step : sweep g kind m (forestAt s i) a
+        ≡ sweep g kind (marked (nameNumber kind (headAt s n)) m) (forestAt s j)
+        (afterElement g (sortOf kind (headAt s n)) (childrenAt s n) (a .sums .entries)
         (inside g (sortOf kind (headAt s n)) (childrenAt s n) (gathered (begun g (sortOf kind (headAt s n)) (headAt s n) (childrenAt s n) (a .sums)) (a .uids))))
     unfolding sweep
     first-step = ap (λ (f : Forest). sweep g kind m f a) (first .row)
 
     -- as the code goes past it: its sort, what is seen then, and what is gathered behind its start tag
-    module _ (srt : ℕ) (m′ : List ℕ) (b : Sums) (es : srt ≡ sortOf kind (headAt s n)) (em : m′ ≡ marked (numberOf kind (headAt s n)) m)
+    module _ (srt : ℕ) (m′ : List ℕ) (b : Sums) (es : srt ≡ sortOf kind (headAt s n)) (em : m′ ≡ marked (nameNumber kind (headAt s n)) m)
         (eb : b ≡ begun g srt (headAt s n) (childrenAt s n) (a .sums)) where
-      told : sweep g kind m (rowAt s i) a
-          ≡ sweep g kind m′ (rowAt s j) (closed g srt (childrenAt s n) (a .sums .entries) (inside g srt (childrenAt s n) (gathered b (a .uids))))
+      told : sweep g kind m (forestAt s i) a
+          ≡ sweep g kind m′ (forestAt s j) (afterElement g srt (childrenAt s n) (a .sums .entries) (inside g srt (childrenAt s n) (gathered b (a .uids))))
       told = first-step ∙ sym (rw (eb, es, em))
 
-      pub step-holds : (c : All) → holds srt ≡ true → c ≡ closed g srt (childrenAt s n) (a .sums .entries) (sweep g srt fresh (childrenAt s n) (gathered b (a .uids)))
-          → sweep g kind m (rowAt s i) a ≡ sweep g kind m′ (rowAt s j) c
+      pub step-holds : (c : All) → holdsElements srt ≡ true → c ≡ afterElement g srt (childrenAt s n) (a .sums .entries) (sweep g srt noneSeen (childrenAt s n) (gathered b (a .uids)))
+          → sweep g kind m (forestAt s i) a ≡ sweep g kind m′ (forestAt s j) c
       step-holds c h e =
           told
-          ∙ ap (λ (x : Bool). sweep g kind m′ (rowAt s j) (closed g srt (childrenAt s n) (a .sums .entries) (cond x (sweep g srt fresh (childrenAt s n) (gathered b (a .uids))) (gathered b (a .uids))))) h
-          ∙ ap (sweep g kind m′ (rowAt s j)) (sym e)
+          ∙ ap (λ (x : Bool). sweep g kind m′ (forestAt s j) (afterElement g srt (childrenAt s n) (a .sums .entries) (cond x (sweep g srt noneSeen (childrenAt s n) (gathered b (a .uids))) (gathered b (a .uids))))) h
+          ∙ ap (sweep g kind m′ (forestAt s j)) (sym e)
 
-      pub step-other : holds srt ≡ false → sweep g kind m (rowAt s i) a ≡ sweep g kind m′ (rowAt s j) (gathered b (a .uids))
+      pub step-other : holdsElements srt ≡ false → sweep g kind m (forestAt s i) a ≡ sweep g kind m′ (forestAt s j) (gathered b (a .uids))
       step-other h =
           told
-          ∙ ap (λ (x : Bool). sweep g kind m′ (rowAt s j) (closed g srt (childrenAt s n) (a .sums .entries) (cond x (sweep g srt fresh (childrenAt s n) (gathered b (a .uids))) (gathered b (a .uids))))) h
-          ∙ ap (sweep g kind m′ (rowAt s j)) (closed-other g srt (childrenAt s n) (no-entry srt h) (a .sums .entries) (gathered b (a .uids)))
+          ∙ ap (λ (x : Bool). sweep g kind m′ (forestAt s j) (afterElement g srt (childrenAt s n) (a .sums .entries) (cond x (sweep g srt noneSeen (childrenAt s n) (gathered b (a .uids))) (gathered b (a .uids))))) h
+          ∙ ap (sweep g kind m′ (forestAt s j)) (closed-other g srt (childrenAt s n) (no-entry srt h) (a .sums .entries) (gathered b (a .uids)))

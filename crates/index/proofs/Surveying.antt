@@ -12,14 +12,14 @@ use lib.Seq.{sets, sets-eq, length-sets, take-append-seam}
 use Rattle.xml.specs.Tree.{Forest}
 use Rattle.slices.specs.Slices.{every}
 use Rattle.index_names.specs.Sorts.{index, root, directory, file}
-use Rattle.index_values.specs.Elements.{Element, elements}
+use Rattle.index_values.specs.Elements.{IndexElement, elements}
 use Rattle.index.specs.Structure.{rightly}
 use Rattle.index_values.specs.Entries.{isEntry, many, uidsOf, uidOf, entriesOf}
 use Rattle.index_values.specs.Tests.{Given, few}
 use Rattle.index_values.specs.Different.{different}
-use Rattle.index.specs.Sweep.{All, gathered, fresh, sweep, begun, settled, endedSums}
-use Rattle.index.specs.Index.{Surveyed, structured, bounded, allValued, fileCount}
-use Rattle.index.specs.Steps.{start}
+use Rattle.index.specs.SweepSteps.{All, gathered, noneSeen, sweep, begun, settled, endedSums}
+use Rattle.index.specs.Index.{structured, bounded, allValued, fileCount}
+use Rattle.index.specs.Steps.{Surveyed, nothingYet}
 use Rattle.index.specs.declared.walk.Sums.{Sums}
 use Rattle.index.proofs.Counted.{sat, sat-below, done-counts}
 use Rattle.index.proofs.Swept.{structure-law, few-law, values-law, own-law, lawful-law, count-law, uids-law}
@@ -40,7 +40,7 @@ sat-many n h = go (ltb n 5000) refl
     go true e = simp e at h
     go false e = omega (arith, ltb-false n 5000 e)
 
-uids-many : (l : List Element) → length (uidsOf l) ≡ entriesOf l
+uids-many : (l : List IndexElement) → length (uidsOf l) ≡ entriesOf l
 unfolding uidsOf many
 uids-many [] = refl
 uids-many (e ∷ l) = go (isEntry (e .sort)) (uids-many l)
@@ -49,7 +49,7 @@ uids-many (e ∷ l) = go (isEntry (e .sort)) (uids-many l)
     go true i = ap suc i
     go false i = i
 
-pub files-few : (l : List Element) → fileCount l ≤ entriesOf l
+pub files-few : (l : List IndexElement) → fileCount l ≤ entriesOf l
 unfolding many
 files-few [] = omega arith
 files-few (e ∷ l) = go (files-few l) (eqb (e .sort) root) (eqb (e .sort) directory) (eqb (e .sort) file)
@@ -64,26 +64,26 @@ files-few (e ∷ l) = go (files-few l) (eqb (e .sort) root) (eqb (e .sort) direc
     go i false false true = omega arith
     go i false false false = i
 
-module _ (g : Given) (k : Forest) (table : List ℕ) (a : Sums) (u : List ℕ) (swept : gathered a u ≡ sweep g index fresh k (gathered start table)) where
-  abbrev l : List Element
+module _ (g : Given) (k : Forest) (table : List ℕ) (a : Sums) (u : List ℕ) (swept : gathered a u ≡ sweep g index noneSeen k (gathered nothingYet table)) where
+  abbrev l : List IndexElement
   l = elements index k
 
   right : a .structure ≡ structured k
   unfolding structured
-  right = ap (λ (x : All). x .sums .structure) swept ∙ structure-law g index k fresh (gathered start table) ∙ ap (λ (b : Bool). b && every rightly l) (done-counts index k)
+  right = ap (λ (x : All). x .sums .structure) swept ∙ structure-law g index k noneSeen (gathered nothingYet table) ∙ ap (λ (b : Bool). b && every rightly l) (done-counts index k)
 
   counted : a .entries ≡ sat (entriesOf l)
   unfolding begun settled endedSums
   counted = ap (λ (x : All). x .sums .entries) swept
-      ∙ count-law (λ e. isEntry (e .sort)) g (λ x. x .entries) (λ s h c x. refl) (λ p q x. refl) (λ k m x. refl) index k fresh (gathered start table) refl
+      ∙ count-law (λ e. isEntry (e .sort)) g (λ x. x .entries) (λ s h c x. refl) (λ p q x. refl) (λ k m x. refl) index k noneSeen (gathered nothingYet table) refl
 
   files-counted : a .files ≡ sat (fileCount l)
   unfolding begun settled endedSums
   files-counted = ap (λ (x : All). x .sums .files) swept
-      ∙ count-law (λ e. eqb (e .sort) file) g (λ x. x .files) (λ s h c x. refl) (λ p q x. refl) (λ k m x. refl) index k fresh (gathered start table) refl
+      ∙ count-law (λ e. eqb (e .sort) file) g (λ x. x .files) (λ s h c x. refl) (λ p q x. refl) (λ k m x. refl) index k noneSeen (gathered nothingYet table) refl
 
   few-is : a .few ≡ every (λ e. few (e .sort) (e .kids)) l
-  few-is = ap (λ (x : All). x .sums .few) swept ∙ few-law g index k fresh (gathered start table)
+  few-is = ap (λ (x : All). x .sums .few) swept ∙ few-law g index k noneSeen (gathered nothingYet table)
 
   pub surveyed-many : 4096 < a .entries → Surveyed g k (record { structure = a .structure; few = false; values = false; own = false; lawful = false; entries = 0; files = 0 })
   unfolding bounded
@@ -108,7 +108,7 @@ module _ (g : Given) (k : Forest) (table : List ℕ) (a : Sums) (u : List ℕ) (
     exact = counted ∙ sat-few (entriesOf l) (rw counted at h) .1
 
     uids-are : _≡_ {A = ℕ × List ℕ} (a .entries, u) (length (uidsOf l), sets table 0 (uidsOf l))
-    uids-are = ap (λ (x : All). (x .sums .entries, x .uids)) swept ∙ uids-law g index k fresh (gathered start table) refl (omega (arith, uids-many l, small))
+    uids-are = ap (λ (x : All). (x .sums .entries, x .uids)) swept ∙ uids-law g index k noneSeen (gathered nothingYet table) refl (omega (arith, uids-many l, small))
 
     table-length : length u ≡ 4096 → length table ≡ 4096
     table-length e = sym (length-sets table 0 (uidsOf l)) ∙ sym (ap (λ x. length (x .1)) uids-are) ∙ e
@@ -126,9 +126,9 @@ module _ (g : Given) (k : Forest) (table : List ℕ) (a : Sums) (u : List ℕ) (
         record {
           right = right;
           small = few-is ∙ sym (simp (le-leb (entriesOf l) 4096 small));
-          values = λ z. eb ∙ ap (λ (b : Bool). a .values && b) (ed ∙ ap different (table-is e)) ∙ ap (λ (b : Bool). b && different (uidsOf l)) (ap (λ (x : All). x .sums .values) swept ∙ values-law g index k fresh (gathered start table));
-          owned = λ z. ap (λ (x : All). x .sums .own) swept ∙ own-law g index k fresh (gathered start table);
-          lawful = λ z. ap (λ (x : All). x .sums .lawful) swept ∙ lawful-law g index k fresh (gathered start table);
+          values = λ z. eb ∙ ap (λ (b : Bool). a .values && b) (ed ∙ ap different (table-is e)) ∙ ap (λ (b : Bool). b && different (uidsOf l)) (ap (λ (x : All). x .sums .values) swept ∙ values-law g index k noneSeen (gathered nothingYet table));
+          owned = λ z. ap (λ (x : All). x .sums .own) swept ∙ own-law g index k noneSeen (gathered nothingYet table);
+          lawful = λ z. ap (λ (x : All). x .sums .lawful) swept ∙ lawful-law g index k noneSeen (gathered nothingYet table);
           entries = λ z. exact;
           files = λ z. files-counted ∙ sat-below (fileCount l) (omega (arith, files-few l, small));
         }

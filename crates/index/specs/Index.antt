@@ -12,24 +12,18 @@ use Rattle.slices.specs.Slices.{every, same}
 use Rattle.slices.specs.Words.{bytes}
 use Rattle.quantities.specs.Letters.{areLetters}
 use Rattle.quantities.specs.Sizes.{isBlockSize}
-use Rattle.quantities.specs.Places.{Place}
-use Rattle.quantities.specs.declared.BlockNumber.{BlockNumber}
+use Rattle.quantities.specs.Locations.{Location}
 use Rattle.xml.specs.Tree.{Head, Forest, none as noElement, node}
-use Rattle.xml.specs.Machine.{requireForm}
-use Rattle.elements.specs.Reading.{rowAt, isRow, partAt, Inside}
-use Rattle.values.specs.Values as is
+use Rattle.xml.specs.CheckSteps.{requireForm}
+use Rattle.elements.specs.Reading.{forestAt, hasElement}
+use Rattle.values.specs.Values as values
 use Rattle.extents.specs.Rows.{Row}
 use Rattle.index_names.specs.Sorts.{index, file}
-use Rattle.index_rows.specs.Places.{Placed}
-use Rattle.index_values.specs.Elements.{Element, elements, textIn, rowIn}
+use Rattle.index_values.specs.Elements.{IndexElement, elements, textIn, childrenIn}
 use Rattle.index.specs.Structure.{complete, rightly}
-use Rattle.index_values.specs.Entries.{orZero, numberSaid, entriesOf, uidsOf, many}
-use Rattle.index_values.specs.Tests.{Given, isSome, valued, own, few, lawful, letterSaid, rowsOf, lengthOf}
+use Rattle.index_values.specs.Entries.{orZero, numberOrZero, entriesOf, uidsOf, many}
+use Rattle.index_values.specs.Tests.{Given, isSome, valued, own, few, lawfulFile, letterOrZero, extentRows, lengthOf}
 use Rattle.index_values.specs.Different.{different}
-use Rattle.index.specs.declared.walk.Sums.{Sums}
-use Rattle.index.specs.declared.read.Header.{Header}
-use Rattle.index.specs.declared.read.Read.{Read}
-use Rattle.index.specs.declared.read.Read.the-variants.{Found, Refused}
 
 -- a file: its length, its name as spelled, its rows
 pub record File : Type 0 where
@@ -42,8 +36,8 @@ pub record Heading : Type 0 where
   pub release : ℕ
   pub generation : ℕ
   pub updatetime : List ℕ
-  pub location : Place
-  pub back : Option Place
+  pub location : Location
+  pub back : Option Location
   pub allowpolicyupdate : Bool
   pub highestfileuid : ℕ
   pub directories : ℕ
@@ -53,25 +47,25 @@ pub record Index : Type 0 where
   pub files : List File
 
 -- what a location says
-abbrev pub placeIn : Forest → Place
-placeIn f = record { letter = letterSaid (textIn (bytes "partition") f); block = numberSaid (textIn (bytes "startblock") f) }
+abbrev pub locationOf : Forest → Location
+locationOf f = record { letter = letterOrZero (textIn (bytes "partition") f); block = numberOrZero (textIn (bytes "startblock") f) }
 
-abbrev pub locationIn : Forest → Place
-locationIn k = placeIn (rowIn (bytes "location") k)
+abbrev pub locationIn : Forest → Location
+locationIn k = locationOf (childrenIn (bytes "location") k)
 
 -- the back pointer, if there is one
-abbrev pub backIn : Forest → Option Place
-backIn k = cond (isRow (rowIn (bytes "previousgenerationlocation") k)) (some (placeIn (rowIn (bytes "previousgenerationlocation") k))) none
+abbrev pub backIn : Forest → Option Location
+backIn k = cond (hasElement (childrenIn (bytes "previousgenerationlocation") k)) (some (locationOf (childrenIn (bytes "previousgenerationlocation") k))) none
 
 abbrev pub fileOf : Forest → File
-fileOf c = record { length = lengthOf c; name = textIn (bytes "name") c; rows = rowsOf c }
+fileOf c = record { length = lengthOf c; name = textIn (bytes "name") c; rows = extentRows c }
 
 -- files in text order
-unfoldable pub filesOf : List Element → List File
+unfoldable pub filesOf : List IndexElement → List File
 filesOf [] = []
 filesOf (e ∷ l) = cond (eqb (e .sort) file) (fileOf (e .kids) ∷ filesOf l) (filesOf l)
 
-abbrev pub fileCount : List Element → ℕ
+abbrev pub fileCount : List IndexElement → ℕ
 fileCount l = many (λ e. eqb (e .sort) file) l
 
 abbrev pub isTrue : Option Bool → Bool
@@ -83,12 +77,12 @@ abbrev pub headingOf : ℕ → Forest → Heading
 headingOf release k =
     record {
       release = release;
-      generation = numberSaid (textIn (bytes "generationnumber") k);
+      generation = numberOrZero (textIn (bytes "generationnumber") k);
       updatetime = textIn (bytes "updatetime") k;
       location = locationIn k;
       back = backIn k;
-      allowpolicyupdate = isTrue (is.boolean (textIn (bytes "allowpolicyupdate") k));
-      highestfileuid = numberSaid (textIn (bytes "highestfileuid") k);
+      allowpolicyupdate = isTrue (values.boolean (textIn (bytes "allowpolicyupdate") k));
+      highestfileuid = numberOrZero (textIn (bytes "highestfileuid") k);
       directories = entriesOf (elements index k) - fileCount (elements index k);
     }
 
@@ -100,23 +94,23 @@ unfoldable pub structured : Forest → Bool
 structured k = complete index k && every rightly (elements index k)
 
 -- 15: at most 4,096 directories and files, at most 1,024 extents of a file
-unfoldable pub bounded : List Element → Bool
+unfoldable pub bounded : List IndexElement → Bool
 bounded l = leb (entriesOf l) 4096 && every (λ e. few (e .sort) (e .kids)) l
 
 -- 6
-unfoldable pub allValued : List Element → Bool
+unfoldable pub allValued : List IndexElement → Bool
 allValued l = every (λ e. valued (e .sort) (e .head .text)) l && different (uidsOf l)
 
 -- 8
-abbrev pub allOwn : Given → List Element → Bool
+abbrev pub allOwn : Given → List IndexElement → Bool
 allOwn g l = every (λ e. own g (e .sort) (e .head .text)) l
 
 -- 11
-abbrev pub allLawful : Given → List Element → Bool
-allLawful g l = every (λ e. lawful g (e .sort) (e .kids)) l
+abbrev pub allLawful : Given → List IndexElement → Bool
+allLawful g l = every (λ e. lawfulFile g (e .sort) (e .kids)) l
 
 -- 12: the index stands where it says
-abbrev pub standsAt : ℕ → ℕ → Place → Bool
+abbrev pub standsAt : ℕ → ℕ → Location → Bool
 standsAt letter block p = eqb (p .letter) letter && eqb (p .block) block
 
 -- the classes behind the version, in their order
@@ -134,8 +128,8 @@ childrenRead g letter block release k =
 unfoldable pub tagRead : Given → ℕ → ℕ → Head → Forest → Answer Index
 tagRead g letter block h k =
     require (same (h .name) (bytes "ltfsindex") && same (h .key) (bytes "version")) Structure
-    (require (isSome (is.version (h .value))) Version
-    (childrenRead g letter block (orZero (is.version (h .value))) k))
+    (require (isSome (values.version (h .value))) Version
+    (childrenRead g letter block (orZero (values.version (h .value))) k))
 
 unfoldable pub rootRead : Given → ℕ → ℕ → Forest → Answer Index
 rootRead g letter block noElement = refused Structure
@@ -144,7 +138,7 @@ rootRead g letter block (node h k r) = tagRead g letter block h k
 -- 14: the caller's letters, block size, UUID and place
 unfoldable pub callerRight : Given → ℕ → Bool
 callerRight g letter =
-    areLetters (g .first) (g .other) letter && isBlockSize (g .size) && is.isUuid (g .uuid)
+    areLetters (g .indexLetter) (g .dataLetter) letter && isBlockSize (g .blockSize) && values.isUuid (g .uuid)
 
 -- the longest text of an index
 abbrev pub maxText : ℕ
@@ -156,17 +150,7 @@ indexOf g letter block text =
     require (callerRight g letter) Caller
     (require (leb (length text) maxText) TooMany
     (requireForm text
-    (rootRead g letter block (rowAt text 38))))
-
--- what the survey of an index's children tells; of more than 4,096 entries or 1,024 extents only that
-pub record Surveyed (g : Given) (k : Forest) (sums : Sums) : Type 0 where
-  pub right : sums .structure ≡ structured k
-  pub small : sums .few ≡ bounded (elements index k)
-  pub values : sums .few ≡ true → sums .values ≡ allValued (elements index k)
-  pub owned : sums .few ≡ true → sums .own ≡ allOwn g (elements index k)
-  pub lawful : sums .few ≡ true → sums .lawful ≡ allLawful g (elements index k)
-  pub entries : sums .few ≡ true → sums .entries ≡ entriesOf (elements index k)
-  pub files : sums .few ≡ true → sums .files ≡ fileCount (elements index k)
+    (rootRead g letter block (forestAt text 38))))
 
 -- what a read hands out of an index: its heading, and how many files it has
 pub record Summary : Type 0 where
@@ -178,51 +162,3 @@ summary x = record { heading = x .heading; files = length (x .files) }
 
 abbrev pub summaryOf : Answer Index → Answer Summary
 summaryOf a = andThen a (λ x. answer (summary x))
-
-abbrev pub placeOf : ℕ → BlockNumber → Place
-placeOf l b = record { letter = l; block = b .0 }
-
-abbrev pub backOf : Header → Option Place
-backOf h = cond (h .back) (some (placeOf (h .«back_letter») (h .«back_block»))) none
-
--- what a reader's header means of a text
-abbrev pub summaryIn : List ℕ → Header → Summary
-summaryIn s h =
-    record {
-      heading =
-          record {
-            release = h .release;
-            generation = h .generation .0;
-            updatetime = partAt s (h .time);
-            location = placeOf (h .letter) (h .block);
-            back = backOf h;
-            allowpolicyupdate = h .allow;
-            highestfileuid = h .highest;
-            directories = h .directories;
-          };
-      files = h .files;
-    }
-
-abbrev pub means : List ℕ → Read → Answer Summary
-means s (Found h) = answer (summaryIn s h)
-means s (Refused r) = refused r
-
--- what that leaves open: the update time lies in the text, and without a back pointer its letter and its block are 0
-pub record Definite (s : List ℕ) (h : Header) : Type 0 where
-  pub time : Inside s (h .time .from) (h .time .len)
-  pub noBack : h .back ≡ false → placeOf (h .«back_letter») (h .«back_block») ≡ record { letter = 0; block = 0 }
-
-abbrev pub definite : List ℕ → Read → Type 0
-definite s (Found h) = Definite s h
-definite s (Refused r) = Unit {0}
-
--- what is read of a text s that is that index, or is refused
-pub record ReadsIndex (s : List ℕ) (a : Answer Index) (r : Read) : Type 0 where
-  pub answers : means s r ≡ summaryOf a
-  pub header : definite s r
-
--- the header of any index whose children stand at places t of the text s, with so many entries, so many of them files
-pub record HeaderOf (s t : List ℕ) (release entries files : ℕ) (h : Header) : Type 0 where
-  pub heading : (k : Forest) → Placed s index k t → entries ≡ entriesOf (elements index k) → files ≡ fileCount (elements index k)
-      → summaryIn s h ≡ record { heading = headingOf release k; files = fileCount (elements index k) }
-  pub definite : Definite s h

@@ -1,4 +1,4 @@
 pub mod Structure
-pub mod Sweep
+pub mod SweepSteps
 pub mod Index
 pub mod Steps

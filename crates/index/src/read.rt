@@ -2,23 +2,23 @@
 use crate::survey;
 use elements::Span;
 use elements::Tag;
-use index_values::Volume;
+use index_values::Partitions;
 use quantities::BlockNumber;
 use quantities::Generation;
 use refusals::Refusal;
 use values::Boolean;
 use values::Version;
-use xml::Checked;
+use xml::FormChecked;
 ghost use mathlib.Core.Path.{_≡_};
 ghost use Prim.Native.Nat.{_≤_};
 ghost use lib.ListN.{length};
-ghost use Rattle.values.specs.Values as is;
-ghost use Rattle.xml.specs.Form.{height};
-ghost use Rattle.xml.specs.Machine.{good, form};
-ghost use Rattle.elements.specs.Reading.{rowAt, childrenAt, isRow};
-ghost use Rattle.index_values.specs.Tests.{given};
-ghost use Rattle.index.specs.Index.{isTrue, placeIn, standsAt, callerRight, HeaderOf, ReadsIndex, indexOf};
-ghost use Rattle.index.specs.Steps.{ReadsChildren, ReadsTag, ReadsRoot};
+ghost use Rattle.values.specs.Values as values;
+ghost use Rattle.xml.specs.FormSteps.{height};
+ghost use Rattle.xml.specs.CheckSteps.{good, form};
+ghost use Rattle.elements.specs.Reading.{forestAt, childrenAt, hasElement};
+ghost use Rattle.index_values.specs.Steps.{given};
+ghost use Rattle.index.specs.Index.{isTrue, locationOf, standsAt, callerRight, indexOf};
+ghost use Rattle.index.specs.Steps.{HeaderOf, ReadsIndex, ReadsChildren, ReadsTag, ReadsRoot};
 
 // What an index says besides its files: the R of its version 2.0.R; its generation; where the update time stands in its text; its location;
 // its back pointer, or zeros if it has none; whether the policy may be updated; the highest fileuid; how many directories, with the root, and files it has.
@@ -43,47 +43,47 @@ pub enum Read {
 }
 
 // Whether the caller's letters, block size, UUID and place are in their rules.
-pub fn is_caller_right(uuid: &[u8], volume: Volume, letter: u8) -> bool
+pub fn is_caller_right(uuid: &[u8], volume: Partitions, letter: u8) -> bool
     ensures { λ r. ⌜ r ≡ callerRight (given (now (uuid .entry)) volume) letter ⌝ }
 {
-    if !quantities::is_letter(volume.first as u64) {
+    if !quantities::is_letter(volume.index_letter as u64) {
         return false;
     }
-    if !quantities::is_letter(volume.other as u64) {
+    if !quantities::is_letter(volume.data_letter as u64) {
         return false;
     }
-    if volume.first == volume.other {
+    if volume.index_letter == volume.data_letter {
         return false;
     }
-    if !quantities::is_block_size(volume.size) {
+    if !quantities::is_block_size(volume.block_size) {
         return false;
     }
     if !values::is_uuid(uuid) {
         return false;
     }
-    if letter == volume.first {
+    if letter == volume.index_letter {
         return true;
     }
-    letter == volume.other
+    letter == volume.data_letter
 }
 
 // The letter that the location whose row is at at says.
 fn letter_named(text: &[u8], at: usize) -> u8
-    ensures { λ r. ⌜ r ≡ placeIn (rowAt (now (text .entry)) at) .letter ⌝ }
+    ensures { λ r. ⌜ r ≡ locationOf (forestAt (now (text .entry)) at) .letter ⌝ }
 {
     index_values::letter_said(index_values::text_in(text, at, b"partition"))
 }
 
 // The block that it says.
 fn block_named(text: &[u8], at: usize) -> BlockNumber
-    ensures { λ r. ⌜ r .0 ≡ placeIn (rowAt (now (text .entry)) at) .block ⌝ }
+    ensures { λ r. ⌜ r .0 ≡ locationOf (forestAt (now (text .entry)) at) .block ⌝ }
 {
     BlockNumber(index_values::number_named(text, at, b"startblock"))
 }
 
 // Whether the location whose row is at at is that place.
 fn is_place(text: &[u8], at: usize, letter: u8, block: BlockNumber) -> bool
-    ensures { λ r. ⌜ r ≡ standsAt letter (block .0) (placeIn (rowAt (now (text .entry)) at)) ⌝ }
+    ensures { λ r. ⌜ r ≡ standsAt letter (block .0) (locationOf (forestAt (now (text .entry)) at)) ⌝ }
 {
     if letter_named(text, at) != letter {
         return false;
@@ -93,7 +93,7 @@ fn is_place(text: &[u8], at: usize, letter: u8, block: BlockNumber) -> bool
 }
 
 fn is_true(raw: &[u8]) -> bool
-    ensures { λ r. ⌜ r ≡ isTrue (is.boolean (now (raw .entry))) ⌝ }
+    ensures { λ r. ⌜ r ≡ isTrue (values.boolean (now (raw .entry))) ⌝ }
 {
     match values::read_boolean(raw) {
         Boolean::Value(b) => b,
@@ -103,7 +103,7 @@ fn is_true(raw: &[u8]) -> bool
 
 // Whether a row has an element.
 fn has_row(text: &[u8], at: usize) -> bool
-    ensures { λ r. ⌜ r ≡ isRow (rowAt (now (text .entry)) at) ⌝ }
+    ensures { λ r. ⌜ r ≡ hasElement (forestAt (now (text .entry)) at) ⌝ }
 {
     match elements::next_tag(text, at) {
         Tag::End => false,
@@ -141,12 +141,12 @@ fn read_children(
     text: &[u8],
     uuid: &[u8],
     at: usize,
-    volume: Volume,
+    volume: Partitions,
     release: u64,
     letter: u8,
     block: BlockNumber,
 ) -> Read
-    requires { ⌜ (at ≤ length (now text)) × (height (rowAt (now text) at) ≤ 64) ⌝ }
+    requires { ⌜ (at ≤ length (now text)) × (height (forestAt (now text) at) ≤ 64) ⌝ }
     ensures { λ r. ⌜ ReadsChildren (now (text .entry)) (given (now (uuid .entry)) volume) letter block release at r ⌝ }
 {
     let found = survey::survey(text, uuid, at, volume);
@@ -178,7 +178,7 @@ fn read_tag(
     text: &[u8],
     uuid: &[u8],
     n: usize,
-    volume: Volume,
+    volume: Partitions,
     letter: u8,
     block: BlockNumber,
 ) -> Read
@@ -201,7 +201,7 @@ fn read_tag(
 }
 
 // The index whose text is in the XML form.
-fn read_root(text: &[u8], uuid: &[u8], volume: Volume, letter: u8, block: BlockNumber) -> Read
+fn read_root(text: &[u8], uuid: &[u8], volume: Partitions, letter: u8, block: BlockNumber) -> Read
     requires { ⌜ form (now text) ≡ good ⌝ }
     ensures { λ r. ⌜ ReadsRoot (now (text .entry)) (given (now (uuid .entry)) volume) letter block r ⌝ }
 {
@@ -214,7 +214,13 @@ fn read_root(text: &[u8], uuid: &[u8], volume: Volume, letter: u8, block: BlockN
 }
 
 // An index's text, of the volume with that UUID, letters and block size, at a partition letter and the number of its first block.
-pub fn read_index(text: &[u8], uuid: &[u8], volume: Volume, letter: u8, block: BlockNumber) -> Read
+pub fn read_index(
+    text: &[u8],
+    uuid: &[u8],
+    volume: Partitions,
+    letter: u8,
+    block: BlockNumber,
+) -> Read
     ensures { λ r. ⌜ ReadsIndex (now (text .entry)) (indexOf (given (now (uuid .entry)) volume) letter (block .0) (now (text .entry))) r ⌝ }
 {
     if !is_caller_right(uuid, volume, letter) {
@@ -224,7 +230,7 @@ pub fn read_index(text: &[u8], uuid: &[u8], volume: Volume, letter: u8, block: B
         return Read::Refused(Refusal::TooMany);
     }
     match xml::check(text) {
-        Checked::Broken(_) => Read::Refused(Refusal::Form),
-        Checked::Good => read_root(text, uuid, volume, letter, block),
+        FormChecked::Broken(_) => Read::Refused(Refusal::Form),
+        FormChecked::Good => read_root(text, uuid, volume, letter, block),
     }
 }

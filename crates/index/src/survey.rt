@@ -2,12 +2,12 @@
 use crate::walk;
 use crate::walk::Sums;
 use index_names::INDEX;
-use index_values::Volume;
+use index_values::Partitions;
 ghost use Prim.Native.Nat.{_≤_};
 ghost use lib.ListN.{length};
-ghost use Rattle.xml.specs.Form.{height};
-ghost use Rattle.elements.specs.Reading.{rowAt};
-ghost use Rattle.index_values.specs.Tests.{given};
+ghost use Rattle.xml.specs.FormSteps.{height};
+ghost use Rattle.elements.specs.Reading.{forestAt};
+ghost use Rattle.index_values.specs.Steps.{given};
 ghost use Rattle.index.specs.Steps.{SumsUp, Surveys};
 
 // What is gathered, and the places of the index's children.
@@ -52,9 +52,9 @@ fn survey_with(
     table: &mut [u64; 4096],
     rows: &mut [u64; 5120],
     at: usize,
-    volume: Volume,
+    volume: Partitions,
 ) -> Gathered
-    requires { ⌜ (at ≤ length (now text)) × (height (rowAt (now text) at) ≤ 64) ⌝ }
+    requires { ⌜ (at ≤ length (now text)) × (height (forestAt (now text) at) ≤ 64) ⌝ }
     ensures { λ r. ⌜ Surveys (given (now (uuid .entry)) volume) (now (text .entry)) at r ⌝ }
 {
     let start = Sums {
@@ -73,8 +73,8 @@ fn survey_with(
 }
 
 // What is gathered of the index whose children are the row at at.
-pub fn survey(text: &[u8], uuid: &[u8], at: usize, volume: Volume) -> Gathered
-    requires { ⌜ (at ≤ length (now text)) × (height (rowAt (now text) at) ≤ 64) ⌝ }
+pub fn survey(text: &[u8], uuid: &[u8], at: usize, volume: Partitions) -> Gathered
+    requires { ⌜ (at ≤ length (now text)) × (height (forestAt (now text) at) ≤ 64) ⌝ }
     ensures { λ r. ⌜ Surveys (given (now (uuid .entry)) volume) (now (text .entry)) at r ⌝ }
 {
     let mut table = [0u64; 4096];

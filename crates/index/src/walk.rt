@@ -9,23 +9,23 @@ use index_names::ROOT;
 use index_names::SKIPPED;
 use index_names::UNKNOWN;
 use index_values::Judged;
-use index_values::Volume;
+use index_values::Partitions;
 ghost use mathlib.Core.Path.{_≡_};
 ghost use mathlib.Core.Bool.{cond, _&&_};
 ghost use Prim.Native.Nat.{_≤_, _<_};
 ghost use lib.ListN.{length, set};
-ghost use Rattle.xml.specs.Form.{height};
-ghost use Rattle.elements.specs.Reading.{rowAt, headAt, childrenAt};
-ghost use Rattle.elements.specs.Starts.{Shape};
-ghost use Rattle.index_names.specs.Sorts.{holds};
-ghost use Rattle.index_values.specs.Elements.{numberOf};
-ghost use Rattle.index.specs.Structure.{fits, once};
-ghost use Rattle.children.specs.Children.{textOf};
-ghost use Rattle.children.specs.Rows.{seat};
-ghost use Rattle.index_values.specs.Entries.{isEntry, numberSaid};
-ghost use Rattle.index_values.specs.Tests.{given};
-ghost use Rattle.index.specs.Sweep.{gathered, more, marked, done, endedSums, begun, settled};
-ghost use Rattle.index.specs.Steps.{Ends, Meets, GoesOn, Closes, ClosesEmpty, Walks};
+ghost use Rattle.xml.specs.FormSteps.{height};
+ghost use Rattle.elements.specs.Reading.{forestAt, headAt, childrenAt};
+ghost use Rattle.elements.specs.StartSteps.{Shape};
+ghost use Rattle.index_names.specs.Sorts.{holdsElements};
+ghost use Rattle.index_values.specs.Elements.{nameNumber};
+ghost use Rattle.index.specs.Structure.{mayStand, rightOften};
+ghost use Rattle.children.specs.Children.{textOfFirst};
+ghost use Rattle.children.specs.RowSteps.{seat};
+ghost use Rattle.index_values.specs.Entries.{isEntry, numberOrZero};
+ghost use Rattle.index_values.specs.Steps.{given};
+ghost use Rattle.index.specs.SweepSteps.{gathered, oneMore, marked, rowDone, endedSums, begun, settled};
+ghost use Rattle.index.specs.Steps.{Ends, Meets, GoesOn, Closes, ClosesEmpty, WalksRow};
 
 // What the walk gathers besides the fileuids: whether the structure is right so far, how many directories and files there are, how many
 // of them files.
@@ -47,7 +47,7 @@ pub struct Left {
 }
 
 fn bump(n: u64) -> u64
-    ensures { λ r. ⌜ r ≡ more n ⌝ }
+    ensures { λ r. ⌜ r ≡ oneMore n ⌝ }
 {
     if n < 5000 {
         return n + 1;
@@ -65,7 +65,7 @@ fn mark(seen: &mut [u64; 16], j: usize)
 
 // Whether a name of number j that was seen n times comes as often as it must.
 fn is_once(needed: usize, j: usize, n: u64) -> bool
-    ensures { λ r. ⌜ r ≡ once needed j n ⌝ }
+    ensures { λ r. ⌜ r ≡ rightOften needed j n ⌝ }
 {
     if j < needed {
         return n == 1;
@@ -75,7 +75,7 @@ fn is_once(needed: usize, j: usize, n: u64) -> bool
 
 // Whether a row in an element of a kind is complete, by how often each name was seen.
 fn is_done(kind: usize, seen: &[u64; 16]) -> bool
-    ensures { λ r. ⌜ r ≡ done kind (now (seen .entry)) ⌝ }
+    ensures { λ r. ⌜ r ≡ rowDone kind (now (seen .entry)) ⌝ }
 {
     if index_names::may_repeat(kind) {
         return true;
@@ -122,7 +122,7 @@ fn over(at: usize, kind: usize, seen: &[u64; 16], a: Sums, places: [usize; 16]) 
 
 // Whether elements of a sort hold elements.
 fn is_open(sort: usize) -> bool
-    ensures { λ r. ⌜ r ≡ holds sort ⌝ }
+    ensures { λ r. ⌜ r ≡ holdsElements sort ⌝ }
 {
     if sort < INDEX {
         return false;
@@ -130,10 +130,10 @@ fn is_open(sort: usize) -> bool
     sort <= EXTENT
 }
 
-// Whether an element may stand where it does, as one of a sort, and holds what it may.
+// Whether an element may stand where it does, as one of a sort, and holdsElements what it may.
 fn fits_at(text: &[u8], h: Start, sort: usize) -> bool
     requires { ⌜ Shape (now text) h ⌝ }
-    ensures { λ r. ⌜ r ≡ fits sort (headAt (now (text .entry)) (h .at)) (childrenAt (now (text .entry)) (h .at)) ⌝ }
+    ensures { λ r. ⌜ r ≡ mayStand sort (headAt (now (text .entry)) (h .at)) (childrenAt (now (text .entry)) (h .at)) ⌝ }
 {
     if sort == UNKNOWN {
         return false;
@@ -165,9 +165,9 @@ fn is_entry(sort: usize) -> bool
     sort == FILE
 }
 
-// One more where it is one of those that are counted.
+// One oneMore where it is one of those that are counted.
 fn bump_if(one: bool, n: u64) -> u64
-    ensures { λ r. ⌜ r ≡ cond one (more n) n ⌝ }
+    ensures { λ r. ⌜ r ≡ cond one (oneMore n) n ⌝ }
 {
     if one {
         return bump(n);
@@ -176,7 +176,7 @@ fn bump_if(one: bool, n: u64) -> u64
 }
 
 // The start tag of an element of a sort.
-fn enter(text: &[u8], uuid: &[u8], h: Start, sort: usize, volume: Volume, a: Sums) -> Sums
+fn enter(text: &[u8], uuid: &[u8], h: Start, sort: usize, volume: Partitions, a: Sums) -> Sums
     requires { ⌜ Shape (now text) h ⌝ }
     ensures { λ r. ⌜ r ≡ begun (given (now (uuid .entry)) volume) sort (headAt (now (text .entry)) (h .at)) (childrenAt (now (text .entry)) (h .at)) a ⌝ }
 {
@@ -210,7 +210,7 @@ fn settle(v: Judged, a: Sums) -> Sums
 
 // The fileuid of an entry goes into the table, from the place of that element; no other element has one there.
 fn put_uid(text: &[u8], uids: &mut [u64; 4096], place: usize, entry: bool, at: u64)
-    ensures { λ r. ⌜ now (uids .exit) ≡ cond entry (set (now (uids .entry)) at (numberSaid (textOf (seat (now (text .entry)) place)))) (now (uids .entry)) ⌝ }
+    ensures { λ r. ⌜ now (uids .exit) ≡ cond entry (set (now (uids .entry)) at (numberOrZero (textOfFirst (seat (now (text .entry)) place)))) (now (uids .entry)) ⌝ }
 {
     if entry {
         tables::put(uids, at as usize, index_values::number_placed(text, place));
@@ -224,7 +224,7 @@ fn close_element(
     uids: &mut [u64; 4096],
     rows: &mut [u64; 5120],
     sort: usize,
-    volume: Volume,
+    volume: Partitions,
     number: u64,
 ) -> Sums
     ensures { λ r. ⌜ Closes (now (text .entry)) (w .places) sort volume number (gathered (w .sums) (now (uids .entry))) (gathered r (now (uids .exit))) ⌝ }
@@ -241,7 +241,7 @@ fn close_empty(
     uids: &mut [u64; 4096],
     rows: &mut [u64; 5120],
     sort: usize,
-    volume: Volume,
+    volume: Partitions,
     number: u64,
     a: Sums,
 ) -> Sums
@@ -264,7 +264,7 @@ pub fn both(a: bool, b: bool) -> bool
 // The number of an element among the names of its row, in an element of a kind.
 fn number_at(text: &[u8], h: Start, kind: usize) -> usize
     requires { ⌜ Shape (now text) h ⌝ }
-    ensures { λ r. ⌜ r ≡ numberOf kind (headAt (now (text .entry)) (h .at)) ⌝ }
+    ensures { λ r. ⌜ r ≡ nameNumber kind (headAt (now (text .entry)) (h .at)) ⌝ }
 {
     index_names::number_in(kind, elements::part(text, h.name))
 }
@@ -299,11 +299,11 @@ pub fn walk(
     at: usize,
     kind: usize,
     depth: usize,
-    volume: Volume,
+    volume: Partitions,
     sums: Sums,
 ) -> Left
-    requires { ⌜ (at ≤ length (now text)) × (height (rowAt (now text) at) ≤ depth) ⌝ }
-    ensures { λ r. ⌜ Walks (given (now (uuid .entry)) volume) (now (text .entry)) kind at (gathered sums (now (uids .entry))) (now (uids .exit)) r ⌝ }
+    requires { ⌜ (at ≤ length (now text)) × (height (forestAt (now text) at) ≤ depth) ⌝ }
+    ensures { λ r. ⌜ WalksRow (given (now (uuid .entry)) volume) (now (text .entry)) kind at (gathered sums (now (uids .entry))) (now (uids .exit)) r ⌝ }
 {
     let mut i = at;
     let mut a = sums;

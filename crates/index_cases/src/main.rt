@@ -1,11 +1,11 @@
 // Cases of reading an index, of its files and of their rows, and of the index of a construct, read from files beside the program.
-use constructs::Place;
+use constructs::Bounds;
 use elements::Span;
 use index::Header;
 use index::Read;
 use index_files::FileRead;
 use index_files::Filled;
-use index_values::Volume;
+use index_values::Partitions;
 use quantities::BlockNumber;
 use slices::Written;
 use volume::Chosen;
@@ -109,7 +109,7 @@ fn read_as(fd: i32, text: &[u8], read: Read, refusal: u64) -> bool {
 fn put_as(
     text: &[u8],
     uuid: &[u8],
-    volume: Volume,
+    volume: Partitions,
     letter: u8,
     block: u64,
     k: u64,
@@ -130,7 +130,7 @@ fn rows_as(
     fd: i32,
     text: &[u8],
     uuid: &[u8],
-    volume: Volume,
+    volume: Partitions,
     letter: u8,
     block: u64,
     k: u64,
@@ -192,7 +192,7 @@ fn front_as(name: &[u8], n: usize, expected: &[u8]) -> bool {
 }
 
 // A file's number; the refusal, its length, its name and the number of its rows expected; then its rows in two lent buffers.
-fn file_as(fd: i32, text: &[u8], uuid: &[u8], volume: Volume, letter: u8, block: u64) -> bool {
+fn file_as(fd: i32, text: &[u8], uuid: &[u8], volume: Partitions, letter: u8, block: u64) -> bool {
     let k = case_files::number(fd);
     let refusal = case_files::number(fd);
     let bytes = case_files::number(fd);
@@ -226,7 +226,7 @@ fn file_as(fd: i32, text: &[u8], uuid: &[u8], volume: Volume, letter: u8, block:
     rows_as(fd, text, uuid, volume, letter, block, k)
 }
 
-fn files_as(fd: i32, text: &[u8], uuid: &[u8], volume: Volume, letter: u8, block: u64) -> bool {
+fn files_as(fd: i32, text: &[u8], uuid: &[u8], volume: Partitions, letter: u8, block: u64) -> bool {
     let files = case_files::number(fd);
     let mut k: u64 = 0;
     while k < files {
@@ -268,7 +268,7 @@ fn text_case(kind: u64, fd: i32) -> bool {
     let first = byte(fd);
     let other = byte(fd);
     let size = case_files::number(fd);
-    let volume = Volume { first, other, size };
+    let volume = Partitions { first, other, size };
     let letter = byte(fd);
     let block = case_files::number(fd);
     if kind == 1 {
@@ -277,7 +277,14 @@ fn text_case(kind: u64, fd: i32) -> bool {
     index_case(fd, &text[..n], &uuid[..u], volume, letter, block)
 }
 
-fn index_case(fd: i32, text: &[u8], uuid: &[u8], volume: Volume, letter: u8, block: u64) -> bool {
+fn index_case(
+    fd: i32,
+    text: &[u8],
+    uuid: &[u8],
+    volume: Partitions,
+    letter: u8,
+    block: u64,
+) -> bool {
     let refusal = case_files::number(fd);
     let read = index::read_index(text, uuid, volume, letter, BlockNumber(block));
     if !read_as(fd, text, read, refusal) {
@@ -287,7 +294,14 @@ fn index_case(fd: i32, text: &[u8], uuid: &[u8], volume: Volume, letter: u8, blo
 }
 
 // A file's number and the length expected, then its rows in a lent buffer.
-fn rows_case(fd: i32, text: &[u8], uuid: &[u8], volume: Volume, letter: u8, block: u64) -> bool {
+fn rows_case(
+    fd: i32,
+    text: &[u8],
+    uuid: &[u8],
+    volume: Partitions,
+    letter: u8,
+    block: u64,
+) -> bool {
     let k = case_files::number(fd);
     let refusal = case_files::number(fd);
     let bytes = case_files::number(fd);
@@ -299,7 +313,7 @@ fn rows_case(fd: i32, text: &[u8], uuid: &[u8], volume: Volume, letter: u8, bloc
 }
 
 // Where a construct lies: its first block and its closing mark; then its header.
-fn construct_as(fd: i32, store: &[u8], place: Place, h: Header) -> bool {
+fn construct_as(fd: i32, store: &[u8], place: Bounds, h: Header) -> bool {
     let first = case_files::number(fd);
     let mark = case_files::number(fd) as usize;
     if place.first.0 != first {
@@ -342,7 +356,7 @@ fn construct_case(fd: i32) -> bool {
     let first = byte(fd);
     let other = byte(fd);
     let size = case_files::number(fd);
-    let letters = Volume { first, other, size };
+    let letters = Partitions { first, other, size };
     let letter = byte(fd);
     let k = case_files::number(fd);
     let refusal = case_files::number(fd);
@@ -410,10 +424,10 @@ fn add_files(out: &mut [u8], files: u64) -> usize {
 }
 
 fn refused_as(text: &[u8], refusal: u64) -> bool {
-    let volume = Volume {
-        first: 97,
-        other: 98,
-        size: 4096,
+    let volume = Partitions {
+        index_letter: 97,
+        data_letter: 98,
+        block_size: 4096,
     };
     let uuid = b"30a91a08-daae-48d1-ae75-69804e61d2ea";
     match index::read_index(text, uuid, volume, 97, BlockNumber(6)) {

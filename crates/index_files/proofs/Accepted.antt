@@ -14,12 +14,12 @@ use Rattle.slices.specs.Slices.{every, same}
 use Rattle.slices.specs.Words.{bytes}
 use Rattle.slices.proofs.Booleans.{and-left, and-right}
 use Rattle.xml.specs.Tree.{Head, Forest, none, node}
-use Rattle.xml.specs.Form.{Reads}
-use Rattle.xml.specs.Machine.{inForm, requireForm}
+use Rattle.xml.specs.FormSteps.{Reads}
+use Rattle.xml.specs.CheckSteps.{inForm, requireForm}
 use Rattle.xml.proofs.Form.{form-reads, in-form}
-use Rattle.elements.specs.Reading.{rowAt}
+use Rattle.elements.specs.Reading.{forestAt}
 use Rattle.elements.proofs.Roots.{root-row}
-use Rattle.values.specs.Values as is
+use Rattle.values.specs.Values as values
 use Rattle.index_names.specs.Sorts.{index}
 use Rattle.index_values.specs.Elements.{elements}
 use Rattle.index.specs.Structure.{complete, rightly}
@@ -71,9 +71,9 @@ module _ (g : Given) (letter block : ℕ) (x : Index) where
   root-accepted : (text : List ℕ) (h : Head) (k : Forest) → callerRight g letter ≡ true → Reads text h k → rootRead g letter block (node h k none) ≡ answer x → Accepted g letter text x
   unfolding rootRead tagRead structured
   root-accepted text h k right form e =
-      let n = orZero (is.version (h .value)) in
-      let p0 = passed Structure (require (isSome (is.version (h .value))) Version (childrenRead g letter block n k)) x (same (h .name) (bytes "ltfsindex") && same (h .key) (bytes "version")) e in
-      let p1 = passed Version (childrenRead g letter block n k) x (isSome (is.version (h .value))) (p0 .1) in
+      let n = orZero (values.version (h .value)) in
+      let p0 = passed Structure (require (isSome (values.version (h .value))) Version (childrenRead g letter block n k)) x (same (h .name) (bytes "ltfsindex") && same (h .key) (bytes "version")) e in
+      let p1 = passed Version (childrenRead g letter block n k) x (isSome (values.version (h .value))) (p0 .1) in
       let p2 = children-accepted n k (p1 .1) in
       record {
         caller = right;
@@ -91,7 +91,7 @@ module _ (g : Given) (letter block : ℕ) (x : Index) where
 pub accepted : (g : Given) (letter block : ℕ) (text : List ℕ) (x : Index) → indexOf g letter block text ≡ answer x → Accepted g letter text x
 unfolding indexOf
 accepted g letter block text x e =
-    let a2 = rootRead g letter block (rowAt text 38) in
+    let a2 = rootRead g letter block (forestAt text 38) in
     let a1 = requireForm text a2 in
     let p0 = passed Caller (require (leb (length text) 1048576) TooMany a1) x (callerRight g letter) e in
     let p1 = passed TooMany a1 x (leb (length text) 1048576) (p0 .1) in

@@ -14,14 +14,14 @@ use Rattle.slices.proofs.Every.{every-append}
 use Rattle.slices.proofs.Equal.{same-eq}
 use Rattle.xml.specs.Bytes.{isSpace}
 use Rattle.xml.specs.Tree.{Head, Forest, none, node}
-use Rattle.elements.specs.Reading.{leftAt, isRow}
-use Rattle.index_names.specs.Sorts.{index, file, skipped, unknown, holds}
-use Rattle.index_values.specs.Elements.{Element, element, elements, sortOf}
-use Rattle.index.specs.Structure.{fits, complete, rightly}
+use Rattle.elements.specs.Reading.{leftAt, hasElement}
+use Rattle.index_names.specs.Sorts.{index, file, skipped, unknown, holdsElements}
+use Rattle.index_values.specs.Elements.{IndexElement, element, elements, sortOf}
+use Rattle.index.specs.Structure.{mayStand, complete, rightly}
 use Rattle.index.specs.Index.{File, fileOf, filesOf}
 use Rattle.index_values.specs.Tests.{Given}
 use Rattle.index.specs.Index.{Index, indexOf}
-use Rattle.index_files.specs.Files.{namesFile, namesSkipped, filesIn, filesLeft}
+use Rattle.index_files.specs.FileSteps.{namesFile, namesSkipped, filesIn, filesLeft}
 use Rattle.index_files.proofs.Accepted.{accepted}
 use Rattle.index_files.proofs.Names.{file-named, skipped-named, inFile, keeps, inside-file}
 
@@ -29,7 +29,7 @@ not-eq : (b : Bool) → not b ≡ true → b ≡ false
 not-eq true e = sym e
 not-eq false e = refl
 
-files-append : (a b : List Element) → filesOf (a ++ b) ≡ filesOf a ++ filesOf b
+files-append : (a b : List IndexElement) → filesOf (a ++ b) ≡ filesOf a ++ filesOf b
 unfolding filesOf
 files-append [] b = refl
 files-append (e ∷ a) b = go (eqb (e .sort) file) (files-append a b)
@@ -44,8 +44,8 @@ map-append f [] b = refl
 map-append f (x ∷ a) b = ap (λ l. f x ∷ l) (map-append f a b)
 
 -- the elements in an element of sort s
-abbrev within : ℕ → Forest → List Element
-within s c = cond (holds s) (elements s c) []
+abbrev within : ℕ → Forest → List IndexElement
+within s c = cond (holdsElements s) (elements s c) []
 
 -- no file stands in a file
 no-files : (kind : ℕ) (f : Forest) → inFile kind ≡ true → filesOf (elements kind f) ≡ []
@@ -59,18 +59,18 @@ no-files kind (node h c r) e = go (inside-file kind e (h .name)) (no-files (sort
     go : keeps s ≡ true → (inFile s ≡ true → filesOf (elements s c) ≡ []) → filesOf (elements kind r) ≡ []
         → cond (eqb s file) (fileOf c ∷ filesOf (within s c ++ elements kind r)) (filesOf (within s c ++ elements kind r)) ≡ []
     go k i j =
-        ap (λ (b : Bool). cond b (fileOf c ∷ filesOf (within s c ++ elements kind r)) (filesOf (within s c ++ elements kind r))) (not-eq (eqb s file) (and-left _ (not (holds s) || inFile s) k))
+        ap (λ (b : Bool). cond b (fileOf c ∷ filesOf (within s c ++ elements kind r)) (filesOf (within s c ++ elements kind r))) (not-eq (eqb s file) (and-left _ (not (holdsElements s) || inFile s) k))
         ∙ files-append (within s c) (elements kind r)
         ∙ ap (λ (l : List File). filesOf (within s c) ++ l) j
         ∙ append-nil (filesOf (within s c))
-        ∙ below (holds s) (and-right (not (eqb s file)) _ k)
+        ∙ below (holdsElements s) (and-right (not (eqb s file)) _ k)
       where
         below : (b : Bool) → (not b || inFile s) ≡ true → filesOf (cond b (elements s c) []) ≡ []
         below true w = i w
         below false w = refl
 
-no-row : (c : Forest) → not (isRow c) ≡ true → c ≡ none
-unfolding isRow
+no-row : (c : Forest) → not (hasElement c) ≡ true → c ≡ none
+unfolding hasElement
 no-row none e = refl
 no-row (node h c r) e = absurd (false≢true e)
 
@@ -85,15 +85,15 @@ module _ (kind : ℕ) (h : Head) (c : Forest) where
   said : List File
   said = cond (eqb s file) (fileOf c ∷ []) [] ++ filesOf (within s c)
 
-  module _ (e : eqb s unknown ≡ false) (w : cond (holds s) (isRow c || every isSpace (h .text)) (eqb s skipped || not (isRow c)) ≡ true)
-      (i : holds s ≡ true → map fileOf (filesIn c) ≡ filesOf (elements s c)) where
+  module _ (e : eqb s unknown ≡ false) (w : cond (holdsElements s) (hasElement c || every isSpace (h .text)) (eqb s skipped || not (hasElement c)) ≡ true)
+      (i : holdsElements s ≡ true → map fileOf (filesIn c) ≡ filesOf (elements s c)) where
     a-file : eqb s file ≡ true → map fileOf shown ≡ said
     unfolding s shown said filesOf
     a-file q =
         let z : s ≡ file = eqb-true s file q in
         let n : namesFile (h .name) ≡ true = file-named kind (h .name) e ∙ q in
         let k : filesOf (elements s c) ≡ [] = no-files s c (rw q) in
-        let o : holds s ≡ true = ap (λ (m : ℕ). holds m) z in
+        let o : holdsElements s ≡ true = ap (λ (m : ℕ). holdsElements m) z in
         rw n (sym (rw (q, o) (ap (λ (l : List File). fileOf c ∷ l) k)))
 
     skip : eqb s skipped ≡ true → map fileOf shown ≡ said
@@ -103,7 +103,7 @@ module _ (kind : ℕ) (h : Head) (c : Forest) where
         let f : eqb s file ≡ false = ap (λ (m : ℕ). eqb m file) z in
         let n : namesFile (h .name) ≡ false = file-named kind (h .name) e ∙ f in
         let k : namesSkipped (h .name) ≡ true = skipped-named kind (h .name) e ∙ q in
-        let o : holds s ≡ false = ap (λ (m : ℕ). holds m) z in
+        let o : holdsElements s ≡ false = ap (λ (m : ℕ). holdsElements m) z in
         rw (n, k) (sym (rw (f, o)))
 
     into : eqb s file ≡ false → eqb s skipped ≡ false → map fileOf shown ≡ said
@@ -111,9 +111,9 @@ module _ (kind : ℕ) (h : Head) (c : Forest) where
     into f q =
         let n : namesFile (h .name) ≡ false = file-named kind (h .name) e ∙ f in
         let k : namesSkipped (h .name) ≡ false = skipped-named kind (h .name) e ∙ q in
-        rw (n, k, f) (go (holds s) refl)
+        rw (n, k, f) (go (holdsElements s) refl)
       where
-        go : (b : Bool) → holds s ≡ b → map fileOf (filesIn c) ≡ filesOf (cond b (elements s c) [])
+        go : (b : Bool) → holdsElements s ≡ b → map fileOf (filesIn c) ≡ filesOf (cond b (elements s c) [])
         go true o = i o
         go false o = ap (λ (d : Forest). map fileOf (filesIn d)) (no-row c (sym (rw (o, q)) ∙ w))
 
@@ -130,7 +130,7 @@ module _ (kind : ℕ) (h : Head) (c : Forest) where
 
 -- rows of elements whose structure is right
 pub files-row : (kind : ℕ) (f : Forest) → every rightly (elements kind f) ≡ true → map fileOf (filesIn f) ≡ filesOf (elements kind f)
-unfolding elements filesOf filesIn every rightly fits s shown said
+unfolding elements filesOf filesIn every rightly mayStand s shown said
 files-row kind none e = refl
 files-row kind (node h c r) e = go (files-row (sortOf kind h) c) (files-row kind r)
   where
@@ -143,14 +143,14 @@ files-row kind (node h c r) e = go (files-row (sortOf kind h) c) (files-row kind
     below : (every rightly (within k c) && every rightly (elements kind r)) ≡ true
     below = sym (every-append rightly (within k c) (elements kind r)) ∙ and-right (rightly (element k h c)) (every rightly (within k c ++ elements kind r)) e
 
-    fitting : fits k h c ≡ true
-    fitting = and-left (fits k h c) (not (holds k) || complete k c) right
+    fitting : mayStand k h c ≡ true
+    fitting = and-left (mayStand k h c) (not (holdsElements k) || complete k c) right
 
     known : (not (eqb k unknown) && eqb (length (h .key)) 0) ≡ true
-    known = and-left (not (eqb k unknown) && eqb (length (h .key)) 0) (cond (holds k) (isRow c || every isSpace (h .text)) (eqb k skipped || not (isRow c))) fitting
+    known = and-left (not (eqb k unknown) && eqb (length (h .key)) 0) (cond (holdsElements k) (hasElement c || every isSpace (h .text)) (eqb k skipped || not (hasElement c))) fitting
 
-    kept : cond (holds k) (isRow c || every isSpace (h .text)) (eqb k skipped || not (isRow c)) ≡ true
-    kept = and-right (not (eqb k unknown) && eqb (length (h .key)) 0) (cond (holds k) (isRow c || every isSpace (h .text)) (eqb k skipped || not (isRow c))) fitting
+    kept : cond (holdsElements k) (hasElement c || every isSpace (h .text)) (eqb k skipped || not (hasElement c)) ≡ true
+    kept = and-right (not (eqb k unknown) && eqb (length (h .key)) 0) (cond (holdsElements k) (hasElement c || every isSpace (h .text)) (eqb k skipped || not (hasElement c))) fitting
 
     join : (b : Bool) → cond b (fileOf c ∷ []) [] ++ filesOf (within k c) ++ filesOf (elements kind r)
         ≡ cond b (fileOf c ∷ (filesOf (within k c) ++ filesOf (elements kind r))) (filesOf (within k c) ++ filesOf (elements kind r))
@@ -168,7 +168,7 @@ files-row kind (node h c r) e = go (files-row (sortOf kind h) c) (files-row kind
         ∙ join (eqb k file)
         ∙ sym (ap (λ (l : List File). cond (eqb k file) (fileOf c ∷ l) l) (files-append (within k c) (elements kind r)))
       where
-        held : holds k ≡ true → map fileOf (filesIn c) ≡ filesOf (elements k c)
+        held : holdsElements k ≡ true → map fileOf (filesIn c) ≡ filesOf (elements k c)
         held o = i (sym (ap (λ (b : Bool). every rightly (cond b (elements k c) [])) o) ∙ and-left (every rightly (within k c)) (every rightly (elements kind r)) below)
 
 -- the root's own element is gone into

@@ -8,11 +8,13 @@ use Rattle.refusals.specs.Refusals.{Answer, refused, answer, andThen}
 use Rattle.refusals.specs.declared.Refusal.{Refusal}
 use Rattle.refusals.specs.declared.Refusal.the-variants.{Missing}
 use Rattle.xml.specs.Tree.{Forest}
-use Rattle.elements.specs.Reading.{leftAt, rowAt, FirstOf}
+use Rattle.elements.specs.Reading.{leftAt, forestAt}
+use Rattle.elements.specs.TagSteps.{FirstOf}
 use Rattle.index_values.specs.Tests.{Given, rowsIn}
 use Rattle.index.specs.Index.{Index, File, Summary, summary, summaryOf, fileOf, indexOf}
-use Rattle.index_files.specs.Files.{filesLeft, filesFrom}
-use Rattle.index_files.specs.Asked.{nth, fileIn, Shown, shown, HeadOf}
+use Rattle.index_files.specs.FileSteps.{filesLeft, filesFrom}
+use Rattle.index_files.specs.Asked.{nth, fileIn}
+use Rattle.index_files.specs.AskedSteps.{FileShown, shown, HeadOf}
 use Rattle.index_files.specs.declared.asked.FileHead.{FileHead}
 use Rattle.index_files.proofs.Mapped.{mapped, mapped-refused}
 use Rattle.index_files.proofs.Meeting.{rows-first}
@@ -58,14 +60,14 @@ module _ (g : Given) (letter block : ℕ) (text : List ℕ) where
   file-found k t e = sym (nth-map fileOf k (filesLeft (leftAt text 38))) ∙ index-found (nth k) t e
 
 -- rows counted along a row of elements
-pub rows-counted : (s : List ℕ) (i : ℕ) {n j : ℕ} → FirstOf s i n j → length (rowsIn (rowAt s i)) ≡ suc (length (rowsIn (rowAt s j)))
+pub rows-counted : (s : List ℕ) (i : ℕ) {n j : ℕ} → FirstOf s i n j → length (rowsIn (forestAt s i)) ≡ suc (length (rowsIn (forestAt s j)))
 rows-counted s i f = ap length (rows-first s i f)
 
 -- what is handed out of a file
 pub head-shown : (s : List ℕ) (c : Forest) (h : FileHead) → HeadOf s c h
-    → _≡_ {A = Answer Shown} (answer (record { length = h .length .0; name = take (h .name .len) (drop (h .name .from) s); rows = h .rows })) (answer (shown (fileOf c)))
+    → _≡_ {A = Answer FileShown} (answer (record { length = h .length .0; name = take (h .name .len) (drop (h .name .from) s); rows = h .rows })) (answer (shown (fileOf c)))
 head-shown s c h w = same-shown (w .length) (w .name .part) (w .rows)
   where
     same-shown : {n m i j : ℕ} {a b : List ℕ} → n ≡ m → a ≡ b → i ≡ j
-        → _≡_ {A = Answer Shown} (answer (record { length = n; name = a; rows = i })) (answer (record { length = m; name = b; rows = j }))
+        → _≡_ {A = Answer FileShown} (answer (record { length = n; name = a; rows = i })) (answer (record { length = m; name = b; rows = j }))
     same-shown p q r = cc

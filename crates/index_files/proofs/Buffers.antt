@@ -11,8 +11,9 @@ use Rattle.xml.specs.Tree.{Forest}
 use Rattle.extents.specs.Rows.{Row, five, numbersOf}
 use Rattle.extents.proofs.Rows.{length-numbers}
 use Rattle.index.specs.Index.{File, fileOf}
-use Rattle.index_files.specs.Asked.{HeadOf}
-use Rattle.index_files.specs.Filling.{WritesRows, SaysFiles, HoldsFiles, headNumbers}
+use Rattle.index_files.specs.AskedSteps.{HeadOf}
+use Rattle.index_files.specs.Filling.{SaysFiles, HoldsFiles}
+use Rattle.index_files.specs.FillingSteps.{WritesRows, headNumbers}
 use Rattle.index_files.specs.declared.asked.FileHead.{FileHead}
 
 -- four and five numbers, one after the other

@@ -15,21 +15,22 @@ use Rattle.slices.proofs.Booleans.{and-left, and-right, and-parts}
 use Rattle.slices.proofs.Writing.{front-written}
 use Rattle.quantities.specs.Letters.{areLetters}
 use Rattle.quantities.specs.Sizes.{isBlockSize}
-use Rattle.values.specs.Values as is
+use Rattle.values.specs.Values as values
 use Rattle.extents.specs.Rows.{Row, rowsOf, numbersOf}
 use Rattle.extents.specs.Lawful.{lawful}
-use Rattle.extents.specs.Map.{placeOf, lettered, byteMap}
+use Rattle.extents.specs.Map.{byteAt, lettered, byteMap}
 use Rattle.extents.proofs.Rows.{rows-numbers, length-numbers}
 use Rattle.extents.proofs.Mapping.{numbers-mapped}
 use Rattle.index_names.specs.Sorts.{index}
-use Rattle.index_values.specs.Elements.{Element, elements}
+use Rattle.index_values.specs.Elements.{IndexElement, elements}
 use Rattle.index_values.specs.Entries.{uidsOf}
 use Rattle.index_values.specs.Tests.{Given, valued}
 use Rattle.index_values.specs.Different.{different}
 use Rattle.index.specs.Index.{Index, File, filesOf, allValued, callerRight, indexOf}
 use Rattle.index.proofs.EachFile.{files-lettered, files-lawful}
 use Rattle.index_files.specs.Asked.{nth, fileIn}
-use Rattle.index_files.specs.Filling.{fitting, rowsFor, HoldsRows, Stored, Puts}
+use Rattle.index_files.specs.Filling.{withRoom, rowsFor, HoldsRows, Stored}
+use Rattle.index_files.specs.FillingSteps.{FillsBuffer}
 use Rattle.index_files.specs.declared.filling.Filled.the-variants.{Count}
 use Rattle.index_files.proofs.Accepted.{accepted}
 
@@ -45,40 +46,40 @@ nth-passes test k [] x e n = let z : _≡_ {A = ℕ} 0 1 = cc in absurd (omega a
 nth-passes test zero (y ∷ l) x e n = let z : y ≡ x = cc in sym (ap test z) ∙ and-left (test y) (every test l) e
 nth-passes test (suc k) (y ∷ l) x e n = nth-passes test k l x (and-right (test y) (every test l) e) n
 
-size-right : (g : Given) (letter : ℕ) → callerRight g letter ≡ true → isBlockSize (g .size) ≡ true
+size-right : (g : Given) (letter : ℕ) → callerRight g letter ≡ true → isBlockSize (g .blockSize) ≡ true
 unfolding callerRight
 size-right g letter e =
-    and-right (areLetters (g .first) (g .other) letter) (isBlockSize (g .size)) (and-left _ (is.isUuid (g .uuid)) e)
+    and-right (areLetters (g .indexLetter) (g .dataLetter) letter) (isBlockSize (g .blockSize)) (and-left _ (values.isUuid (g .uuid)) e)
 
-each-valued : (k : List Element) → allValued k ≡ true → every (λ e. valued (e .sort) (e .head .text)) k ≡ true
+each-valued : (k : List IndexElement) → allValued k ≡ true → every (λ e. valued (e .sort) (e .head .text)) k ≡ true
 unfolding allValued
 each-valued k e = and-left _ (different (uidsOf k)) e
 
 -- a file of an index
 module _ (g : Given) (letter block : ℕ) (text : List ℕ) (k : ℕ) (f : File) (e : fileIn k (indexOf g letter block text) ≡ answer f) where
-  passed : (isBlockSize (g .size) ≡ true) × (lettered (f .rows) ≡ true) × ((leb (length (f .rows)) 1024 && lawful (f .length) (g .size) (f .rows)) ≡ true)
+  passed : (isBlockSize (g .blockSize) ≡ true) × (lettered (f .rows) ≡ true) × ((leb (length (f .rows)) 1024 && lawful (f .length) (g .blockSize) (f .rows)) ≡ true)
   passed =
       let (x, i, n) = answered (indexOf g letter block text) (λ x. nth k (x .files)) f e in
       let a = accepted g letter block text x i in
       let m : nth k (filesOf (elements index (a .kids))) ≡ answer f = sym (ap (λ (y : Index). nth k (y .files)) (a .says)) ∙ n in (
         size-right g letter (a .caller),
         nth-passes (λ h. lettered (h .rows)) k _ f (files-lettered index (a .kids) (a .right) (each-valued (elements index (a .kids)) (a .valued))) m,
-        nth-passes (λ h. leb (length (h .rows)) 1024 && lawful (h .length) (g .size) (h .rows)) k _ f (files-lawful g (elements index (a .kids)) (a .lawful)) m,
+        nth-passes (λ h. leb (length (h .rows)) 1024 && lawful (h .length) (g .blockSize) (h .rows)) k _ f (files-lawful g (elements index (a .kids)) (a .lawful)) m,
       )
 
   module _ (p : ℕ) where
-    mapped : byteMap (numbersOf (f .rows)) (f .length) (g .size) p ≡ require (ltb p (f .length)) Missing (answer (placeOf (g .size) p (f .rows)))
+    mapped : byteMap (numbersOf (f .rows)) (f .length) (g .blockSize) p ≡ require (ltb p (f .length)) Missing (answer (byteAt (g .blockSize) p (f .rows)))
     mapped =
         let (size, letters, both) = passed in
-        let (few, law) = and-parts (leb (length (f .rows)) 1024) (lawful (f .length) (g .size) (f .rows)) both in
-        numbers-mapped (f .rows) (f .length) (g .size) p size letters (leb-true (length (f .rows)) 1024 few) law
+        let (few, law) = and-parts (leb (length (f .rows)) 1024) (lawful (f .length) (g .blockSize) (f .rows)) both in
+        numbers-mapped (f .rows) (f .length) (g .blockSize) p size letters (leb-true (length (f .rows)) 1024 few) law
 
     -- a byte of the file has its place
-    pub byte-placed : p < f .length → byteMap (numbersOf (f .rows)) (f .length) (g .size) p ≡ answer (placeOf (g .size) p (f .rows))
+    pub byte-placed : p < f .length → byteMap (numbersOf (f .rows)) (f .length) (g .blockSize) p ≡ answer (byteAt (g .blockSize) p (f .rows))
     byte-placed h = mapped ∙ rw (lt-ltb p (f .length) h)
 
     -- from its length on there is none
-    pub byte-missing : f .length ≤ p → byteMap (numbersOf (f .rows)) (f .length) (g .size) p ≡ refused Missing
+    pub byte-missing : f .length ≤ p → byteMap (numbersOf (f .rows)) (f .length) (g .blockSize) p ≡ refused Missing
     byte-missing h = mapped ∙ rw (le-ltb p (f .length) h)
 
 -- numbers that are the rows of the file that was asked for, and from which the byte map places each of its bytes
@@ -86,11 +87,11 @@ pub record ReadAgain (g : Given) (asked : Answer File) (numbers : List ℕ) : Ty
   pub file : File
   pub found : asked ≡ answer file
   pub rows : rowsOf numbers ≡ file .rows
-  pub placed : (p : ℕ) → p < file .length → byteMap numbers (file .length) (g .size) p ≡ answer (placeOf (g .size) p (file .rows))
-  pub missing : (p : ℕ) → file .length ≤ p → byteMap numbers (file .length) (g .size) p ≡ refused Missing
+  pub placed : (p : ℕ) → p < file .length → byteMap numbers (file .length) (g .blockSize) p ≡ answer (byteAt (g .blockSize) p (file .rows))
+  pub missing : (p : ℕ) → file .length ≤ p → byteMap numbers (file .length) (g .blockSize) p ≡ refused Missing
 
 -- what is written is all there is
-fits-all : (room : ℕ) (l m : List Row) → fitting 5 room l ≡ answer m → l ≡ m
+fits-all : (room : ℕ) (l m : List Row) → withRoom 5 room l ≡ answer m → l ≡ m
 fits-all room l m = go (leb (length l * 5) room)
   where
     go : (b : Bool) → require b Short (answer l) ≡ answer m → l ≡ m
@@ -108,10 +109,10 @@ module _ (g : Given) (letter block : ℕ) (text : List ℕ) (k room : ℕ) (befo
   asked = fileIn k (indexOf g letter block text)
 
   -- where n rows were written, as `index_files::rows` promises it, the first n fives are read again
-  pub read-again : (n : ℕ) → Puts HoldsRows (rowsFor room asked) before after (Count n) → ReadAgain g asked (take (n * 5) after)
+  pub read-again : (n : ℕ) → FillsBuffer HoldsRows (rowsFor room asked) before after (Count n) → ReadAgain g asked (take (n * 5) after)
   read-again n w =
       let (l, r, c) = answered (rowsFor room asked) (λ l. answer (length l)) n (sym (w .says)) in
-      let (f, i, q) = answered asked (λ f. fitting 5 room (f .rows)) l r in
+      let (f, i, q) = answered asked (λ f. withRoom 5 room (f .rows)) l r in
       let z : f .rows ≡ l = fits-all room (f .rows) l q in
       let h : HoldsRows l before after = stored r in
       let m : n ≡ length l = cc in
@@ -120,8 +121,8 @@ module _ (g : Given) (letter block : ℕ) (text : List ℕ) (k room : ℕ) (befo
         file = f;
         found = i;
         rows = ap rowsOf s ∙ rows-numbers (f .rows);
-        placed = λ p a. ap (λ (o : List ℕ). byteMap o (f .length) (g .size) p) s ∙ byte-placed g letter block text k f i p a;
-        missing = λ p a. ap (λ (o : List ℕ). byteMap o (f .length) (g .size) p) s ∙ byte-missing g letter block text k f i p a;
+        placed = λ p a. ap (λ (o : List ℕ). byteMap o (f .length) (g .blockSize) p) s ∙ byte-placed g letter block text k f i p a;
+        missing = λ p a. ap (λ (o : List ℕ). byteMap o (f .length) (g .blockSize) p) s ∙ byte-missing g letter block text k f i p a;
       }
     where
       stored : {l : List Row} → rowsFor room asked ≡ answer l → HoldsRows l before after

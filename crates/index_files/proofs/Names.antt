@@ -11,12 +11,12 @@ use Rattle.slices.specs.Slices.{same}
 use Rattle.slices.specs.Words.{bytes}
 use Rattle.slices.proofs.Booleans.{and-left, and-right}
 use Rattle.slices.proofs.Equal.{same-eq}
-use Rattle.index_names.specs.Sorts.{file, extentinfo, extent, skipped, unknown, holds}
-use Rattle.index_names.specs.Rows.{Row, namesOf, sortsOf}
+use Rattle.index_names.specs.Sorts.{file, extentinfo, extent, skipped, unknown, holdsElements}
+use Rattle.index_names.specs.Rows.{TableRow, namesOf, sortsOf}
 use Rattle.index_names.specs.Tables.{indexTable, placeTable, times, entryTable, ofDirectory, contentsTable, ofFile, extentinfoTable, extentTable, table, sort}
 use Rattle.index_names.specs.Names.{names, numberIn}
 use Rattle.index_names.proofs.ByKind.{by-kind, each-table}
-use Rattle.index_files.specs.Files.{namesFile, namesSkipped}
+use Rattle.index_files.specs.FileSteps.{namesFile, namesSkipped}
 
 -- a rule of sorts and names that holds at each name of a row holds of any name there, if it holds of what may not stand there
 module _ (test : ℕ → List ℕ → Bool) (other : (n : List ℕ) → test unknown n ≡ true) where
@@ -49,7 +49,7 @@ told s n = eqb s unknown || (both (namesFile n) (eqb s file) && both (namesSkipp
 told-kind : (k : ℕ) → passes told (λ n. refl) (sort k) (names k) ≡ true
 unfolding passes names sort indexTable placeTable times entryTable ofDirectory contentsTable ofFile extentinfoTable extentTable namesFile namesSkipped same bytes
 told-kind =
-    each-table (λ (rows : List Row). passes told (λ n. refl) (λ j. getD (sortsOf rows) j unknown) (namesOf rows) ≡ true) refl refl refl refl refl refl refl refl refl
+    each-table (λ (rows : List TableRow). passes told (λ n. refl) (λ j. getD (sortsOf rows) j unknown) (namesOf rows) ≡ true) refl refl refl refl refl refl refl refl refl
 
 module _ (kind : ℕ) (n : List ℕ) (e : eqb (sort kind (numberIn (names kind) n)) unknown ≡ false) where
   parts : (both (namesFile n) (eqb (sort kind (numberIn (names kind) n)) file) && both (namesSkipped n) (eqb (sort kind (numberIn (names kind) n)) skipped)) ≡ true
@@ -69,7 +69,7 @@ inFile s = eqb s file || eqb s extentinfo || eqb s extent
 
 -- what stands there is no file, and likewise in a file if it holds elements
 abbrev pub keeps : ℕ → Bool
-keeps s = not (eqb s file) && (not (holds s) || inFile s)
+keeps s = not (eqb s file) && (not (holdsElements s) || inFile s)
 
 keeps-kind : (k : ℕ) → inFile k ≡ true → passes (λ s n. keeps s) (λ n. refl) (sort k) (names k) ≡ true
 unfolding passes names sort table times entryTable ofFile extentinfoTable extentTable bytes

@@ -6,9 +6,10 @@ use Prim.Native.Nat.{ℕ, _≤_}
 use native.Mathlib.Omega.{arith}
 use Rattle.xml.specs.Tree.{Forest, none, top, pop, closed, opened, alone}
 use Rattle.elements.specs.declared.tags.Tag.the-variants.{End, Close, Open, Empty}
-use Rattle.elements.specs.Reading.{leftAt, rowAt, aroundAt, headAt, NextTag, Behind}
+use Rattle.elements.specs.Reading.{leftAt, forestAt, headAt}
+use Rattle.elements.specs.TagSteps.{aroundAt, NextTag, Behind}
 use Rattle.elements.proofs.Rows.{children-open, children-empty}
-use Rattle.index_files.specs.Files.{namesFile, namesSkipped, filesIn, filesLeft, FileAt}
+use Rattle.index_files.specs.FileSteps.{namesFile, namesSkipped, filesIn, filesLeft, FileAt}
 
 -- the files of an element with that name and those children
 abbrev here : List ℕ → Forest → List Forest
@@ -37,12 +38,12 @@ module _ {s : List ℕ} {i : ℕ} where
   files-close t = ap filesLeft (t .left)
 
   module _ {n : ℕ} (t : NextTag s i (Open n)) where
-    open-left : filesLeft (leftAt s i) ≡ here (headAt s n .name) (rowAt s n) ++ filesLeft (aroundAt s n)
+    open-left : filesLeft (leftAt s i) ≡ here (headAt s n .name) (forestAt s n) ++ filesLeft (aroundAt s n)
     unfolding filesLeft filesIn opened
     open-left =
         ap filesLeft (t .left)
-        ∙ append-assoc (here (headAt s n .name) (rowAt s n)) (filesIn (top (aroundAt s n))) (filesLeft (pop (aroundAt s n)))
-        ∙ ap (λ (l : List Forest). here (headAt s n .name) (rowAt s n) ++ l) (sym (left-row (aroundAt s n)))
+        ∙ append-assoc (here (headAt s n .name) (forestAt s n)) (filesIn (top (aroundAt s n))) (filesLeft (pop (aroundAt s n)))
+        ∙ ap (λ (l : List Forest). here (headAt s n .name) (forestAt s n) ++ l) (sym (left-row (aroundAt s n)))
 
     module _ {j : ℕ} (b : Behind s n j) where
       pub file-open : namesFile (headAt s n .name) ≡ true → FileAt s i n j
@@ -63,7 +64,7 @@ module _ {s : List ℕ} {i : ℕ} where
     unfolding filesLeft filesIn alone
     empty-left =
         ap filesLeft (t .left)
-        ∙ append-assoc (here (headAt s n .name) none) (filesIn (rowAt s n)) (filesLeft (aroundAt s n))
+        ∙ append-assoc (here (headAt s n .name) none) (filesIn (forestAt s n)) (filesLeft (aroundAt s n))
         ∙ ap (λ (l : List Forest). here (headAt s n .name) none ++ l) (sym (left-row (leftAt s n)))
 
     pub file-empty : namesFile (headAt s n .name) ≡ true → FileAt s i n n

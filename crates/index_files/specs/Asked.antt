@@ -6,16 +6,8 @@ use Prim.Native.Nat.{ℕ, zero, suc}
 use lib.ListN.{length, take, drop}
 use Rattle.refusals.specs.Refusals.{Answer, refused, answer, andThen}
 use Rattle.refusals.specs.declared.Refusal.the-variants.{Missing}
-use Rattle.slices.specs.Words.{bytes}
-use Rattle.xml.specs.Tree.{Forest}
-use Rattle.elements.specs.Reading.{childrenAt, Inside, Spans}
-use Rattle.index_values.specs.Elements.{textIn}
-use Rattle.index_values.specs.Tests.{rowsOf, lengthOf}
-use Rattle.index.specs.Index.{Index, File, fileOf}
-use Rattle.index_files.specs.declared.asked.Located.{Located}
-use Rattle.index_files.specs.declared.asked.Located.the-variants as located
-use Rattle.index_files.specs.declared.asked.FileHead.{FileHead}
-use Rattle.index_files.specs.declared.asked.FileRead.{FileRead}
+use Rattle.index.specs.Index.{Index, File}
+use Rattle.index_files.specs.declared.asked.FileTag.the-variants as located
 use Rattle.index_files.specs.declared.asked.FileRead.the-variants as file
 
 module _ {A : Type 0} where
@@ -28,40 +20,3 @@ module _ {A : Type 0} where
 -- the file of number k of an index
 abbrev pub fileIn : ℕ → Answer Index → Answer File
 fileIn k a = andThen a (λ x. nth k (x .files))
-
--- the children of the file whose tag was found, and the file
-abbrev pub childrenFound : List ℕ → Located → Answer Forest
-childrenFound s (located.At n) = answer (childrenAt s n)
-childrenFound s (located.Refused r) = refused r
-
-abbrev pub fileFound : List ℕ → Located → Answer File
-fileFound s l = andThen (childrenFound s l) (λ c. answer (fileOf c))
-
--- what is handed out of a file: its length, its name as spelled, and how many rows it has
-pub record Shown : Type 0 where
-  pub length : ℕ
-  pub name : List ℕ
-  pub rows : ℕ
-
-abbrev pub shown : File → Shown
-shown f = record { length = f .length; name = f .name; rows = length (f .rows) }
-
--- the same of a file with those children, the name by its place in the text
-pub record HeadOf (s : List ℕ) (c : Forest) (h : FileHead) : Type 0 where
-  pub length : h .length .0 ≡ lengthOf c
-  pub name : Spans s (h .name .from) (h .name .len) (textIn (bytes "name") c)
-  pub rows : h .rows ≡ lib.ListN.length (rowsOf c)
-
--- what reading a file says
-abbrev pub fileSaid : List ℕ → FileRead → Answer Shown
-fileSaid s (file.Found h) = answer (record { length = h .length .0; name = take (h .name .len) (drop (h .name .from) s); rows = h .rows })
-fileSaid s (file.Refused r) = refused r
-
--- the name lies in the text
-abbrev pub nameInside : List ℕ → FileRead → Type 0
-nameInside s (file.Found h) = Inside s (h .name .from) (h .name .len)
-nameInside s (file.Refused r) = Unit {0}
-
-pub record ReadsFile (s : List ℕ) (a : Answer File) (r : FileRead) : Type 0 where
-  pub says : fileSaid s r ≡ andThen a (λ f. answer (shown f))
-  pub inside : nameInside s r

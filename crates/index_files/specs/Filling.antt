@@ -11,37 +11,16 @@ use Rattle.slices.specs.Slices.{written}
 use Rattle.elements.specs.Reading.{Spans}
 use Rattle.extents.specs.Rows.{Row, numbersOf}
 use Rattle.index.specs.Index.{Index, File}
-use Rattle.index_files.specs.declared.asked.FileHead.{FileHead}
-use Rattle.index_files.specs.declared.filling.Filled.{Filled}
-use Rattle.index_files.specs.declared.filling.Filled.the-variants.{Count, Refused}
-
--- what filling a buffer says: how many were written
-abbrev pub countSaid : Filled → Answer ℕ
-countSaid (Count n) = answer n
-countSaid (Refused r) = refused r
 
 module _ {A : Type 0} where
   -- 10: a buffer of that length is too short for so many numbers of each
-  abbrev pub fitting : ℕ → ℕ → List A → Answer (List A)
-  fitting each room l = require (leb (length l * each) room) Short (answer l)
-
-  -- how many there are
-  abbrev pub counted : Answer (List A) → Answer ℕ
-  counted a = andThen a (λ l. answer (length l))
+  abbrev pub withRoom : ℕ → ℕ → List A → Answer (List A)
+  withRoom each room l = require (leb (length l * each) room) Short (answer l)
 
   -- the buffer after: as it was, where refused
   abbrev pub Stored : (List A → List ℕ → List ℕ → Type 0) → Answer (List A) → List ℕ → List ℕ → Type 0
   Stored holds (refused r) before after = after ≡ before
   Stored holds (answer l) before after = holds l before after
-
-  pub record Puts (holds : List A → List ℕ → List ℕ → Type 0) (a : Answer (List A)) (before after : List ℕ) (r : Filled) : Type 0 where
-    pub says : countSaid r ≡ counted a
-    pub stored : Stored holds a before after
-
--- rows written from k on, up to end
-pub record WritesRows (k : ℕ) (l : List Row) (before after : List ℕ) (end : ℕ) : Type 0 where
-  pub holds : after ≡ written k (numbersOf l) before
-  pub upTo : end ≡ k + length l * 5
 
 -- the buffer after: rows at its front, and the rest as it was
 abbrev pub HoldsRows : List Row → List ℕ → List ℕ → Type 0
@@ -72,10 +51,6 @@ pub record HoldsFiles (s : List ℕ) (fs : List File) (before after : List ℕ) 
   pub rest : drop (length fs * 4) after ≡ drop (length fs * 4) before
   pub long : length after ≡ length before
 
--- the numbers of a file that is handed out
-abbrev pub headNumbers : FileHead → List ℕ
-headNumbers h = h .length .0 ∷ h .name .from ∷ h .name .len ∷ h .rows ∷ []
-
 -- the rows of files, one file after the other
 unfoldable pub allRows : List File → List Row
 allRows [] = []
@@ -83,10 +58,10 @@ allRows (f ∷ fs) = f .rows ++ allRows fs
 
 -- where a buffer of so many numbers has room for them: the rows of a file, the files of an index, the rows of all its files
 abbrev pub rowsFor : ℕ → Answer File → Answer (List Row)
-rowsFor room a = andThen a (λ f. fitting 5 room (f .rows))
+rowsFor room a = andThen a (λ f. withRoom 5 room (f .rows))
 
 abbrev pub filesFor : ℕ → Answer Index → Answer (List File)
-filesFor room a = andThen a (λ x. fitting 4 room (x .files))
+filesFor room a = andThen a (λ x. withRoom 4 room (x .files))
 
 abbrev pub allRowsFor : ℕ → Answer Index → Answer (List Row)
-allRowsFor room a = andThen a (λ x. fitting 5 room (allRows (x .files)))
+allRowsFor room a = andThen a (λ x. withRoom 5 room (allRows (x .files)))

@@ -7,21 +7,23 @@ use crate::filling::Filled;
 use elements::Child;
 use elements::Span;
 use index::Read;
-use index_values::Volume;
+use index_values::Partitions;
 use quantities::BlockNumber;
 use quantities::ByteCount;
 use refusals::Refusal;
 ghost use mathlib.Core.Path.{_≡_};
 ghost use lib.ListN.{length};
-ghost use Rattle.elements.specs.Reading.{leftAt, rowAt, childrenAt};
-ghost use Rattle.index_values.specs.Tests.{given, rowsIn};
+ghost use Rattle.elements.specs.Reading.{leftAt, forestAt, childrenAt};
+ghost use Rattle.index_values.specs.Tests.{rowsIn};
+ghost use Rattle.index_values.specs.Steps.{given};
 ghost use Rattle.index.specs.Index.{indexOf};
-ghost use Rattle.index_files.specs.Files.{filesLeft};
-ghost use Rattle.index_files.specs.Asked.{nth, fileIn, childrenFound, fileFound, HeadOf, ReadsFile};
+ghost use Rattle.index_files.specs.FileSteps.{filesLeft};
+ghost use Rattle.index_files.specs.Asked.{nth, fileIn};
+ghost use Rattle.index_files.specs.AskedSteps.{childrenFound, fileFound, HeadOf, ReadsFile};
 ghost use Rattle.index_files.specs.Steps.{PutsRows, PutsFileRows};
 
 // The place of a file's tag.
-enum Located {
+enum FileTag {
     At(usize),
     Refused(Refusal),
 }
@@ -39,7 +41,7 @@ pub enum FileRead {
 }
 
 // The k-th file of a text.
-fn find(text: &[u8], k: u64) -> Located
+fn find(text: &[u8], k: u64) -> FileTag
     ensures { λ r. ⌜ childrenFound (now (text .entry)) r ≡ nth k (filesLeft (leftAt (now (text .entry)) 38)) ⌝ }
 {
     let mut i: usize = 38;
@@ -47,11 +49,11 @@ fn find(text: &[u8], k: u64) -> Located
     loop {
         match files::next_file(text, i) {
             NextFile::Done => {
-                return Located::Refused(Refusal::Missing);
+                return FileTag::Refused(Refusal::Missing);
             }
             NextFile::File(n, next) => {
                 if left == 0 {
-                    return Located::At(n);
+                    return FileTag::At(n);
                 }
                 left -= 1;
                 i = next;
@@ -64,22 +66,22 @@ fn find(text: &[u8], k: u64) -> Located
 fn locate(
     text: &[u8],
     uuid: &[u8],
-    volume: Volume,
+    volume: Partitions,
     letter: u8,
     block: BlockNumber,
     k: u64,
-) -> Located
+) -> FileTag
     ensures { λ r. ⌜ fileFound (now (text .entry)) r ≡ fileIn k (indexOf (given (now (uuid .entry)) volume) letter (block .0) (now (text .entry))) ⌝ }
 {
     match index::read_index(text, uuid, volume, letter, block) {
-        Read::Refused(r) => Located::Refused(r),
+        Read::Refused(r) => FileTag::Refused(r),
         Read::Found(_) => find(text, k),
     }
 }
 
 // How many rows there are from at on.
 pub(crate) fn count_rows(text: &[u8], at: usize) -> u64
-    ensures { λ r. ⌜ r ≡ length (rowsIn (rowAt (now (text .entry)) at)) ⌝ }
+    ensures { λ r. ⌜ r ≡ length (rowsIn (forestAt (now (text .entry)) at)) ⌝ }
 {
     let mut i = at;
     let mut n: u64 = 0;
@@ -112,7 +114,7 @@ pub(crate) fn head_at(text: &[u8], n: usize) -> FileHead
 pub fn file(
     text: &[u8],
     uuid: &[u8],
-    volume: Volume,
+    volume: Partitions,
     letter: u8,
     block: BlockNumber,
     k: u64,
@@ -120,14 +122,14 @@ pub fn file(
     ensures { λ r. ⌜ ReadsFile (now (text .entry)) (fileIn k (indexOf (given (now (uuid .entry)) volume) letter (block .0) (now (text .entry)))) r ⌝ }
 {
     match locate(text, uuid, volume, letter, block, k) {
-        Located::Refused(r) => FileRead::Refused(r),
-        Located::At(n) => FileRead::Found(head_at(text, n)),
+        FileTag::Refused(r) => FileRead::Refused(r),
+        FileTag::At(n) => FileRead::Found(head_at(text, n)),
     }
 }
 
 // The rows from at on, into the front of out if it has room for all of them.
 fn put_rows(text: &[u8], at: usize, out: &mut [u64]) -> Filled
-    ensures { λ r. ⌜ PutsRows (rowsIn (rowAt (now (text .entry)) at)) (now (out .entry)) (now (out .exit)) r ⌝ }
+    ensures { λ r. ⌜ PutsRows (rowsIn (forestAt (now (text .entry)) at)) (now (out .entry)) (now (out .exit)) r ⌝ }
 {
     let n = count_rows(text, at);
     if ((out.len() / 5) as u64) < n {
@@ -141,7 +143,7 @@ fn put_rows(text: &[u8], at: usize, out: &mut [u64]) -> Filled
 pub fn rows(
     text: &[u8],
     uuid: &[u8],
-    volume: Volume,
+    volume: Partitions,
     letter: u8,
     block: BlockNumber,
     k: u64,
@@ -150,7 +152,7 @@ pub fn rows(
     ensures { λ r. ⌜ PutsFileRows (now (text .entry)) (given (now (uuid .entry)) volume) letter block (now (out .entry)) (now (out .exit)) k r ⌝ }
 {
     match locate(text, uuid, volume, letter, block, k) {
-        Located::Refused(r) => Filled::Refused(r),
-        Located::At(n) => put_rows(text, extent_rows::first_row(text, n), out),
+        FileTag::Refused(r) => Filled::Refused(r),
+        FileTag::At(n) => put_rows(text, extent_rows::first_row(text, n), out),
     }
 }

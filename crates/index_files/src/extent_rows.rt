@@ -6,11 +6,11 @@ ghost use mathlib.Core.Path.{_≡_};
 ghost use mathlib.Core.Bool.{cond, _&&_};
 ghost use lib.Dec.{eqb};
 ghost use lib.ListN.{length};
-ghost use Rattle.elements.specs.Reading.{rowAt};
-ghost use Rattle.index_values.specs.Entries.{numberSaid};
+ghost use Rattle.elements.specs.Reading.{forestAt};
+ghost use Rattle.index_values.specs.Entries.{numberOrZero};
 ghost use Rattle.index_values.specs.Tests.{rowOf};
-ghost use Rattle.index_files.specs.Met.{textMet, Meets, Along};
-ghost use Rattle.index_files.specs.Rows.{rowIs, RowsFrom, RowAhead};
+ghost use Rattle.index_files.specs.MetSteps.{textMet, MeetsExtent, Along};
+ghost use Rattle.index_files.specs.RowSteps.{rowIs, RowsFrom, RowAhead};
 
 // An extent: its partition's letter (ASCII), its first block, where in that block it begins, how many bytes it has, and where in the
 // file.
@@ -59,7 +59,7 @@ fn first_of(p: usize, n: usize, named: bool) -> usize
 
 // The element at n is met, behind those of t.
 fn meet(text: &[u8], n: usize, t: Tags) -> Tags
-    ensures { λ r. ⌜ Meets (now (text .entry)) n t r ⌝ }
+    ensures { λ r. ⌜ MeetsExtent (now (text .entry)) n t r ⌝ }
 {
     let name = elements::name_of(text, n);
     Tags {
@@ -108,14 +108,14 @@ fn text_met(text: &[u8], p: usize) -> &[u8]
 
 // The number that it says.
 fn number_met(text: &[u8], p: usize) -> u64
-    ensures { λ r. ⌜ r ≡ numberSaid (textMet (now (text .entry)) p) ⌝ }
+    ensures { λ r. ⌜ r ≡ numberOrZero (textMet (now (text .entry)) p) ⌝ }
 {
     index_values::number_said(text_met(text, p))
 }
 
 // The row of the extent whose elements are the row at at.
 fn row_from(text: &[u8], at: usize) -> Row
-    ensures { λ r. ⌜ rowIs r ≡ rowOf (rowAt (now (text .entry)) at) ⌝ }
+    ensures { λ r. ⌜ rowIs r ≡ rowOf (forestAt (now (text .entry)) at) ⌝ }
 {
     let t = tags_in(text, at);
     Row {

@@ -7,11 +7,11 @@ ghost use mathlib.Core.Path.{_≡_};
 ghost use Prim.Native.Nat.{_+_, _*_, _≤_, _<_};
 ghost use lib.ListN.{length, set};
 ghost use Rattle.slices.specs.Slices.{written};
-ghost use Rattle.elements.specs.Reading.{rowAt};
+ghost use Rattle.elements.specs.Reading.{forestAt};
 ghost use Rattle.extents.specs.Rows.{five};
 ghost use Rattle.index_values.specs.Tests.{rowsIn};
-ghost use Rattle.index_files.specs.Rows.{rowIs};
-ghost use Rattle.index_files.specs.Filling.{WritesRows};
+ghost use Rattle.index_files.specs.RowSteps.{rowIs};
+ghost use Rattle.index_files.specs.FillingSteps.{WritesRows};
 
 // How many files or rows were written.
 pub enum Filled {
@@ -40,8 +40,8 @@ fn put_row(out: &mut [u64], at: usize, row: Row)
 
 // The rows from at on, into out from k on; where they end there.
 pub(crate) fn write_rows(text: &[u8], at: usize, k: usize, out: &mut [u64]) -> usize
-    requires { ⌜ k + length (rowsIn (rowAt (now text) at)) * 5 ≤ length (now out) ⌝ }
-    ensures { λ r. ⌜ WritesRows k (rowsIn (rowAt (now (text .entry)) at)) (now (out .entry)) (now (out .exit)) r ⌝ }
+    requires { ⌜ k + length (rowsIn (forestAt (now text) at)) * 5 ≤ length (now out) ⌝ }
+    ensures { λ r. ⌜ WritesRows k (rowsIn (forestAt (now (text .entry)) at)) (now (out .entry)) (now (out .exit)) r ⌝ }
 {
     let mut i = at;
     let mut j = k;

@@ -7,16 +7,17 @@ use crate::files::NextFile;
 use crate::filling;
 use crate::filling::Filled;
 use index::Read;
-use index_values::Volume;
+use index_values::Partitions;
 use quantities::BlockNumber;
 use refusals::Refusal;
 ghost use mathlib.Core.Path.{_≡_};
 ghost use Prim.Native.Nat.{_+_, _*_, _≤_};
 ghost use lib.ListN.{length};
 ghost use Rattle.slices.specs.Slices.{written};
-ghost use Rattle.index_values.specs.Tests.{given};
-ghost use Rattle.index_files.specs.Files.{filesFrom};
-ghost use Rattle.index_files.specs.Filling.{fitting, counted, countSaid, headNumbers, allRows, HoldsFiles, HoldsRows};
+ghost use Rattle.index_values.specs.Steps.{given};
+ghost use Rattle.index_files.specs.FileSteps.{filesFrom};
+ghost use Rattle.index_files.specs.Filling.{withRoom, allRows, HoldsFiles, HoldsRows};
+ghost use Rattle.index_files.specs.FillingSteps.{countOf, countAnswered, headNumbers};
 ghost use Rattle.index_files.specs.Steps.{PutsRows, PutsFiles, PutsAllRows};
 
 // The four numbers of a file, into out from at on.
@@ -55,7 +56,7 @@ fn write_files(text: &[u8], out: &mut [u64])
 pub fn all_files(
     text: &[u8],
     uuid: &[u8],
-    volume: Volume,
+    volume: Partitions,
     letter: u8,
     block: BlockNumber,
     out: &mut [u64],
@@ -76,7 +77,7 @@ pub fn all_files(
 
 // How many rows all files of an index's text have, if a buffer of so many numbers has room for them.
 fn count_all(text: &[u8], room: u64) -> Filled
-    ensures { λ r. ⌜ countSaid r ≡ counted (fitting 5 room (allRows (filesFrom (now (text .entry)) 38))) ⌝ }
+    ensures { λ r. ⌜ countAnswered r ≡ countOf (withRoom 5 room (allRows (filesFrom (now (text .entry)) 38))) ⌝ }
 {
     let most = room / 5;
     let mut i: usize = 38;
@@ -135,7 +136,7 @@ fn put_all(text: &[u8], out: &mut [u64]) -> Filled
 pub fn all_rows(
     text: &[u8],
     uuid: &[u8],
-    volume: Volume,
+    volume: Partitions,
     letter: u8,
     block: BlockNumber,
     out: &mut [u64],

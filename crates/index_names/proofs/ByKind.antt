@@ -5,14 +5,14 @@ use mathlib.Core.List.{List, []}
 use Prim.Native.Nat.{ℕ}
 use borrow.Author.Tests.{eqb-true, ne-eqb}
 use lib.Dec.{eqb}
-use Rattle.index_names.specs.Sorts.{index, place, root, directory, contents, file, extentinfo, extent}
-use Rattle.index_names.specs.Rows.{Row, someAnyNumber}
+use Rattle.index_names.specs.Sorts.{index, location, root, directory, contents, file, extentinfo, extent}
+use Rattle.index_names.specs.Rows.{TableRow, someAnyNumber}
 use Rattle.index_names.specs.Tables.{indexTable, placeTable, times, entryTable, ofDirectory, rootTable, directoryTable, contentsTable, ofFile, fileTable, extentinfoTable, extentTable, table, repeats}
 
 -- k is none of the kinds
 pub record Other (k : ℕ) : Type 0 where
   pub no-index : eqb k index ≡ false
-  pub no-place : eqb k place ≡ false
+  pub no-place : eqb k location ≡ false
   pub no-root : eqb k root ≡ false
   pub no-directory : eqb k directory ≡ false
   pub no-contents : eqb k contents ≡ false
@@ -20,9 +20,9 @@ pub record Other (k : ℕ) : Type 0 where
   pub no-extentinfo : eqb k extentinfo ≡ false
   pub no-extent : eqb k extent ≡ false
 
-pub by-kind : (P : ℕ → Type 0) → P index → P place → P root → P directory → P contents → P file → P extentinfo → P extent → ((k : ℕ) → Other k → P k) → (k : ℕ) → P k
+pub by-kind : (P : ℕ → Type 0) → P index → P location → P root → P directory → P contents → P file → P extentinfo → P extent → ((k : ℕ) → Other k → P k) → (k : ℕ) → P k
 by-kind P p1 p2 p3 p4 p5 p6 p7 p8 rest k =
-    or index p1 (λ f1. or place p2 (λ f2. or root p3 (λ f3. or directory p4 (λ f4. or contents p5 (λ f5. or file p6 (λ f6. or extentinfo p7 (λ f7. or extent p8 (λ f8.
+    or index p1 (λ f1. or location p2 (λ f2. or root p3 (λ f3. or directory p4 (λ f4. or contents p5 (λ f5. or file p6 (λ f6. or extentinfo p7 (λ f7. or extent p8 (λ f8.
     rest k (record {
       no-index = f1;
       no-place = f2;
@@ -41,11 +41,11 @@ by-kind P p1 p2 p3 p4 p5 p6 p7 p8 rest k =
         go true e = subst P (sym (eqb-true k m e)) p
         go false e = next e
 
-pub other : (k : ℕ) → (k ≡ index → ⊥) → (k ≡ place → ⊥) → (k ≡ root → ⊥) → (k ≡ directory → ⊥) → (k ≡ contents → ⊥) → (k ≡ file → ⊥) → (k ≡ extentinfo → ⊥) → (k ≡ extent → ⊥) → Other k
+pub other : (k : ℕ) → (k ≡ index → ⊥) → (k ≡ location → ⊥) → (k ≡ root → ⊥) → (k ≡ directory → ⊥) → (k ≡ contents → ⊥) → (k ≡ file → ⊥) → (k ≡ extentinfo → ⊥) → (k ≡ extent → ⊥) → Other k
 other k d1 d2 d3 d4 d5 d6 d7 d8 =
     record {
       no-index = ne-eqb k index d1;
-      no-place = ne-eqb k place d2;
+      no-place = ne-eqb k location d2;
       no-root = ne-eqb k root d3;
       no-directory = ne-eqb k directory d4;
       no-contents = ne-eqb k contents d5;
@@ -59,12 +59,12 @@ unfolding table
 no-table k o = rw (o .no-index, o .no-place, o .no-root, o .no-directory, o .no-contents, o .no-file, o .no-extentinfo, o .no-extent)
 
 -- what holds of each table, and of no row, holds of the table of any kind
-pub each-table : (P : List Row → Type 0) → P indexTable → P placeTable → P rootTable → P directoryTable → P contentsTable → P fileTable → P extentinfoTable
+pub each-table : (P : List TableRow → Type 0) → P indexTable → P placeTable → P rootTable → P directoryTable → P contentsTable → P fileTable → P extentinfoTable
     → P extentTable → P [] → (k : ℕ) → P (table k)
 unfolding table
 each-table P p1 p2 p3 p4 p5 p6 p7 p8 p k =
     either (eqb k index) p1
-    (either (eqb k place) p2
+    (either (eqb k location) p2
     (either (eqb k root) p3
     (either (eqb k directory) p4
     (either (eqb k contents) p5
@@ -72,7 +72,7 @@ each-table P p1 p2 p3 p4 p5 p6 p7 p8 p k =
     (either (eqb k extentinfo) p7
     (either (eqb k extent) p8 p)))))))
   where
-    either : (b : Bool) {x y : List Row} → P x → P y → P (cond b x y)
+    either : (b : Bool) {x y : List TableRow} → P x → P y → P (cond b x y)
     either true p q = p
     either false p q = q
 

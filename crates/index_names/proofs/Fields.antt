@@ -9,9 +9,9 @@ use lib.Dec.{eqb, leb, ltb}
 use lib.ListN.{length, getD, List·getD-eq-default}
 use Rattle.slices.proofs.Booleans.{split, and-left, and-right}
 use Rattle.index_names.specs.Sorts.{unknown}
-use Rattle.index_names.specs.Rows.{Row, sortsOf, countOnce}
+use Rattle.index_names.specs.Rows.{TableRow, sortsOf, countOnce}
 use Rattle.index_names.specs.Tables.{indexTable, placeTable, times, entryTable, ofDirectory, contentsTable, ofFile, extentinfoTable, extentTable, table, sort, must}
-use Rattle.index_names.specs.Packed.{fields, packed}
+use Rattle.index_names.specs.Steps.{fields, packed}
 use Rattle.index_names.proofs.ByKind.{each-table}
 
 -- a test of each number below n
@@ -32,15 +32,15 @@ below-at (suc n) test e j h = go (eqb j n) refl (below-at n test (and-right (tes
     go false q i = i (less (eqb-false j n q))
 
 -- the field of row j is its sort
-abbrev field : List Row → ℕ → Bool
+abbrev field : List TableRow → ℕ → Bool
 field rows j = eqb (packed rows / 2 ^ (5 * j) % 32) (getD (sortsOf rows) j unknown)
 
 -- the bits above the fields tell how many rows are `once`
-abbrev top : List Row → Bool
+abbrev top : List TableRow → Bool
 top rows = eqb (packed rows / 2 ^ 60) (countOnce rows)
 
 -- there are no more rows than fields
-abbrev short : List Row → Bool
+abbrev short : List TableRow → Bool
 short rows = leb (length (sortsOf rows)) 12
 
 tested : (kind : ℕ) → ((short (table kind) && top (table kind)) && below 12 (field (table kind))) ≡ true
@@ -48,7 +48,7 @@ unfolding below packed fields countOnce indexTable placeTable times entryTable o
 tested = each-table (λ rows. ((short rows && top rows) && below 12 (field rows)) ≡ true) refl refl refl refl refl refl refl refl refl
 
 module _ (kind : ℕ) where
-  abbrev rows : List Row
+  abbrev rows : List TableRow
   rows = table kind
 
   pub sort-past : (j : ℕ) → 11 < j → unknown ≡ sort kind j

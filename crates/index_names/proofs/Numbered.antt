@@ -6,7 +6,7 @@ use Prim.Native.Nat.{ℕ, suc, _+_, _<_, _≤_}
 use native.Mathlib.Omega.{arith}
 use lib.ListN.{length}
 use Rattle.slices.specs.Slices.{same}
-use Rattle.index_names.specs.Rows.{Row, namesOf}
+use Rattle.index_names.specs.Rows.{TableRow, namesOf}
 use Rattle.index_names.specs.Names.{names, numberIn}
 use Rattle.index_names.proofs.ByKind.{Other, no-table}
 
@@ -60,4 +60,4 @@ number-kind k m n r e q = q ∙ ap (λ (k : ℕ). numberIn (names k) n) (sym e)
 
 pub number-other : (k : ℕ) (n : List ℕ) → Other k → 0 ≡ numberIn (names k) n
 unfolding names numberIn
-number-other k n o = ap (λ (t : List Row). numberIn (namesOf t) n) (sym (no-table k o))
+number-other k n o = ap (λ (t : List TableRow). numberIn (namesOf t) n) (sym (no-table k o))

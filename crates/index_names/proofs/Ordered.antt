@@ -5,11 +5,11 @@ use mathlib.Core.Bool.{cond}
 use mathlib.Core.List.{List, _++_, map}
 use Prim.Native.Nat.{ℕ, _-_}
 use lib.ListN.{length, replicate}
-use Rattle.index_names.specs.Rows.{Often, Once, AtMostOnce, AnyNumber, Row, countOnce, someAnyNumber}
+use Rattle.index_names.specs.Rows.{Often, Once, AtMostOnce, AnyNumber, TableRow, countOnce, someAnyNumber}
 use Rattle.index_names.specs.Tables.{indexTable, placeTable, times, entryTable, ofDirectory, contentsTable, ofFile, extentinfoTable, extentTable, table, must, repeats}
 use Rattle.index_names.proofs.ByKind.{each-table}
 
-abbrev oftenIn : List Row → List Often
+abbrev oftenIn : List TableRow → List Often
 oftenIn rows = cond (someAnyNumber rows) (replicate (length rows) AnyNumber) (replicate (countOnce rows) Once ++ replicate (length rows - countOnce rows) AtMostOnce)
 
 pub often-told : (kind : ℕ)

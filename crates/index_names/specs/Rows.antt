@@ -10,25 +10,25 @@ pub data Often : Type 0 where
   AtMostOnce : Often
   AnyNumber : Often
 
-pub record Row : Type 0 where
+pub record TableRow : Type 0 where
   pub name : List ℕ
   pub sort : ℕ
   pub often : Often
 
-abbrev pub once : String → ℕ → Row
+abbrev pub once : String → ℕ → TableRow
 once word what = record { name = bytes word; sort = what; often = Once }
 
-abbrev pub atMostOnce : String → ℕ → Row
+abbrev pub atMostOnce : String → ℕ → TableRow
 atMostOnce word what = record { name = bytes word; sort = what; often = AtMostOnce }
 
-abbrev pub anyNumber : String → ℕ → Row
+abbrev pub anyNumber : String → ℕ → TableRow
 anyNumber word what = record { name = bytes word; sort = what; often = AnyNumber }
 
 -- the columns
-abbrev pub namesOf : List Row → List (List ℕ)
+abbrev pub namesOf : List TableRow → List (List ℕ)
 namesOf = map (λ r. r .name)
 
-abbrev pub sortsOf : List Row → List ℕ
+abbrev pub sortsOf : List TableRow → List ℕ
 sortsOf = map (λ r. r .sort)
 
 abbrev pub isOnce : Often → Bool
@@ -42,11 +42,11 @@ isAnyNumber AtMostOnce = false
 isAnyNumber AnyNumber = true
 
 -- how many rows are `once`
-unfoldable pub countOnce : List Row → ℕ
+unfoldable pub countOnce : List TableRow → ℕ
 countOnce [] = 0
 countOnce (r ∷ rs) = cond (isOnce (r .often)) (suc (countOnce rs)) (countOnce rs)
 
 -- whether a row is `anyNumber`
-unfoldable pub someAnyNumber : List Row → Bool
+unfoldable pub someAnyNumber : List TableRow → Bool
 someAnyNumber [] = false
 someAnyNumber (r ∷ rs) = isAnyNumber (r .often) || someAnyNumber rs

@@ -5,33 +5,33 @@ use mathlib.Core.List.{List, [], _∷_, _++_}
 use Prim.Native.Nat.{ℕ}
 use lib.Dec.{eqb}
 use lib.ListN.{getD}
-use Rattle.index_names.specs.Sorts.{unknown, index, place, root, directory, contents, file, extentinfo, extent, skipped, comment, creator, uuid, generation, time, boolean, number, letter, name, rootName, uid, rootUid}
-use Rattle.index_names.specs.Rows.{Row, once, atMostOnce, anyNumber, sortsOf, countOnce, someAnyNumber}
+use Rattle.index_names.specs.Sorts.{unknown, index, location, root, directory, contents, file, extentinfo, extent, skipped, comment, creator, uuid, generation, time, booleanSort, numberSort, letterSort, name, rootName, uid, rootUid}
+use Rattle.index_names.specs.Rows.{TableRow, once, atMostOnce, anyNumber, sortsOf, countOnce, someAnyNumber}
 
-unfoldable pub indexTable : List Row
+unfoldable pub indexTable : List TableRow
 indexTable =
     once "creator" creator
     ∷ once "volumeuuid" uuid
     ∷ once "generationnumber" generation
     ∷ once "updatetime" time
-    ∷ once "location" place
-    ∷ once "allowpolicyupdate" boolean
-    ∷ once "highestfileuid" number
+    ∷ once "location" location
+    ∷ once "allowpolicyupdate" booleanSort
+    ∷ once "highestfileuid" numberSort
     ∷ once "directory" root
     ∷ atMostOnce "comment" comment
-    ∷ atMostOnce "previousgenerationlocation" place
+    ∷ atMostOnce "previousgenerationlocation" location
     ∷ atMostOnce "dataplacementpolicy" skipped
     ∷ []
 
 -- a location
-unfoldable pub placeTable : List Row
+unfoldable pub placeTable : List TableRow
 placeTable =
-    once "partition" letter
-    ∷ once "startblock" number
+    once "partition" letterSort
+    ∷ once "startblock" numberSort
     ∷ []
 
 -- the five times
-unfoldable pub times : List Row
+unfoldable pub times : List TableRow
 times =
     once "creationtime" time
     ∷ once "changetime" time
@@ -41,61 +41,61 @@ times =
     ∷ []
 
 -- what directory and file both have; the root directory's fileuid and name are of other sorts than the others'
-unfoldable pub entryTable : ℕ → ℕ → List Row
+unfoldable pub entryTable : ℕ → ℕ → List TableRow
 entryTable itsUid itsName =
     once "fileuid" itsUid
     ∷ once "name" itsName
     ∷ times
-    ++ (once "readonly" boolean ∷ [])
+    ++ (once "readonly" booleanSort ∷ [])
 
 -- what a directory also has
-unfoldable pub ofDirectory : List Row
+unfoldable pub ofDirectory : List TableRow
 ofDirectory =
     once "contents" contents
     ∷ atMostOnce "extendedattributes" skipped
     ∷ []
 
-abbrev pub directoryTable : List Row
+abbrev pub directoryTable : List TableRow
 directoryTable = entryTable uid name ++ ofDirectory
 
-abbrev pub rootTable : List Row
+abbrev pub rootTable : List TableRow
 rootTable = entryTable rootUid rootName ++ ofDirectory
 
-unfoldable pub contentsTable : List Row
+unfoldable pub contentsTable : List TableRow
 contentsTable =
     anyNumber "directory" directory
     ∷ anyNumber "file" file
     ∷ []
 
 -- what a file also has
-unfoldable pub ofFile : List Row
+unfoldable pub ofFile : List TableRow
 ofFile =
-    once "length" number
+    once "length" numberSort
     ∷ atMostOnce "extentinfo" extentinfo
     ∷ atMostOnce "extendedattributes" skipped
     ∷ []
 
-abbrev pub fileTable : List Row
+abbrev pub fileTable : List TableRow
 fileTable = entryTable uid name ++ ofFile
 
-unfoldable pub extentinfoTable : List Row
+unfoldable pub extentinfoTable : List TableRow
 extentinfoTable = anyNumber "extent" extent ∷ []
 
 -- five values (01, Extents)
-unfoldable pub extentTable : List Row
+unfoldable pub extentTable : List TableRow
 extentTable =
-    once "fileoffset" number
-    ∷ once "partition" letter
-    ∷ once "startblock" number
-    ∷ once "byteoffset" number
-    ∷ once "bytecount" number
+    once "fileoffset" numberSort
+    ∷ once "partition" letterSort
+    ∷ once "startblock" numberSort
+    ∷ once "byteoffset" numberSort
+    ∷ once "bytecount" numberSort
     ∷ []
 
 -- of an element of that kind
-unfoldable pub table : ℕ → List Row
+unfoldable pub table : ℕ → List TableRow
 table kind =
     cond (eqb kind index) indexTable
-    (cond (eqb kind place) placeTable
+    (cond (eqb kind location) placeTable
     (cond (eqb kind root) rootTable
     (cond (eqb kind directory) directoryTable
     (cond (eqb kind contents) contentsTable

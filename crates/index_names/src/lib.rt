@@ -4,7 +4,7 @@ ghost use Rattle.index_names.specs.Sorts as sorts;
 ghost use Rattle.index_names.specs.Rows.{namesOf};
 ghost use Rattle.index_names.specs.Tables.{times, entryTable, table, sort, must, repeats};
 ghost use Rattle.index_names.specs.Names.{numberIn, names};
-ghost use Rattle.index_names.specs.Packed.{packed};
+ghost use Rattle.index_names.specs.Steps.{packed};
 
 // What an element is: one that may not stand where it does; one that holds elements, from INDEX to EXTENT; one that is skipped; or a value,
 // from COMMENT on.
@@ -151,7 +151,7 @@ fn in_index(name: &[u8]) -> usize
 
 // The number of a name among those of a place.
 fn in_place(name: &[u8]) -> usize
-    ensures { λ r. ⌜ r ≡ numberIn (names sorts.place) (now (name .entry)) ⌝ }
+    ensures { λ r. ⌜ r ≡ numberIn (names sorts.location) (now (name .entry)) ⌝ }
 {
     if slices::same(name, b"partition") {
         return 0;

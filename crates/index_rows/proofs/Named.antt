@@ -7,7 +7,7 @@ use lib.Dec.{eqb}
 use Rattle.slices.specs.Slices.{same}
 use Rattle.slices.proofs.Booleans.{split}
 use Rattle.slices.proofs.Equal.{same-eq, eq-same, ne-same, same-ne}
-use Rattle.children.specs.Rules.{Rule, placeOf}
+use Rattle.children.specs.Rules.{Rule, ruleNumber}
 use Rattle.children.proofs.Named.{nameOf, fresh, placed}
 use Rattle.index_names.specs.Names.{numberIn}
 
@@ -20,11 +20,11 @@ unfoldable pub namesOf : List Rule → List (List ℕ)
 namesOf [] = []
 namesOf (r ∷ rs) = r .name ∷ namesOf rs
 
-pub number-place : (rs : List Rule) (n : List ℕ) → placeOf rs n ≡ numberIn (namesOf rs) n
-unfolding namesOf placeOf numberIn
+pub number-place : (rs : List Rule) (n : List ℕ) → ruleNumber rs n ≡ numberIn (namesOf rs) n
+unfolding namesOf ruleNumber numberIn
 number-place [] n = refl
 number-place (r ∷ rs) n =
-    ap (λ (b : Bool). cond b 0 (suc (placeOf rs n))) (same-flip (r .name) n) ∙ ap (λ (k : ℕ). cond (same n (r .name)) 0 (suc k)) (number-place rs n)
+    ap (λ (b : Bool). cond b 0 (suc (ruleNumber rs n))) (same-flip (r .name) n) ∙ ap (λ (k : ℕ). cond (same n (r .name)) 0 (suc k)) (number-place rs n)
 
 -- a table of names, whatever their elements hold
 unfoldable pub ruled : List (List ℕ) → List Rule

@@ -9,11 +9,12 @@ use lib.Dec.{eqb, ltb}
 use lib.ListN.{length, getD, set, length-set, replicate, getD-replicate, length-replicate}
 use lib.Seq.{getD-set-same, getD-set-other}
 use Rattle.xml.specs.Tree.{Forest, none, node}
-use Rattle.elements.specs.Reading.{rowAt, headAt, childrenAt, FirstOf}
-use Rattle.children.specs.Rows.{seat}
+use Rattle.elements.specs.Reading.{forestAt, headAt, childrenAt}
+use Rattle.elements.specs.TagSteps.{FirstOf}
+use Rattle.children.specs.RowSteps.{seat}
 use Rattle.children.proofs.Seats.{seat-none, seat-some}
 use Rattle.index_names.specs.Names.{names, numberIn}
-use Rattle.index_rows.specs.Places.{firstIn, noted, Placed}
+use Rattle.index_rows.specs.Steps.{firstIn, noted, Placed}
 
 -- the first element of number j: the one noted, or else the first in what is left of the row
 abbrev pub still : List ℕ → ℕ → List ℕ → ℕ → Forest → Forest
@@ -62,19 +63,19 @@ noted-other i j n t e = go (ltb i 16 && eqb (getD t i 0) 0)
 
 -- an element of number i at n, before the row at k
 module _ (s : List ℕ) (kind i : ℕ) (t t′ : List ℕ) {m n k : ℕ} (first : FirstOf s m n k) (en : i ≡ numberIn (names kind) (headAt s n .name)) (et : t′ ≡ noted i n t) where
-  pub noting-more : (f : Forest) → Noting s kind f (rowAt s m) t → Noting s kind f (rowAt s k) t′
+  pub noting-more : (f : Forest) → Noting s kind f (forestAt s m) t → Noting s kind f (forestAt s k) t′
   unfolding firstIn noted
   noting-more f w =
       record {
         size = ap length et ∙ length-noted i n t ∙ w .size;
-        each = λ j h. w .each j h ∙ ap (still s kind t j) (first .row) ∙ go j h (eqb i j) refl ∙ sym (ap (λ (t : List ℕ). still s kind t j (rowAt s k)) et);
+        each = λ j h. w .each j h ∙ ap (still s kind t j) (first .row) ∙ go j h (eqb i j) refl ∙ sym (ap (λ (t : List ℕ). still s kind t j (forestAt s k)) et);
       }
     where
       there : n ≡ 0 → ⊥
       there e = omega (arith, first .place)
 
       go : (j : ℕ) → j < 16 → (b : Bool) → eqb i j ≡ b
-          → still s kind t j (node (headAt s n) (childrenAt s n) (rowAt s k)) ≡ still s kind (noted i n t) j (rowAt s k)
+          → still s kind t j (node (headAt s n) (childrenAt s n) (forestAt s k)) ≡ still s kind (noted i n t) j (forestAt s k)
       go j h false q =
           let e : eqb (numberIn (names kind) (headAt s n .name)) j ≡ false = ap (λ (x : ℕ). eqb x j) (sym en) ∙ q in
           rw (noted-other i j n t (λ z. eqb-false i j q (sym z)), e)
@@ -87,7 +88,7 @@ module _ (s : List ℕ) (kind i : ℕ) (t t′ : List ℕ) {m n k : ℕ} (first 
           same = eqb-true i j q
 
           at : (b : Bool) → eqb (getD t j 0) 0 ≡ b
-              → still s kind t j (node (headAt s n) (childrenAt s n) (rowAt s k)) ≡ still s kind (noted i n t) j (rowAt s k)
+              → still s kind t j (node (headAt s n) (childrenAt s n) (forestAt s k)) ≡ still s kind (noted i n t) j (forestAt s k)
           at true z =
               let v : (ltb j 16 && eqb (getD t j 0) 0) ≡ true = rw (lt-ltb j 16 h, z) in
               let y : getD (noted i n t) j 0 ≡ n =

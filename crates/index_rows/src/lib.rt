@@ -4,13 +4,14 @@ use elements::Span;
 ghost use mathlib.Core.Path.{_≡_};
 ghost use Prim.Native.Nat.{_≤_};
 ghost use lib.ListN.{length};
-ghost use Rattle.elements.specs.Reading.{rowAt, Behind, Spans};
-ghost use Rattle.children.specs.Children.{textOf, childrenOf};
-ghost use Rattle.children.specs.Rows.{seat};
-ghost use Rattle.index_rows.specs.Places.{noted, Placed};
+ghost use Rattle.elements.specs.Reading.{forestAt, Spans};
+ghost use Rattle.elements.specs.TagSteps.{Behind};
+ghost use Rattle.children.specs.Children.{textOfFirst, childrenOfFirst};
+ghost use Rattle.children.specs.RowSteps.{seat};
+ghost use Rattle.index_rows.specs.Steps.{noted, Placed};
 
 // Where the first element of each number stands, 0 where there is none, and where reading goes on behind the row.
-pub struct Row {
+pub struct RowPlaces {
     pub places: [usize; 16],
     pub at: usize,
 }
@@ -27,21 +28,21 @@ pub fn note(places: &mut [usize; 16], j: usize, at: usize)
 }
 
 // The row at at, in an element of a kind.
-pub fn read_row(text: &[u8], at: usize, kind: usize) -> Row
-    ensures { λ r. ⌜ Placed (now (text .entry)) kind (rowAt (now (text .entry)) at) (r .places) × Behind (now (text .entry)) at (r .at) ⌝ }
+pub fn read_row(text: &[u8], at: usize, kind: usize) -> RowPlaces
+    ensures { λ r. ⌜ Placed (now (text .entry)) kind (forestAt (now (text .entry)) at) (r .places) × Behind (now (text .entry)) at (r .at) ⌝ }
 {
     let mut i = at;
     let mut places = [0usize; 16];
     loop {
         match elements::next_start(text, i) {
             Next::End => {
-                return Row {
+                return RowPlaces {
                     places,
                     at: text.len(),
                 };
             }
             Next::Close(n) => {
-                return Row { places, at: n };
+                return RowPlaces { places, at: n };
             }
             Next::Opens(h) => {
                 let j = index_names::number_in(kind, elements::part(text, h.name));
@@ -58,7 +59,7 @@ pub fn read_row(text: &[u8], at: usize, kind: usize) -> Row
 
 // Where the text of the element at a place stands.
 pub fn span_at(text: &[u8], n: usize) -> Span
-    ensures { λ r. ⌜ Spans (now (text .entry)) (r .from) (r .len) (textOf (seat (now (text .entry)) n)) ⌝ }
+    ensures { λ r. ⌜ Spans (now (text .entry)) (r .from) (r .len) (textOfFirst (seat (now (text .entry)) n)) ⌝ }
 {
     if n == 0 {
         return Span { from: 0, len: 0 };
@@ -68,7 +69,7 @@ pub fn span_at(text: &[u8], n: usize) -> Span
 
 // The text of the element at a place, empty for the place 0.
 pub fn text_at(text: &[u8], n: usize) -> &[u8]
-    ensures { λ r. ⌜ now r ≡ textOf (seat (now (text .entry)) n) ⌝ }
+    ensures { λ r. ⌜ now r ≡ textOfFirst (seat (now (text .entry)) n) ⌝ }
 {
     if n == 0 {
         return &text[0..0];
@@ -78,7 +79,7 @@ pub fn text_at(text: &[u8], n: usize) -> &[u8]
 
 // Where the row of its children begins.
 pub fn row_at(text: &[u8], n: usize) -> usize
-    ensures { λ r. ⌜ (rowAt (now (text .entry)) r ≡ childrenOf (seat (now (text .entry)) n)) × (r ≤ length (now (text .entry))) ⌝ }
+    ensures { λ r. ⌜ (forestAt (now (text .entry)) r ≡ childrenOfFirst (seat (now (text .entry)) n)) × (r ≤ length (now (text .entry))) ⌝ }
 {
     if n == 0 {
         return text.len();

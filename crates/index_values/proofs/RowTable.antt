@@ -6,10 +6,11 @@ use native.Mathlib.Omega.{arith}
 use lib.ListN.{length, take, drop, set, length-append}
 use lib.Seq.{sets, sets-eq, take-at, length-take-le}
 use Rattle.xml.specs.Tree.{Forest, none, node}
-use Rattle.elements.specs.Reading.{rowAt, headAt, childrenAt}
+use Rattle.elements.specs.Reading.{forestAt, headAt, childrenAt}
 use Rattle.extents.specs.Rows.{Row, rowsOf, five}
 use Rattle.extents.proofs.Rows.{rows-count}
-use Rattle.index_values.specs.Tests.{rowOf, rowsIn, RowsRead}
+use Rattle.index_values.specs.Tests.{rowOf, rowsIn}
+use Rattle.index_values.specs.Steps.{RowsRead}
 
 pub put-five : (at : ℕ) (x : Row) (o0 o1 o2 o3 o4 o5 : List ℕ) → o1 ≡ set o0 at (x .letter) → o2 ≡ set o1 (at + 1) (x .startblock)
     → o3 ≡ set o2 (at + 2) (x .byteoffset) → o4 ≡ set o3 (at + 3) (x .bytecount) → o5 ≡ set o4 (at + 4) (x .fileoffset)
@@ -50,27 +51,27 @@ front-count out n h =
     let q : length (rowsOf (take (n * 5) out)) ≡ n * 5 / 5 = rows-count (take (n * 5) out) ∙ ap (λ (k : ℕ). k / 5) l in
     omega arith
 
-pub rows-none : (s : List ℕ) (i : ℕ) (l : List Row) → rowAt s i ≡ none → l ++ rowsIn (rowAt s i) ≡ l
+pub rows-none : (s : List ℕ) (i : ℕ) (l : List Row) → forestAt s i ≡ none → l ++ rowsIn (forestAt s i) ≡ l
 unfolding rowsIn
 rows-none s i l e = ap (λ (f : Forest). l ++ rowsIn f) e ∙ append-nil l
 
 pub rows-read : (all : List Row) (out : List ℕ) (n : ℕ) → n ≤ 1024 → n * 5 ≤ length out → all ≡ rowsOf (take (n * 5) out) → RowsRead all out n
 rows-read all out n h g e = record { all = λ z. (sym e, ap length e ∙ front-count out n g); many = λ z. absurd (omega arith) }
 
-module _ (s : List ℕ) (all : List Row) (i n : ℕ) (r : Forest) (first : rowAt s i ≡ node (headAt s n) (childrenAt s n) r) where
-  rows-first : rowsIn (rowAt s i) ≡ rowOf (childrenAt s n) ∷ rowsIn r
+module _ (s : List ℕ) (all : List Row) (i n : ℕ) (r : Forest) (first : forestAt s i ≡ node (headAt s n) (childrenAt s n) r) where
+  rows-first : rowsIn (forestAt s i) ≡ rowOf (childrenAt s n) ∷ rowsIn r
   unfolding rowsIn
   rows-first = ap rowsIn first
 
-  pub rows-too-many : (out : List ℕ) (k : ℕ) → k ≡ 1024 → k * 5 ≤ length out → all ≡ rowsOf (take (k * 5) out) ++ rowsIn (rowAt s i) → RowsRead all out 1025
+  pub rows-too-many : (out : List ℕ) (k : ℕ) → k ≡ 1024 → k * 5 ≤ length out → all ≡ rowsOf (take (k * 5) out) ++ rowsIn (forestAt s i) → RowsRead all out 1025
   rows-too-many out k e g x =
       let a : length all ≡ length (rowsOf (take (k * 5) out)) + suc (length (rowsIn r)) =
       ap length (x ∙ ap (λ (l : List Row). rowsOf (take (k * 5) out) ++ l) rows-first) ∙ length-append (rowsOf (take (k * 5) out)) (rowOf (childrenAt s n) ∷ rowsIn r) in
       let b = front-count out k g in
       record { all = λ z. absurd (omega arith); many = λ z. omega arith }
 
-  pub rows-go : (out out′ : List ℕ) (k from : ℕ) → k * 5 + 5 ≤ length out → rowAt s from ≡ childrenAt s n
-      → out′ ≡ sets out (k * 5) (five (rowOf (rowAt s from))) → all ≡ rowsOf (take (k * 5) out) ++ rowsIn (rowAt s i)
+  pub rows-go : (out out′ : List ℕ) (k from : ℕ) → k * 5 + 5 ≤ length out → forestAt s from ≡ childrenAt s n
+      → out′ ≡ sets out (k * 5) (five (rowOf (forestAt s from))) → all ≡ rowsOf (take (k * 5) out) ++ rowsIn (forestAt s i)
       → all ≡ rowsOf (take ((k + 1) * 5) out′) ++ rowsIn r
   rows-go out out′ k from h er eo x =
       let y : Row = rowOf (childrenAt s n) in

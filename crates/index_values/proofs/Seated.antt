@@ -10,43 +10,43 @@ use lib.ListN.{length, getD}
 use Rattle.slices.specs.Slices.{same, every}
 use Rattle.slices.specs.Words.{bytes}
 use Rattle.digits.specs.Decimal.{number, isNumber, plain}
-use Rattle.values.specs.Values as is
+use Rattle.values.specs.Values as values
 use Rattle.xml.specs.Tree.{Forest, none, node}
-use Rattle.children.specs.Children.{textOf, childrenOf}
-use Rattle.children.specs.Rows.{seat}
+use Rattle.children.specs.Children.{textOfFirst, childrenOfFirst}
+use Rattle.children.specs.RowSteps.{seat}
 use Rattle.index_names.specs.Sorts.{index, root, directory, file, extent}
 use Rattle.index_names.specs.Tables.{indexTable, times, entryTable, ofDirectory, ofFile, extentTable, table}
 use Rattle.index_names.specs.Names.{names, numberIn}
-use Rattle.index_rows.specs.Places.{firstIn, Placed}
+use Rattle.index_rows.specs.Steps.{firstIn, Placed}
 use Rattle.index_rows.proofs.Named.{ruled, number-own}
-use Rattle.index_values.specs.Elements.{textIn, rowIn}
-use Rattle.index_values.specs.Entries.{isEntry, numberSaid, uidOf}
+use Rattle.index_values.specs.Elements.{textIn, childrenIn}
+use Rattle.index_values.specs.Entries.{isEntry, numberOrZero, uidOf}
 
 module _ (kind j : ℕ) (name : List ℕ) (told : (n : List ℕ) → eqb (numberIn (names kind) n) j ≡ same n name) where
-  text-first : (f : Forest) → textIn name f ≡ textOf (firstIn kind j f)
-  unfolding textIn firstIn textOf
+  text-first : (f : Forest) → textIn name f ≡ textOfFirst (firstIn kind j f)
+  unfolding textIn firstIn textOfFirst
   text-first none = refl
   text-first (node h c r) = ap (λ (b : Bool). cond b (h .text) (textIn name r)) (sym (told (h .name))) ∙ go (eqb (numberIn (names kind) (h .name)) j) (text-first r)
     where
-      go : (b : Bool) → textIn name r ≡ textOf (firstIn kind j r) → cond b (h .text) (textIn name r) ≡ textOf (cond b (node h c none) (firstIn kind j r))
+      go : (b : Bool) → textIn name r ≡ textOfFirst (firstIn kind j r) → cond b (h .text) (textIn name r) ≡ textOfFirst (cond b (node h c none) (firstIn kind j r))
       go true i = refl
       go false i = i
 
-  row-first : (f : Forest) → rowIn name f ≡ childrenOf (firstIn kind j f)
-  unfolding rowIn firstIn childrenOf
+  row-first : (f : Forest) → childrenIn name f ≡ childrenOfFirst (firstIn kind j f)
+  unfolding childrenIn firstIn childrenOfFirst
   row-first none = refl
-  row-first (node h c r) = ap (λ (b : Bool). cond b c (rowIn name r)) (sym (told (h .name))) ∙ go (eqb (numberIn (names kind) (h .name)) j) (row-first r)
+  row-first (node h c r) = ap (λ (b : Bool). cond b c (childrenIn name r)) (sym (told (h .name))) ∙ go (eqb (numberIn (names kind) (h .name)) j) (row-first r)
     where
-      go : (b : Bool) → rowIn name r ≡ childrenOf (firstIn kind j r) → cond b c (rowIn name r) ≡ childrenOf (cond b (node h c none) (firstIn kind j r))
+      go : (b : Bool) → childrenIn name r ≡ childrenOfFirst (firstIn kind j r) → cond b c (childrenIn name r) ≡ childrenOfFirst (cond b (node h c none) (firstIn kind j r))
       go true i = refl
       go false i = i
 
   module _ (s : List ℕ) (f : Forest) (t : List ℕ) (placed : Placed s kind f t) (h : j < 16) where
-    text-placed : textIn name f ≡ textOf (seat s (getD t j 0))
-    text-placed = text-first f ∙ ap textOf (placed j h)
+    text-placed : textIn name f ≡ textOfFirst (seat s (getD t j 0))
+    text-placed = text-first f ∙ ap textOfFirst (placed j h)
 
-    row-placed : rowIn name f ≡ childrenOf (seat s (getD t j 0))
-    row-placed = row-first f ∙ ap childrenOf (placed j h)
+    row-placed : childrenIn name f ≡ childrenOfFirst (seat s (getD t j 0))
+    row-placed = row-first f ∙ ap childrenOfFirst (placed j h)
 
 -- of a directory or a file: its fileuid
 fileuid-told : (kind : ℕ) → isEntry kind ≡ true → (n : List ℕ) → eqb (numberIn (names kind) n) 0 ≡ same n (bytes "fileuid")
@@ -61,69 +61,69 @@ fileuid-told kind e n = go (eqb kind root) (eqb kind directory) (eqb kind file) 
     go false false false p q r o = let y : _≡_ {A = ℕ} 0 1 = cc in absurd (omega arith)
 
 pub fileuid-placed : (kind : ℕ) → isEntry kind ≡ true → (s : List ℕ) (f : Forest) (t : List ℕ) → Placed s kind f t
-    → uidOf f ≡ numberSaid (textOf (seat s (getD t 0 0)))
+    → uidOf f ≡ numberOrZero (textOfFirst (seat s (getD t 0 0)))
 unfolding uidOf
-fileuid-placed kind e s f t placed = ap numberSaid (text-placed kind 0 (bytes "fileuid") (fileuid-told kind e) s f t placed (omega arith))
+fileuid-placed kind e s f t placed = ap numberOrZero (text-placed kind 0 (bytes "fileuid") (fileuid-told kind e) s f t placed (omega arith))
 
 -- of a file: its length and its extents
 module _ (s : List ℕ) (f : Forest) (t : List ℕ) (placed : Placed s file f t) where
-  pub length-placed : textIn (bytes "length") f ≡ textOf (seat s (getD t 8 0))
+  pub length-placed : textIn (bytes "length") f ≡ textOfFirst (seat s (getD t 8 0))
   unfolding names table times entryTable ofFile bytes ruled same
   length-placed = text-placed file 8 (bytes "length") (λ n. number-own (names file) 8 n refl) s f t placed (omega arith)
 
-  pub extents-placed : rowIn (bytes "extentinfo") f ≡ childrenOf (seat s (getD t 9 0))
+  pub extents-placed : childrenIn (bytes "extentinfo") f ≡ childrenOfFirst (seat s (getD t 9 0))
   unfolding names table times entryTable ofFile bytes ruled same
   extents-placed = row-placed file 9 (bytes "extentinfo") (λ n. number-own (names file) 9 n refl) s f t placed (omega arith)
 
 -- of an extent: its five values
 module _ (s : List ℕ) (f : Forest) (t : List ℕ) (placed : Placed s extent f t) where
-  pub fileoffset-placed : textIn (bytes "fileoffset") f ≡ textOf (seat s (getD t 0 0))
+  pub fileoffset-placed : textIn (bytes "fileoffset") f ≡ textOfFirst (seat s (getD t 0 0))
   unfolding names table extentTable bytes ruled same
   fileoffset-placed = text-placed extent 0 (bytes "fileoffset") (λ n. number-own (names extent) 0 n refl) s f t placed (omega arith)
 
-  pub partition-placed : textIn (bytes "partition") f ≡ textOf (seat s (getD t 1 0))
+  pub partition-placed : textIn (bytes "partition") f ≡ textOfFirst (seat s (getD t 1 0))
   unfolding names table extentTable bytes ruled same
   partition-placed = text-placed extent 1 (bytes "partition") (λ n. number-own (names extent) 1 n refl) s f t placed (omega arith)
 
-  pub startblock-placed : textIn (bytes "startblock") f ≡ textOf (seat s (getD t 2 0))
+  pub startblock-placed : textIn (bytes "startblock") f ≡ textOfFirst (seat s (getD t 2 0))
   unfolding names table extentTable bytes ruled same
   startblock-placed = text-placed extent 2 (bytes "startblock") (λ n. number-own (names extent) 2 n refl) s f t placed (omega arith)
 
-  pub byteoffset-placed : textIn (bytes "byteoffset") f ≡ textOf (seat s (getD t 3 0))
+  pub byteoffset-placed : textIn (bytes "byteoffset") f ≡ textOfFirst (seat s (getD t 3 0))
   unfolding names table extentTable bytes ruled same
   byteoffset-placed = text-placed extent 3 (bytes "byteoffset") (λ n. number-own (names extent) 3 n refl) s f t placed (omega arith)
 
-  pub bytecount-placed : textIn (bytes "bytecount") f ≡ textOf (seat s (getD t 4 0))
+  pub bytecount-placed : textIn (bytes "bytecount") f ≡ textOfFirst (seat s (getD t 4 0))
   unfolding names table extentTable bytes ruled same
   bytecount-placed = text-placed extent 4 (bytes "bytecount") (λ n. number-own (names extent) 4 n refl) s f t placed (omega arith)
 
 -- of an index: what its header says
 module _ (s : List ℕ) (f : Forest) (t : List ℕ) (placed : Placed s index f t) where
-  pub generation-placed : textIn (bytes "generationnumber") f ≡ textOf (seat s (getD t 2 0))
+  pub generation-placed : textIn (bytes "generationnumber") f ≡ textOfFirst (seat s (getD t 2 0))
   unfolding names table indexTable bytes ruled same
   generation-placed = text-placed index 2 (bytes "generationnumber") (λ n. number-own (names index) 2 n refl) s f t placed (omega arith)
 
-  pub updatetime-placed : textIn (bytes "updatetime") f ≡ textOf (seat s (getD t 3 0))
+  pub updatetime-placed : textIn (bytes "updatetime") f ≡ textOfFirst (seat s (getD t 3 0))
   unfolding names table indexTable bytes ruled same
   updatetime-placed = text-placed index 3 (bytes "updatetime") (λ n. number-own (names index) 3 n refl) s f t placed (omega arith)
 
-  pub location-placed : rowIn (bytes "location") f ≡ childrenOf (seat s (getD t 4 0))
+  pub location-placed : childrenIn (bytes "location") f ≡ childrenOfFirst (seat s (getD t 4 0))
   unfolding names table indexTable bytes ruled same
   location-placed = row-placed index 4 (bytes "location") (λ n. number-own (names index) 4 n refl) s f t placed (omega arith)
 
-  pub allow-placed : textIn (bytes "allowpolicyupdate") f ≡ textOf (seat s (getD t 5 0))
+  pub allow-placed : textIn (bytes "allowpolicyupdate") f ≡ textOfFirst (seat s (getD t 5 0))
   unfolding names table indexTable bytes ruled same
   allow-placed = text-placed index 5 (bytes "allowpolicyupdate") (λ n. number-own (names index) 5 n refl) s f t placed (omega arith)
 
-  pub highest-placed : textIn (bytes "highestfileuid") f ≡ textOf (seat s (getD t 6 0))
+  pub highest-placed : textIn (bytes "highestfileuid") f ≡ textOfFirst (seat s (getD t 6 0))
   unfolding names table indexTable bytes ruled same
   highest-placed = text-placed index 6 (bytes "highestfileuid") (λ n. number-own (names index) 6 n refl) s f t placed (omega arith)
 
-  pub back-placed : rowIn (bytes "previousgenerationlocation") f ≡ childrenOf (seat s (getD t 9 0))
+  pub back-placed : childrenIn (bytes "previousgenerationlocation") f ≡ childrenOfFirst (seat s (getD t 9 0))
   unfolding names table indexTable bytes ruled same
   back-placed = row-placed index 9 (bytes "previousgenerationlocation") (λ n. number-own (names index) 9 n refl) s f t placed (omega arith)
 
 -- what is not there says no number
-pub no-number : numberSaid [] ≡ 0
-unfolding is.number number isNumber plain every
+pub no-number : numberOrZero [] ≡ 0
+unfolding values.number number isNumber plain every
 no-number = refl

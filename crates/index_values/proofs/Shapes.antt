@@ -5,8 +5,8 @@ use mathlib.Core.List.{List}
 use Prim.Native.Nat.{ℕ}
 use Rattle.xml.specs.Tree.{Forest, node}
 use Rattle.elements.specs.declared.starts.Start.{Start}
-use Rattle.elements.specs.Reading.{rowAt, headAt, childrenAt}
-use Rattle.elements.specs.Starts.{Starts}
+use Rattle.elements.specs.Reading.{forestAt, headAt, childrenAt}
+use Rattle.elements.specs.StartSteps.{StartsElement}
 use Rattle.elements.proofs.Rows.{node-open, node-empty}
 
 pub no-row : {leaf row : Bool} → leaf ≡ not row → leaf ≡ true → row ≡ false
@@ -18,9 +18,9 @@ has-row {leaf = leaf} {row = true} e l = refl
 has-row {leaf = leaf} {row = false} e l = cc
 
 -- the row begins with the element that comes next
-pub start-node : {s : List ℕ} {i : ℕ} {x : Start} → Starts s i x → (r : Forest) × (rowAt s i ≡ node (headAt s (x .at)) (childrenAt s (x .at)) r)
+pub start-node : {s : List ℕ} {i : ℕ} {x : Start} → StartsElement s i x → (r : Forest) × (forestAt s i ≡ node (headAt s (x .at)) (childrenAt s (x .at)) r)
 start-node {s} {i} {x} o = go (x .empty) refl
   where
-    go : (b : Bool) → x .empty ≡ b → (r : Forest) × (rowAt s i ≡ node (headAt s (x .at)) (childrenAt s (x .at)) r)
+    go : (b : Bool) → x .empty ≡ b → (r : Forest) × (forestAt s i ≡ node (headAt s (x .at)) (childrenAt s (x .at)) r)
     go true e = (_, node-empty (rw e at (o .tag)))
     go false e = (_, node-open (rw e at (o .tag)))

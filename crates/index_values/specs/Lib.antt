@@ -2,3 +2,4 @@ pub mod Elements
 pub mod Entries
 pub mod Tests
 pub mod Different
+pub mod Steps

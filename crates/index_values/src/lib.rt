@@ -8,7 +8,7 @@ pub use rows::row_in;
 pub use rows::span_in;
 pub use rows::text_in;
 pub use tests::Judged;
-pub use tests::Volume;
+pub use tests::Partitions;
 pub use tests::is_own;
 pub use tests::is_valued;
 pub use tests::judge;

@@ -4,14 +4,14 @@ use elements::Item;
 use elements::Span;
 use elements::Start;
 ghost use mathlib.Core.Path.{_≡_};
-ghost use Rattle.elements.specs.Reading.{rowAt, childrenAt, Spans};
-ghost use Rattle.elements.specs.Starts.{Shape};
-ghost use Rattle.index_values.specs.Elements.{textIn, rowIn};
-ghost use Rattle.index_values.specs.Entries.{numberSaid};
+ghost use Rattle.elements.specs.Reading.{forestAt, childrenAt, Spans};
+ghost use Rattle.elements.specs.StartSteps.{Shape};
+ghost use Rattle.index_values.specs.Elements.{textIn, childrenIn};
+ghost use Rattle.index_values.specs.Entries.{numberOrZero};
 
 // Where the text of the first element of a name in the row at at stands.
 pub fn span_in(text: &[u8], at: usize, name: &[u8]) -> Span
-    ensures { λ r. ⌜ Spans (now (text .entry)) (r .from) (r .len) (textIn (now (name .entry)) (rowAt (now (text .entry)) at)) ⌝ }
+    ensures { λ r. ⌜ Spans (now (text .entry)) (r .from) (r .len) (textIn (now (name .entry)) (forestAt (now (text .entry)) at)) ⌝ }
 {
     let mut i = at;
     loop {
@@ -31,7 +31,7 @@ pub fn span_in(text: &[u8], at: usize, name: &[u8]) -> Span
 
 // That text.
 pub fn text_in<'a>(text: &'a [u8], at: usize, name: &[u8]) -> &'a [u8]
-    ensures { λ r. ⌜ now r ≡ textIn (now (name .entry)) (rowAt (now (text .entry)) at) ⌝ }
+    ensures { λ r. ⌜ now r ≡ textIn (now (name .entry)) (forestAt (now (text .entry)) at) ⌝ }
 {
     elements::part(text, span_in(text, at, name))
 }
@@ -39,7 +39,7 @@ pub fn text_in<'a>(text: &'a [u8], at: usize, name: &[u8]) -> &'a [u8]
 // Where the row of an element's children begins.
 fn children_row(text: &[u8], h: Start) -> usize
     requires { ⌜ Shape (now text) h ⌝ }
-    ensures { λ r. ⌜ rowAt (now (text .entry)) r ≡ childrenAt (now (text .entry)) (h .at) ⌝ }
+    ensures { λ r. ⌜ forestAt (now (text .entry)) r ≡ childrenAt (now (text .entry)) (h .at) ⌝ }
 {
     if h.empty {
         return text.len();
@@ -49,7 +49,7 @@ fn children_row(text: &[u8], h: Start) -> usize
 
 // Where the row of the first element of a name in the row at at begins.
 pub fn row_in(text: &[u8], at: usize, name: &[u8]) -> usize
-    ensures { λ r. ⌜ rowAt (now (text .entry)) r ≡ rowIn (now (name .entry)) (rowAt (now (text .entry)) at) ⌝ }
+    ensures { λ r. ⌜ forestAt (now (text .entry)) r ≡ childrenIn (now (name .entry)) (forestAt (now (text .entry)) at) ⌝ }
 {
     let mut i = at;
     loop {
@@ -69,7 +69,7 @@ pub fn row_in(text: &[u8], at: usize, name: &[u8]) -> usize
 
 // The number that a text says, 0 where it says none.
 pub fn number_said(raw: &[u8]) -> u64
-    ensures { λ r. ⌜ r ≡ numberSaid (now (raw .entry)) ⌝ }
+    ensures { λ r. ⌜ r ≡ numberOrZero (now (raw .entry)) ⌝ }
 {
     match values::read_number(raw) {
         Number::Value(n) => n,

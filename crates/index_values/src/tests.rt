@@ -27,23 +27,25 @@ ghost use Rattle.extents.specs.Rows.{five};
 ghost use Rattle.extents.specs.Lawful as extents;
 ghost use lib.Dec.{eqb};
 ghost use lib.Seq.{sets};
-ghost use Rattle.values.specs.Values as is;
-ghost use Rattle.elements.specs.Reading.{rowAt, Behind};
-ghost use Rattle.children.specs.Children.{textOf};
-ghost use Rattle.children.specs.Rows.{seat};
+ghost use Rattle.values.specs.Values as values;
+ghost use Rattle.elements.specs.Reading.{forestAt};
+ghost use Rattle.elements.specs.TagSteps.{Behind};
+ghost use Rattle.children.specs.Children.{textOfFirst};
+ghost use Rattle.children.specs.RowSteps.{seat};
 ghost use Rattle.index_values.specs.Elements.{textIn};
-ghost use Rattle.index_values.specs.Entries.{numberSaid};
-ghost use Rattle.index_values.specs.Tests.{isSome, valued, own, letterSaid, rowOf, rowsIn, RowsRead, Judges, given};
+ghost use Rattle.index_values.specs.Entries.{numberOrZero};
+ghost use Rattle.index_values.specs.Tests.{isSome, valued, own, letterOrZero, rowOf, rowsIn};
+ghost use Rattle.index_values.specs.Steps.{RowsRead, TestsExtents, given};
 
 // The label's letters, and the block size.
-pub struct Volume {
-    pub first: u8,
-    pub other: u8,
-    pub size: u64,
+pub struct Partitions {
+    pub index_letter: u8,
+    pub data_letter: u8,
+    pub block_size: u64,
 }
 
 fn says_number(raw: &[u8]) -> bool
-    ensures { λ r. ⌜ r ≡ isSome (is.number (now (raw .entry))) ⌝ }
+    ensures { λ r. ⌜ r ≡ isSome (values.number (now (raw .entry))) ⌝ }
 {
     match values::read_number(raw) {
         Number::Value(_) => true,
@@ -52,7 +54,7 @@ fn says_number(raw: &[u8]) -> bool
 }
 
 fn says_boolean(raw: &[u8]) -> bool
-    ensures { λ r. ⌜ r ≡ isSome (is.boolean (now (raw .entry))) ⌝ }
+    ensures { λ r. ⌜ r ≡ isSome (values.boolean (now (raw .entry))) ⌝ }
 {
     match values::read_boolean(raw) {
         Boolean::Value(_) => true,
@@ -61,7 +63,7 @@ fn says_boolean(raw: &[u8]) -> bool
 }
 
 fn says_letter(raw: &[u8]) -> bool
-    ensures { λ r. ⌜ r ≡ isSome (is.letter (now (raw .entry))) ⌝ }
+    ensures { λ r. ⌜ r ≡ isSome (values.letter (now (raw .entry))) ⌝ }
 {
     match values::read_letter(raw) {
         Letter::Value(_) => true,
@@ -71,7 +73,7 @@ fn says_letter(raw: &[u8]) -> bool
 
 // The letter that a text says, 0 where it says none.
 pub fn letter_said(raw: &[u8]) -> u8
-    ensures { λ r. ⌜ r ≡ letterSaid (now (raw .entry)) ⌝ }
+    ensures { λ r. ⌜ r ≡ letterOrZero (now (raw .entry)) ⌝ }
 {
     match values::read_letter(raw) {
         Letter::Value(b) => b,
@@ -120,17 +122,17 @@ pub fn is_valued(sort: usize, raw: &[u8]) -> bool
 }
 
 // Whether a letter is one of the volume's.
-fn is_own_letter(b: u8, volume: Volume) -> bool
-    ensures { λ r. ⌜ r ≡ (eqb b (volume .first) || eqb b (volume .other)) ⌝ }
+fn is_own_letter(b: u8, volume: Partitions) -> bool
+    ensures { λ r. ⌜ r ≡ (eqb b (volume .«index_letter») || eqb b (volume .«data_letter»)) ⌝ }
 {
-    if b == volume.first {
+    if b == volume.index_letter {
         return true;
     }
-    b == volume.other
+    b == volume.data_letter
 }
 
 // Whether what the text of an element of a sort names is the volume's.
-pub fn is_own(uuid: &[u8], volume: Volume, sort: usize, raw: &[u8]) -> bool
+pub fn is_own(uuid: &[u8], volume: Partitions, sort: usize, raw: &[u8]) -> bool
     ensures { λ r. ⌜ r ≡ own (given (now (uuid .entry)) volume) sort (now (raw .entry)) ⌝ }
 {
     if sort == LETTER {
@@ -144,14 +146,14 @@ pub fn is_own(uuid: &[u8], volume: Volume, sort: usize, raw: &[u8]) -> bool
 
 // The number that the first element of a name says, in the row at at.
 pub fn number_named(text: &[u8], at: usize, name: &[u8]) -> u64
-    ensures { λ r. ⌜ r ≡ numberSaid (textIn (now (name .entry)) (rowAt (now (text .entry)) at)) ⌝ }
+    ensures { λ r. ⌜ r ≡ numberOrZero (textIn (now (name .entry)) (forestAt (now (text .entry)) at)) ⌝ }
 {
     rows::number_said(rows::text_in(text, at, name))
 }
 
 // The number that the element at a place says, 0 for the place 0.
 pub fn number_placed(text: &[u8], n: usize) -> u64
-    ensures { λ r. ⌜ r ≡ numberSaid (textOf (seat (now (text .entry)) n)) ⌝ }
+    ensures { λ r. ⌜ r ≡ numberOrZero (textOfFirst (seat (now (text .entry)) n)) ⌝ }
 {
     rows::number_said(index_rows::text_at(text, n))
 }
@@ -159,7 +161,7 @@ pub fn number_placed(text: &[u8], n: usize) -> u64
 // The five numbers of the extent whose row is at from, into out from at on; and where reading goes on behind it.
 fn put_row(text: &[u8], from: usize, out: &mut [u64], at: usize) -> usize
     requires { ⌜ at + 5 ≤ length (now out) ⌝ }
-    ensures { λ r. ⌜ (now (out .exit) ≡ sets (now (out .entry)) at (five (rowOf (rowAt (now (text .entry)) from)))) × Behind (now (text .entry)) from r ⌝ }
+    ensures { λ r. ⌜ (now (out .exit) ≡ sets (now (out .entry)) at (five (rowOf (forestAt (now (text .entry)) from)))) × Behind (now (text .entry)) from r ⌝ }
 {
     let row = index_rows::read_row(text, from, EXTENT);
     let places = row.places;
@@ -175,7 +177,7 @@ fn put_row(text: &[u8], from: usize, out: &mut [u64], at: usize) -> usize
 // The rows of the extents in the row at at, into out; 1,025 where there are more than 1,024.
 fn read_rows(text: &[u8], at: usize, out: &mut [u64]) -> usize
     requires { ⌜ 5120 ≤ length (now out) ⌝ }
-    ensures { λ r. ⌜ RowsRead (rowsIn (rowAt (now (text .entry)) at)) (now (out .exit)) r ⌝ }
+    ensures { λ r. ⌜ RowsRead (rowsIn (forestAt (now (text .entry)) at)) (now (out .exit)) r ⌝ }
 {
     let mut i = at;
     let mut n: usize = 0;
@@ -225,9 +227,9 @@ pub fn judge(
     places: &[usize; 16],
     out: &mut [u64; 5120],
     sort: usize,
-    volume: Volume,
+    volume: Partitions,
 ) -> Judged
-    ensures { λ r. ⌜ Judges (now (text .entry)) (now (places .entry)) sort volume (r .few) (r .lawful) ⌝ }
+    ensures { λ r. ⌜ TestsExtents (now (text .entry)) (now (places .entry)) sort volume (r .few) (r .lawful) ⌝ }
 {
     if sort != FILE {
         return Judged {
@@ -243,7 +245,7 @@ pub fn judge(
         };
     }
     let length = ByteCount(number_placed(text, places[8]));
-    let good = are_lawful(out, count, length, volume.size);
+    let good = are_lawful(out, count, length, volume.block_size);
     Judged {
         few: true,
         lawful: good,

@@ -7,8 +7,8 @@ use Rattle.refusals.specs.declared.Refusal.{Refusal}
 use Rattle.elements.specs.declared.heads.Span.{Span}
 use Rattle.label.specs.Label.{Label}
 use Rattle.label.specs.TextPlaces.{TextPlaces}
-use Rattle.label.specs.Reading.{LieIn, placesInside, placesOf, Stands, ReadsLabel}
-use Rattle.label.specs.declared.reader.Fields.{Fields}
+use Rattle.label.specs.Steps.{LieIn, placesInside, placesOf, Stands, ReadsLabel}
+use Rattle.label.specs.declared.reader.LabelFields.{LabelFields}
 use Rattle.label.specs.declared.reader.Label.{Label as Answered}
 use Rattle.label.specs.declared.reader.Label.the-variants.{Says, Refused}
 
@@ -16,10 +16,10 @@ module _ {s : List ℕ} {a : Answer Label} {w : TextPlaces} where
   pub refuses : {r : Refusal} → refused r ≡ a → ReadsLabel s a w (Refused r)
   refuses e = record { says = e; inside = tt; stands = tt }
 
-  pub said-inside : {r : Answered} {f : Fields} → r ≡ Says f → ReadsLabel s a w r → LieIn s f
+  pub said-inside : {r : Answered} {f : LabelFields} → r ≡ Says f → ReadsLabel s a w r → LieIn s f
   said-inside e p = subst (placesInside s) e (p .inside)
 
-  pub said-places : {r : Answered} {f : Fields} → r ≡ Says f → ReadsLabel s a w r → placesOf f ≡ w
+  pub said-places : {r : Answered} {f : LabelFields} → r ≡ Says f → ReadsLabel s a w r → placesOf f ≡ w
   said-places e p = subst (Stands w) e (p .stands)
 
   pub reads-as : {b : Answer Label} {v : TextPlaces} {r : Answered} → a ≡ b → w ≡ v → ReadsLabel s a w r → ReadsLabel s b v r

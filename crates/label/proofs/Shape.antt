@@ -11,10 +11,10 @@ use Rattle.slices.proofs.Booleans.{and-left, and-right}
 use Rattle.xml.specs.Tree.{Forest}
 use Rattle.elements.specs.Tags.{Tags, textPlace}
 use Rattle.elements.specs.Reading.{headAt, childrenAt}
-use Rattle.children.specs.Children.{lawful}
-use Rattle.children.specs.Rows.{Seated, Placed}
+use Rattle.children.specs.Children.{lawfulChildren}
+use Rattle.children.specs.RowSteps.{Seated, PlacedSeats}
 use Rattle.children.proofs.Found.{found-text, found-children, found-place}
-use Rattle.label.specs.Label.{Texts, ofRoot, ofLocation, ofPartitions, inside, isShaped, value, textsIn}
+use Rattle.label.specs.Label.{Texts, ofRoot, ofLocation, ofPartitions, childrenNamed, isShaped, textNamed, textsIn}
 use Rattle.label.specs.TextPlaces.{TextPlaces, placesIn}
 use Rattle.label.proofs.Places.{same-places}
 
@@ -26,11 +26,11 @@ same-texts e₀ e₁ e₂ e₃ e₄ e₅ e₆ e₇ = cc
 module _ {s : List ℕ} {f X Y : Forest} {okA okP okQ : Bool} {a p q : List ℕ} (A : Seated s ofRoot 7 f okA a)
     (ex : X ≡ childrenAt s (getD a 3 0)) (P : Seated s ofLocation 1 (X) okP p)
     (ey : Y ≡ childrenAt s (getD a 4 0)) (Q : Seated s ofPartitions 2 (Y) okQ q) where
-  location-row : okA ≡ true → inside "location" f ≡ X
+  location-row : okA ≡ true → childrenNamed "location" f ≡ X
   unfolding bytes same
   location-row t = found-children A t 3 (omega arith) refl ∙ sym ex
 
-  partitions-row : okA ≡ true → inside "partitions" f ≡ Y
+  partitions-row : okA ≡ true → childrenNamed "partitions" f ≡ Y
   unfolding bytes same
   partitions-row t = found-children A t 4 (omega arith) refl ∙ sym ey
 
@@ -39,7 +39,7 @@ module _ {s : List ℕ} {f X Y : Forest} {okA okP okQ : Bool} {a p q : List ℕ}
   shaped = go okA refl
     where
       go : (t : Bool) → okA ≡ t → (t && okP && okQ)
-          ≡ (lawful ofRoot 7 f && lawful ofLocation 1 (inside "location" f) && lawful ofPartitions 2 (inside "partitions" f))
+          ≡ (lawfulChildren ofRoot 7 f && lawfulChildren ofLocation 1 (childrenNamed "location" f) && lawfulChildren ofPartitions 2 (childrenNamed "partitions" f))
       go true e = rw (location-row e, partitions-row e, ← A .told, ← P .told, ← Q .told, e)
       go false e = rw (← A .told, e)
 
@@ -73,14 +73,14 @@ module _ {s : List ℕ} {f X Y : Forest} {okA okP okQ : Bool} {a p q : List ℕ}
         (sym (found-text A all 0 (omega arith) refl))
         (sym (found-text A all 1 (omega arith) refl))
         (sym (found-text A all 2 (omega arith) refl))
-        (sym (ap (value "partition") (location-row all) ∙ found-text P place 0 (omega arith) refl))
-        (sym (ap (value "index") (partitions-row all) ∙ found-text Q parts 0 (omega arith) refl))
-        (sym (ap (value "data") (partitions-row all) ∙ found-text Q parts 1 (omega arith) refl))
+        (sym (ap (textNamed "partition") (location-row all) ∙ found-text P place 0 (omega arith) refl))
+        (sym (ap (textNamed "index") (partitions-row all) ∙ found-text Q parts 0 (omega arith) refl))
+        (sym (ap (textNamed "data") (partitions-row all) ∙ found-text Q parts 1 (omega arith) refl))
         (sym (found-text A all 5 (omega arith) refl))
         (sym (found-text A all 6 (omega arith) refl))
 
     -- and where they stand, by the root's children's tags
-    pub standing : {g : Tags} → Placed s ofRoot g okA a
+    pub standing : {g : Tags} → PlacedSeats s ofRoot g okA a
         → _≡_ {A = TextPlaces}
         (record { creator = textPlace s (drop (getD a 0 0) s); time = textPlace s (drop (getD a 1 0) s); uuid = textPlace s (drop (getD a 2 0) s) })
         (placesIn s g)

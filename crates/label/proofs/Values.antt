@@ -9,25 +9,25 @@ use Rattle.refusals.specs.declared.Refusal.the-variants.{Form, Structure, Value
 use Rattle.quantities.specs.Sizes.{isBlockSize}
 use borrow.Author.Tests.{le-leb, lt-leb}
 use lib.ListN.{length}
-use Rattle.xml.specs.Machine.{inForm}
+use Rattle.xml.specs.CheckSteps.{inForm}
 use Rattle.xml.specs.Tree.{Head, Forest, none, node}
-use Rattle.elements.specs.Reading.{rowAt}
+use Rattle.elements.specs.Reading.{forestAt}
 use Rattle.texts.specs.Decoded.{decoded}
 use Rattle.values.specs.Values.{number, boolean, letter, version, isTime, isUuid, isCreator}
 use Rattle.label.specs.Label.{Label, Texts, isShaped, textsIn, lettersFit, labelFrom, isRoot, rootOf, firstOf, labelOf}
-use Rattle.label.specs.Parts.{Three, fitting, sized}
+use Rattle.label.specs.Steps.{Three, threeLetters, sized}
 
 pub texts-same : {c c′ t t′ u u′ : List ℕ} → c ≡ c′ → t ≡ t′ → u ≡ u′
     → (isCreator (decoded c) && isTime t && isUuid u) ≡ (isCreator (decoded c′) && isTime t′ && isUuid u′)
 texts-same p q r = cc
 
-pub letters-same : {l l′ i i′ d d′ : List ℕ} → l ≡ l′ → i ≡ i′ → d ≡ d′ → fitting (letter l) (letter i) (letter d) ≡ fitting (letter l′) (letter i′) (letter d′)
+pub letters-same : {l l′ i i′ d d′ : List ℕ} → l ≡ l′ → i ≡ i′ → d ≡ d′ → threeLetters (letter l) (letter i) (letter d) ≡ threeLetters (letter l′) (letter i′) (letter d′)
 letters-same p q r = cc
 
 -- the letters are told together
 letters-together : (a b c : Option ℕ) (next : ℕ → ℕ → ℕ → Answer Label)
     → orRefuse a Value (λ l. orRefuse b Value (λ i. orRefuse c Value (λ d. require (lettersFit l i d) Value (next l i d))))
-    ≡ orRefuse (fitting a b c) Value (λ x. next (x .location) (x .indexLetter) (x .dataLetter))
+    ≡ orRefuse (threeLetters a b c) Value (λ x. next (x .location) (x .indexLetter) (x .dataLetter))
 letters-together nothing b c next = refl
 letters-together (some l) nothing c next = refl
 letters-together (some l) (some i) nothing next = refl
@@ -59,7 +59,7 @@ module _ (release : ℕ) (t : Texts) where
       answer (record { release = release; creator = decoded (t .creator); time = t .time; uuid = t .uuid; location = l; indexLetter = i; dataLetter = d; blockSize = b; compression = c })))
 
   abbrev letters : Option Three
-  letters = fitting (letter (t .location)) (letter (t .indexLetter)) (letter (t .dataLetter))
+  letters = threeLetters (letter (t .location)) (letter (t .indexLetter)) (letter (t .dataLetter))
 
   abbrev size : Option ℕ
   size = sized (number (t .blockSize))
@@ -127,10 +127,10 @@ module _ (s : List ℕ) where
     unformed e = rw (le-leb _ _ h, e)
 
     module _ (e : inForm s ≡ true) where
-      pub no-first : rowAt s 38 ≡ none → refused Structure ≡ labelOf s
+      pub no-first : forestAt s 38 ≡ none → refused Structure ≡ labelOf s
       unfolding labelOf firstOf
       no-first z = rw (le-leb _ _ h, e, z)
 
-      pub the-first : (x : Head) (k f : Forest) → rowAt s 38 ≡ node x k f → rootOf x k ≡ labelOf s
+      pub the-first : (x : Head) (k f : Forest) → forestAt s 38 ≡ node x k f → rootOf x k ≡ labelOf s
       unfolding labelOf firstOf
       the-first x k f z = rw (le-leb _ _ h, e, z)

@@ -12,12 +12,12 @@ use Rattle.slices.specs.Slices.{same}
 use Rattle.slices.specs.Words.{bytes}
 use Rattle.quantities.specs.Letters.{isOneOf}
 use Rattle.quantities.specs.Sizes.{isBlockSize}
-use Rattle.xml.specs.Machine.{requireForm}
+use Rattle.xml.specs.CheckSteps.{requireForm}
 use Rattle.xml.specs.Tree.{Head, Forest, none, node}
-use Rattle.elements.specs.Reading.{rowAt}
+use Rattle.elements.specs.Reading.{forestAt}
 use Rattle.texts.specs.Decoded.{decoded}
 use Rattle.children.specs.Rules.{Rule, withValue, withChildren}
-use Rattle.children.specs.Children.{lawful, only, textOf, childrenOf}
+use Rattle.children.specs.Children.{lawfulChildren, only, textOfFirst, childrenOfFirst}
 use Rattle.values.specs.Values.{number, boolean, letter, version, isTime, isUuid, isCreator}
 
 -- what a label says: the R of its version 2.0.R, and its values
@@ -55,27 +55,27 @@ ofLocation = withValue "partition" ∷ []
 abbrev pub ofPartitions : List Rule
 ofPartitions = withValue "index" ∷ withValue "data" ∷ []
 
-abbrev pub inside : String → Forest → Forest
-inside name f = childrenOf (only (bytes name) f)
+abbrev pub childrenNamed : String → Forest → Forest
+childrenNamed name f = childrenOfFirst (only (bytes name) f)
 
 -- 5: children once each, in any order
 unfoldable pub isShaped : Forest → Bool
-isShaped f = lawful ofRoot 7 f && lawful ofLocation 1 (inside "location" f) && lawful ofPartitions 2 (inside "partitions" f)
+isShaped f = lawfulChildren ofRoot 7 f && lawfulChildren ofLocation 1 (childrenNamed "location" f) && lawfulChildren ofPartitions 2 (childrenNamed "partitions" f)
 
-abbrev pub value : String → Forest → List ℕ
-value name f = textOf (only (bytes name) f)
+abbrev pub textNamed : String → Forest → List ℕ
+textNamed name f = textOfFirst (only (bytes name) f)
 
 unfoldable pub textsIn : Forest → Texts
 textsIn f =
     record {
-      creator = value "creator" f;
-      time = value "formattime" f;
-      uuid = value "volumeuuid" f;
-      location = value "partition" (inside "location" f);
-      indexLetter = value "index" (inside "partitions" f);
-      dataLetter = value "data" (inside "partitions" f);
-      blockSize = value "blocksize" f;
-      compression = value "compression" f;
+      creator = textNamed "creator" f;
+      time = textNamed "formattime" f;
+      uuid = textNamed "volumeuuid" f;
+      location = textNamed "partition" (childrenNamed "location" f);
+      indexLetter = textNamed "index" (childrenNamed "partitions" f);
+      dataLetter = textNamed "data" (childrenNamed "partitions" f);
+      blockSize = textNamed "blocksize" f;
+      compression = textNamed "compression" f;
     }
 
 -- the letters are different, and the location is one of them
@@ -110,4 +110,4 @@ firstOf (node h k f) = rootOf h k
 
 -- the label that a text is: 15, 4, then the root
 unfoldable pub labelOf : List ℕ → Answer Label
-labelOf s = require (leb (length s) 4096) TooMany (requireForm s (firstOf (rowAt s 38)))
+labelOf s = require (leb (length s) 4096) TooMany (requireForm s (firstOf (forestAt s 38)))

@@ -1,5 +1,5 @@
 pub mod Label
 pub mod TextPlaces
 pub mod Parts
-pub mod Reading
+pub mod Steps
 pub mod Agreement

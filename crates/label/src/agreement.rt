@@ -1,8 +1,8 @@
 // Whether the labels of the two sides agree.
-use super::reader::Fields;
+use super::reader::LabelFields;
 ghost use mathlib.Core.Path.{_≡_};
 ghost use mathlib.Core.List.{[]};
-ghost use Rattle.label.specs.Reading.{fieldsIn};
+ghost use Rattle.label.specs.Steps.{fieldsIn};
 ghost use Rattle.label.specs.Agreement.{sameBool, sameTexts, sameNumbers, ownLetters, agree};
 
 fn same_bool(a: bool, b: bool) -> bool
@@ -15,7 +15,7 @@ fn same_bool(a: bool, b: bool) -> bool
 }
 
 // Whether the creators, the times and the UUIDs are the same.
-fn same_texts(s: &[u8], f: Fields, t: &[u8], g: Fields) -> bool
+fn same_texts(s: &[u8], f: LabelFields, t: &[u8], g: LabelFields) -> bool
     ensures { λ r. ⌜ r ≡ sameTexts (fieldsIn (now (s .entry)) f) (fieldsIn (now (t .entry)) g) ⌝ }
 {
     if !texts::same_decoded(elements::part(s, f.creator), elements::part(t, g.creator)) {
@@ -28,7 +28,7 @@ fn same_texts(s: &[u8], f: Fields, t: &[u8], g: Fields) -> bool
 }
 
 // Whether the numbers are the same.
-fn same_numbers(f: Fields, g: Fields) -> bool
+fn same_numbers(f: LabelFields, g: LabelFields) -> bool
     ensures { λ r. ⌜ r ≡ sameNumbers (fieldsIn [] f) (fieldsIn [] g) ⌝ }
 {
     if f.release != g.release {
@@ -47,7 +47,7 @@ fn same_numbers(f: Fields, g: Fields) -> bool
 }
 
 // Whether the location of each side is its own letter.
-fn own_letters(f: Fields, g: Fields) -> bool
+fn own_letters(f: LabelFields, g: LabelFields) -> bool
     ensures { λ r. ⌜ r ≡ ownLetters (fieldsIn [] f) (fieldsIn [] g) ⌝ }
 {
     if f.location != f.index_letter {
@@ -57,7 +57,7 @@ fn own_letters(f: Fields, g: Fields) -> bool
 }
 
 // Whether the labels agree: VOL1 and label text of the index side, with what the text says, and the same of the data side.
-pub fn labels_agree(v: &[u8], s: &[u8], f: Fields, w: &[u8], t: &[u8], g: Fields) -> bool
+pub fn labels_agree(v: &[u8], s: &[u8], f: LabelFields, w: &[u8], t: &[u8], g: LabelFields) -> bool
     ensures { λ r. ⌜ r ≡ agree (now (v .entry)) (fieldsIn (now (s .entry)) f) (now (w .entry)) (fieldsIn (now (t .entry)) g) ⌝ }
 {
     if !slices::same(v, w) {

@@ -6,19 +6,18 @@ use refusals::Refusal;
 use values::Boolean;
 use values::Letter;
 use values::Version;
-use xml::Checked;
+use xml::FormChecked;
 ghost use mathlib.Core.Path.{_≡_};
 ghost use mathlib.Core.Bool.{_&&_};
 ghost use lib.ListN.{drop};
 ghost use Rattle.elements.specs.Tags.{tagsIn};
 ghost use Rattle.elements.specs.Reading.{headAt, childrenAt};
 ghost use Rattle.texts.specs.Decoded.{decoded};
-ghost use Rattle.digits.specs.Decimal.{valueOf};
+ghost use Rattle.digits.specs.Steps.{valueOf};
 ghost use Rattle.values.specs.Values.{number, letter, isCreator, isTime, isUuid};
 ghost use Rattle.label.specs.Label.{lettersFit, labelFrom, isRoot, labelOf};
-ghost use Rattle.label.specs.TextPlaces.{textPlaces, placesAt};
-ghost use Rattle.label.specs.Parts.{sized, fitting, lettersOf};
-ghost use Rattle.label.specs.Reading.{textsAt, Finds, ReadsLabel, ReadsRoot};
+ghost use Rattle.label.specs.TextPlaces.{textPlaces};
+ghost use Rattle.label.specs.Steps.{placesAt, sized, threeLetters, lettersOf, textsAt, FindsTexts, ReadsLabel, ReadsLabelRoot};
 
 // Whether the children of the root are lawful, and the places of the elements that hold the values.
 pub struct Places {
@@ -34,7 +33,7 @@ pub struct Places {
 }
 
 // What a label says: the R of its version 2.0.R, its values, and where in the text its creator, as spelled, its time and its UUID stand.
-pub struct Fields {
+pub struct LabelFields {
     pub release: u64,
     pub creator: Span,
     pub time: Span,
@@ -47,7 +46,7 @@ pub struct Fields {
 }
 
 pub enum Label {
-    Says(Fields),
+    Says(LabelFields),
     Refused(Refusal),
 }
 
@@ -71,7 +70,7 @@ fn all_three(a: bool, b: bool, c: bool) -> bool
 
 // The children of the root at n.
 fn find_places(text: &[u8], n: usize) -> Places
-    ensures { λ r. ⌜ Finds (now (text .entry)) (childrenAt (now (text .entry)) n) (tagsIn (drop n (now (text .entry)))) r ⌝ }
+    ensures { λ r. ⌜ FindsTexts (now (text .entry)) (childrenAt (now (text .entry)) n) (tagsIn (drop n (now (text .entry)))) r ⌝ }
 {
     let all = children::read_row(
         text,
@@ -125,7 +124,7 @@ fn texts_lawful(creator: &[u8], time: &[u8], uuid: &[u8]) -> bool
 
 // The letters that the texts of a location, of an index and of a data partition say, if they fit.
 fn read_letters(location: &[u8], index: &[u8], other: &[u8]) -> Letters
-    ensures { λ r. ⌜ lettersOf r ≡ fitting (letter (now (location .entry))) (letter (now (index .entry))) (letter (now (other .entry))) ⌝ }
+    ensures { λ r. ⌜ lettersOf r ≡ threeLetters (letter (now (location .entry))) (letter (now (index .entry))) (letter (now (other .entry))) ⌝ }
 {
     let Letter::Value(l) = values::read_letter(location) else {
         return Letters::Nothing;
@@ -180,7 +179,7 @@ fn read_values(text: &[u8], p: Places, release: u64) -> Label
     else {
         return Label::Refused(Refusal::Value);
     };
-    Label::Says(Fields {
+    Label::Says(LabelFields {
         release,
         creator: elements::text_at(text, p.creator),
         time: elements::text_at(text, p.time),
@@ -205,7 +204,7 @@ fn is_root(text: &[u8], n: usize) -> bool
 
 // The root at n.
 fn read_root(text: &[u8], n: usize) -> Label
-    ensures { λ r. ⌜ ReadsRoot (now (text .entry)) n r ⌝ }
+    ensures { λ r. ⌜ ReadsLabelRoot (now (text .entry)) n r ⌝ }
 {
     if !is_root(text, n) {
         return Label::Refused(Refusal::Structure);
@@ -227,7 +226,7 @@ pub fn read(text: &[u8]) -> Label
     if 4096 < text.len() {
         return Label::Refused(Refusal::TooMany);
     }
-    let Checked::Good = xml::check(text) else {
+    let FormChecked::Good = xml::check(text) else {
         return Label::Refused(Refusal::Form);
     };
     match elements::next_child(text, 38) {

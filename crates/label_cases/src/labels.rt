@@ -1,7 +1,7 @@
 // Cases of the LTFS label.
 use elements::Span;
-use label::Fields;
 use label::Label;
+use label::LabelFields;
 use label_writer::Given;
 use slices::Written;
 
@@ -37,7 +37,7 @@ fn front_is(s: &[u8], n: usize, expected: &[u8]) -> bool {
 }
 
 // Whether the numbers of a label are those expected.
-fn numbers_as(f: Fields, release: u64, g: Given) -> bool {
+fn numbers_as(f: LabelFields, release: u64, g: Given) -> bool {
     if f.release != release {
         return false;
     }

@@ -12,11 +12,11 @@ use Rattle.slices.specs.Words.{bytes}
 use Rattle.slices.proofs.Booleans.{and-left, and-right, and-both}
 use Rattle.slices.proofs.Every.{every-append}
 use Rattle.digits.specs.Decimal.{short}
-use Rattle.xml.specs.Bytes.{declaration, isSpace, isLetter, isNameByte}
+use Rattle.xml.specs.Bytes.{declaration, isSpace, isAsciiLetter, isNameByte}
 use Rattle.xml.specs.Tree.{Forest, none, node, isNot}
 use Rattle.xml.specs.Grammar.{Spaces, NameBytes, Name, Char, Text, Entity, amp, lt, gt, quot, apos, isChar, utf8, Value, Quoted, Equals, Attribute, Start, End, Elements, Document}
-use Rattle.xml.specs.Form.{Lawful}
-use Rattle.xml.specs.Machine.{good, form, isGood, inForm}
+use Rattle.xml.specs.FormSteps.{Formed}
+use Rattle.xml.specs.CheckSteps.{good, form, isGood, inForm}
 use Rattle.xml.proofs.Form.{form-reads, same-form, in-form}
 use Rattle.xml.proofs.Utf8.{ascii}
 use Rattle.xml.proofs.Written.{leaf, branch}
@@ -24,7 +24,7 @@ use Rattle.texts.specs.Decoded.{decodedBehind, decoded}
 use Rattle.elements.proofs.Roots.{root-row}
 use Rattle.texts.proofs.Entities.{entityByte, decoded-entity, decoded-plain}
 use Rattle.label.specs.Label.{Label}
-use Rattle.label_writer.specs.Text.{escape, escaped, word, texts, letters, numbers, opening, closing, textOf, isLawful, isGiven}
+use Rattle.label_writer.specs.Text.{escape, escaped, booleanWord, texts, letters, sizeAndCompression, textFront, textEnd, labelText, isLawfulLabel, isGiven}
 use Rattle.label_writer.specs.Characters.{isCharacters, Characters}
 use Rattle.label_writer.proofs.Characters.{are-characters}
 use Rattle.label_writer.proofs.Escaping.{escaped-append, decoded-escaped}
@@ -136,7 +136,7 @@ escaped-text {s} (Characters.more c {t = t} ok z x) =
 
 -- ---- a label's text, derived
 
-a-name : (b : ℕ) (w : List ℕ) → isLetter b ≡ true → every isNameByte w ≡ true → Name (b ∷ w)
+a-name : (b : ℕ) (w : List ℕ) → isAsciiLetter b ≡ true → every isNameByte w ≡ true → Name (b ∷ w)
 unfolding every
 a-name b w h e = Name.name h (name-bytes w e)
   where
@@ -164,19 +164,19 @@ last = 60 ∷ 47 ∷ bytes "ltfslabel" ++ 62 ∷ 10 ∷ []
 
 module _ (f : Label) (ok : Rules f) (chars : Characters (f .creator)) where
   numbers-derived : Elements 63
-      (node (named (bytes "blocksize") (short (f .blockSize))) none (node (named (bytes "compression") (word (f .compression))) none none))
-      (numbers (f .blockSize) (f .compression) ++ closing) last
-  unfolding numbers closing bytes isLetter isNameByte every
+      (node (named (bytes "blocksize") (short (f .blockSize))) none (node (named (bytes "compression") (booleanWord (f .compression))) none none))
+      (sizeAndCompression (f .blockSize) (f .compression) ++ textEnd) last
+  unfolding sizeAndCompression textEnd bytes isAsciiLetter isNameByte every
   numbers-derived =
       simp append-assoc
-      (leaf (a-name _ _ refl refl) (leaf (a-name _ _ refl refl) Elements.end (word (f .compression)) (plain-text _ (word-plain (f .compression))))
+      (leaf (a-name _ _ refl refl) (leaf (a-name _ _ refl refl) Elements.end (booleanWord (f .compression)) (plain-text _ (word-plain (f .compression))))
       (short (f .blockSize)) (plain-text _ (short-plain (f .blockSize))))
 
   letters-derived : {r : List ℕ} {g : Forest} → Elements 63 g r last → Elements 63
       (node (named (bytes "location") []) (node (named (bytes "partition") (f .location ∷ [])) none none)
       (node (named (bytes "partitions") []) (node (named (bytes "index") (f .indexLetter ∷ [])) none (node (named (bytes "data") (f .dataLetter ∷ [])) none none)) g))
       (letters (f .location) (f .indexLetter) (f .dataLetter) ++ r) last
-  unfolding letters bytes isLetter isNameByte every
+  unfolding letters bytes isAsciiLetter isNameByte every
   letters-derived x =
       branch (a-name _ _ refl refl)
       (branch (a-name _ _ refl refl) x
@@ -187,7 +187,7 @@ module _ (f : Label) (ok : Rules f) (chars : Characters (f .creator)) where
   texts-derived : {r : List ℕ} {g : Forest} → Elements 63 g r last → Elements 63
       (node (named (bytes "creator") (escaped (f .creator))) none (node (named (bytes "formattime") (f .time)) none (node (named (bytes "volumeuuid") (f .uuid)) none g)))
       (texts (f .creator) (f .time) (f .uuid) ++ r) last
-  unfolding texts bytes isLetter isNameByte every
+  unfolding texts bytes isAsciiLetter isNameByte every
   texts-derived x =
       simp append-assoc
       (leaf (a-name _ _ refl refl)
@@ -198,8 +198,8 @@ module _ (f : Label) (ok : Rules f) (chars : Characters (f .creator)) where
       (escaped (f .creator)) (escaped-text chars))
 
   -- the root's tag, and the elements x in it
-  root-derived : {r : List ℕ} → Elements 63 (children f) r last → Document (node rootHead (children f) none) (opening ++ r)
-  unfolding opening declaration bytes isLetter isNameByte isSpace every
+  root-derived : {r : List ℕ} → Elements 63 (children f) r last → Document (node rootHead (children f) none) (textFront ++ r)
+  unfolding textFront declaration bytes isAsciiLetter isNameByte isSpace every
   root-derived x =
       Document.document (Spaces.more refl Spaces.end)
       (Elements.nest {w = []}
@@ -208,36 +208,36 @@ module _ (f : Label) (ok : Rules f) (chars : Characters (f .creator)) where
       Spaces.end)
       refl Spaces.end x (End.end Spaces.end) (Spaces.more refl Spaces.end) Elements.end)
 
-  text-derived : Document (node rootHead (children f) none) (textOf f)
-  unfolding textOf
+  text-derived : Document (node rootHead (children f) none) (labelText f)
+  unfolding labelText
   text-derived =
       subst (Document (node rootHead (children f) none))
-      (sym (append-five opening (texts (f .creator) (f .time) (f .uuid)) (letters (f .location) (f .indexLetter) (f .dataLetter)) (numbers (f .blockSize) (f .compression)) closing))
+      (sym (append-five textFront (texts (f .creator) (f .time) (f .uuid)) (letters (f .location) (f .indexLetter) (f .dataLetter)) (sizeAndCompression (f .blockSize) (f .compression)) textEnd))
       (root-derived (texts-derived (letters-derived numbers-derived)))
 
 -- ---- the theorem
 
-creator-read : (f : Label) → Rules f → form (textOf f) ≡ good → Characters (f .creator)
+creator-read : (f : Label) → Rules f → form (labelText f) ≡ good → Characters (f .creator)
 creator-read f ok e =
-    let (h, k, r) = form-reads (textOf f) e in
+    let (h, k, r) = form-reads (labelText f) e in
     let z : node h k none ≡ node rootHead (children f) none = sym (root-row r) ∙ text-row f ok in
     let y : k ≡ children f = cc in
     let (_, _, inside, _) = r .lawful in
-    let (_, x, _, _) = subst Lawful y inside in
+    let (_, x, _, _) = subst Formed y inside in
     subst Characters (decoded-escaped (f .creator)) (go x)
   where
     go : (_≡_ {A = Forest} none none × Text (escaped (f .creator)) []) ⊎ Spaces (escaped (f .creator)) [] → Characters (decoded (escaped (f .creator)))
     go (inl (z, x)) = decoded-characters x
     go (inr x) = decoded-characters (plain-text _ (spaces-plain x))
 
-creator-derived : (f : Label) → Rules f → Characters (f .creator) → inForm (textOf f) ≡ true
+creator-derived : (f : Label) → Rules f → Characters (f .creator) → inForm (labelText f) ≡ true
 unfolding inForm
-creator-derived f ok x = ap isGood (same-form (textOf f) .1 (node rootHead (children f) none, text-derived f ok x))
+creator-derived f ok x = ap isGood (same-form (labelText f) .1 (node rootHead (children f) none, text-derived f ok x))
 
-pub formed-characters : (f : Label) → isLawful f ≡ true → inForm (textOf f) ≡ isCharacters (f .creator)
+pub formed-characters : (f : Label) → isLawfulLabel f ≡ true → inForm (labelText f) ≡ isCharacters (f .creator)
 formed-characters f l =
-    same-tests (inForm (textOf f)) (isCharacters (f .creator))
-    (λ e. are-characters (f .creator) .1 (creator-read f (in-rules f l) (in-form (textOf f) e)))
+    same-tests (inForm (labelText f)) (isCharacters (f .creator))
+    (λ e. are-characters (f .creator) .1 (creator-read f (in-rules f l) (in-form (labelText f) e)))
     (λ e. creator-derived f (in-rules f l) (are-characters (f .creator) .0 e))
   where
     same-tests : (a b : Bool) → (a ≡ true → b ≡ true) → (b ≡ true → a ≡ true) → a ≡ b
@@ -246,6 +246,6 @@ formed-characters f l =
     same-tests false false p q = refl
 
 -- lawful fields may be written exactly where their text is in the form
-pub given-formed : (f : Label) → isLawful f ≡ true → isGiven f ≡ inForm (textOf f)
+pub given-formed : (f : Label) → isLawfulLabel f ≡ true → isGiven f ≡ inForm (labelText f)
 unfolding isGiven
 given-formed f l = rw l (sym (formed-characters f l))

@@ -7,12 +7,12 @@ use lib.ListN.{drop}
 use Rattle.slices.specs.Slices.{every}
 use Rattle.slices.specs.Words.{bytes}
 use Rattle.digits.specs.Decimal.{short}
-use Rattle.xml.specs.Bytes.{declaration, isNameByte, isLetter, isSpace}
+use Rattle.xml.specs.Bytes.{declaration, isNameByte, isAsciiLetter, isSpace}
 use Rattle.xml.specs.Tree.{Head, Forest, none, node, front, behind, isNot, notOpen, quoteAfter, past, quoted, headOf, top, pop, closed, opened, alone, put, trees, behindTag, forests}
 use Rattle.xml.specs.Grammar.{head}
-use Rattle.elements.specs.Reading.{rowAt}
+use Rattle.elements.specs.Reading.{forestAt}
 use Rattle.label.specs.Label.{Label}
-use Rattle.label_writer.specs.Text.{escaped, word, texts, letters, numbers, opening, closing, textOf}
+use Rattle.label_writer.specs.Text.{escaped, booleanWord, texts, letters, sizeAndCompression, textFront, textEnd, labelText}
 use Rattle.label_writer.proofs.Escaping.{escaped-closed}
 use Rattle.label_writer.proofs.Fields.{Rules}
 use Rattle.label_writer.proofs.Plain.{plain-closed, letter-plain, word-plain, short-plain, time-plain, uuid-plain}
@@ -26,7 +26,7 @@ module _ (r : List ℕ) where
   texts-read : (c t u : List ℕ) → every notOpen c ≡ true → every notOpen t ≡ true → every notOpen u ≡ true
       → forests (bytes "<creator>" ++ c ++ bytes "</creator><formattime>" ++ t ++ bytes "</formattime><volumeuuid>" ++ u ++ bytes "</volumeuuid>" ++ r)
       ≡ alone (named (bytes "creator") c) (alone (named (bytes "formattime") t) (alone (named (bytes "volumeuuid") u) (forests r)))
-  unfolding bytes every isNameByte isLetter
+  unfolding bytes every isNameByte isAsciiLetter
   texts-read c t u e f g =
       simp append-assoc
       (leaf (bytes "creator") refl c _ e
@@ -37,7 +37,7 @@ module _ (r : List ℕ) where
       → forests (letters l i d ++ r)
       ≡ opened (named (bytes "location") []) (alone (named (bytes "partition") (l ∷ [])) (closed
       (opened (named (bytes "partitions") []) (alone (named (bytes "index") (i ∷ [])) (alone (named (bytes "data") (d ∷ [])) (closed (forests r)))))))
-  unfolding letters bytes every isNameByte isLetter
+  unfolding letters bytes every isNameByte isAsciiLetter
   letters-read l i d e f g =
       branch (bytes "location") refl _
       ∙ ap (opened (named (bytes "location") [])) (leaf (bytes "partition") refl (l ∷ []) _ e
@@ -50,7 +50,7 @@ module _ (r : List ℕ) where
   numbers-read : (b c : List ℕ) → every notOpen b ≡ true → every notOpen c ≡ true
       → forests (bytes "<blocksize>" ++ b ++ bytes "</blocksize><compression>" ++ c ++ bytes "</compression>" ++ r)
       ≡ alone (named (bytes "blocksize") b) (alone (named (bytes "compression") c) (forests r))
-  unfolding bytes every isNameByte isLetter
+  unfolding bytes every isNameByte isAsciiLetter
   numbers-read b c e f =
       simp append-assoc
       (leaf (bytes "blocksize") refl b _ e ∙ ap (alone (named (bytes "blocksize") b)) (leaf (bytes "compression") refl c r f))
@@ -59,12 +59,12 @@ abbrev pub rootHead : Head
 rootHead = head (bytes "ltfslabel") (bytes "version") (bytes "2.0.1") []
 
 -- the root's tag is read alike before any other
-opening-read : (s : List ℕ) → forests (drop 38 (opening ++ 60 ∷ s)) ≡ opened rootHead (forests (60 ∷ s))
-unfolding opening declaration bytes trees isNot put past quoteAfter headOf behindTag front behind quoted isNameByte isLetter isSpace
+opening-read : (s : List ℕ) → forests (drop 38 (textFront ++ 60 ∷ s)) ≡ opened rootHead (forests (60 ∷ s))
+unfolding textFront declaration bytes trees isNot put past quoteAfter headOf behindTag front behind quoted isNameByte isAsciiLetter isSpace
 opening-read s = refl
 
-closing-read : forests closing ≡ closed []
-unfolding closing bytes trees isNot put
+closing-read : forests textEnd ≡ closed []
+unfolding textEnd bytes trees isNot put
 closing-read = refl
 
 -- the root's children
@@ -76,27 +76,27 @@ children f =
     (node (named (bytes "location") []) (node (named (bytes "partition") (f .location ∷ [])) none none)
     (node (named (bytes "partitions") []) (node (named (bytes "index") (f .indexLetter ∷ [])) none (node (named (bytes "data") (f .dataLetter ∷ [])) none none))
     (node (named (bytes "blocksize") (short (f .blockSize))) none
-    (node (named (bytes "compression") (word (f .compression))) none none))))))
+    (node (named (bytes "compression") (booleanWord (f .compression))) none none))))))
 
 pub append-five : (a b c d e : List ℕ) → a ++ b ++ c ++ d ++ e ≡ a ++ (b ++ (c ++ (d ++ e)))
 append-five a b c d e = simp append-assoc
 
 module _ (f : Label) (ok : Rules f) where
-  rest-read : forests (texts (f .creator) (f .time) (f .uuid) ++ (letters (f .location) (f .indexLetter) (f .dataLetter) ++ (numbers (f .blockSize) (f .compression) ++ closing)))
+  rest-read : forests (texts (f .creator) (f .time) (f .uuid) ++ (letters (f .location) (f .indexLetter) (f .dataLetter) ++ (sizeAndCompression (f .blockSize) (f .compression) ++ textEnd)))
       ≡ children f ∷ []
-  unfolding texts numbers alone opened closed top pop
+  unfolding texts sizeAndCompression alone opened closed top pop
   rest-read =
       texts-read _ (escaped (f .creator)) (f .time) (f .uuid) (escaped-closed (f .creator)) (plain-closed _ (time-plain (f .time) (ok .time))) (plain-closed _ (uuid-plain (f .uuid) (ok .uuid)))
       ∙ ap (λ (fs : List Forest). alone (named (bytes "creator") (escaped (f .creator))) (alone (named (bytes "formattime") (f .time)) (alone (named (bytes "volumeuuid") (f .uuid)) fs)))
       (letters-read _ (f .location) (f .indexLetter) (f .dataLetter) (plain-closed _ (letter-plain _ (ok .location))) (plain-closed _ (letter-plain _ (ok .indexLetter))) (plain-closed _ (letter-plain _ (ok .dataLetter)))
       ∙ ap (λ (fs : List Forest). opened (named (bytes "location") []) (alone (named (bytes "partition") (f .location ∷ [])) (closed
       (opened (named (bytes "partitions") []) (alone (named (bytes "index") (f .indexLetter ∷ [])) (alone (named (bytes "data") (f .dataLetter ∷ [])) (closed fs)))))))
-      (numbers-read closing (short (f .blockSize)) (word (f .compression)) (plain-closed _ (short-plain (f .blockSize))) (plain-closed _ (word-plain (f .compression)))
-      ∙ ap (λ (fs : List Forest). alone (named (bytes "blocksize") (short (f .blockSize))) (alone (named (bytes "compression") (word (f .compression))) fs)) closing-read))
+      (numbers-read textEnd (short (f .blockSize)) (booleanWord (f .compression)) (plain-closed _ (short-plain (f .blockSize))) (plain-closed _ (word-plain (f .compression)))
+      ∙ ap (λ (fs : List Forest). alone (named (bytes "blocksize") (short (f .blockSize))) (alone (named (bytes "compression") (booleanWord (f .compression))) fs)) closing-read))
 
   -- behind the declaration the root stands, and nothing after it
-  pub text-row : rowAt (textOf f) 38 ≡ node rootHead (children f) none
-  unfolding textOf texts bytes opened top pop
+  pub text-row : forestAt (labelText f) 38 ≡ node rootHead (children f) none
+  unfolding labelText texts bytes opened top pop
   text-row =
-      let e = append-five opening (texts (f .creator) (f .time) (f .uuid)) (letters (f .location) (f .indexLetter) (f .dataLetter)) (numbers (f .blockSize) (f .compression)) closing in
-      ap (λ (s : List ℕ). rowAt s 38) e ∙ ap top (opening-read _ ∙ ap (opened rootHead) rest-read)
+      let e = append-five textFront (texts (f .creator) (f .time) (f .uuid)) (letters (f .location) (f .indexLetter) (f .dataLetter)) (sizeAndCompression (f .blockSize) (f .compression)) textEnd in
+      ap (λ (s : List ℕ). forestAt s 38) e ∙ ap top (opening-read _ ∙ ap (opened rootHead) rest-read)

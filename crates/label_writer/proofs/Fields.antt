@@ -6,7 +6,7 @@ use Rattle.quantities.specs.Letters.{isLetter}
 use Rattle.quantities.specs.Sizes.{isBlockSize}
 use Rattle.values.specs.Values.{isCreator, isTime, isUuid}
 use Rattle.label.specs.Label.{Label, lettersFit}
-use Rattle.label_writer.specs.Text.{areNumbers, isLawful, isGiven}
+use Rattle.label_writer.specs.Text.{areNumbers, isLawfulLabel, isGiven}
 
 module _ (f : Label) where
   abbrev texts : Bool
@@ -16,15 +16,15 @@ module _ (f : Label) where
   numbers = areNumbers (f .location) (f .indexLetter) (f .dataLetter) (f .blockSize)
 
   pub unlawful-texts : texts ≡ false → isGiven f ≡ false
-  unfolding isGiven isLawful
+  unfolding isGiven isLawfulLabel
   unlawful-texts e = rw e
 
   pub unlawful-numbers : texts ≡ true → numbers ≡ false → isGiven f ≡ false
-  unfolding isGiven isLawful
+  unfolding isGiven isLawfulLabel
   unlawful-numbers e g = rw (e, g)
 
-  pub lawful : texts ≡ true → numbers ≡ true → isLawful f ≡ true
-  unfolding isLawful
+  pub lawful : texts ≡ true → numbers ≡ true → isLawfulLabel f ≡ true
+  unfolding isLawfulLabel
   lawful e g = rw (e, g)
 
 -- each field in its rule
@@ -45,8 +45,8 @@ first {a} {b} {c} {d} {e} h =
     let r = and-left (a && b) c q in
     (and-left a b r, and-right a b r, and-right (a && b) c q, and-right (a && b && c) d p, and-right (a && b && c && d) e h)
 
-pub in-rules : (f : Label) → isLawful f ≡ true → Rules f
-unfolding isLawful areNumbers
+pub in-rules : (f : Label) → isLawfulLabel f ≡ true → Rules f
+unfolding isLawfulLabel areNumbers
 in-rules f h =
     let t : texts f ≡ true = and-left (texts f) (numbers f) h in
     let (l, i, d, g, b) = first (and-right (texts f) (numbers f) h) in

@@ -16,7 +16,7 @@ use Rattle.xml.specs.Bytes.{declaration}
 use Rattle.values.specs.Values.{isCreator, isTime, isUuid, inRanges, isPlain}
 use Rattle.values.proofs.Forms.{form-length}
 use Rattle.label.specs.Label.{Label}
-use Rattle.label_writer.specs.Text.{escape, escaped, word, texts, letters, numbers, opening, closing, textOf, isLawful}
+use Rattle.label_writer.specs.Text.{escape, escaped, booleanWord, texts, letters, sizeAndCompression, textFront, textEnd, labelText, isLawfulLabel}
 use Rattle.label_writer.proofs.Fields.{in-rules}
 
 escape-short : (b : ℕ) → length (escape b) ≤ 5
@@ -34,8 +34,8 @@ unfolding escaped
 escaped-short [] = omega arith
 escaped-short (b ∷ s) = omega (arith, length-append (escape b) (escaped s), escape-short b, escaped-short s)
 
-word-short : (c : Bool) → length (word c) ≤ 5
-unfolding word bytes
+word-short : (c : Bool) → length (booleanWord c) ≤ 5
+unfolding booleanWord bytes
 word-short true = omega arith
 word-short false = omega arith
 
@@ -52,12 +52,12 @@ unfolding isCreator
 creator-length s e = leb-true (length s) 255 (and-right (leb 1 (length s)) _ (and-left _ (every (isPlain true) s) e))
 
 -- the bytes of a text beside its values are 298
-pub length-text : (f : Label) → length (textOf f)
-    ≡ 298 + length (escaped (f .creator)) + length (f .time) + length (f .uuid) + length (short (f .blockSize)) + length (word (f .compression))
-unfolding textOf opening closing texts letters numbers declaration bytes
+pub length-text : (f : Label) → length (labelText f)
+    ≡ 298 + length (escaped (f .creator)) + length (f .time) + length (f .uuid) + length (short (f .blockSize)) + length (booleanWord (f .compression))
+unfolding labelText textFront textEnd texts letters sizeAndCompression declaration bytes
 length-text f = simp length-append (omega arith)
 
-pub text-length : (f : Label) → isLawful f ≡ true → length (textOf f) ≤ 4096
+pub text-length : (f : Label) → isLawfulLabel f ≡ true → length (labelText f) ≤ 4096
 text-length f e =
     let ok = in-rules f e in
     let b : f .blockSize ≤ 1048576 = leb-true (f .blockSize) 1048576 (and-right (leb 4096 (f .blockSize)) _ (ok .blockSize)) in

@@ -14,16 +14,16 @@ use Rattle.quantities.specs.Letters.{isLetter as isPartition}
 use Rattle.digits.specs.Decimal.{isDigit, short}
 use Rattle.digits.specs.Hex.{isHex}
 use Rattle.digits.proofs.Short.{digits-short}
-use Rattle.xml.specs.Bytes.{isSpace, isLetter, isNameByte}
+use Rattle.xml.specs.Bytes.{isSpace, isAsciiLetter, isNameByte}
 use Rattle.xml.specs.Tree.{isNot, notOpen}
-use Rattle.xml.specs.Scans.{isText}
+use Rattle.xml.specs.ScanSteps.{isText}
 use Rattle.xml.specs.Grammar.{Spaces, Text}
 use Rattle.xml.proofs.Logic.{cons-head}
 use Rattle.xml.proofs.Classes.{space-low, space-text, name-text, letter-name}
 use Rattle.xml.proofs.Utf8.{ascii}
 use Rattle.values.specs.Values.{isTime, isUuid, inRanges}
 use Rattle.values.proofs.Forms.{form-every}
-use Rattle.label_writer.specs.Text.{word}
+use Rattle.label_writer.specs.Text.{booleanWord}
 
 none-of : (a b c d : Bool) → not (a || b || c || d) ≡ true → (a ≡ false) × (b ≡ false) × (d ≡ false)
 none-of true b c d e = absurd (false≢true e)
@@ -79,11 +79,11 @@ unfolding isNameByte
 digit-plain b e = name-text b (simp (e, or-true))
 
 small-plain : (b : ℕ) → 97 ≤ b → b ≤ 122 → isText b ≡ true
-unfolding isLetter
+unfolding isAsciiLetter
 small-plain b h g = name-text b (letter-name b (simp (le-leb 97 b h, le-leb b 122 g)))
 
 large-plain : (b : ℕ) → 65 ≤ b → b ≤ 90 → isText b ≡ true
-unfolding isLetter
+unfolding isAsciiLetter
 large-plain b h g = name-text b (letter-name b (simp (le-leb 65 b h, le-leb b 90 g, or-true)))
 
 hex-plain : (b : ℕ) → isHex b ≡ true → isText b ≡ true
@@ -99,8 +99,8 @@ pub letter-plain : (b : ℕ) → isPartition b ≡ true → every isText (b ∷ 
 unfolding every
 letter-plain b e = let (x, y) = range 97 122 b e in rw (small-plain b x y)
 
-pub word-plain : (c : Bool) → every isText (word c) ≡ true
-unfolding every word bytes isText isSpace
+pub word-plain : (c : Bool) → every isText (booleanWord c) ≡ true
+unfolding every booleanWord bytes isText isSpace
 word-plain true = refl
 word-plain false = refl
 

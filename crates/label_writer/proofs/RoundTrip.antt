@@ -18,17 +18,16 @@ use Rattle.digits.specs.Runs as runs
 use Rattle.digits.specs.Decimal as decimal
 use Rattle.digits.proofs.Numbers.{number-short}
 use Rattle.xml.specs.Tree.{none}
-use Rattle.elements.specs.Reading.{isRow}
+use Rattle.elements.specs.Reading.{hasElement}
 use Rattle.texts.specs.Decoded.{decoded}
-use Rattle.children.specs.Rules.{placeOf, markOf}
-use Rattle.children.specs.Children.{holds, kept, allKnown, atMostOne, below, lawful, textOf as textOfFirst, childrenOf}
+use Rattle.children.specs.Rules.{ruleNumber, markOf}
+use Rattle.children.specs.Children.{mayHold, matching, allKnown, atMostOne, below, lawfulChildren, textOfFirst as textOfFirst, childrenOfFirst}
 use Rattle.values.specs.Values.{number, boolean, letter, version, isCreator, isTime, isUuid}
 use Rattle.label_writer.specs.declared.Given.{Given}
 use Rattle.label.specs.Label.{Label, Texts, isShaped, textsIn, labelFrom, labelOf}
-use Rattle.label.specs.Parts.{fitting, sized}
-use Rattle.label.specs.Reading.{means}
+use Rattle.label.specs.Steps.{threeLetters, sized, means}
 use Rattle.label_writer.specs.Characters.{isCharacters}
-use Rattle.label_writer.specs.Text.{escaped, word, textOf, labelOfGiven, isLawful, isGiven}
+use Rattle.label_writer.specs.Text.{escaped, booleanWord, labelText, labelOfGiven, isLawfulLabel, isGiven}
 use Rattle.writing.specs.Writing.{Writes}
 use Rattle.writing.proofs.Given.{Rereads, rereads}
 use Rattle.label_writer.proofs.Escaping.{decoded-escaped}
@@ -44,8 +43,8 @@ letter-alone : (b : ℕ) → isLetter b ≡ true → letter (b ∷ []) ≡ some 
 unfolding letter
 letter-alone b e = rw e
 
-word-says : (c : Bool) → boolean (word c) ≡ some c
-unfolding word boolean same bytes
+word-says : (c : Bool) → boolean (booleanWord c) ≡ some c
+unfolding booleanWord boolean same bytes
 word-says true = refl
 word-says false = refl
 
@@ -54,7 +53,7 @@ unfolding version same bytes decimal.number decimal.isNumber decimal.plain runs.
 version-says = refl
 
 children-shaped : (f : Label) → isShaped (children f) ≡ true
-unfolding isShaped lawful bytes same allKnown holds markOf placeOf kept atMostOne below isRow childrenOf
+unfolding isShaped lawfulChildren bytes same allKnown mayHold markOf ruleNumber matching atMostOne below hasElement childrenOfFirst
 children-shaped f = refl
 
 -- the texts that were written
@@ -68,11 +67,11 @@ shown f =
       indexLetter = f .indexLetter ∷ [];
       dataLetter = f .dataLetter ∷ [];
       blockSize = decimal.short (f .blockSize);
-      compression = word (f .compression);
+      compression = booleanWord (f .compression);
     }
 
 children-texts : (f : Label) → textsIn (children f) ≡ shown f
-unfolding textsIn bytes same kept textOfFirst childrenOf
+unfolding textsIn bytes same matching textOfFirst childrenOfFirst
 children-texts f = refl
 
 -- the same values in another release
@@ -96,7 +95,7 @@ values-read f ok =
     let h : f .blockSize ≤ 1048576 = leb-true (f .blockSize) 1048576 (and-right (leb 4096 (f .blockSize)) (leb (f .blockSize) 1048576) (ok .blockSize)) in
     let d = decoded-escaped (f .creator) in
     let e : (isCreator (decoded (escaped (f .creator))) && isTime (f .time) && isUuid (f .uuid)) ≡ true = rw (d, ok .creator, ok .time, ok .uuid) in
-    let letters : fitting (letter (f .location ∷ [])) (letter (f .indexLetter ∷ [])) (letter (f .dataLetter ∷ []))
+    let letters : threeLetters (letter (f .location ∷ [])) (letter (f .indexLetter ∷ [])) (letter (f .dataLetter ∷ []))
     ≡ some (record { location = f .location; indexLetter = f .indexLetter; dataLetter = f .dataLetter })
     = rw (letter-alone (f .location) (ok .location), letter-alone (f .indexLetter) (ok .indexLetter), letter-alone (f .dataLetter) (ok .dataLetter), ok .fit) in
     let size : sized (number (decimal.short (f .blockSize))) ≡ some (f .blockSize) = rw (number-short (f .blockSize) (omega arith)) (rw (ok .blockSize)) in
@@ -104,12 +103,12 @@ values-read f ok =
     ∙ rw d
 
 -- the text of a label of version 2.0.1 that may be written is that label
-pub text-reads : (f : Label) → isGiven f ≡ true → f .release ≡ 1 → labelOf (textOf f) ≡ answer f
+pub text-reads : (f : Label) → isGiven f ≡ true → f .release ≡ 1 → labelOf (labelText f) ≡ answer f
 unfolding isGiven same bytes
 text-reads f given e =
-    let l : isLawful f ≡ true = and-left (isLawful f) (isCharacters (f .creator)) given in
+    let l : isLawfulLabel f ≡ true = and-left (isLawfulLabel f) (isCharacters (f .creator)) given in
     let ok = in-rules f l in
-    sym (the-first (textOf f) (text-length f l) (sym (given-formed f l) ∙ given) rootHead (children f) none (text-row f ok))
+    sym (the-first (labelText f) (text-length f l) (sym (given-formed f l) ∙ given) rootHead (children f) none (text-row f ok))
     ∙ sym (the-root rootHead (children f) refl version-says (children-shaped f))
     ∙ ap (labelFrom 1) (children-texts f)
     ∙ values-read f ok
@@ -119,8 +118,8 @@ text-reads f given e =
 
 -- what `write` stored, `read` reads as the fields that were given, version 2.0.1
 pub label-rereads : (creator time uuid : List ℕ) (g : Given) (before after : List ℕ) (n : ℕ)
-    → Writes (isGiven (labelOfGiven creator time uuid g)) (textOf (labelOfGiven creator time uuid g)) before after (To n)
-    → Rereads means labelOf (textOf (labelOfGiven creator time uuid g)) (labelOfGiven creator time uuid g) after n
+    → Writes (isGiven (labelOfGiven creator time uuid g)) (labelText (labelOfGiven creator time uuid g)) before after (To n)
+    → Rereads means labelOf (labelText (labelOfGiven creator time uuid g)) (labelOfGiven creator time uuid g) after n
 label-rereads creator time uuid g before after n =
-    rereads means labelOf (isGiven (labelOfGiven creator time uuid g)) (textOf (labelOfGiven creator time uuid g)) (labelOfGiven creator time uuid g)
+    rereads means labelOf (isGiven (labelOfGiven creator time uuid g)) (labelText (labelOfGiven creator time uuid g)) (labelOfGiven creator time uuid g)
     (λ ok. text-reads (labelOfGiven creator time uuid g) ok refl) before after n

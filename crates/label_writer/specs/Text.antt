@@ -4,13 +4,11 @@ use mathlib.Core.List.{List, [], _∷_, _++_}
 use Prim.Native.Nat.{ℕ}
 use lib.Dec.{eqb}
 use Rattle.slices.specs.Words.{bytes}
-use Rattle.slices.specs.declared.Written.{Written}
 use Rattle.quantities.specs.Letters.{isLetter}
 use Rattle.quantities.specs.Sizes.{isBlockSize}
 use Rattle.digits.specs.Decimal.{short}
 use Rattle.xml.specs.Bytes.{declaration}
 use Rattle.values.specs.Values.{isCreator, isTime, isUuid}
-use Rattle.writing.specs.Writing.{Composes, Writes}
 use Rattle.label.specs.Label.{Label, lettersFit}
 use Rattle.label_writer.specs.Characters.{isCharacters}
 use Rattle.label_writer.specs.declared.Given.{Given}
@@ -23,8 +21,8 @@ unfoldable pub escaped : List ℕ → List ℕ
 escaped [] = []
 escaped (b ∷ s) = escape b ++ escaped s
 
-unfoldable pub word : Bool → List ℕ
-word c = cond c (bytes "true") (bytes "false")
+unfoldable pub booleanWord : Bool → List ℕ
+booleanWord c = cond c (bytes "true") (bytes "false")
 
 -- the elements in document 01's order, with no space between
 unfoldable pub texts : List ℕ → List ℕ → List ℕ → List ℕ
@@ -37,18 +35,18 @@ letters location index other =
     bytes "<location><partition>" ++ (location ∷ []) ++ bytes "</partition></location><partitions><index>" ++ (index ∷ [])
     ++ bytes "</index><data>" ++ (other ∷ []) ++ bytes "</data></partitions>"
 
-unfoldable pub numbers : ℕ → Bool → List ℕ
-numbers blockSize compression = bytes "<blocksize>" ++ short blockSize ++ bytes "</blocksize><compression>" ++ word compression ++ bytes "</compression>"
+unfoldable pub sizeAndCompression : ℕ → Bool → List ℕ
+sizeAndCompression blockSize compression = bytes "<blocksize>" ++ short blockSize ++ bytes "</blocksize><compression>" ++ booleanWord compression ++ bytes "</compression>"
 
 -- the declaration, LF, the root with the elements, LF
-unfoldable pub opening : List ℕ
-opening = declaration ++ (10 ∷ []) ++ bytes "<ltfslabel version=\"2.0.1\">"
+unfoldable pub textFront : List ℕ
+textFront = declaration ++ (10 ∷ []) ++ bytes "<ltfslabel version=\"2.0.1\">"
 
-unfoldable pub closing : List ℕ
-closing = bytes "</ltfslabel>" ++ (10 ∷ [])
+unfoldable pub textEnd : List ℕ
+textEnd = bytes "</ltfslabel>" ++ (10 ∷ [])
 
-unfoldable pub textOf : Label → List ℕ
-textOf f = opening ++ texts (f .creator) (f .time) (f .uuid) ++ letters (f .location) (f .indexLetter) (f .dataLetter) ++ numbers (f .blockSize) (f .compression) ++ closing
+unfoldable pub labelText : Label → List ℕ
+labelText f = textFront ++ texts (f .creator) (f .time) (f .uuid) ++ letters (f .location) (f .indexLetter) (f .dataLetter) ++ sizeAndCompression (f .blockSize) (f .compression) ++ textEnd
 
 -- the label of the fields that a caller gives: the writer writes 2.0.1
 abbrev pub labelOfGiven : List ℕ → List ℕ → List ℕ → Given → Label
@@ -69,16 +67,9 @@ labelOfGiven creator time uuid g =
 unfoldable pub areNumbers : ℕ → ℕ → ℕ → ℕ → Bool
 areNumbers location index other blockSize = isLetter location && isLetter index && isLetter other && lettersFit location index other && isBlockSize blockSize
 
-unfoldable pub isLawful : Label → Bool
-isLawful f = (isCreator (f .creator) && isTime (f .time) && isUuid (f .uuid)) && areNumbers (f .location) (f .indexLetter) (f .dataLetter) (f .blockSize)
+unfoldable pub isLawfulLabel : Label → Bool
+isLawfulLabel f = (isCreator (f .creator) && isTime (f .time) && isUuid (f .uuid)) && areNumbers (f .location) (f .indexLetter) (f .dataLetter) (f .blockSize)
 
 -- and the creator is UTF-8 in XML 1.0's characters
 unfoldable pub isGiven : Label → Bool
-isGiven f = isLawful f && isCharacters (f .creator)
-
--- a label's text, put together at the front of a buffer that has room for it; and written there where the label may be
-abbrev pub ComposesText : Label → List ℕ → List ℕ → ℕ → Type 0
-ComposesText f = Composes (textOf f)
-
-abbrev pub WritesText : Label → List ℕ → List ℕ → Written → Type 0
-WritesText f = Writes (isGiven f) (textOf f)
+isGiven f = isLawfulLabel f && isCharacters (f .creator)

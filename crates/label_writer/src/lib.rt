@@ -4,19 +4,21 @@ use refusals::Refusal;
 use slices::Written;
 use writing::add;
 use writing::add_number;
-use xml::Checked;
+use xml::FormChecked;
 ghost use mathlib.Core.Path.{_≡_};
 ghost use mathlib.Core.Bool.{_&&_};
 ghost use mathlib.Core.List.{[], _∷_};
 ghost use Prim.Native.Nat.{_≤_};
 ghost use lib.ListN.{length, take};
-ghost use Rattle.xml.specs.Machine.{inForm};
+ghost use Rattle.xml.specs.CheckSteps.{inForm};
 ghost use Rattle.quantities.specs.Letters.{isLetter};
 ghost use Rattle.values.specs.Values.{isCreator, isTime, isUuid};
-ghost use Rattle.writing.specs.Writing.{Adds, Writes};
-ghost use Rattle.label_writer.specs.Text.{escape, escaped, word, texts, letters, numbers, labelOfGiven, areNumbers, ComposesText, WritesText};
+ghost use Rattle.writing.specs.Writing.{Writes};
+ghost use Rattle.writing.specs.Steps.{Adds};
+ghost use Rattle.label_writer.specs.Text.{escape, escaped, booleanWord, texts, letters, sizeAndCompression, labelOfGiven, areNumbers};
+ghost use Rattle.label_writer.specs.Steps.{ComposesText, WritesText};
 
-// The fields of a label that are numbers: its letters, its block size, and whether it is compressed.
+// The fields of a label that are sizeAndCompression: its letters, its block size, and whether it is compressed.
 pub struct Given {
     pub location: u8,
     pub index_letter: u8,
@@ -65,7 +67,7 @@ fn add_letter(out: &mut [u8], at: usize, b: u8) -> usize
 
 // Adds a boolean.
 fn add_word(out: &mut [u8], at: usize, c: bool) -> usize
-    ensures { λ r. ⌜ Adds (now (out .entry)) at (word c) (now (out .exit)) r ⌝ }
+    ensures { λ r. ⌜ Adds (now (out .entry)) at (booleanWord c) (now (out .exit)) r ⌝ }
 {
     if c {
         return add(out, at, b"true");
@@ -101,7 +103,7 @@ fn add_letters(out: &mut [u8], from: usize, location: u8, index: u8, other: u8) 
 
 // Adds the block size and the compression.
 fn add_numbers(out: &mut [u8], from: usize, size: u64, compression: bool) -> usize
-    ensures { λ r. ⌜ Adds (now (out .entry)) from (numbers size compression) (now (out .exit)) r ⌝ }
+    ensures { λ r. ⌜ Adds (now (out .entry)) from (sizeAndCompression size compression) (now (out .exit)) r ⌝ }
 {
     let mut at = add(out, from, b"<blocksize>");
     at = add_number(out, at, size);
@@ -164,7 +166,7 @@ fn letter(b: u8) -> bool
     quantities::is_letter(b as u64)
 }
 
-// Whether the numbers of a label are in their rules.
+// Whether the sizeAndCompression of a label are in their rules.
 fn are_numbers(g: Given) -> bool
     ensures { λ r. ⌜ r ≡ areNumbers (g .location) (g .«index_letter») (g .«data_letter») (g .«block_size») ⌝ }
 {
@@ -189,7 +191,7 @@ fn deliver(out: &mut [u8], text: &[u8], n: usize) -> Written
     ensures { λ r. ⌜ Writes (inForm (take n (now (text .entry)))) (take n (now (text .entry))) (now (out .entry)) (now (out .exit)) r ⌝ }
 {
     let part = &text[0..n];
-    let Checked::Good = xml::check(part) else {
+    let FormChecked::Good = xml::check(part) else {
         return Written::Refused(Refusal::Caller);
     };
     slices::put(out, 0, part)

@@ -10,7 +10,7 @@ use Rattle.slices.proofs.Booleans.{split}
 use Rattle.tape.specs.Tape.{mark, block, Tape, store, content, Encodes}
 use Rattle.labels.specs.declared.Laid.the-variants.{Blocks, Otherwise}
 use Rattle.labels.specs.Labels.{isLaid, bytesAt}
-use Rattle.labels.specs.Reading.{layoutOf}
+use Rattle.labels.specs.Steps.{layoutOf}
 
 record FourElements (t : Tape) : Type 0 where
   vol1 : List ℕ

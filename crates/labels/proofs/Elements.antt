@@ -6,18 +6,18 @@ use Prim.Native.Nat.{ℕ, _+_}
 use native.Mathlib.Omega.{arith}
 use lib.ListN.{length, drop, getElem?}
 use Rattle.slices.proofs.Booleans.{and-left, and-right}
-use Rattle.tape.specs.Tape.{mark, block, content, Tape, markCell, blockCell, list, lawful, isBlockLength, Encodes}
-use Rattle.tape.specs.Reading.{entryAt}
+use Rattle.tape.specs.Tape.{mark, block, content, Tape, markCell, blockCell, list, lawfulTape, isBlockLength, Encodes}
+use Rattle.tape.specs.ReadingSteps.{entryAt}
 use Rattle.tape.specs.declared.Entry.the-variants.{Mark, Block, End}
 use Rattle.tape.proofs.Walking.{entry-here, entry-none, next-here}
 use Rattle.labels.specs.declared.Step.the-variants.{Past, Other}
 use Rattle.labels.specs.declared.Laid.the-variants.{Blocks, Otherwise}
 use Rattle.labels.specs.Labels.{isMark, isBlock}
-use Rattle.labels.specs.Reading.{pastBlock, pastMark, layoutOf}
+use Rattle.labels.specs.Steps.{pastBlock, pastMark, layoutOf}
 
 -- a tape stands in a list from a place on
 pub record Stands (l : List ℕ) (at : ℕ) (t : Tape) : Type 0 where
-  pub legal : lawful t ≡ true
+  pub legal : lawfulTape t ≡ true
   pub there : drop at l ≡ list t
 
 pub stands : {l s : List ℕ} {t : Tape} → Encodes l s t → Stands l 0 t
@@ -41,14 +41,14 @@ no-step n next e = let z : _≡_ {A = ℕ} 0 1 = cc in absurd (omega arith)
 
 module _ {l : List ℕ} {at : ℕ} where
   after-mark : {t : Tape} → Stands l at (mark ∷ t) → Stands l (at + 1) t
-  unfolding lawful list
+  unfolding lawfulTape list
   after-mark {t} w = record { legal = w .legal; there = next-here l at markCell (list t) (w .there) }
 
   after-block : {x : List ℕ} {t : Tape} → Stands l at (block x ∷ t) → Stands l (at + 5) t
-  unfolding lawful list
+  unfolding lawfulTape list
   after-block {x} {t} w =
       record {
-        legal = and-right (isBlockLength (length x)) (lawful t) (w .legal);
+        legal = and-right (isBlockLength (length x)) (lawfulTape t) (w .legal);
         there = next-here l at (blockCell (length x)) (list t) (w .there);
       }
 
@@ -62,9 +62,9 @@ module _ {l : List ℕ} {at : ℕ} where
   mark-here {t} w = entry-here l at markCell (list t) refl (w .there)
 
   block-here : {x : List ℕ} {t : Tape} → Stands l at (block x ∷ t) → entryAt l at ≡ Block (length x) (at + 5)
-  unfolding list lawful
+  unfolding list lawfulTape
   block-here {x} {t} w =
-      entry-here l at (blockCell (length x)) (list t) (and-left (isBlockLength (length x)) (lawful t) (w .legal)) (w .there)
+      entry-here l at (blockCell (length x)) (list t) (and-left (isBlockLength (length x)) (lawfulTape t) (w .legal)) (w .there)
 
   block-first : (t : Tape) → Stands l at t → (n next : ℕ) → pastBlock (entryAt l at) ≡ Past n next → BlockFirst l t n next
   block-first [] w n next e = no-step n next (sym (ap pastBlock (none-here w)) ∙ e)

@@ -10,10 +10,11 @@ use Rattle.refusals.specs.Refusals.{Answer}
 use Rattle.elements.specs.Reading.{Inside}
 use Rattle.label.specs.Label.{Label as Told}
 use Rattle.label.specs.TextPlaces.{TextPlaces}
-use Rattle.label.specs.Reading.{ReadsLabel}
+use Rattle.label.specs.Steps.{ReadsLabel}
 use Rattle.label.specs.declared.reader.Label.{Label}
 use Rattle.label.specs.declared.reader.Label.the-variants.{Says, Refused}
-use Rattle.labels.specs.Reading.{placesMoved, labelMoved, BeginWithin}
+use Rattle.labels.specs.Steps.{labelMoved, BeginWithin}
+use Rattle.labels.specs.Places.{placesMoved}
 
 -- the n bytes from `by` on in the store s
 module _ (s : List ℕ) (n by : ℕ) (k : Inside s by n) where

@@ -8,17 +8,17 @@ use lib.Dec.{eqb}
 use lib.ListN.{length, take, drop}
 use lib.Seq.{length-take-le}
 use Rattle.refusals.specs.declared.Refusal.{Refusal}
-use Rattle.refusals.specs.declared.Refusal.the-variants as is
+use Rattle.refusals.specs.declared.Refusal.the-variants as refusal
 use Rattle.refusals.specs.Refusals.{refused, answer, require}
 use Rattle.slices.specs.Slices.{same}
 use Rattle.tape.specs.Tape.{Tape}
 use Rattle.tape.specs.Answers.{tapeIn}
 use Rattle.label.specs.Label.{Label, labelOf}
-use Rattle.vol1.specs.Vol1.{Fields, vol1, vol1Of, identifierIn, ownerIn, isPrinted}
+use Rattle.vol1.specs.Vol1.{Vol1Fields, vol1, vol1Of, identifierIn, ownerIn, isPrinted}
 use Rattle.label.specs.Agreement.{agree}
 use Rattle.label.specs.TextPlaces.{textPlaces}
 use Rattle.labels.specs.Labels.{isLaid, bytesAt, labelsFrom, labelsOf, labelsIn}
-use Rattle.labels.specs.Reading.{placesMoved, placesOn}
+use Rattle.labels.specs.Places.{placesMoved, placesOn}
 use Rattle.labels.proofs.Blocks.{LaidOut}
 
 -- a test that refuses with one number refuses with that number
@@ -26,22 +26,22 @@ required : {A : Type 0} (b : Bool) (r q : Refusal) (a : A) → refused r ≡ req
 required true r q a e = let z : _≡_ {A = ℕ} 0 1 = cc in absurd (omega arith)
 required false r q a e = refl
 
-pub vol1-refused : (v : List ℕ) (r : Refusal) → refused r ≡ vol1Of v → vol1Of v ≡ refused is.Vol1
+pub vol1-refused : (v : List ℕ) (r : Refusal) → refused r ≡ vol1Of v → vol1Of v ≡ refused refusal.Vol1
 unfolding vol1Of
 vol1-refused v r e =
-    required (eqb (length v) 80 && same v (vol1 (identifierIn v) (ownerIn v)) && isPrinted (identifierIn v) && isPrinted (ownerIn v)) r is.Vol1 _ e
+    required (eqb (length v) 80 && same v (vol1 (identifierIn v) (ownerIn v)) && isPrinted (identifierIn v) && isPrinted (ownerIn v)) r refusal.Vol1 _ e
 
 module _ (v s w t : List ℕ) where
-  pub no-vol1 : vol1Of v ≡ refused is.Vol1 → refused is.Vol1 ≡ labelsFrom v s w t
+  pub no-vol1 : vol1Of v ≡ refused refusal.Vol1 → refused refusal.Vol1 ≡ labelsFrom v s w t
   unfolding labelsFrom
   no-vol1 e = rw e
 
-  module _ {x : Fields} (e₀ : vol1Of v ≡ answer x) where
-    pub no-data-vol1 : vol1Of w ≡ refused is.Vol1 → refused is.Vol1 ≡ labelsFrom v s w t
+  module _ {x : Vol1Fields} (e₀ : vol1Of v ≡ answer x) where
+    pub no-data-vol1 : vol1Of w ≡ refused refusal.Vol1 → refused refusal.Vol1 ≡ labelsFrom v s w t
     unfolding labelsFrom
     no-data-vol1 e = rw (e₀, e)
 
-    module _ {y : Fields} (e₁ : vol1Of w ≡ answer y) where
+    module _ {y : Vol1Fields} (e₁ : vol1Of w ≡ answer y) where
       pub no-label : {r : Refusal} → labelOf s ≡ refused r → refused r ≡ labelsFrom v s w t
       unfolding labelsFrom
       no-label e = rw (e₀, e₁, e)
@@ -52,7 +52,7 @@ module _ (v s w t : List ℕ) where
         no-data-label e = rw (e₀, e₁, e₂, e)
 
         module _ {g : Label} (e₃ : labelOf t ≡ answer g) where
-          pub disagreed : agree v f w g ≡ false → refused is.Foreign ≡ labelsFrom v s w t
+          pub disagreed : agree v f w g ≡ false → refused refusal.Foreign ≡ labelsFrom v s w t
           unfolding labelsFrom
           disagreed e = rw (e₀, e₁, e₂, e₃, e)
 
@@ -62,21 +62,21 @@ module _ (v s w t : List ℕ) where
 
 -- from the lists and the stores
 module _ (il il′ dl dl′ : List ℕ) where
-  pub no-list : tapeIn il il′ ≡ refused is.List → refused is.List ≡ labelsIn il il′ dl dl′
+  pub no-list : tapeIn il il′ ≡ refused refusal.List → refused refusal.List ≡ labelsIn il il′ dl dl′
   unfolding labelsIn
   no-list e = rw e
 
   module _ {i : Tape} (e₀ : tapeIn il il′ ≡ answer i) where
-    pub no-data-list : tapeIn dl dl′ ≡ refused is.List → refused is.List ≡ labelsIn il il′ dl dl′
+    pub no-data-list : tapeIn dl dl′ ≡ refused refusal.List → refused refusal.List ≡ labelsIn il il′ dl dl′
     unfolding labelsIn
     no-data-list e = rw (e₀, e)
 
     module _ {d : Tape} (e₁ : tapeIn dl dl′ ≡ answer d) where
-      pub no-layout : isLaid i ≡ false → refused is.Layout ≡ labelsIn il il′ dl dl′
+      pub no-layout : isLaid i ≡ false → refused refusal.Layout ≡ labelsIn il il′ dl dl′
       unfolding labelsIn labelsOf
       no-layout e = rw (e₀, e₁, e)
 
-      pub no-data-layout : isLaid i ≡ true → isLaid d ≡ false → refused is.Layout ≡ labelsIn il il′ dl dl′
+      pub no-data-layout : isLaid i ≡ true → isLaid d ≡ false → refused refusal.Layout ≡ labelsIn il il′ dl dl′
       unfolding labelsIn labelsOf
       no-data-layout e f = rw (e₀, e₁, e, f)
 

@@ -53,4 +53,4 @@ labelsOf i d =
 
 -- the same from the lists and the stores
 unfoldable pub labelsIn : List ℕ → List ℕ → List ℕ → List ℕ → Answer Label
-labelsIn il is dl ds = andThen (tapeIn il is) (λ i. andThen (tapeIn dl ds) (λ d. labelsOf i d))
+labelsIn indexList indexStore dataList dataStore = andThen (tapeIn indexList indexStore) (λ i. andThen (tapeIn dataList dataStore) (λ d. labelsOf i d))

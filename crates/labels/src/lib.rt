@@ -1,15 +1,16 @@
 // The labels of two partitions (01, Refusal numbers, the volume order): read and compared.
 use elements::Span;
-use label::Fields;
 use label::Label;
+use label::LabelFields;
 use refusals::Refusal;
-use tape::Checked;
 use tape::Entry;
+use tape::ListChecked;
 use vol1::Vol1Read;
 ghost use mathlib.Core.Path.{_≡_};
 ghost use Prim.Native.Nat.{_+_, _≤_};
-ghost use Rattle.tape.specs.Reading.{entryAt};
-ghost use Rattle.labels.specs.Reading.{pastBlock, pastMark, LaysOut, spanMoved, labelMoved, BeginWithin, ReadsSides, ChecksLabels};
+ghost use Rattle.tape.specs.ReadingSteps.{entryAt};
+ghost use Rattle.labels.specs.Steps.{pastBlock, pastMark, LaysOut, labelMoved, BeginWithin, ReadsSides, ChecksLabels};
+ghost use Rattle.labels.specs.Places.{spanMoved};
 
 // The element asked for: its bytes, and the place of the next entry; or another one.
 enum Step {
@@ -81,7 +82,7 @@ fn in_store(said: Label, n: usize, by: usize) -> Label
 {
     match said {
         Label::Refused(r) => Label::Refused(r),
-        Label::Says(f) => Label::Says(Fields {
+        Label::Says(f) => Label::Says(LabelFields {
             release: f.release,
             creator: moved(f.creator, by),
             time: moved(f.time, by),
@@ -124,10 +125,10 @@ fn read_sides(v: &[u8], s: &[u8], w: &[u8], t: &[u8]) -> Label
 pub fn check(index_list: &[u8], index_store: &[u8], data_list: &[u8], data_store: &[u8]) -> Label
     ensures { λ r. ⌜ ChecksLabels (now («index_list» .entry)) (now («index_store» .entry)) (now («data_list» .entry)) (now («data_store» .entry)) r ⌝ }
 {
-    let Checked::Elements(_) = tape::check(index_list, index_store) else {
+    let ListChecked::Elements(_) = tape::check(index_list, index_store) else {
         return Label::Refused(Refusal::List);
     };
-    let Checked::Elements(_) = tape::check(data_list, data_store) else {
+    let ListChecked::Elements(_) = tape::check(data_list, data_store) else {
         return Label::Refused(Refusal::List);
     };
     let Laid::Blocks(vol1, text) = lay_out(index_list) else {

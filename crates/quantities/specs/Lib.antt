@@ -1,3 +1,3 @@
 pub mod Letters
-pub mod Places
+pub mod Locations
 pub mod Sizes

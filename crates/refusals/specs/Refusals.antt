@@ -5,28 +5,28 @@ use mathlib.Core.List.{List, []}
 use mathlib.Core.Option.{Option, some, none}
 use Prim.Native.Nat.{ℕ}
 use Rattle.refusals.specs.declared.Refusal.{Refusal}
-use Rattle.refusals.specs.declared.Refusal.the-variants as is
+use Rattle.refusals.specs.declared.Refusal.the-variants as refusal
 
 -- the number in document 01's table; from 16 on in 02: Item 1 has 16 to 18
 abbrev pub numberOf : Refusal → ℕ
-numberOf is.List = 1
-numberOf is.Missing = 2
-numberOf is.Vol1 = 3
-numberOf is.Form = 4
-numberOf is.Structure = 5
-numberOf is.Value = 6
-numberOf is.Version = 7
-numberOf is.Foreign = 8
-numberOf is.Layout = 9
-numberOf is.Short = 10
-numberOf is.Extents = 11
-numberOf is.Location = 12
-numberOf is.NoCut = 13
-numberOf is.Caller = 14
-numberOf is.TooMany = 15
-numberOf is.Labels = 16
-numberOf is.EndOfVolume = 17
-numberOf is.BlockCount = 18
+numberOf refusal.List = 1
+numberOf refusal.Missing = 2
+numberOf refusal.Vol1 = 3
+numberOf refusal.Form = 4
+numberOf refusal.Structure = 5
+numberOf refusal.Value = 6
+numberOf refusal.Version = 7
+numberOf refusal.Foreign = 8
+numberOf refusal.Layout = 9
+numberOf refusal.Short = 10
+numberOf refusal.Extents = 11
+numberOf refusal.Location = 12
+numberOf refusal.NoCut = 13
+numberOf refusal.Caller = 14
+numberOf refusal.TooMany = 15
+numberOf refusal.Labels = 16
+numberOf refusal.EndOfVolume = 17
+numberOf refusal.BlockCount = 18
 
 -- a refusal, or what was asked for
 pub data Answer (A : Type 0) : Type 0 where

@@ -11,30 +11,30 @@ use Rattle.refusals.specs.declared.Refusal.the-variants.{Short}
 use Rattle.slices.specs.declared.Written.{Written}
 use Rattle.slices.specs.declared.Written.the-variants.{To, Refused}
 use Rattle.slices.specs.Slices.{written}
-use Rattle.slices.specs.Writers.{room, placed, stored, Puts}
+use Rattle.slices.specs.Writers.{room, putAnswer, heldAfter, Puts}
 use Rattle.slices.proofs.Writing.{length-written, written-then}
 
 module _ (at : ℕ) (w b : List ℕ) where
-  pub placed-whole : at + length w ≤ length b → placed at w b ≡ To (at + length w)
-  unfolding placed
+  pub placed-whole : at + length w ≤ length b → putAnswer at w b ≡ To (at + length w)
+  unfolding putAnswer
   placed-whole h = rw (le-leb _ _ h)
 
-  pub placed-short : length b < at + length w → placed at w b ≡ Refused Short
-  unfolding placed
+  pub placed-short : length b < at + length w → putAnswer at w b ≡ Refused Short
+  unfolding putAnswer
   placed-short h = rw (lt-leb _ _ h)
 
-  pub stored-whole : at + length w ≤ length b → stored at w b ≡ written at w b
-  unfolding stored
+  pub stored-whole : at + length w ≤ length b → heldAfter at w b ≡ written at w b
+  unfolding heldAfter
   stored-whole h = rw (le-leb _ _ h)
 
-  pub stored-short : length b < at + length w → stored at w b ≡ b
-  unfolding stored
+  pub stored-short : length b < at + length w → heldAfter at w b ≡ b
+  unfolding heldAfter
   stored-short h = rw (lt-leb _ _ h)
 
-  pub length-stored : length (stored at w b) ≡ length b
+  pub length-stored : length (heldAfter at w b) ≡ length b
   length-stored = go (room at w b) refl
     where
-      go : (t : Bool) → room at w b ≡ t → length (stored at w b) ≡ length b
+      go : (t : Bool) → room at w b ≡ t → length (heldAfter at w b) ≡ length b
       go true e = ap length (stored-whole (leb-true _ _ e)) ∙ length-written at w b (leb-true _ _ e)
       go false e = ap length (stored-short (leb-false _ _ e))
 

@@ -15,14 +15,14 @@ abbrev pub room : ℕ → List ℕ → List ℕ → Bool
 room at w buffer = leb (at + length w) (length buffer)
 
 -- the place after w, or the refusal
-unfoldable pub placed : ℕ → List ℕ → List ℕ → Written
-placed at w buffer = cond (room at w buffer) (To (at + length w)) (Refused Short)
+unfoldable pub putAnswer : ℕ → List ℕ → List ℕ → Written
+putAnswer at w buffer = cond (room at w buffer) (To (at + length w)) (Refused Short)
 
 -- the buffer with w written, or as it was
-unfoldable pub stored : ℕ → List ℕ → List ℕ → List ℕ
-stored at w buffer = cond (room at w buffer) (written at w buffer) buffer
+unfoldable pub heldAfter : ℕ → List ℕ → List ℕ → List ℕ
+heldAfter at w buffer = cond (room at w buffer) (written at w buffer) buffer
 
 -- a writer of w: what it answers, and what the buffer holds after
 pub record Puts (at : ℕ) (w before after : List ℕ) (answer : Written) : Type 0 where
-  pub answers : answer ≡ placed at w before
-  pub holds : after ≡ stored at w before
+  pub answers : answer ≡ putAnswer at w before
+  pub holds : after ≡ heldAfter at w before

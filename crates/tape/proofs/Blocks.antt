@@ -18,10 +18,11 @@ use Rattle.tape.specs.declared.Entry.{Entry}
 use Rattle.tape.specs.declared.Front.{Front}
 use Rattle.tape.specs.declared.Spot.{Spot}
 use Rattle.tape.specs.declared.Spot.the-variants as spot
-use Rattle.tape.specs.Tape.{Tape, Element, mark, block, Cell, markCell, blockCell, list, store, content, lawful, isBlockLength}
-use Rattle.tape.specs.Reading.{entryAt, tapeOf}
-use Rattle.tape.specs.Walks.{reach, spotOf, spotAt, spotBelow}
-use Rattle.tape.specs.Answers.{orRefused, Place, placeOf, placeOn, asBlock, blockOn, blockOf, elementCount, storeOf, Holds, Finds}
+use Rattle.tape.specs.Tape.{Tape, Element, mark, block, Cell, markCell, blockCell, list, store, content, lawfulTape, isBlockLength}
+use Rattle.tape.specs.ReadingSteps.{entryAt, tapeOf}
+use Rattle.tape.specs.WalkSteps.{reach, spotOf, spotAt, spotBelow}
+use Rattle.tape.specs.Answers.{orRefused, StorePart, placeOf, placeOn, asBlock, blockOn, blockOf, elementCount, storeOf, Holds}
+use Rattle.tape.specs.Steps.{FindsBlock}
 use Rattle.slices.proofs.Booleans.{split, and-left, and-right}
 use Rattle.tape.proofs.Walking.{entry-here, entry-none, next-here}
 use Rattle.tape.proofs.Entries.{Bytes}
@@ -40,20 +41,20 @@ spotFor v (some mark) = spot.Nothing
 spotFor v (some (block x)) = spot.Block v (length x)
 
 -- the walk over n entries of a tape ends at element n
-spot-from : (n : ℕ) (l : List ℕ) (at v : ℕ) (t : Tape) → lawful t ≡ true → drop at l ≡ list t
+spot-from : (n : ℕ) (l : List ℕ) (at v : ℕ) (t : Tape) → lawfulTape t ≡ true → drop at l ≡ list t
     → spotOf (reach n l at v .store) (entryAt l (reach n l at v .list)) ≡ spotFor (v + length (store (take n t))) (getElem? t n)
-unfolding reach list store lawful content
+unfolding reach list store lawfulTape content
 spot-from zero l at v [] h d = rw (entry-none l at d)
 spot-from zero l at v (mark ∷ t) h d = rw (entry-here l at markCell (list t) refl d)
 spot-from zero l at v (block x ∷ t) h d =
-    rw (entry-here l at (blockCell (length x)) (list t) (and-left (isBlockLength (length x)) (lawful t) h) d, add-zero v)
+    rw (entry-here l at (blockCell (length x)) (list t) (and-left (isBlockLength (length x)) (lawfulTape t) h) d, add-zero v)
 spot-from (suc n) l at v [] h d = rw (entry-none l at d, entry-none l at d)
 spot-from (suc n) l at v (mark ∷ t) h d =
     rw (entry-here l at markCell (list t) refl d) (spot-from n l (at + 1) v t h (next-here l at markCell (list t) d))
 spot-from (suc n) l at v (block x ∷ t) h d =
     let c : Cell = blockCell (length x) in
-    let ok : isBlockLength (length x) ≡ true = and-left (isBlockLength (length x)) (lawful t) h in
-    let rest : lawful t ≡ true = and-right (isBlockLength (length x)) (lawful t) h in
+    let ok : isBlockLength (length x) ≡ true = and-left (isBlockLength (length x)) (lawfulTape t) h in
+    let rest : lawfulTape t ≡ true = and-right (isBlockLength (length x)) (lawfulTape t) h in
     let f : (v + length x) + length (store (take n t)) ≡ v + length (x ++ store (take n t))
     = omega (arith, length-append x (store (take n t))) in
     rw (entry-here l at c (list t) ok d, ← f) (spot-from n l (at + 5) (v + length x) t rest (next-here l at c (list t) d))
@@ -74,7 +75,7 @@ below-of n count l s p =
     (λ e. spot-of n count l s p)
 
 -- what a spot on one side answers
-abbrev pub placeFrom : Bool → Spot → Answer Place
+abbrev pub placeFrom : Bool → Spot → Answer StorePart
 placeFrom side (spot.Block v k) = answer (record { onIndex = side; from = v; size = k })
 placeFrom side spot.Nothing = refused refusal.Missing
 
@@ -133,11 +134,11 @@ holds-on side t n s s′ none e q = refused-holds s s′ refusal.Missing
 holds-on side t n s s′ (some mark) e q = refused-holds s s′ refusal.Missing
 holds-on side t n s s′ (some (block x)) e q =
     let b = block-bytes t n x e in
-    let here : Place = record { onIndex = side; from = length (store (take n t)); size = length x } in
+    let here : StorePart = record { onIndex = side; from = length (store (take n t)); size = length x } in
     let fits : length (store (take n t)) + length x ≤ length (cond side s s′) = rw q (b .1) in
     record {
       bytes = rw q (ap answer (sym (b .0)));
-      inside = λ p g. let z : here ≡ p = cc in subst (λ (p : Place). p .from + p .size ≤ length (storeOf s s′ p)) z fits;
+      inside = λ p g. let z : here ≡ p = cc in subst (λ (p : StorePart). p .from + p .size ≤ length (storeOf s s′ p)) z fits;
     }
 
 module _ (i d c n : ℕ) (l s l′ s′ : List ℕ) (w : Bytes l) (w′ : Bytes l′) where
@@ -153,10 +154,10 @@ module _ (i d c n : ℕ) (l s l′ s′ : List ℕ) (w : Bytes l) (w′ : Bytes 
       (λ y. holds-on false u n s s′ (getElem? u n) refl (encodes-read l′ s′ u w′ e′ .stores))
 
   -- what is found holds the block
-  pub finds : (a : Answer Place) → a ≡ placeOf i d c n l s l′ s′ → Finds i d c n l s l′ s′ a
+  pub finds : (a : Answer StorePart) → a ≡ placeOf i d c n l s l′ s′ → FindsBlock i d c n l s l′ s′ a
   unfolding placeOf blockOf
   finds a e =
-      subst (Finds i d c n l s l′ s′) (sym e) record { place = refl; holds = holds-of (areLetters i d c) (tapeOf l s) (tapeOf l′ s′) refl refl }
+      subst (FindsBlock i d c n l s l′ s′) (sym e) record { place = refl; holds = holds-of (areLetters i d c) (tapeOf l s) (tapeOf l′ s′) refl refl }
 
 -- a part of a store, cut out between two places, and the refusal beside it
 pub shows-part : (s : List ℕ) (from n : ℕ) {b : Answer (List ℕ)} → b ≡ answer (take n (drop from s)) → Shows b (take ((from + n) - from) (drop from s)) 0

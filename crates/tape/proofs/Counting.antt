@@ -17,8 +17,8 @@ use Rattle.tape.specs.declared.Entry.the-variants as entry
 use Rattle.tape.specs.declared.Totals.{Totals}
 use Rattle.tape.specs.declared.Totals.the-variants.{Of, Bad}
 use Rattle.tape.specs.Tape.{Tape, Cell, markCell, blockCell, maxStore}
-use Rattle.tape.specs.Reading.{andBehind, cellsFrom, cells, added, size, total, entryAt, filled, filledWith, tapeOf}
-use Rattle.tape.specs.Walks.{totalsFrom}
+use Rattle.tape.specs.ReadingSteps.{andBehind, cellsFrom, cells, added, size, total, entryAt, filled, filledWith, tapeOf}
+use Rattle.tape.specs.WalkSteps.{totalsFrom}
 use Rattle.tape.specs.Answers.{orRefused, elementCount}
 use Rattle.tape.proofs.Entries.{Lies, entry-lies}
 

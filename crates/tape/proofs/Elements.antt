@@ -8,8 +8,8 @@ use lib.ListN.{length, drop}
 use Rattle.slices.proofs.Booleans.{and-left, and-right}
 use Rattle.tape.specs.declared.Entry.{Entry}
 use Rattle.tape.specs.declared.Entry.the-variants.{Mark, Block, End, Bad}
-use Rattle.tape.specs.Tape.{Element, mark, block, Tape, markCell, blockCell, cellOf, entry, list, isLawful, lawful}
-use Rattle.tape.specs.Reading.{entryAt}
+use Rattle.tape.specs.Tape.{Element, mark, block, Tape, markCell, blockCell, cellOf, entry, list, isLawfulCell, lawfulTape}
+use Rattle.tape.specs.ReadingSteps.{entryAt}
 use Rattle.tape.proofs.Walking.{entry-here, next-here, entryFor}
 
 -- element n and those after it
@@ -17,14 +17,14 @@ record Next (t : Tape) (n : ℕ) : Type 0 where
   element : Element
   rest : Tape
   is : drop n t ≡ element ∷ rest
-  legal : isLawful (cellOf element) ≡ true
+  legal : isLawfulCell (cellOf element) ≡ true
 
-next-element : (t : Tape) (n : ℕ) → lawful t ≡ true → n < length t → Next t n
-unfolding lawful
+next-element : (t : Tape) (n : ℕ) → lawfulTape t ≡ true → n < length t → Next t n
+unfolding lawfulTape
 next-element [] n h w = absurd (omega arith)
-next-element (e ∷ t) zero h w = record { element = e; rest = t; is = refl; legal = and-left (isLawful (cellOf e)) (lawful t) h }
+next-element (e ∷ t) zero h w = record { element = e; rest = t; is = refl; legal = and-left (isLawfulCell (cellOf e)) (lawfulTape t) h }
 next-element (e ∷ t) (suc n) h w =
-    let r = next-element t n (and-right (isLawful (cellOf e)) (lawful t) h) (omega arith) in
+    let r = next-element t n (and-right (isLawfulCell (cellOf e)) (lawfulTape t) h) (omega arith) in
     record { element = r .element; rest = r .rest; is = r .is; legal = r .legal }
 
 -- a mark is element n
@@ -54,7 +54,7 @@ says-element l place t n mark rest d h = record { rest = rest; is = d; left = ne
 says-element l place t n (block x) rest d h =
     record { bytes = x; rest = rest; is = d; size = refl; left = next-here l place (blockCell (length x)) (list rest) h }
 
-pub says-at : (l : List ℕ) (place : ℕ) (t : Tape) (n : ℕ) {e : Entry} → lawful t ≡ true → drop place l ≡ list (drop n t) → n < length t
+pub says-at : (l : List ℕ) (place : ℕ) (t : Tape) (n : ℕ) {e : Entry} → lawfulTape t ≡ true → drop place l ≡ list (drop n t) → n < length t
     → entryAt l place ≡ e → Says l t n e
 unfolding list
 says-at l place t n {e} h d w q =

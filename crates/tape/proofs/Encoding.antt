@@ -13,8 +13,8 @@ use borrow.Author.Tests.{leb-true, eqb-true, le-leb, eq-eqb}
 use Rattle.slices.proofs.Booleans.{split, and-parts, and-left, and-right}
 use Rattle.tape.specs.declared.Entry.{Entry}
 use Rattle.tape.specs.declared.Entry.the-variants.{Mark, Block, End, Bad}
-use Rattle.tape.specs.Tape.{mark, block, Tape, Cell, markCell, blockCell, cellOf, entry, content, list, store, isBlockLength, isLawful, lawful, maxElements, maxStore, Encodes, markKind}
-use Rattle.tape.specs.Reading.{entryAt, andBehind, cellsFrom, cells, added, size, total, filled, fits, filledWith, tapeOf}
+use Rattle.tape.specs.Tape.{mark, block, Tape, Cell, markCell, blockCell, cellOf, entry, content, list, store, isBlockLength, isLawfulCell, lawfulTape, maxElements, maxStore, Encodes, markKind}
+use Rattle.tape.specs.ReadingSteps.{entryAt, andBehind, cellsFrom, cells, added, size, total, filled, withinBounds, filledWith, tapeOf}
 pub use Rattle.tape.proofs.Entries.{Bytes}
 use Rattle.tape.proofs.Entries.{spells-as}
 use Rattle.tape.proofs.Counting.{length-filled}
@@ -28,15 +28,15 @@ elements-few (mark ∷ t) = omega (arith, length-append (entry markCell) (list t
 elements-few (block x ∷ t) = omega (arith, length-append (entry (blockCell (length x))) (list t), length-entry (blockCell (length x)), elements-few t)
 
 -- a list is read back, element by element
-pub cells-list : (n : ℕ) (l : List ℕ) (at : ℕ) (t : Tape) → lawful t ≡ true → drop at l ≡ list t → length t < n → cellsFrom n l at ≡ some (map cellOf t)
-unfolding cellsFrom list lawful added
+pub cells-list : (n : ℕ) (l : List ℕ) (at : ℕ) (t : Tape) → lawfulTape t ≡ true → drop at l ≡ list t → length t < n → cellsFrom n l at ≡ some (map cellOf t)
+unfolding cellsFrom list lawfulTape added
 cells-list zero l at t h d few = absurd (omega arith)
 cells-list (suc n) l at [] h d few = rw (entry-none l at d)
 cells-list (suc n) l at (mark ∷ t) h d few =
     rw (entry-here l at markCell (list t) refl d, cells-list n l (at + 1) t h (next-here l at markCell (list t) d) (omega arith))
 cells-list (suc n) l at (block x ∷ t) h d few =
     let c : Cell = blockCell (length x) in
-    let (ok, rest) = and-parts (isBlockLength (length x)) (lawful t) h in
+    let (ok, rest) = and-parts (isBlockLength (length x)) (lawfulTape t) h in
     rw (entry-here l at c (list t) ok d, cells-list n l (at + 5) t rest (next-here l at c (list t) d) (omega arith))
 
 pub filled-store : (t : Tape) → filled (map cellOf t) (store t) ≡ t
@@ -71,7 +71,7 @@ read-encoded {l} {s} {t} e =
 record Spelt (l s : List ℕ) (t : Tape) : Type 0 where
   lists : l ≡ list t
   stores : s ≡ store t
-  blocks : lawful t ≡ true
+  blocks : lawfulTape t ≡ true
 
 record Added (c : Cell) (o : Option (List Cell)) (cs : List Cell) : Type 0 where
   rest : List Cell
@@ -87,9 +87,9 @@ Back : Option (List Cell) → List ℕ → Type 0
 Back o l = (s : List ℕ) (cs : List Cell) → o ≡ some cs → total cs ≡ length s → Spelt l s (filled cs s)
 
 -- one element more in front
-one-back : (c : Cell) (o : Option (List Cell)) (l : List ℕ) (rest : List Cell) → Back o l → isLawful c ≡ true → o ≡ some rest
+one-back : (c : Cell) (o : Option (List Cell)) (l : List ℕ) (rest : List Cell) → Back o l → isLawfulCell c ≡ true → o ≡ some rest
     → (s : List ℕ) → size c + total rest ≡ length s → Spelt (entry c ++ l) s (filled (c ∷ rest) s)
-unfolding Back list store lawful entry content filled
+unfolding Back list store lawfulTape entry content filled
 one-back markCell o l rest back h e s k =
     let b = back s rest e (omega arith) in
     record { lists = ap (λ (m : List ℕ). markKind ∷ m) (b .lists); stores = b .stores; blocks = b .blocks }
@@ -102,7 +102,7 @@ one-back (blockCell n) o l rest back h e s k =
       blocks = rw (w, h) (b .blocks);
     }
 
-more-back : (c : Cell) (o : Option (List Cell)) (l : List ℕ) → Back o l → isLawful c ≡ true → Back (added c o) (entry c ++ l)
+more-back : (c : Cell) (o : Option (List Cell)) (l : List ℕ) → Back o l → isLawfulCell c ≡ true → Back (added c o) (entry c ++ l)
 unfolding Back total
 more-back c o l back h s cs e k =
     let a = added-some c o cs e in
@@ -110,7 +110,7 @@ more-back c o l back h s cs e k =
     rw (a .is) (one-back c o l (a .rest) back h (a .gives) s k′)
 
 nothing-back : (s : List ℕ) → 0 ≡ length s → Spelt [] s (filled [] s)
-unfolding filled list store lawful
+unfolding filled list store lawfulTape
 nothing-back [] k = record { lists = refl; stores = refl; blocks = refl }
 nothing-back (b ∷ s) k = absurd (omega arith)
 
@@ -140,7 +140,7 @@ encodes-filled : (l s : List ℕ) (t : Tape) (o : Option (List Cell)) → Bytes 
 unfolding filledWith Back
 encodes-filled l s t none w q f = let z : _≡_ {A = ℕ} 0 1 = cc in absurd (omega arith)
 encodes-filled l s t (some cs) w q f =
-    split (λ x. cond x (some (filled cs s)) none ≡ some t → Encodes l s t) (fits cs s)
+    split (λ x. cond x (some (filled cs s)) none ≡ some t → Encodes l s t) (withinBounds cs s)
     (λ x g.
     let few = leb-true (length cs) maxElements (and-left (leb (length cs) maxElements) _ (and-left (leb (length cs) maxElements && eqb (total cs) (length s)) _ x)) in
     let all = eqb-true (total cs) (length s) (and-right (leb (length cs) maxElements) _ (and-left (leb (length cs) maxElements && eqb (total cs) (length s)) _ x)) in

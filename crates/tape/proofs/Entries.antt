@@ -17,7 +17,7 @@ use Rattle.big_endian.proofs.Said.{bytes-said}
 use Rattle.tape.specs.declared.Entry.{Entry}
 use Rattle.tape.specs.declared.Entry.the-variants.{Mark, Block, End, Bad}
 use Rattle.tape.specs.Tape.{markCell, blockCell, entry, markKind, blockKind, isBlockLength, maxBlock}
-use Rattle.tape.specs.Reading.{entryAt, numberAt}
+use Rattle.tape.specs.ReadingSteps.{entryAt, numberAt}
 
 -- numbers that are bytes
 abbrev pub Bytes : List ℕ → Type 0

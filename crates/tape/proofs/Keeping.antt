@@ -11,9 +11,10 @@ use Rattle.refusals.specs.declared.Refusal.{Refusal}
 use Rattle.refusals.specs.declared.Refusal.the-variants as refusal
 use Rattle.refusals.specs.Refusals.{Answer, refused, answer, andThen, Shows}
 use Rattle.tape.specs.Tape.{Tape, list, store, entry, content, cellOf, Encodes}
-use Rattle.tape.specs.Reading.{tapeOf}
-use Rattle.tape.specs.Walks.{reach}
-use Rattle.tape.specs.Answers.{listKept, storeKept, orRefused, tapeIn, elementCount, Fronts, kept, keeping, Lengths, lengths}
+use Rattle.tape.specs.ReadingSteps.{tapeOf}
+use Rattle.tape.specs.WalkSteps.{reach}
+use Rattle.tape.specs.Answers.{orRefused, tapeIn, elementCount, Fronts, kept, keeping, Lengths, lengths}
+use Rattle.tape.specs.Steps.{listKept, storeKept}
 use Rattle.tape.proofs.Entries.{Bytes}
 use Rattle.tape.proofs.Encoding.{encodes-read}
 use Rattle.tape.proofs.Walking.{reach-tape}

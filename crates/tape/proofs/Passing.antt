@@ -6,7 +6,8 @@ use native.Mathlib.Omega.{arith}
 use lib.ListN.{length, take, drop, length-append, length-take}
 use lib.Seq.{drop-append-add}
 use Rattle.tape.specs.Tape.{Element, Tape, store, content}
-use Rattle.tape.specs.Answers.{Encoded, bytesBefore}
+use Rattle.tape.specs.Answers.{bytesBefore}
+use Rattle.tape.specs.Steps.{Encoded}
 use Rattle.tape.proofs.Keeping.{Present, store-front}
 
 module _ {A : Type 0} where

@@ -15,9 +15,9 @@ use Rattle.tape.specs.declared.Entry.the-variants.{Mark, Block, End}
 use Rattle.big_endian.specs.BigEndian.{bytesSay}
 use Rattle.big_endian.proofs.Left.{length-big-endian}
 use Rattle.big_endian.proofs.Said.{said-bytes}
-use Rattle.tape.specs.Tape.{mark, block, Tape, Cell, markCell, blockCell, fourBytes, entry, content, list, store, isBlockLength, isLawful, lawful}
-use Rattle.tape.specs.Reading.{entryAt, numberAt}
-use Rattle.tape.specs.Walks.{reach, pastEntry}
+use Rattle.tape.specs.Tape.{mark, block, Tape, Cell, markCell, blockCell, fourBytes, entry, content, list, store, isBlockLength, isLawfulCell, lawfulTape}
+use Rattle.tape.specs.ReadingSteps.{entryAt, numberAt}
+use Rattle.tape.specs.WalkSteps.{reach, pastEntry}
 use Rattle.tape.proofs.Entries.{length-between}
 
 -- what a cell's entry is read as
@@ -47,7 +47,7 @@ number-read n s h =
     let small = length-between n h in
     ap bytesSay (ap (λ (k : ℕ). take k (fourBytes n ++ s)) (sym (length-big-endian 4 n)) ∙ take-append-seam (fourBytes n) s) ∙ said-bytes 4 n (omega arith)
 
-pub entry-here : (l : List ℕ) (at : ℕ) (c : Cell) (s : List ℕ) → isLawful c ≡ true → drop at l ≡ entry c ++ s → entryAt l at ≡ entryFor c at
+pub entry-here : (l : List ℕ) (at : ℕ) (c : Cell) (s : List ℕ) → isLawfulCell c ≡ true → drop at l ≡ entry c ++ s → entryAt l at ≡ entryFor c at
 unfolding entryAt entry
 entry-here l at markCell s h d =
     let r = room-at l at 1 s d in
@@ -71,9 +71,9 @@ pub next-here : (l : List ℕ) (at : ℕ) (c : Cell) (s : List ℕ) → drop at 
 next-here l at c s d = sym (drop-drop (width c) at l) ∙ ap (drop (width c)) d ∙ rw (← length-entry c) (drop-append-seam (entry c) s)
 
 -- the walk over n entries of a tape reaches behind its first n elements
-pub reach-tape : (n : ℕ) (l : List ℕ) (at v : ℕ) (t : Tape) → lawful t ≡ true → drop at l ≡ list t
+pub reach-tape : (n : ℕ) (l : List ℕ) (at v : ℕ) (t : Tape) → lawfulTape t ≡ true → drop at l ≡ list t
     → reach n l at v ≡ record { list = at + length (list (take n t)); store = v + length (store (take n t)) }
-unfolding reach list store lawful content
+unfolding reach list store lawfulTape content
 reach-tape zero l at v t h d = rw (add-zero at, add-zero v)
 reach-tape (suc n) l at v [] h d = rw (entry-none l at d, add-zero at, add-zero v)
 reach-tape (suc n) l at v (mark ∷ t) h d =
@@ -82,8 +82,8 @@ reach-tape (suc n) l at v (mark ∷ t) h d =
     rw (entry-here l at markCell (list t) refl d, reach-tape n l (at + 1) v t h (next-here l at markCell (list t) d), e)
 reach-tape (suc n) l at v (block x ∷ t) h d =
     let c : Cell = blockCell (length x) in
-    let ok : isBlockLength (length x) ≡ true = and-left (isBlockLength (length x)) (lawful t) h in
-    let rest : lawful t ≡ true = and-right (isBlockLength (length x)) (lawful t) h in
+    let ok : isBlockLength (length x) ≡ true = and-left (isBlockLength (length x)) (lawfulTape t) h in
+    let rest : lawfulTape t ≡ true = and-right (isBlockLength (length x)) (lawfulTape t) h in
     let e : (at + 5) + length (list (take n t)) ≡ at + length (entry c ++ list (take n t))
     = omega (arith, length-append (entry c) (list (take n t)), length-entry c) in
     let f : (v + length x) + length (store (take n t)) ≡ v + length (x ++ store (take n t))

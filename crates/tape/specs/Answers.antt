@@ -6,31 +6,22 @@ use mathlib.Core.List.{List}
 use Prim.Native.Nat.{ℕ, _+_, _≤_}
 use lib.ListN.{length, take, drop, getElem?}
 use lib.Dec.{eqb}
-use Rattle.refusals.specs.declared.Refusal.the-variants as is
+use Rattle.refusals.specs.declared.Refusal.the-variants as refusal
 use Rattle.refusals.specs.Refusals.{Answer, refused, answer, require, andThen}
 use Rattle.quantities.specs.Letters.{areLetters}
-use Rattle.tape.specs.declared.Checked.{Checked}
-use Rattle.tape.specs.declared.Checked.the-variants as checked
-use Rattle.tape.specs.declared.Kept.{Kept}
+use Rattle.tape.specs.declared.ListChecked.the-variants as checked
 use Rattle.tape.specs.declared.Kept.the-variants as keptIs
-use Rattle.tape.specs.declared.Located.{Located}
 use Rattle.tape.specs.declared.Located.the-variants as locatedIs
-use Rattle.tape.specs.Tape.{Tape, Element, mark, block, list, store, Encodes}
-use Rattle.tape.specs.Reading.{tapeOf}
+use Rattle.tape.specs.Tape.{Tape, Element, mark, block, list, store}
+use Rattle.tape.specs.ReadingSteps.{tapeOf}
 
 abbrev pub orRefused : Option Tape → Answer Tape
-orRefused none = refused is.List
+orRefused none = refused refusal.List
 orRefused (some t) = answer t
 
 -- the tape of a list and a store, or refusal 1
 abbrev pub tapeIn : List ℕ → List ℕ → Answer Tape
 tapeIn l s = orRefused (tapeOf l s)
-
--- a list and a store of a tape with so many elements
-pub record Encoded (l s : List ℕ) (count : ℕ) : Type 0 where
-  pub tape : Tape
-  pub encodes : Encodes l s tape
-  pub counted : length tape ≡ count
 
 -- the bytes of the blocks before element n
 abbrev pub bytesBefore : Tape → ℕ → ℕ
@@ -39,10 +30,6 @@ bytesBefore t n = length (store (take n t))
 -- the number of elements
 abbrev pub elementCount : List ℕ → List ℕ → Answer ℕ
 elementCount l s = andThen (tapeIn l s) (λ t. answer (length t))
-
-abbrev pub counted : Checked → Answer ℕ
-counted (checked.Elements n) = answer n
-counted (checked.Refused r) = refused r
 
 -- what is kept of a list and of a store
 pub record Fronts : Type 0 where
@@ -64,20 +51,9 @@ pub record Lengths : Type 0 where
 abbrev pub lengths : Fronts → Lengths
 lengths f = record { list = length (f .list); store = length (f .store) }
 
-abbrev pub keptLengths : Kept → Answer Lengths
-keptLengths (keptIs.Lengths l s) = answer (record { list = l; store = s })
-keptLengths (keptIs.Refused r) = refused r
-
--- the parts themselves
-abbrev pub listKept : Answer Fronts → Answer (List ℕ)
-listKept a = andThen a (λ f. answer (f .list))
-
-abbrev pub storeKept : Answer Fronts → Answer (List ℕ)
-storeKept a = andThen a (λ f. answer (f .store))
-
 abbrev pub asBlock : Option Element → Answer (List ℕ)
-asBlock none = refused is.Missing
-asBlock (some mark) = refused is.Missing
+asBlock none = refused refusal.Missing
+asBlock (some mark) = refused refusal.Missing
 asBlock (some (block x)) = answer x
 
 -- the bytes of block n
@@ -89,7 +65,7 @@ module _ {A : Type 0} where
   -- index partition: 14; 1, index side first
   abbrev pub onPartition : ℕ → ℕ → ℕ → List ℕ → List ℕ → List ℕ → List ℕ → (Bool → Tape → Answer A) → Answer A
   onPartition i d letter indexList indexStore dataList dataStore asked =
-      require (areLetters i d letter) is.Caller
+      require (areLetters i d letter) refusal.Caller
       (andThen (tapeIn indexList indexStore) (λ ti. andThen (tapeIn dataList dataStore) (λ td. asked (eqb letter i) (cond (eqb letter i) ti td))))
 
 -- block n of the partition with that letter; else 2
@@ -97,32 +73,22 @@ unfoldable pub blockOf : ℕ → ℕ → ℕ → ℕ → List ℕ → List ℕ �
 blockOf i d letter n l s l′ s′ = onPartition i d letter l s l′ s′ (λ side t. blockOn t n)
 
 -- where a block lies: whether on the index side, from which byte of the store on, and how long
-pub record Place : Type 0 where
+pub record StorePart : Type 0 where
   pub onIndex : Bool
   pub from : ℕ
   pub size : ℕ
 
-abbrev pub placeOn : ℕ → Bool → Tape → Answer Place
+abbrev pub placeOn : ℕ → Bool → Tape → Answer StorePart
 placeOn n side t = andThen (blockOn t n) (λ x. answer (record { onIndex = side; from = bytesBefore t n; size = length x }))
 
-unfoldable pub placeOf : ℕ → ℕ → ℕ → ℕ → List ℕ → List ℕ → List ℕ → List ℕ → Answer Place
+unfoldable pub placeOf : ℕ → ℕ → ℕ → ℕ → List ℕ → List ℕ → List ℕ → List ℕ → Answer StorePart
 placeOf i d letter n l s l′ s′ = onPartition i d letter l s l′ s′ (placeOn n)
 
-abbrev pub located : Located → Answer Place
-located (locatedIs.Index from n) = answer (record { onIndex = true; from = from; size = n })
-located (locatedIs.Data from n) = answer (record { onIndex = false; from = from; size = n })
-located (locatedIs.Refused r) = refused r
-
 -- the store that holds a place, s being the index partition's
-abbrev pub storeOf : List ℕ → List ℕ → Place → List ℕ
+abbrev pub storeOf : List ℕ → List ℕ → StorePart → List ℕ
 storeOf s s′ p = cond (p .onIndex) s s′
 
 -- the place lies in its store, and the bytes there are the block's
-pub record Holds (s s′ : List ℕ) (place : Answer Place) (asked : Answer (List ℕ)) : Type 0 where
+pub record Holds (s s′ : List ℕ) (place : Answer StorePart) (asked : Answer (List ℕ)) : Type 0 where
   pub bytes : asked ≡ andThen place (λ p. answer (take (p .size) (drop (p .from) (storeOf s s′ p))))
-  pub inside : (p : Place) → place ≡ answer p → p .from + p .size ≤ length (storeOf s s′ p)
-
--- what finding a block answers: its place, which holds it
-pub record Finds (i d letter n : ℕ) (l s l′ s′ : List ℕ) (a : Answer Place) : Type 0 where
-  pub place : a ≡ placeOf i d letter n l s l′ s′
-  pub holds : Holds s s′ a (blockOf i d letter n l s l′ s′)
+  pub inside : (p : StorePart) → place ≡ answer p → p .from + p .size ≤ length (storeOf s s′ p)

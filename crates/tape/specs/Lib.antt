@@ -1,4 +1,5 @@
 pub mod Tape
-pub mod Reading
-pub mod Walks
+pub mod ReadingSteps
+pub mod WalkSteps
 pub mod Answers
+pub mod Steps

@@ -65,18 +65,18 @@ maxStore = 16777216
 abbrev pub isBlockLength : ℕ → Bool
 isBlockLength n = within 1 maxBlock n
 
-abbrev pub isLawful : Cell → Bool
-isLawful markCell = true
-isLawful (blockCell n) = isBlockLength n
+abbrev pub isLawfulCell : Cell → Bool
+isLawfulCell markCell = true
+isLawfulCell (blockCell n) = isBlockLength n
 
-unfoldable pub lawful : Tape → Bool
-lawful [] = true
-lawful (e ∷ t) = isLawful (cellOf e) && lawful t
+unfoldable pub lawfulTape : Tape → Bool
+lawfulTape [] = true
+lawfulTape (e ∷ t) = isLawfulCell (cellOf e) && lawfulTape t
 
 -- l and s are the list and the store of the tape t, within the bounds
 pub record Encodes (l s : List ℕ) (t : Tape) : Type 0 where
   pub lists : l ≡ list t
   pub stores : s ≡ store t
-  pub blocks : lawful t ≡ true
+  pub blocks : lawfulTape t ≡ true
   pub elements : length t ≤ maxElements
   pub bytes : length s ≤ maxStore

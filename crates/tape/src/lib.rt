@@ -7,9 +7,10 @@ ghost use lib.ListN.{length};
 ghost use Rattle.refusals.specs.Refusals.{answer, andThen, Shows};
 ghost use Rattle.quantities.specs.Letters.{areLetters};
 ghost use Rattle.tape.specs.Tape.{maxElements};
-ghost use Rattle.tape.specs.Reading.{numberAt, entryAt, cells};
-ghost use Rattle.tape.specs.Walks.{totalsFrom, reach, spotAt, spotBelow};
-ghost use Rattle.tape.specs.Answers.{elementCount, counted, keeping, keptLengths, lengths, listKept, storeKept, blockOf, located, Finds};
+ghost use Rattle.tape.specs.ReadingSteps.{numberAt, entryAt, cells};
+ghost use Rattle.tape.specs.WalkSteps.{totalsFrom, reach, spotAt, spotBelow};
+ghost use Rattle.tape.specs.Answers.{elementCount, keeping, lengths, blockOf};
+ghost use Rattle.tape.specs.Steps.{counted, keptLengths, listKept, storeKept, located, FindsBlock};
 
 // What stands at a place of a list, with the place of the next entry: a file mark, a block with its length, nothing since the list
 // ends, or no entry of a list.
@@ -102,26 +103,26 @@ fn sum_up(list: &[u8]) -> Totals
 }
 
 // What the check of a list and its store answers.
-pub enum Checked {
+pub enum ListChecked {
     Elements(usize),
     Refused(Refusal),
 }
 
 // Whether a list and a store are well formed, and how many elements they have.
-pub fn check(list: &[u8], store: &[u8]) -> Checked
+pub fn check(list: &[u8], store: &[u8]) -> ListChecked
     ensures { λ r. ⌜ counted r ≡ elementCount (now (list .entry)) (now (store .entry)) ⌝ }
 {
     match sum_up(list) {
         Totals::Of(elements, bytes) => {
             if bytes != store.len() {
-                return Checked::Refused(Refusal::List);
+                return ListChecked::Refused(Refusal::List);
             }
             if 16777216 < bytes {
-                return Checked::Refused(Refusal::List);
+                return ListChecked::Refused(Refusal::List);
             }
-            Checked::Elements(elements)
+            ListChecked::Elements(elements)
         }
-        Totals::Bad => Checked::Refused(Refusal::List),
+        Totals::Bad => ListChecked::Refused(Refusal::List),
     }
 }
 
@@ -186,11 +187,11 @@ pub fn keep(list: &[u8], store: &[u8], n: usize) -> Kept
     ensures { λ r. ⌜ keptLengths r ≡ andThen (keeping n (now (list .entry)) (now (store .entry))) (λ f. answer (lengths f)) ⌝ }
 {
     match check(list, store) {
-        Checked::Elements(count) => {
+        ListChecked::Elements(count) => {
             let f = walk(list, least(n, count));
             Kept::Lengths(f.list, f.store)
         }
-        Checked::Refused(r) => Kept::Refused(r),
+        ListChecked::Refused(r) => Kept::Refused(r),
     }
 }
 
@@ -295,15 +296,15 @@ pub fn find_block(
     letter: u8,
     number: BlockNumber,
 ) -> Located
-    ensures { λ r. ⌜ Finds «index_letter» «data_letter» letter (number .0) (now («index_list» .entry)) (now («index_store» .entry)) (now («data_list» .entry)) (now («data_store» .entry)) (located r) ⌝ }
+    ensures { λ r. ⌜ FindsBlock «index_letter» «data_letter» letter (number .0) (now («index_list» .entry)) (now («index_store» .entry)) (now («data_list» .entry)) (now («data_store» .entry)) (located r) ⌝ }
 {
     if !are_letters(index_letter, data_letter, letter) {
         return Located::Refused(Refusal::Caller);
     }
-    let Checked::Elements(index_count) = check(index_list, index_store) else {
+    let ListChecked::Elements(index_count) = check(index_list, index_store) else {
         return Located::Refused(Refusal::List);
     };
-    let Checked::Elements(data_count) = check(data_list, data_store) else {
+    let ListChecked::Elements(data_count) = check(data_list, data_store) else {
         return Located::Refused(Refusal::List);
     };
     if letter == index_letter {

@@ -10,13 +10,13 @@ fn check_case(fd: i32) -> bool {
     let refusal = case_files::number(fd);
     let elements = case_files::number(fd) as usize;
     match tape::check(&list[..l], &store[..s]) {
-        tape::Checked::Elements(n) => {
+        tape::ListChecked::Elements(n) => {
             if refusal != 0 {
                 return false;
             }
             n == elements
         }
-        tape::Checked::Refused(r) => refusals::number(r) == refusal,
+        tape::ListChecked::Refused(r) => refusals::number(r) == refusal,
     }
 }
 

@@ -7,7 +7,7 @@ use borrow.Author.Tests.{ne-eqb}
 use lib.ListN.{length}
 use Rattle.slices.specs.Slices.{same}
 use Rattle.xml.specs.Grammar.{Entity, amp, lt, gt, quot, apos}
-use Rattle.texts.specs.Decoded.{reference, meaning, decodedBehind, decoded}
+use Rattle.texts.specs.Decoded.{referenceMeant, meaning, decodedBehind, decoded}
 use Rattle.slices.specs.Words.{bytes}
 
 -- the byte that a reference stands for
@@ -19,7 +19,7 @@ entityByte quot = 34
 entityByte apos = 39
 
 pub decoded-entity : {e : List ℕ} (x : Entity e) (s : List ℕ) → decoded (38 ∷ e ++ s) ≡ entityByte x ∷ decoded s
-unfolding same reference meaning decodedBehind bytes
+unfolding same referenceMeant meaning decodedBehind bytes
 decoded-entity amp s = refl
 decoded-entity lt s = refl
 decoded-entity gt s = refl

@@ -12,7 +12,8 @@ use lib.Seq.{drop-cons, drop-drop}
 use Rattle.slices.specs.Slices.{written}
 use Rattle.slices.proofs.Writing.{written-set, written-then}
 use Rattle.slices.proofs.Equal.{same-eq, lengths-differ}
-use Rattle.texts.specs.Decoded.{begins, Meant, meant, reference, meaning, decodedBehind, decoded, Means}
+use Rattle.texts.specs.Decoded.{begins, Meant, meant, referenceMeant, meaning, decodedBehind, decoded}
+use Rattle.texts.specs.Steps.{Means}
 use Rattle.slices.specs.Words.{bytes}
 
 -- a text that begins with w is no shorter
@@ -26,8 +27,8 @@ record Fits (r : List ℕ) (m : Meant) : Type 0 where
   fits : m .more ≤ length r
 
 -- a reference lies in the text
-reference-fits : (r : List ℕ) → Fits r (reference r)
-unfolding reference bytes
+reference-fits : (r : List ℕ) → Fits r (referenceMeant r)
+unfolding referenceMeant bytes
 reference-fits r =
     word 38 (97 ∷ 109 ∷ 112 ∷ 59 ∷ []) _
     (word 60 (108 ∷ 116 ∷ 59 ∷ []) _
@@ -74,7 +75,7 @@ module _ (s : List ℕ) (i : ℕ) where
         }
 
     -- an `&`, with its reference
-    pub reference-at : (b m : ℕ) → getD s i 0 ≡ 38 → meant b m ≡ reference (drop (i + 1) s) → Means s i b (i + 1 + m)
+    pub reference-at : (b m : ℕ) → getD s i 0 ≡ 38 → meant b m ≡ referenceMeant (drop (i + 1) s) → Means s i b (i + 1 + m)
     unfolding meaning
     reference-at b m e r =
         let f : m ≤ length (drop (i + 1) s) = subst (Fits (drop (i + 1) s)) (sym r) (reference-fits (drop (i + 1) s)) .fits in

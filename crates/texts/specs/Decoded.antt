@@ -7,8 +7,6 @@ use lib.Dec.{eqb}
 use lib.ListN.{length, take, drop}
 use Rattle.slices.specs.Slices.{within, same}
 use Rattle.slices.specs.Words.{bytes}
-use Rattle.texts.specs.declared.Spelled.{Spelled}
-use Rattle.texts.specs.declared.Spelled.the-variants.{End, Byte}
 
 -- whether s begins with w
 abbrev pub begins : List ℕ → List ℕ → Bool
@@ -23,8 +21,8 @@ abbrev pub meant : ℕ → ℕ → Meant
 meant b n = record { byte = b; more = n }
 
 -- what an `&` before s means: `&amp;`, `&lt;`, `&gt;`, `&quot;`, `&apos;`, and itself before anything else
-unfoldable pub reference : List ℕ → Meant
-reference s =
+unfoldable pub referenceMeant : List ℕ → Meant
+referenceMeant s =
     cond (begins (bytes "amp;") s) (meant 38 4)
     (cond (begins (bytes "lt;") s) (meant 60 3)
     (cond (begins (bytes "gt;") s) (meant 62 3)
@@ -33,7 +31,7 @@ reference s =
 
 -- what the byte b before s means
 unfoldable pub meaning : ℕ → List ℕ → Meant
-meaning b s = cond (eqb b 38) (reference s) (meant b 0)
+meaning b s = cond (eqb b 38) (referenceMeant s) (meant b 0)
 
 -- what is meant by a text of which the first n bytes belong to a reference
 unfoldable pub decodedBehind : ℕ → List ℕ → List ℕ
@@ -52,13 +50,3 @@ continues b = within 128 191 b
 unfoldable pub codePoints : List ℕ → ℕ
 codePoints [] = 0
 codePoints (b ∷ s) = cond (continues b) 0 1 + codePoints s
-
--- the byte b is meant at i, and what is meant goes on at j
-pub record Means (s : List ℕ) (i b j : ℕ) : Type 0 where
-  pub bytes : decoded (drop i s) ≡ b ∷ decoded (drop j s)
-  pub place : (i < j) × (j ≤ length s)
-
--- the next byte that is meant from i on
-abbrev pub NextByte : List ℕ → ℕ → Spelled → Type 0
-NextByte s i End = decoded (drop i s) ≡ []
-NextByte s i (Byte b j) = Means s i b j

@@ -7,7 +7,8 @@ ghost use Prim.Native.Nat.{_+_, _≤_, _<_};
 ghost use lib.ListN.{length, drop, getD};
 ghost use Rattle.slices.specs.Slices as slices;
 ghost use Rattle.slices.specs.Writers.{Puts};
-ghost use Rattle.texts.specs.Decoded.{begins, meant, reference, decoded, codePoints, continues, NextByte};
+ghost use Rattle.texts.specs.Decoded.{begins, meant, referenceMeant, decoded, codePoints, continues};
+ghost use Rattle.texts.specs.Steps.{NextByte};
 
 // A byte as it is meant, and the place behind what spells it; or the end of the text.
 pub enum Spelled {
@@ -36,7 +37,7 @@ fn stands(raw: &[u8], at: usize, w: &[u8]) -> bool
 // What an `&` before at means.
 fn meaning_of(raw: &[u8], at: usize) -> Meaning
     requires { ⌜ at ≤ length (now raw) ⌝ }
-    ensures { λ r. ⌜ meant (r .byte) (r .more) ≡ reference (drop at (now (raw .entry))) ⌝ }
+    ensures { λ r. ⌜ meant (r .byte) (r .more) ≡ referenceMeant (drop at (now (raw .entry))) ⌝ }
 {
     if stands(raw, at, b"amp;") {
         return Meaning { byte: 38, more: 4 };

@@ -13,30 +13,30 @@ use Rattle.slices.specs.Slices.{every}
 use Rattle.slices.proofs.Booleans.{and-left, and-right, and-both}
 use Rattle.digits.specs.Decimal.{isDigit}
 use Rattle.digits.specs.Hex.{isHex}
-use Rattle.values.specs.Values.{fits, inForm}
+use Rattle.values.specs.Values.{byPattern, inPattern}
 
 module _ (p s : List ℕ) (i : ℕ) where
-  pub form-on : i < length p → i < length s → fits (getD p i 0) (getD s i 0) ≡ true → inForm (drop i p) (drop i s) ≡ inForm (drop (i + 1) p) (drop (i + 1) s)
-  unfolding inForm
+  pub form-on : i < length p → i < length s → byPattern (getD p i 0) (getD s i 0) ≡ true → inPattern (drop i p) (drop i s) ≡ inPattern (drop (i + 1) p) (drop (i + 1) s)
+  unfolding inPattern
   form-on h g e = rw (drop-cons p i 0, drop-cons s i 0, add-one) (rw e)
 
-  pub form-off : i < length p → i < length s → fits (getD p i 0) (getD s i 0) ≡ false → inForm (drop i p) (drop i s) ≡ false
-  unfolding inForm
+  pub form-off : i < length p → i < length s → byPattern (getD p i 0) (getD s i 0) ≡ false → inPattern (drop i p) (drop i s) ≡ false
+  unfolding inPattern
   form-off h g e = rw (drop-cons p i 0, drop-cons s i 0) (rw e)
 
-  pub form-end : length p ≤ i → length s ≤ i → inForm (drop i p) (drop i s) ≡ true
-  unfolding inForm
+  pub form-end : length p ≤ i → length s ≤ i → inPattern (drop i p) (drop i s) ≡ true
+  unfolding inPattern
   form-end h g = rw (drop-of-length-le p h, drop-of-length-le s g)
 
-pub form-length : (p s : List ℕ) → inForm p s ≡ true → length p ≡ length s
-unfolding inForm
+pub form-length : (p s : List ℕ) → inPattern p s ≡ true → length p ≡ length s
+unfolding inPattern
 form-length [] [] e = refl
 form-length [] (b ∷ s) e = absurd (false≢true e)
 form-length (q ∷ p) [] e = absurd (false≢true e)
-form-length (q ∷ p) (b ∷ s) e = ap suc (form-length p s (and-right (fits q b) (inForm p s) e))
+form-length (q ∷ p) (b ∷ s) e = ap suc (form-length p s (and-right (byPattern q b) (inPattern p s) e))
 
-pub form-differs : (p s : List ℕ) → (length p ≡ length s → ⊥) → inForm p s ≡ false
-form-differs p s h = go (inForm p s) (form-length p s)
+pub form-differs : (p s : List ℕ) → (length p ≡ length s → ⊥) → inPattern p s ≡ false
+form-differs p s h = go (inPattern p s) (form-length p s)
   where
     go : (t : Bool) → (t ≡ true → length p ≡ length s) → t ≡ false
     go true f = absurd (h (f refl))
@@ -44,8 +44,8 @@ form-differs p s h = go (inForm p s) (form-length p s)
 
 -- a test that every digit passes, and every byte of the form, is passed by each byte of a text in the form
 module _ (test : ℕ → Bool) (digit : (b : ℕ) → isDigit b ≡ true → test b ≡ true) (hex : (b : ℕ) → isHex b ≡ true → test b ≡ true) where
-  fits-test : (q b : ℕ) → test q ≡ true → fits q b ≡ true → test b ≡ true
-  unfolding fits
+  fits-test : (q b : ℕ) → test q ≡ true → byPattern q b ≡ true → test b ≡ true
+  unfolding byPattern
   fits-test q b h = go (eqb q 35) (eqb q 42)
     where
       go : (t u : Bool) → cond t (isDigit b) (cond u (isHex b) (eqb q b)) ≡ true → test b ≡ true
@@ -53,12 +53,12 @@ module _ (test : ℕ → Bool) (digit : (b : ℕ) → isDigit b ≡ true → tes
       go false true e = hex b e
       go false false e = ap test (sym (eqb-true q b e)) ∙ h
 
-  pub form-every : (p s : List ℕ) → every test p ≡ true → inForm p s ≡ true → every test s ≡ true
-  unfolding inForm every
+  pub form-every : (p s : List ℕ) → every test p ≡ true → inPattern p s ≡ true → every test s ≡ true
+  unfolding inPattern every
   form-every [] [] h e = refl
   form-every [] (b ∷ s) h e = absurd (false≢true e)
   form-every (q ∷ p) [] h e = absurd (false≢true e)
   form-every (q ∷ p) (b ∷ s) h e =
       and-both (test b) (every test s)
-      (fits-test q b (and-left (test q) (every test p) h) (and-left (fits q b) (inForm p s) e))
-      (form-every p s (and-right (test q) (every test p) h) (and-right (fits q b) (inForm p s) e))
+      (fits-test q b (and-left (test q) (every test p) h) (and-left (byPattern q b) (inPattern p s) e))
+      (form-every p s (and-right (test q) (every test p) h) (and-right (byPattern q b) (inPattern p s) e))

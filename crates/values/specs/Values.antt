@@ -12,11 +12,8 @@ use Rattle.quantities.specs.Letters.{isLetter}
 use Rattle.digits.specs.Decimal as decimal
 use Rattle.digits.specs.Hex.{isHex}
 use Rattle.texts.specs.Decoded.{begins, codePoints}
-use Rattle.values.specs.declared.Boolean.{Boolean}
 use Rattle.values.specs.declared.Boolean.the-variants as aBoolean
-use Rattle.values.specs.declared.Letter.{Letter}
 use Rattle.values.specs.declared.Letter.the-variants as aLetter
-use Rattle.values.specs.declared.Version.{Version}
 use Rattle.values.specs.declared.Version.the-variants as aVersion
 
 -- Number: what a number's text means to every reader
@@ -30,15 +27,15 @@ boolean s =
     (cond (same s (bytes "false") || same s (bytes "0")) (some false) none)
 
 -- a byte by a form's: `#` stands for a decimal digit, `*` for a hex digit, any other byte for itself
-unfoldable pub fits : ℕ → ℕ → Bool
-fits p b = cond (eqb p 35) (decimal.isDigit b) (cond (eqb p 42) (isHex b) (eqb p b))
+unfoldable pub byPattern : ℕ → ℕ → Bool
+byPattern p b = cond (eqb p 35) (decimal.isDigit b) (cond (eqb p 42) (isHex b) (eqb p b))
 
 -- each byte by the form's, and none missing
-unfoldable pub inForm : List ℕ → List ℕ → Bool
-inForm [] [] = true
-inForm [] (b ∷ s) = false
-inForm (p ∷ ps) [] = false
-inForm (p ∷ ps) (b ∷ s) = fits p b && inForm ps s
+unfoldable pub inPattern : List ℕ → List ℕ → Bool
+inPattern [] [] = true
+inPattern [] (b ∷ s) = false
+inPattern (p ∷ ps) [] = false
+inPattern (p ∷ ps) (b ∷ s) = byPattern p b && inPattern ps s
 
 -- the number of the two decimal digits at i
 abbrev pub two : List ℕ → ℕ → ℕ
@@ -51,11 +48,11 @@ inRanges s =
 
 -- Time: 30 bytes, the fields in their ranges
 unfoldable pub isTime : List ℕ → Bool
-isTime s = inForm (bytes "####-##-##T##:##:##.#########Z") s && inRanges s
+isTime s = inPattern (bytes "####-##-##T##:##:##.#########Z") s && inRanges s
 
 -- UUID (002, 5.8): 8-4-4-4-12 hex digits
 unfoldable pub isUuid : List ℕ → Bool
-isUuid s = inForm (bytes "********-****-****-****-************") s
+isUuid s = inPattern (bytes "********-****-****-****-************") s
 
 -- two UUIDs are the same when their bytes are
 unfoldable pub sameUuid : List ℕ → List ℕ → Bool
@@ -91,16 +88,3 @@ atMost bound none = none
 -- a version (01, Refusal numbers: 7): the R of 2.0.R, in plain numbers up to 65,535
 unfoldable pub version : List ℕ → Option ℕ
 version s = cond (begins (bytes "2.0.") s) (atMost 65535 (decimal.number (drop 4 s))) none
-
--- what an answer says
-abbrev pub booleanOf : Boolean → Option Bool
-booleanOf (aBoolean.Value b) = some b
-booleanOf aBoolean.Nothing = none
-
-abbrev pub letterOf : Letter → Option ℕ
-letterOf (aLetter.Value b) = some b
-letterOf aLetter.Nothing = none
-
-abbrev pub versionOf : Version → Option ℕ
-versionOf (aVersion.Release n) = some n
-versionOf aVersion.Nothing = none

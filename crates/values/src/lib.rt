@@ -6,11 +6,12 @@ ghost use mathlib.Core.Bool.{_||_};
 ghost use Prim.Native.Nat.{_+_, _-_, _<_, _≤_};
 ghost use lib.ListN.{length};
 ghost use Rattle.slices.specs.Slices.{within, every};
-ghost use Rattle.digits.specs.Decimal.{valueOf};
+ghost use Rattle.digits.specs.Steps.{valueOf};
 ghost use Rattle.digits.specs.Hex.{hexTable};
 ghost use Rattle.texts.specs.Decoded.{decoded};
 ghost use Rattle.slices.specs.Slices as slices;
-ghost use Rattle.values.specs.Values.{number, boolean, booleanOf, letter, letterOf, version, versionOf, fits, inForm, two, inRanges, isPlain, isTime, isUuid, sameUuid, isCreator, isName, isRootName};
+ghost use Rattle.values.specs.Values.{number, boolean, letter, version, byPattern, inPattern, two, inRanges, isPlain, isTime, isUuid, sameUuid, isCreator, isName, isRootName};
+ghost use Rattle.values.specs.Steps.{booleanOf, letterOf, versionOf};
 
 // What a text says as a boolean.
 pub enum Boolean {
@@ -63,7 +64,7 @@ pub fn read_boolean(raw: &[u8]) -> Boolean
 // Whether a byte is as a form's byte says, by the table of hex digits.
 fn byte_fits(p: u8, b: u8, hex: &[u8; 256]) -> bool
     requires { ⌜ now hex ≡ hexTable ⌝ }
-    ensures { λ r. ⌜ r ≡ fits p b ⌝ }
+    ensures { λ r. ⌜ r ≡ byPattern p b ⌝ }
 {
     if p == b'#' {
         if b < b'0' {
@@ -80,7 +81,7 @@ fn byte_fits(p: u8, b: u8, hex: &[u8; 256]) -> bool
 // Whether each byte of raw is as the form's says.
 fn is_in_form(form: &[u8], raw: &[u8], hex: &[u8; 256]) -> bool
     requires { ⌜ now hex ≡ hexTable ⌝ }
-    ensures { λ r. ⌜ r ≡ inForm (now (form .entry)) (now (raw .entry)) ⌝ }
+    ensures { λ r. ⌜ r ≡ inPattern (now (form .entry)) (now (raw .entry)) ⌝ }
 {
     if form.len() != raw.len() {
         return false;

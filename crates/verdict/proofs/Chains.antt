@@ -9,11 +9,12 @@ use native.Mathlib.Omega.{arith}
 use lib.ListN.{length}
 use lib.Dec.{eqb}
 use borrow.Author.Tests.{eqb-true, eq-eqb, ne-eqb}
-use Rattle.quantities.specs.Places.{Place}
+use Rattle.quantities.specs.Locations.{Location}
 use Rattle.constructs.specs.Constructs.{Construct}
-use Rattle.verdict.specs.Verdict.{Index, Volume, orElse, unless, isNone, isAt, readIndex, readData, follows, chainBreak}
-use Rattle.verdict.specs.Rescue.{Cut, blockOf, target, through, chain, cutAt, fits, attempt, cutAmong}
-use Rattle.constructs.proofs.Suffixes.{Suffix, here, there, suffix-length, nil-suffix}
+use Rattle.verdict.specs.Verdict.{IndexLinks, Volume, orElse, unless, isNone, isAt, readIndex, readData, follows, chainBreak}
+use Rattle.verdict.specs.Rescue.{Cut, pointedBlock, target, through, chain, cutAt, fitsCut, attempt, cutAmong}
+use Rattle.constructs.specs.Steps.{Suffix, here, there}
+use Rattle.constructs.proofs.Suffixes.{suffix-length, nil-suffix}
 use Rattle.constructs.proofs.Fronts.{Below, below-first}
 
 pub orElse-none : {A : Type 0} (x y : Option A) → orElse x y ≡ none → (x ≡ none) × (y ≡ none)
@@ -88,13 +89,13 @@ module _ (v : Volume) where
       go false k = k
 
   -- where a follows holds, the target is where the back pointer points
-  follows-target : (x : Option Index) (d : Construct) (y : Option Index) → follows v x d y ≡ true → target x ≡ d .first
+  follows-target : (x : Option IndexLinks) (d : Construct) (y : Option IndexLinks) → follows v x d y ≡ true → target x ≡ d .first
   unfolding follows
   follows-target none d y h = let z : _≡_ {A = ℕ} 0 1 = cc in absurd (omega arith)
   follows-target (some x) d none h = let z : _≡_ {A = ℕ} 0 1 = cc in absurd (omega arith)
   follows-target (some x) d (some y) h = at (x .back) (and-true _ _ h .0)
     where
-      at : (p : Option Place) → isAt p (v .dataLetter) (d .first) ≡ true → blockOf p ≡ d .first
+      at : (p : Option Location) → isAt p (v .dataLetter) (d .first) ≡ true → pointedBlock p ≡ d .first
       at none e = let z : _≡_ {A = ℕ} 0 1 = cc in absurd (omega arith)
       at (some p) e = eqb-true (p .block) (d .first) (and-true (eqb (p .letter) (v .dataLetter)) (eqb (p .block) (d .first)) e .1)
 
@@ -107,7 +108,7 @@ module _ (v : Volume) where
       pub ds′ : List Construct
       pub inI : Suffix (c ∷ cs′) cs
       pub inD : Suffix (d ∷ ds′) ds
-      pub fit : fits v li ld c d ≡ true
+      pub fit : fitsCut v li ld c d ≡ true
       pub is : a ≡ cutAt v c cs′ d ds′
 
     pair-there : {c : Construct} {cs : List Construct} {a : Cut} → Pair cs a → Pair (c ∷ cs) a
@@ -115,9 +116,9 @@ module _ (v : Volume) where
 
     attempt-sound : (c : Construct) (cs es : List Construct) (a : Cut) → Suffix es ds → attempt v li ld c cs es ≡ some a → Pair (c ∷ cs) a
     attempt-sound c cs [] a h e = let z : _≡_ {A = ℕ} 0 1 = cc in absurd (omega arith)
-    attempt-sound c cs (d ∷ es) a h e = go (fits v li ld c d) refl e
+    attempt-sound c cs (d ∷ es) a h e = go (fitsCut v li ld c d) refl e
       where
-        go : (t : Bool) → fits v li ld c d ≡ t → cond t (some (cutAt v c cs d es)) none ≡ some a → Pair (c ∷ cs) a
+        go : (t : Bool) → fitsCut v li ld c d ≡ t → cond t (some (cutAt v c cs d es)) none ≡ some a → Pair (c ∷ cs) a
         go true q e = record { c = c; cs′ = cs; d = d; ds′ = es; inI = here refl; inD = h; fit = q; is = cc }
         go false q e = let z : _≡_ {A = ℕ} 0 1 = cc in absurd (omega arith)
 
@@ -142,13 +143,13 @@ module _ (v : Volume) where
 
     attempt-index : (c : Construct) (cs es : List Construct) (a : Cut) → attempt v li ld c cs es ≡ some a → a .indexConstruct ≡ length cs
     attempt-index c cs [] a e = let z : _≡_ {A = ℕ} 0 1 = cc in absurd (omega arith)
-    attempt-index c cs (d ∷ es) a e = go (fits v li ld c d) e
+    attempt-index c cs (d ∷ es) a e = go (fitsCut v li ld c d) e
       where
         go : (t : Bool) → cond t (some (cutAt v c cs d es)) none ≡ some a → a .indexConstruct ≡ length cs
         go true q = let z : cutAt v c cs d es ≡ a = cc in ap (λ (x : Cut). x .indexConstruct) (sym z)
         go false q = let z : _≡_ {A = ℕ} 0 1 = cc in absurd (omega arith)
 
-    found : (c : Construct) (cs : List Construct) (d : Construct) (ds′ : List Construct) → Suffix (d ∷ ds′) ds → fits v li ld c d ≡ true
+    found : (c : Construct) (cs : List Construct) (d : Construct) (ds′ : List Construct) → Suffix (d ∷ ds′) ds → fitsCut v li ld c d ≡ true
         → cutAmong v li ld ds (c ∷ cs) ≡ some (cutAt v c cs d ds′)
     unfolding cutAmong
     found c cs d ds′ h f =
@@ -157,7 +158,7 @@ module _ (v : Volume) where
         rw (q, f)
 
     pub search-best : (cs : List Construct) (c : Construct) (cs′ : List Construct) (d : Construct) (ds′ : List Construct)
-        → Suffix (c ∷ cs′) cs → Suffix (d ∷ ds′) ds → fits v li ld c d ≡ true → Best cs (cutAt v c cs′ d ds′)
+        → Suffix (c ∷ cs′) cs → Suffix (d ∷ ds′) ds → fitsCut v li ld c d ≡ true → Best cs (cutAt v c cs′ d ds′)
     unfolding cutAmong
     search-best [] c cs′ d ds′ h hd f = absurd (nil-suffix h)
     search-best (e ∷ es) c cs′ d ds′ (here q) hd f =

@@ -10,10 +10,11 @@ use lib.ListN.{length, take}
 use lib.Seq.{length-take-le}
 use borrow.Author.Tests.{eqb-true, eq-eqb}
 use Rattle.tape.specs.Tape.{Element}
-use Rattle.constructs.specs.Constructs.{Construct, scan, start, standing, dataLengths}
+use Rattle.constructs.specs.Constructs.{Construct, scan, scanStart, standing, dataLengths}
 use Rattle.verdict.specs.Verdict.{Volume, numbered, isNone, endsWith, readIndex, readData, follows, chainBreak, tied, badFileIn, badFile, verdict}
-use Rattle.verdict.specs.Rescue.{Cut, chain, cutAt, fits, rescue}
-use Rattle.constructs.proofs.Suffixes.{Suffix, suffix-trans}
+use Rattle.verdict.specs.Rescue.{Cut, chain, cutAt, fitsCut, rescue}
+use Rattle.constructs.specs.Steps.{Suffix}
+use Rattle.constructs.proofs.Suffixes.{suffix-trans}
 use Rattle.constructs.proofs.Fronts.{standing-front, standing-at, dataLengthsFrom-front, Below, standing-below, below-suffix}
 use Rattle.verdict.proofs.Chains.{orElse-none, unless-none, and-true, isNone-none, chain-suffix, chain-good, good-suffix, good-chain, search-sound, search-best}
 
@@ -93,7 +94,7 @@ module _ (v : Volume) where
       pub atI : c .upTo ≡ n
       pub atD : e .upTo ≡ m
       pub good : chainBreak v (e ∷ es) ≡ none
-      pub fit : fits v (dataLengths i) (dataLengths d) c e ≡ true
+      pub fit : fitsCut v (dataLengths i) (dataLengths d) c e ≡ true
 
     size-front : (t : List Element) (c : Construct) (n : ℕ) → c .upTo ≡ n → dataLengths (take n t) ≡ take (c .upTo) (dataLengths t)
     size-front t c n h = dataLengthsFrom-front n 4 true t ∙ ap (λ (k : ℕ). take k (dataLengths t)) (sym h)
@@ -135,7 +136,7 @@ module _ (v : Volume) where
           files = rw (size-front i (k .c) n (k .atI), size-front d (k .e) m (k .atD)) (isNone-none _ (f .1));
         }
 
-    below : Below ((scan (v .size) start d) .at) (chain v (standing (v .size) d))
+    below : Below ((scan (v .size) scanStart d) .at) (chain v (standing (v .size) d))
     below = below-suffix _ (chain-suffix v (standing (v .size) d)) (standing-below (v .size) d)
 
     -- the rescue's answer is a pair that can be kept

@@ -11,7 +11,7 @@ use lib.ListN.{length, take}
 use lib.Seq.{length-take-le, take-length, take-take}
 use Rattle.tape.specs.Tape.{Element}
 use Rattle.constructs.specs.Constructs.{Construct, standing}
-use Rattle.verdict.specs.Verdict.{Index, Volume, readIndex, readData, follows, verdict, Consistent}
+use Rattle.verdict.specs.Verdict.{IndexLinks, Volume, readIndex, readData, follows, verdict, Consistent}
 use Rattle.verdict.specs.Rescue.{Cut, generationOf, cutAt, rescue}
 use Rattle.verdict.specs.Demand.{Demand3, Leaves, LastGeneration, keeps}
 use Rattle.constructs.proofs.Suffixes.{suffix-length}
@@ -61,7 +61,7 @@ module _ (labels : List Element → List Element → Option Volume) (v : Volume)
       (omega (arith, k .0, ap (λ (x : Cut). x .indexConstruct) (r .1)), omega (arith, k .1, ap (λ (x : Cut). x .dataConstruct) (r .1)))
 
   -- what follows another is sound
-  sound-follows : (o : Option Index) (e : Construct) (y : Option Index) → follows v o e y ≡ true → (x : Index) × (o ≡ some x)
+  sound-follows : (o : Option IndexLinks) (e : Construct) (y : Option IndexLinks) → follows v o e y ≡ true → (x : IndexLinks) × (o ≡ some x)
   unfolding follows
   sound-follows none e y h = let z : _≡_ {A = ℕ} 0 1 = cc in absurd (omega arith)
   sound-follows (some x) e y h = (x, refl)

@@ -7,15 +7,12 @@ use Prim.Native.Nat.{ℕ, zero, suc, _-_, _<_}
 use native.Mathlib.Omega.{arith}
 use lib.ListN.{length, drop}
 use Rattle.constructs.specs.Constructs.{Construct}
-use Rattle.constructs.proofs.Suffixes.{Suffix, here, there}
+use Rattle.constructs.specs.Steps.{Suffix, here, there}
 use Rattle.verdict.specs.Verdict.{Volume, chained, chainBreak}
 use Rattle.verdict.specs.Rescue.{Cut, target, through, chain, attempt, cutAmong}
+use Rattle.verdict.specs.Steps.{firsts}
 
 module _ {A : Type 0} where
-  -- the first k elements of a list that has its last one first
-  abbrev pub firsts : ℕ → List A → List A
-  firsts k xs = drop (length xs - k) xs
-
   pub firsts-suffix : (n : ℕ) (xs : List A) → Suffix (drop n xs) xs
   firsts-suffix zero xs = here refl
   firsts-suffix (suc n) [] = here refl

@@ -11,11 +11,12 @@ use lib.Seq.{getD-set-same, getD-set-other, drop-length}
 use borrow.Author.Tests.{eqb-true, eqb-false}
 use Rattle.slices.proofs.Booleans.{split}
 use Rattle.constructs.specs.Constructs.{Construct}
-use Rattle.constructs.proofs.Suffixes.{Suffix, suffix-same, suffix-length}
+use Rattle.constructs.specs.Steps.{Suffix}
+use Rattle.constructs.proofs.Suffixes.{suffix-same, suffix-length}
 use Rattle.verdict.specs.Rescue.{through}
-use Rattle.verdict.specs.Partners.{beginnings}
+use Rattle.verdict.specs.Steps.{beginnings, firsts}
 use Rattle.verdict.proofs.Chains.{through-suffix}
-use Rattle.verdict.proofs.Orders.{firsts, firsts-suffix}
+use Rattle.verdict.proofs.Orders.{firsts-suffix}
 
 pub length-beginnings : (cs : List Construct) (table : List ℕ) → length (beginnings cs table) ≡ length table
 unfolding beginnings

@@ -7,7 +7,7 @@ use Prim.Native.Nat.{ℕ, suc, _≤_, _<_}
 use lib.ListN.{length, take}
 use Rattle.tape.specs.Tape.{Tape}
 use Rattle.constructs.specs.Constructs.{Construct, standing}
-use Rattle.verdict.specs.Verdict.{Index, Volume, Consistent, readIndex}
+use Rattle.verdict.specs.Verdict.{IndexLinks, Volume, Consistent, readIndex}
 use Rattle.verdict.specs.Rescue.{Cut}
 
 module _ (labels : Tape → Tape → Option Volume) (v : Volume) (i d : Tape) where
@@ -25,7 +25,7 @@ module _ (labels : Tape → Tape → Option Volume) (v : Volume) (i d : Tape) wh
   pub record LastGeneration (n g : ℕ) : Type 0 where
     pub last : Construct
     pub before : List Construct
-    pub index : Index
+    pub index : IndexLinks
     pub stands : standing (v .size) (take n i) ≡ last ∷ before
     pub reads : readIndex v last ≡ some index
     pub is : g ≡ index .generation

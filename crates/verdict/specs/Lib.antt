@@ -1,4 +1,4 @@
 pub mod Verdict
 pub mod Rescue
 pub mod Demand
-pub mod Partners
+pub mod Steps

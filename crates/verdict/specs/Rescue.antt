@@ -6,10 +6,10 @@ use mathlib.Core.List.{List, [], _∷_}
 use Prim.Native.Nat.{ℕ}
 use lib.ListN.{length, take}
 use lib.Dec.{eqb}
-use Rattle.quantities.specs.Places.{Place}
+use Rattle.quantities.specs.Locations.{Location}
 use Rattle.tape.specs.Tape.{Tape}
 use Rattle.constructs.specs.Constructs.{Construct, standing, dataLengths}
-use Rattle.verdict.specs.Verdict.{Index, Volume, orElse, isNone, readIndex, readData, follows, chainBreak, badFileIn}
+use Rattle.verdict.specs.Verdict.{IndexLinks, Volume, orElse, isNone, readIndex, readData, follows, chainBreak, badFileIn}
 
 -- both construct numbers, both counts of kept elements, and the generation of the last index kept in the index partition
 pub record Cut : Type 0 where
@@ -19,16 +19,16 @@ pub record Cut : Type 0 where
   pub dataKept : ℕ
   pub generation : ℕ
 
-abbrev pub blockOf : Option Place → ℕ
-blockOf none = 0
-blockOf (some p) = p .block
+abbrev pub pointedBlock : Option Location → ℕ
+pointedBlock none = 0
+pointedBlock (some p) = p .block
 
 -- the element that an index's back pointer names
-abbrev pub target : Option Index → ℕ
+abbrev pub target : Option IndexLinks → ℕ
 target none = 0
-target (some x) = blockOf (x .back)
+target (some x) = pointedBlock (x .back)
 
-abbrev pub generationOf : Option Index → ℕ
+abbrev pub generationOf : Option IndexLinks → ℕ
 generationOf none = 0
 generationOf (some x) = x .generation
 
@@ -55,12 +55,12 @@ module _ (v : Volume) where
       }
 
   -- cut there, the index partition's last index follows the data partition's last, and its extents lie on what is kept
-  abbrev pub fits : List ℕ → List ℕ → Construct → Construct → Bool
-  fits li ld c d = follows v (readIndex v c) d (readData v d) && isNone (badFileIn v (readIndex v c) (take (c .upTo) li) (take (d .upTo) ld))
+  abbrev pub fitsCut : List ℕ → List ℕ → Construct → Construct → Bool
+  fitsCut li ld c d = follows v (readIndex v c) d (readData v d) && isNone (badFileIn v (readIndex v c) (take (c .upTo) li) (take (d .upTo) ld))
 
   abbrev pub attempt : List ℕ → List ℕ → Construct → List Construct → List Construct → Option Cut
   attempt li ld c cs [] = none
-  attempt li ld c cs (d ∷ ds) = cond (fits li ld c d) (some (cutAt c cs d ds)) none
+  attempt li ld c cs (d ∷ ds) = cond (fitsCut li ld c d) (some (cutAt c cs d ds)) none
 
   -- from the last index construct back: the first that fits the construct of the chain that it points at
   unfoldable pub cutAmong : List ℕ → List ℕ → List Construct → List Construct → Option Cut

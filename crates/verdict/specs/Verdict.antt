@@ -8,16 +8,16 @@ use Prim.Native.Nat.{ℕ, suc, _-_}
 use lib.ListN.{length, take}
 use lib.Dec.{leb, eqb}
 use Rattle.slices.specs.Slices.{every}
-use Rattle.quantities.specs.Places.{Place}
+use Rattle.quantities.specs.Locations.{Location}
 use Rattle.tape.specs.Tape.{Tape}
 use Rattle.extents.specs.Rows.{Row}
 use Rattle.extents.specs.Tape.{liesOnTape}
 use Rattle.constructs.specs.Constructs.{Construct, standing, dataLengths}
 
 -- what the verdict asks of a sound index: its generation, its back pointer if it has one, and the extents of its files in text order
-pub record Index : Type 0 where
+pub record IndexLinks : Type 0 where
   pub generation : ℕ
-  pub back : Option Place
+  pub back : Option Location
   pub files : List (List Row)
 
 -- what agreeing labels give, and the reading of an index from the letter of its partition, the number of its first block and its text;
@@ -26,7 +26,7 @@ pub record Volume : Type 0 where
   pub size : ℕ
   pub indexLetter : ℕ
   pub dataLetter : ℕ
-  pub read : ℕ → ℕ → List ℕ → Option Index
+  pub read : ℕ → ℕ → List ℕ → Option IndexLinks
 
 module _ {A : Type 0} where
   -- the first that is given
@@ -56,7 +56,7 @@ abbrev pub numbered : ℕ → Option ℕ → Option Break
 numbered w none = none
 numbered w (some n) = some (record { which = w; number = n })
 
-abbrev pub isAt : Option Place → ℕ → ℕ → Bool
+abbrev pub isAt : Option Location → ℕ → ℕ → Bool
 isAt none letter block = false
 isAt (some p) letter block = eqb (p .letter) letter && eqb (p .block) block
 
@@ -66,10 +66,10 @@ endsWith t [] = false
 endsWith t (c ∷ cs) = eqb (c .upTo) (length t)
 
 module _ (v : Volume) where
-  abbrev pub readIndex : Construct → Option Index
+  abbrev pub readIndex : Construct → Option IndexLinks
   readIndex c = v .read (v .indexLetter) (c .first) (c .text)
 
-  abbrev pub readData : Construct → Option Index
+  abbrev pub readData : Construct → Option IndexLinks
   readData c = v .read (v .dataLetter) (c .first) (c .text)
 
   -- an extent lies on the tape, given the lengths of both partitions' data blocks
@@ -79,19 +79,19 @@ module _ (v : Volume) where
       (cond (eqb (r .letter) (v .dataLetter)) (liesOnTape ld (v .size) r) false)
 
   -- a sound index points at the data partition's construct d, whose index is sound, and has no lower generation
-  unfoldable pub follows : Option Index → Construct → Option Index → Bool
+  unfoldable pub follows : Option IndexLinks → Construct → Option IndexLinks → Bool
   follows none d y = false
   follows (some x) d none = false
   follows (some x) d (some y) = isAt (x .back) (v .dataLetter) (d .first) && leb (y .generation) (x .generation)
 
   -- a sound index with no back pointer
-  abbrev pub begins : Option Index → Bool
-  begins none = false
-  begins (some x) = isNone (x .back)
+  abbrev pub beginsChain : Option IndexLinks → Bool
+  beginsChain none = false
+  beginsChain (some x) = isNone (x .back)
 
   -- a data partition's construct is sound and follows the one before it, or begins the chain
   abbrev pub chained : Construct → List Construct → Bool
-  chained c [] = begins (readData c)
+  chained c [] = beginsChain (readData c)
   chained c (p ∷ ps) = follows (readData c) p (readData p)
 
   -- the lowest construct that breaks the chain
@@ -105,7 +105,7 @@ module _ (v : Volume) where
   tied (c ∷ cs) [] = false
   tied (c ∷ cs) (d ∷ ds) = follows (readIndex c) d (readData d)
 
-  abbrev pub badFileIn : Option Index → List ℕ → List ℕ → Option ℕ
+  abbrev pub badFileIn : Option IndexLinks → List ℕ → List ℕ → Option ℕ
   badFileIn none li ld = none
   badFileIn (some x) li ld = firstFailing (every (lies li ld)) 0 (x .files)
 

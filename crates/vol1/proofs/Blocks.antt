@@ -9,14 +9,15 @@ use lib.Dec.{eqb}
 use lib.ListN.{length, take, drop, replicate, length-append, length-take, length-drop, length-replicate}
 use lib.Seq.{take-at, drop-at}
 use Rattle.refusals.specs.Refusals.{refused, answer}
-use Rattle.refusals.specs.declared.Refusal.the-variants as is
+use Rattle.refusals.specs.declared.Refusal.the-variants as refusal
 use Rattle.slices.specs.Slices.{same}
 use Rattle.slices.specs.Words.{bytes}
-use Rattle.slices.specs.Writers.{stored}
+use Rattle.slices.specs.Writers.{heldAfter}
 use Rattle.slices.specs.declared.Written.the-variants.{To}
 use Rattle.slices.proofs.Booleans.{and-left, and-right}
 use Rattle.slices.proofs.Equal.{same-refl}
-use Rattle.vol1.specs.Vol1.{identifierAt, identifierLength, ownerAt, ownerLength, inArray, vol1, identifierIn, ownerIn, isPrinted, vol1Of, meansVol1, areFields}
+use Rattle.vol1.specs.Vol1.{identifierAt, identifierLength, ownerAt, ownerLength, vol1, identifierIn, ownerIn, isPrinted, vol1Of, areFields}
+use Rattle.vol1.specs.Steps.{inArray, meansVol1}
 use Rattle.writing.specs.Writing.{Writes}
 use Rattle.writing.proofs.Adding.{all-written}
 use Rattle.writing.proofs.Given.{Rereads, rereads}
@@ -53,7 +54,7 @@ module _ (i o : List ℕ) (h : length i ≡ identifierLength) (g : length o ≡ 
 
 -- a field in its length fills its array
 in-array : (n : ℕ) (field : List ℕ) → length field ≡ n → inArray n field ≡ field
-unfolding stored
+unfolding heldAfter
 in-array n field e =
     let z : length field ≡ length (replicate {A = ℕ} n 0) = e ∙ sym (length-replicate {A = ℕ} n 0) in
     rw (le-leb (0 + length field) (length (replicate {A = ℕ} n 0)) (omega arith)) (all-written field (replicate n 0) z)
@@ -72,21 +73,21 @@ module _ (s : List ℕ) (h : length s ≡ 80) where
       made ∙ ap₂ vol1 (in-array identifierLength i (ap length p ∙ identifier-length) ∙ p) (in-array ownerLength o (ap length q ∙ owner-length) ∙ q)
 
 module _ (s : List ℕ) where
-  pub other-length : (length s ≡ 80 → ⊥) → refused is.Vol1 ≡ vol1Of s
+  pub other-length : (length s ≡ 80 → ⊥) → refused refusal.Vol1 ≡ vol1Of s
   unfolding vol1Of
   other-length e = rw (ne-eqb _ _ e)
 
   module _ (e₀ : length s ≡ 80) where
-    pub other-constants : same s (vol1 (identifierIn s) (ownerIn s)) ≡ false → refused is.Vol1 ≡ vol1Of s
+    pub other-constants : same s (vol1 (identifierIn s) (ownerIn s)) ≡ false → refused refusal.Vol1 ≡ vol1Of s
     unfolding vol1Of
     other-constants e = rw (eq-eqb _ _ e₀, e)
 
     module _ (e₁ : same s (vol1 (identifierIn s) (ownerIn s)) ≡ true) where
-      pub identifier-unprinted : isPrinted (identifierIn s) ≡ false → refused is.Vol1 ≡ vol1Of s
+      pub identifier-unprinted : isPrinted (identifierIn s) ≡ false → refused refusal.Vol1 ≡ vol1Of s
       unfolding vol1Of
       identifier-unprinted e = rw (eq-eqb _ _ e₀, e₁, e)
 
-      pub owner-unprinted : isPrinted (identifierIn s) ≡ true → isPrinted (ownerIn s) ≡ false → refused is.Vol1 ≡ vol1Of s
+      pub owner-unprinted : isPrinted (identifierIn s) ≡ true → isPrinted (ownerIn s) ≡ false → refused refusal.Vol1 ≡ vol1Of s
       unfolding vol1Of
       owner-unprinted f e = rw (eq-eqb _ _ e₀, e₁, f, e)
 

@@ -1,1 +1,2 @@
 pub mod Vol1
+pub mod Steps

@@ -3,7 +3,8 @@ use refusals::Refusal;
 use slices::Written;
 use writing::add;
 ghost use mathlib.Core.Path.{_≡_};
-ghost use Rattle.vol1.specs.Vol1.{identifierLength, ownerLength, inArray, vol1, isPrinted, areFields, WritesBlock, vol1Of, meansVol1};
+ghost use Rattle.vol1.specs.Vol1.{identifierLength, ownerLength, vol1, isPrinted, areFields, vol1Of};
+ghost use Rattle.vol1.specs.Steps.{inArray, WritesBlock, meansVol1};
 
 // A VOL1 label, as the block that it is.
 pub struct Vol1 {

@@ -11,28 +11,30 @@ use Rattle.refusals.specs.declared.Refusal.{Refusal}
 use Rattle.refusals.specs.Refusals.{Answer, refused, answer, andThen}
 use Rattle.tape.specs.Tape.{Tape, Encodes}
 use Rattle.tape.specs.Answers.{tapeIn, orRefused}
-use Rattle.tape.specs.Reading.{tapeOf}
+use Rattle.tape.specs.ReadingSteps.{tapeOf}
 use Rattle.tape.proofs.Encoding.{Bytes, encodes-read}
-use Rattle.constructs.specs.Tables.{placeIn}
-use Rattle.constructs.specs.Constructs.{Construct, start, standing, dataLengths}
-use Rattle.constructs.proofs.Suffixes.{Suffix, here, suffix-trans}
+use Rattle.constructs.specs.TableSteps.{boundsIn}
+use Rattle.constructs.specs.Constructs.{Construct, scanStart, standing, dataLengths}
+use Rattle.constructs.specs.Steps.{Suffix, here}
+use Rattle.constructs.proofs.Suffixes.{suffix-trans}
 use Rattle.constructs.proofs.Scanning.{scan-at, standing-few}
 use Rattle.constructs.proofs.Fronts.{Below, standing-at, standing-below, below-suffix}
 use Rattle.constructs.proofs.Lengths.{length-lengths}
 use Rattle.label.specs.Label.{Label}
 use Rattle.labels.specs.Labels.{labelsOf, labelsIn}
 use Rattle.index_values.specs.Tests.{Given}
-use Rattle.index_values.specs.declared.tests.Volume.{Volume as Letters}
+use Rattle.index_values.specs.declared.tests.Partitions.{Partitions as Letters}
 use Rattle.verdict.specs.Verdict.{Volume, endsWith, chainBreak, verdict}
 use Rattle.verdict.specs.Rescue.{Cut, generationOf, through, chain, cutAmong, rescue}
-use Rattle.verdict.specs.Partners.{beginnings}
+use Rattle.verdict.specs.Steps.{beginnings, firsts}
 use Rattle.verdict.specs.Demand.{Demand3}
-use Rattle.verdict.proofs.Orders.{firsts, firsts-suffix, firsts-all}
+use Rattle.verdict.proofs.Orders.{firsts-suffix, firsts-all}
 use Rattle.verdict.proofs.Partners.{begins-at, length-beginnings}
-use Rattle.volume.specs.Volume.{volumeWith, givenBy, labels, onVolume, orNoCut, rescueIn, verdictIn}
-use Rattle.volume.specs.Steps.{Located, Listed, Held, FillsOf, JudgesLast, JudgesIndexes, JudgesData, Breaks, breakOf, lastBreak, Chains, ChainsOf, Ready, BeginsOf, Searches, triedCut, CutsBy, CutsData, Cuts}
-use Rattle.volume.specs.Answers.{judged, rescued, cutOf, Rescues, Judges}
-use Rattle.volume.specs.declared.filling.Filled.{Filled}
+use Rattle.volume.specs.Volume.{volumeWith, givenBy, volumeOf, onVolume, orNoCut, rescueIn, verdictIn}
+use Rattle.volume.specs.Steps.{Located, Listed, PartitionTables, FillsOf, JudgesLast, JudgesIndexes, JudgesData, Breaks, breakOf, lastBreak, Chains, ChainsOf, Ready, BeginsOf, Searches, triedCut, CutsBy, CutsData, Cuts}
+use Rattle.volume.specs.Answers.{rescued, cutOf, Rescues}
+use Rattle.volume.specs.AnswerSteps.{judged, Judges}
+use Rattle.volume.specs.declared.filling.TablesFilled.{TablesFilled}
 use Rattle.volume.specs.declared.search.Tried.{Tried}
 use Rattle.volume.specs.declared.answers.Rescue.{Rescue}
 use Rattle.volume.specs.declared.judge.Judgement.{Judgement}
@@ -45,50 +47,50 @@ use Rattle.volume.proofs.Partitions.{through-past, listed-suffix}
 
 -- the last construct of a list
 located-first : (s table : List ℕ) (cs : List Construct) (c : Construct) (bs : List Construct) (p : ℕ) → Listed s table cs → cs ≡ c ∷ bs → length bs ≡ p
-    → Located s (placeIn table p) c
-located-first s table cs c bs p l e n = subst (λ (z : ℕ). Located s (placeIn table z) c) n (l c bs (here (sym e)))
+    → Located s (boundsIn table p) c
+located-first s table cs c bs p l e n = subst (λ (z : ℕ). Located s (boundsIn table z) c) n (l c bs (here (sym e)))
 
 scan-length : (B : ℕ) (t : Tape) → Below (length t) (standing B t)
-scan-length B t = subst (λ (n : ℕ). Below n (standing B t)) (scan-at B start t ∙ omega arith) (standing-below B t)
+scan-length B t = subst (λ (n : ℕ). Below n (standing B t)) (scan-at B scanStart t ∙ omega arith) (standing-below B t)
 
 module _ (g : Given) (is dl ds : List ℕ) (i d : Tape) (ed : Encodes dl ds d) (ti : List ℕ) (n : ℕ) (ri td : List ℕ) (m : ℕ) (rd : List ℕ)
-    (hi : Held (g .size) is i ti n ri) (hd : Held (g .size) ds d td m rd) where
+    (hi : PartitionTables (g .blockSize) is i ti n ri) (hd : PartitionTables (g .blockSize) ds d td m rd) where
   abbrev v : Volume
   v = volumeWith g
 
-  few : length (standing (g .size) d) ≤ 21845
-  few = omega (arith, standing-few (g .size) d, ed .elements)
+  few : length (standing (g .blockSize) d) ≤ 21845
+  few = omega (arith, standing-few (g .blockSize) d, ed .elements)
 
-  chain-of : (gens : List ℕ) (k : ℕ) → ChainsOf v ds td m (length {A = ℕ} (replicate 21845 0)) gens k → Chains v (standing (g .size) d) gens k
+  chain-of : (gens : List ℕ) (k : ℕ) → ChainsOf v ds td m (length {A = ℕ} (replicate 21845 0)) gens k → Chains v (standing (g .blockSize) d) gens k
   chain-of gens k lc =
       let room : length {A = ℕ} (replicate 21845 0) ≡ 21845 = length-replicate {A = ℕ} 21845 0 in
-      lc (standing (g .size) d) (hd .listed) (sym (hd .number)) (omega (arith, few, room, hd .number))
+      lc (standing (g .blockSize) d) (hd .listed) (sym (hd .number)) (omega (arith, few, room, hd .number))
 
-  module _ (gens begins : List ℕ) (k : ℕ) (hc : Chains v (standing (g .size) d) gens k)
-      (hb : begins ≡ beginnings (firsts k (standing (g .size) d)) (replicate 65536 0)) where
-    front : Suffix (firsts k (standing (g .size) d)) (standing (g .size) d)
-    front = firsts-suffix (length (standing (g .size) d) - k) (standing (g .size) d)
+  module _ (gens begins : List ℕ) (k : ℕ) (hc : Chains v (standing (g .blockSize) d) gens k)
+      (hb : begins ≡ beginnings (firsts k (standing (g .blockSize) d)) (replicate 65536 0)) where
+    front : Suffix (firsts k (standing (g .blockSize) d)) (standing (g .blockSize) d)
+    front = firsts-suffix (length (standing (g .blockSize) d) - k) (standing (g .blockSize) d)
 
-    partners : (q : ℕ) → getD begins q 0 ≡ length (through q (firsts k (standing (g .size) d)))
+    partners : (q : ℕ) → getD begins q 0 ≡ length (through q (firsts k (standing (g .blockSize) d)))
     partners q = ap (λ (x : List ℕ). getD x q 0) hb ∙ go (decLe 65536 q)
       where
-        go : Dec (65536 ≤ q) → getD (beginnings (firsts k (standing (g .size) d)) (replicate 65536 0)) q 0 ≡ length (through q (firsts k (standing (g .size) d)))
+        go : Dec (65536 ≤ q) → getD (beginnings (firsts k (standing (g .blockSize) d)) (replicate 65536 0)) q 0 ≡ length (through q (firsts k (standing (g .blockSize) d)))
         go (yes h) =
-            let w : length (beginnings (firsts k (standing (g .size) d)) (replicate 65536 0)) ≡ 65536
-            = length-beginnings (firsts k (standing (g .size) d)) (replicate 65536 0) ∙ length-replicate {A = ℕ} 65536 0 in
-            List·getD-eq-default (beginnings (firsts k (standing (g .size) d)) (replicate 65536 0)) 0 (omega arith)
-            ∙ sym (ap length (through-past (length d) q (firsts k (standing (g .size) d)) (below-suffix (length d) front (scan-length (g .size) d)) (omega (arith, ed .elements))))
-        go (no h) = begins-at (firsts k (standing (g .size) d)) 65536 q (omega arith)
+            let w : length (beginnings (firsts k (standing (g .blockSize) d)) (replicate 65536 0)) ≡ 65536
+            = length-beginnings (firsts k (standing (g .blockSize) d)) (replicate 65536 0) ∙ length-replicate {A = ℕ} 65536 0 in
+            List·getD-eq-default (beginnings (firsts k (standing (g .blockSize) d)) (replicate 65536 0)) 0 (omega arith)
+            ∙ sym (ap length (through-past (length d) q (firsts k (standing (g .blockSize) d)) (below-suffix (length d) front (scan-length (g .blockSize) d)) (omega (arith, ed .elements))))
+        go (no h) = begins-at (firsts k (standing (g .blockSize) d)) 65536 q (omega arith)
 
-    fits : (t : Tape) (c : Construct) (bs : List Construct) → Suffix (c ∷ bs) (standing (g .size) t) → c .upTo ≤ length (dataLengths t)
-    fits t c bs suf = omega (arith, standing-at (g .size) t c bs suf .0, length-lengths 4 true t)
+    fits : (t : Tape) (c : Construct) (bs : List Construct) → Suffix (c ∷ bs) (standing (g .blockSize) t) → c .upTo ≤ length (dataLengths t)
+    fits t c bs suf = omega (arith, standing-at (g .blockSize) t c bs suf .0, length-lengths 4 true t)
 
-    ready : Ready v is ti td gens begins ri rd (standing (g .size) i) (firsts k (standing (g .size) d)) (dataLengths i) (dataLengths d)
+    ready : Ready v is ti td gens begins ri rd (standing (g .blockSize) i) (firsts k (standing (g .blockSize) d)) (dataLengths i) (dataLengths d)
     ready =
         record {
           ds-store = ds;
           index = hi .listed;
-          chain = listed-suffix ds td (firsts k (standing (g .size) d)) (standing (g .size) d) front (hd .listed);
+          chain = listed-suffix ds td (firsts k (standing (g .blockSize) d)) (standing (g .blockSize) d) front (hd .listed);
           whole = hc .whole;
           generations = hc .generations;
           partners = partners;
@@ -99,12 +101,12 @@ module _ (g : Given) (is dl ds : List ℕ) (i d : Tape) (ed : Encodes dl ds d) (
         }
 
     -- the search over those tables finds the rescue's cut
-    found : (r : Tried) → triedCut r ≡ cutAmong v (dataLengths i) (dataLengths d) (firsts k (standing (g .size) d)) (standing (g .size) i) → triedCut r ≡ rescue v i d
+    found : (r : Tried) → triedCut r ≡ cutAmong v (dataLengths i) (dataLengths d) (firsts k (standing (g .blockSize) d)) (standing (g .blockSize) i) → triedCut r ≡ rescue v i d
     unfolding rescue
-    found r e = e ∙ ap (λ (x : List Construct). cutAmong (volumeWith g) (dataLengths i) (dataLengths d) x (standing (g .size) i)) (sym (hc .longest))
+    found r e = e ∙ ap (λ (x : List Construct). cutAmong (volumeWith g) (dataLengths i) (dataLengths d) x (standing (g .blockSize) i)) (sym (hc .longest))
 
     cuts : (w : Letters) (r : Tried) → Searches g w is ti n td gens begins ri rd r → triedCut r ≡ rescue v i d
-    cuts w r e = found r (e (standing (g .size) i) (firsts k (standing (g .size) d)) (dataLengths i) (dataLengths d) ready (sym (hi .number)))
+    cuts w r e = found r (e (standing (g .blockSize) i) (firsts k (standing (g .blockSize) d)) (dataLengths i) (dataLengths d) ready (sym (hi .number)))
 
 -- the cut and the breaks from 3 on, by the tables of both partitions
 module _ (g : Given) (is ds ti : List ℕ) (n : ℕ) (ri td : List ℕ) (m : ℕ) (rd gens : List ℕ) (k : ℕ)
@@ -114,7 +116,7 @@ module _ (g : Given) (is ds ti : List ℕ) (n : ℕ) (ri td : List ℕ) (m : ℕ
   cuts-by w begins r lb ls dl i d ed hi hd =
       let c = chain-of g is dl ds i d ed ti n ri td m rd hi hd gens k lc in
       let f = few g is dl ds i d ed ti n ri td m rd hi hd in
-      cuts g is dl ds i d ed ti n ri td m rd hi hd gens begins k c (lb ds (standing (g .size) d) (hd .listed) (c .few) (omega (arith, f, c .few))) w r ls
+      cuts g is dl ds i d ed ti n ri td m rd hi hd gens begins k c (lb ds (standing (g .blockSize) d) (hd .listed) (c .few) (omega (arith, f, c .few))) w r ls
 
   pub judges-3 : k < m → JudgesIndexes g is ds ti n ri td m rd (Broken 3 k)
   judges-3 h dl i d ed hi hd ei ee =
@@ -125,16 +127,16 @@ module _ (g : Given) (is ds ti : List ℕ) (n : ℕ) (ri td : List ℕ) (m : ℕ
   judges-rest p q generation r h hp hq hg w dl i d ed hi hd ei ee =
       let v = volumeWith g in
       let ch = chain-of g is dl ds i d ed ti n ri td m rd hi hd gens k lc in
-      let one = ends-some v i d i (standing (g .size) i) ei in
-      let two = ends-some v i d d (standing (g .size) d) ee in
-      let k-all : k ≡ length (standing (g .size) d) = omega (arith, ch .few, hd .number) in
-      let all : firsts k (standing (g .size) d) ≡ standing (g .size) d = ap (λ (z : ℕ). firsts z (standing (g .size) d)) k-all ∙ firsts-all (standing (g .size) d) in
-      let whole : chainBreak v (standing (g .size) d) ≡ none = ap (chainBreak v) (sym all) ∙ ch .whole in
+      let one = ends-some v i d i (standing (g .blockSize) i) ei in
+      let two = ends-some v i d d (standing (g .blockSize) d) ee in
+      let k-all : k ≡ length (standing (g .blockSize) d) = omega (arith, ch .few, hd .number) in
+      let all : firsts k (standing (g .blockSize) d) ≡ standing (g .blockSize) d = ap (λ (z : ℕ). firsts z (standing (g .blockSize) d)) k-all ∙ firsts-all (standing (g .blockSize) d) in
+      let whole : chainBreak v (standing (g .blockSize) d) ≡ none = ap (chainBreak v) (sym all) ∙ ch .whole in
       let y = last-sound v (two .0) (two .1) (ap (chainBreak v) (sym (two .2)) ∙ whole) in
       let bs-p : length (one .1) ≡ p = omega (arith, hi .number, ap length (one .2), hp) in
       let es-q : length (two .1) ≡ q = omega (arith, hd .number, ap length (two .2), hq) in
-      let li = located-first is ti (standing (g .size) i) (one .0) (one .1) p (hi .listed) (one .2) bs-p in
-      let ldd = located-first ds td (standing (g .size) d) (two .0) (two .1) q (hd .listed) (two .2) es-q in
+      let li = located-first is ti (standing (g .blockSize) i) (one .0) (one .1) p (hi .listed) (one .2) bs-p in
+      let ldd = located-first ds td (standing (g .blockSize) d) (two .0) (two .1) q (hd .listed) (two .2) es-q in
       let gen : generation ≡ y .0 .generation
       = hg ∙ ap (λ (z : ℕ). getD gens z 0) (sym es-q) ∙ ch .generations (two .0) (two .1) (here (sym (all ∙ two .2))) ∙ ap generationOf (y .1) in
       w ds (one .0) (two .0) (dataLengths i) (dataLengths d) li ldd (y .0) (y .1) gen (hi .reaches) (hd .reaches)
@@ -143,17 +145,17 @@ module _ (g : Given) (is ds ti : List ℕ) (n : ℕ) (ri td : List ℕ) (m : ℕ
       ∙ verdict-last v i d (one .0) (one .1) (two .0) (two .1) ei ee whole (one .2) (two .2)
 
 -- the cut and the breaks of lists and stores, over tables that were all zeros before they were filled
-abbrev Fills : Given → List ℕ → List ℕ → List ℕ → List ℕ → Filled → Type 0
-Fills g l s table reach = FillsOf (g .size) l s (replicate 87380 0) table (replicate 65536 0) reach
+abbrev Fills : Given → List ℕ → List ℕ → List ℕ → List ℕ → TablesFilled → Type 0
+Fills g l s table reach = FillsOf (g .blockSize) l s (replicate 87380 0) table (replicate 65536 0) reach
 
-module _ (g : Given) (l s table reach : List ℕ) (r : Filled) (h : Fills g l s table reach r) (t : Tape) (e : Encodes l s t) where
-  held : Held (g .size) s t table (r .count) reach
+module _ (g : Given) (l s table reach : List ℕ) (r : TablesFilled) (h : Fills g l s table reach r) (t : Tape) (e : Encodes l s t) where
+  held : PartitionTables (g .blockSize) s t table (r .count) reach
   held = h t e (length-replicate {A = ℕ} 87380 0) (length-replicate {A = ℕ} 65536 0) .0
 
-  ends-told : r .ends ≡ endsWith t (standing (g .size) t)
+  ends-told : r .ends ≡ endsWith t (standing (g .blockSize) t)
   ends-told = h t e (length-replicate {A = ℕ} 87380 0) (length-replicate {A = ℕ} 65536 0) .1
 
-module _ (g : Given) (il is dl ds ti ri : List ℕ) (a : Filled) (fi : Fills g il is ti ri a) where
+module _ (g : Given) (il is dl ds ti ri : List ℕ) (a : TablesFilled) (fi : Fills g il is ti ri a) where
   pub judges-1 : a .ends ≡ false → Breaks g il is dl ds (Broken 1 0)
   judges-1 f i d ei ed = verdict-1 (volumeWith g) i d (sym (ends-told g il is ti ri a fi i ei) ∙ f)
 
@@ -163,7 +165,7 @@ module _ (g : Given) (il is dl ds ti ri : List ℕ) (a : Filled) (fi : Fills g i
   pub cuts-on : (r : Tried) → CutsData g is dl ds ti (a .count) ri r → Cuts g il is dl ds r
   cuts-on r w i d ei ed = w i d ed (held g il is ti ri a fi i ei)
 
-module _ (g : Given) (is ti : List ℕ) (n : ℕ) (ri dl ds td rd : List ℕ) (b : Filled) (fd : Fills g dl ds td rd b) where
+module _ (g : Given) (is ti : List ℕ) (n : ℕ) (ri dl ds td rd : List ℕ) (b : TablesFilled) (fd : Fills g dl ds td rd b) where
   pub judges-2 : b .ends ≡ false → JudgesData g is dl ds ti n ri (Broken 2 0)
   judges-2 f i d ed hi at = verdict-2 (volumeWith g) i d at (sym (ends-told g dl ds td rd b fd d ed) ∙ f)
 
@@ -206,7 +208,7 @@ module _ {A : Type 0} (ask : Volume → Tape → Tape → Answer A) (il is dl ds
       go (answer i) (refused q) x y e = let z : _≡_ {A = ℕ} 0 1 = cc in absurd (omega arith)
       go (answer i) (answer d) x y e = record { index = i; other = d; indexRead = x; otherRead = y; says = sym e }
 
-  pub ask-labelled : (f : Label) (l : Labelled f) → onVolume ask il is dl ds ≡ ask (volumeWith (givenBy f)) (l .index) (l .other)
+  pub ask-labelled : (f : Label) (l : Labelled f) → onVolume ask il is dl ds ≡ ask (volumeWith (givenBy f)) (l .index) (l .«data_letter»)
   ask-labelled f l = rw (l .indexRead, l .otherRead, l .says)
 
 -- an answer that is the definition's keeps demand 3
@@ -215,7 +217,7 @@ module _ (il is dl ds : List ℕ) where
   rescues r e =
       record {
         answers = e;
-        demand = λ i d v p. subst (λ (a : Answer Cut). Demand3 labels v i d (cutOf a)) (sym e) (rescue-owes il is dl ds i d v p);
+        demand = λ i d v p. subst (λ (a : Answer Cut). Demand3 volumeOf v i d (cutOf a)) (sym e) (rescue-owes il is dl ds i d v p);
       }
 
   pub judges : (r : Verdict) → judged r ≡ verdictIn il is dl ds → Judges il is dl ds r
@@ -234,14 +236,14 @@ module _ (il is dl ds : List ℕ) (bi : Bytes il) (bd : Bytes dl) (f : Label) (e
   cut-found r c a h =
       let l = labelled (λ v i d. orNoCut (rescue v i d)) il is dl ds f e in
       rescues il is dl ds a
-      (h ∙ ap orNoCut (c (l .index) (l .other) (read-tape il is (l .index) bi (l .indexRead)) (read-tape dl ds (l .other) bd (l .otherRead)))
-      ∙ ap (λ (x : Given). orNoCut (rescue (volumeWith x) (l .index) (l .other))) same
+      (h ∙ ap orNoCut (c (l .index) (l .«data_letter») (read-tape il is (l .index) bi (l .indexRead)) (read-tape dl ds (l .«data_letter») bd (l .otherRead)))
+      ∙ ap (λ (x : Given). orNoCut (rescue (volumeWith x) (l .index) (l .«data_letter»))) same
       ∙ sym (ask-labelled (λ v i d. orNoCut (rescue v i d)) il is dl ds f l))
 
   pub verdict-found : (r : Judgement) → Breaks g il is dl ds r → (a : Verdict) → judged a ≡ answer (breakOf r) → Judges il is dl ds a
   verdict-found r c a h =
       let l = labelled (λ v i d. answer (verdict v i d)) il is dl ds f e in
       judges il is dl ds a
-      (h ∙ ap answer (c (l .index) (l .other) (read-tape il is (l .index) bi (l .indexRead)) (read-tape dl ds (l .other) bd (l .otherRead)))
-      ∙ ap (λ (x : Given). answer (verdict (volumeWith x) (l .index) (l .other))) same
+      (h ∙ ap answer (c (l .index) (l .«data_letter») (read-tape il is (l .index) bi (l .indexRead)) (read-tape dl ds (l .«data_letter») bd (l .otherRead)))
+      ∙ ap (λ (x : Given). answer (verdict (volumeWith x) (l .index) (l .«data_letter»))) same
       ∙ sym (ask-labelled (λ v i d. answer (verdict v i d)) il is dl ds f l))

@@ -8,22 +8,22 @@ use native.Mathlib.Omega.{arith}
 use lib.Dec.{leb, eqb}
 use Rattle.refusals.specs.declared.Refusal.{Refusal}
 use Rattle.refusals.specs.Refusals.{Answer, refused, answer}
-use Rattle.quantities.specs.Places.{Place}
+use Rattle.quantities.specs.Locations.{Location}
 use Rattle.constructs.specs.Constructs.{Construct}
 use Rattle.index.specs.Index as text
-use Rattle.index.specs.Index.{means, backOf}
+use Rattle.index.specs.Steps.{means, backOf}
 use Rattle.index.specs.declared.read.Header.{Header}
 use Rattle.index.specs.declared.read.Read.the-variants.{Found, Refused}
-use Rattle.verdict.specs.Verdict.{Index, Volume, follows}
+use Rattle.verdict.specs.Verdict.{IndexLinks, Volume, follows}
 use Rattle.volume.specs.Volume.{soundly}
-use Rattle.volume.specs.Steps.{Link, linkOf, briefLink, joined}
+use Rattle.volume.specs.Steps.{linkOf, briefLink, joined}
 use Rattle.volume.specs.declared.sound.Brief.{Brief}
 
 abbrev summaryGeneration : Answer text.Summary → ℕ
 summaryGeneration (refused r) = 0
 summaryGeneration (answer t) = t .heading .generation
 
-abbrev summaryBack : Answer text.Summary → Option Place
+abbrev summaryBack : Answer text.Summary → Option Location
 summaryBack (refused r) = none
 summaryBack (answer t) = t .heading .back
 
@@ -55,7 +55,7 @@ module _ (b : Brief) (letter first generation : ℕ) where
   joins-last e f g h = rw (e, f, g, h)
 
 -- an index that joins a construct whose index is sound follows it
-pub joined-follows : (v : Volume) (o : Option Index) (d : Construct) (p : Option Index) (y : Index) → p ≡ some y
+pub joined-follows : (v : Volume) (o : Option IndexLinks) (d : Construct) (p : Option IndexLinks) (y : IndexLinks) → p ≡ some y
     → joined (linkOf o) (v .dataLetter) (d .first) (y .generation) ≡ follows v o d p
 unfolding follows
 joined-follows v none d p y e = refl

@@ -7,21 +7,23 @@ use Prim.Native.Nat.{ℕ, suc, _+_, _-_, _≤_, _<_}
 use native.Mathlib.Omega.{arith}
 use lib.ListN.{length, set, length-drop}
 use lib.Seq.{getD-set-same, getD-set-other, drop-length}
-use Rattle.quantities.specs.Places.{Place}
+use Rattle.quantities.specs.Locations.{Location}
 use Rattle.quantities.specs.declared.Generation.{Generation}
 use Rattle.constructs.specs.Constructs.{Construct}
-use Rattle.constructs.specs.Tables.{placeIn}
-use Rattle.constructs.specs.declared.Place.{Place as Spot}
-use Rattle.constructs.proofs.Suffixes.{Suffix, here, there, suffix-length, suffix-trans, nil-suffix}
-use Rattle.verdict.specs.Verdict.{Index, Volume, isNone, readData, follows, begins, chained, chainBreak}
+use Rattle.constructs.specs.TableSteps.{boundsIn}
+use Rattle.constructs.specs.declared.Bounds.{Bounds as Spot}
+use Rattle.constructs.specs.Steps.{Suffix, here, there}
+use Rattle.constructs.proofs.Suffixes.{suffix-length, suffix-trans, nil-suffix}
+use Rattle.verdict.specs.Verdict.{IndexLinks, Volume, isNone, readData, follows, beginsChain, chained, chainBreak}
 use Rattle.verdict.specs.Rescue.{generationOf}
 use Rattle.verdict.proofs.Chains.{orElse-none, unless-none}
 use Rattle.slices.proofs.Booleans.{split}
-use Rattle.verdict.proofs.Orders.{firsts, firsts-suffix, firsts-next, firsts-all, break-at, chain-stops, chain-grows, chain-whole}
+use Rattle.verdict.specs.Steps.{firsts}
+use Rattle.verdict.proofs.Orders.{firsts-suffix, firsts-next, firsts-all, break-at, chain-stops, chain-grows, chain-whole}
 use Rattle.index_values.specs.Tests.{Given}
 use Rattle.index.specs.Index.{indexOf}
 use Rattle.volume.specs.Volume.{soundly, volumeWith}
-use Rattle.volume.specs.Steps.{Link, linkOf, briefLink, joined, textIn, Located, Listed, lastGeneration, Links, LinksAt, Generations, Chains, ChainsOf}
+use Rattle.volume.specs.Steps.{Link, linkOf, briefLink, joined, boundsText, Located, Listed, lastGeneration, Links, LinksAt, Generations, Chains, ChainsOf}
 use Rattle.volume.specs.declared.sound.Brief.{Brief}
 use Rattle.volume.specs.declared.chains.Linked.{Linked}
 use Rattle.volume.proofs.Briefs.{joined-follows}
@@ -34,19 +36,19 @@ abbrev linkBegins : Option Link → Bool
 linkBegins none = false
 linkBegins (some t) = isNone (t .back)
 
-generation-linked : (o : Option Index) → linkGeneration (linkOf o) ≡ generationOf o
+generation-linked : (o : Option IndexLinks) → linkGeneration (linkOf o) ≡ generationOf o
 generation-linked none = refl
 generation-linked (some x) = refl
 
-begins-linked : (v : Volume) (o : Option Index) → linkBegins (linkOf o) ≡ begins v o
+begins-linked : (v : Volume) (o : Option IndexLinks) → linkBegins (linkOf o) ≡ beginsChain v o
 begins-linked v none = refl
 begins-linked v (some x) = refl
 
 begins-by : (b : Brief) → b .sound ≡ true → linkBegins (briefLink b) ≡ not (b .back)
-begins-by b e = rw e (split (λ k. isNone {A = Place} (cond k (some (record { letter = b .letter; block = b .block .0 })) none) ≡ not k) (b .back) (λ u. refl) (λ u. refl))
+begins-by b e = rw e (split (λ k. isNone {A = Location} (cond k (some (record { letter = b .letter; block = b .block .0 })) none) ≡ not k) (b .back) (λ u. refl) (λ u. refl))
 
 -- the generation of a sound index
-pub link-generation : (o : Option Index) (b : Brief) → briefLink b ≡ linkOf o → b .sound ≡ true → b .generation .0 ≡ generationOf o
+pub link-generation : (o : Option IndexLinks) (b : Brief) → briefLink b ≡ linkOf o → b .sound ≡ true → b .generation .0 ≡ generationOf o
 link-generation o b e f =
     let z : linkGeneration (briefLink b) ≡ b .generation .0 = rw f in
     sym z ∙ ap linkGeneration e ∙ generation-linked o
@@ -59,21 +61,21 @@ joined-sound b letter first generation =
     (λ u e h. let z : _≡_ {A = Bool} false true = rw e at h in let y : _≡_ {A = ℕ} 0 1 = cc in absurd (omega arith)) refl
 
 module _ (v : Volume) where
-  follows-sound : (o : Option Index) (d : Construct) (p : Option Index) → follows v o d p ≡ true → (x : Index) × (o ≡ some x)
+  follows-sound : (o : Option IndexLinks) (d : Construct) (p : Option IndexLinks) → follows v o d p ≡ true → (x : IndexLinks) × (o ≡ some x)
   unfolding follows
   follows-sound none d p h = let z : _≡_ {A = ℕ} 0 1 = cc in absurd (omega arith)
   follows-sound (some x) d p h = (x, refl)
 
-  begins-sound : (o : Option Index) → begins v o ≡ true → (x : Index) × (o ≡ some x)
+  begins-sound : (o : Option IndexLinks) → beginsChain v o ≡ true → (x : IndexLinks) × (o ≡ some x)
   begins-sound none h = let z : _≡_ {A = ℕ} 0 1 = cc in absurd (omega arith)
   begins-sound (some x) h = (x, refl)
 
-  chained-sound : (c : Construct) (cs : List Construct) → chained v c cs ≡ true → (x : Index) × (readData v c ≡ some x)
+  chained-sound : (c : Construct) (cs : List Construct) → chained v c cs ≡ true → (x : IndexLinks) × (readData v c ≡ some x)
   chained-sound c [] h = begins-sound (readData v c) h
   chained-sound c (p ∷ ps) h = follows-sound (readData v c) p (readData v p) h
 
   -- the last index of a chain without a break is sound
-  pub last-sound : (c : Construct) (cs : List Construct) → chainBreak v (c ∷ cs) ≡ none → (x : Index) × (readData v c ≡ some x)
+  pub last-sound : (c : Construct) (cs : List Construct) → chainBreak v (c ∷ cs) ≡ none → (x : IndexLinks) × (readData v c ≡ some x)
   unfolding chainBreak
   last-sound c cs h = chained-sound c cs (unless-none (chained v c cs) (length cs) (orElse-none (chainBreak v cs) _ h .1))
 
@@ -102,23 +104,23 @@ module _ (v : Volume) where
         }
 
 -- what is read of a construct at its place in the store
-pub link-located : (g : Given) (s : List ℕ) (letter : ℕ) (p : Spot) (t : List ℕ) (b : Brief) → t ≡ textIn s p → briefLink b ≡ linkOf (soundly (indexOf g letter (p .first .0) t))
+pub link-located : (g : Given) (s : List ℕ) (letter : ℕ) (p : Spot) (t : List ℕ) (b : Brief) → t ≡ boundsText s p → briefLink b ≡ linkOf (soundly (indexOf g letter (p .first .0) t))
     → (c : Construct) → Located s p c → briefLink b ≡ linkOf (volumeWith g .read letter (c .first) (c .text))
 link-located g s letter p t b f r c w =
-    r ∙ ap (λ (x : ℕ). linkOf (soundly (indexOf g letter x t))) (w .first) ∙ ap (λ (x : List ℕ). linkOf (soundly (indexOf g letter (c .first) x))) (f ∙ w .text)
+    r ∙ ap (λ (x : ℕ). linkOf (soundly (indexOf g letter x t))) (w .«index_letter») ∙ ap (λ (x : List ℕ). linkOf (soundly (indexOf g letter (c .first) x))) (f ∙ w .text)
 
 -- construct k lies at the place that the table has for it
-pub located-at : (s table : List ℕ) (k : ℕ) (p : Spot) (c : Construct) (cs : List Construct) → p ≡ placeIn table k → Located s (placeIn table (length cs)) c → length cs ≡ k → Located s p c
-located-at s table k p c cs e l n = subst (λ (x : Spot). Located s x c) (sym (e ∙ ap (placeIn table) (sym n))) l
+pub located-at : (s table : List ℕ) (k : ℕ) (p : Spot) (c : Construct) (cs : List Construct) → p ≡ boundsIn table k → Located s (boundsIn table (length cs)) c → length cs ≡ k → Located s p c
+located-at s table k p c cs e l n = subst (λ (x : Spot). Located s x c) (sym (e ∙ ap (boundsIn table) (sym n))) l
 
-pub link-placed : (g : Given) (s table : List ℕ) (letter k : ℕ) (p : Spot) (t : List ℕ) (b : Brief) → p ≡ placeIn table k → t ≡ textIn s p
+pub link-placed : (g : Given) (s table : List ℕ) (letter k : ℕ) (p : Spot) (t : List ℕ) (b : Brief) → p ≡ boundsIn table k → t ≡ boundsText s p
     → briefLink b ≡ linkOf (soundly (indexOf g letter (p .first .0) t))
-    → (c : Construct) (cs : List Construct) → Located s (placeIn table (length cs)) c → length cs ≡ k
+    → (c : Construct) (cs : List Construct) → Located s (boundsIn table (length cs)) c → length cs ≡ k
     → briefLink b ≡ linkOf (volumeWith g .read letter (c .first) (c .text))
 link-placed g s table letter k p t b e f r c cs l n = link-located g s letter p t b f r c (located-at s table k p c cs e l n)
 
 module _ (v : Volume) (s table : List ℕ) (k before : ℕ) (b : Brief)
-    (link-of : (c : Construct) (cs : List Construct) → Located s (placeIn table (length cs)) c → length cs ≡ k → briefLink b ≡ linkOf (readData v c)) where
+    (link-of : (c : Construct) (cs : List Construct) → Located s (boundsIn table (length cs)) c → length cs ≡ k → briefLink b ≡ linkOf (readData v c)) where
   pub at-unsound : (g : Generation) → k ≡ 0 → b .sound ≡ false → LinksAt v s table k before (record { ok = false; generation = g })
   at-unsound g z f ds l c [] suf n whole gen = links-unsound v c b (link-of c [] (l c [] suf) n) g f
   at-unsound g z f ds l c (p ∷ ps) suf n whole gen = absurd (omega arith)
@@ -127,13 +129,13 @@ module _ (v : Volume) (s table : List ℕ) (k before : ℕ) (b : Brief)
   at-first z f ds l c [] suf n whole gen = links-first v c b (link-of c [] (l c [] suf) n) f
   at-first z f ds l c (p ∷ ps) suf n whole gen = absurd (omega arith)
 
-  pub at-behind : (k ≡ 0 → ⊥) → (q : Spot) (ok : Bool) → q ≡ placeIn table (k - 1) → ok ≡ joined (briefLink b) (v .dataLetter) (q .first .0) before
+  pub at-behind : (k ≡ 0 → ⊥) → (q : Spot) (ok : Bool) → q ≡ boundsIn table (k - 1) → ok ≡ joined (briefLink b) (v .dataLetter) (q .first .0) before
       → LinksAt v s table k before (record { ok = ok; generation = b .generation })
   at-behind z q ok e j ds l c [] suf n whole gen = absurd (z (sym n))
   at-behind z q ok e j ds l c (p ∷ ps) suf n whole gen =
       let m : k - 1 ≡ length ps = omega arith in
-      let w : Located s q p = subst (λ (x : Spot). Located s x p) (sym (e ∙ ap (placeIn table) m)) (l p ps (suffix-trans (there (here refl)) suf)) in
-      links-behind v c b (link-of c (p ∷ ps) (l c (p ∷ ps) suf) n) p ps (q .first .0) before ok whole (w .first) gen j
+      let w : Located s q p = subst (λ (x : Spot). Located s x p) (sym (e ∙ ap (boundsIn table) m)) (l p ps (suffix-trans (there (here refl)) suf)) in
+      links-behind v c b (link-of c (p ∷ ps) (l c (p ∷ ps) suf) n) p ps (q .first .0) before ok whole (w .«index_letter») gen j
 
 -- the chain so far: the first k constructs have no break, the table has their generations, and the last one's is at hand
 pub record ChainAt (v : Volume) (ds : List Construct) (table : List ℕ) (k before : ℕ) : Type 0 where

@@ -13,18 +13,22 @@ use Rattle.tape.specs.Tape.{Tape}
 use Rattle.tape.specs.Answers.{tapeIn, bytesBefore}
 use Rattle.tape.proofs.Encoding.{Bytes}
 use Rattle.constructs.specs.Constructs.{Construct, standing}
-use Rattle.constructs.specs.Tables.{placeIn, Scans, scannedCount, tableAfter}
-use Rattle.constructs.specs.declared.Place.{Place as Spot}
+use Rattle.constructs.specs.Tables.{tableAfter}
+use Rattle.constructs.specs.TableSteps.{boundsIn, ScansPartition, scannedCount}
+use Rattle.constructs.specs.declared.Bounds.{Bounds as Spot}
 use Rattle.constructs.specs.declared.Scanned.{Scanned}
-use Rattle.constructs.proofs.Suffixes.{Suffix, here, there, suffix-length, nil-suffix}
+use Rattle.constructs.specs.Steps.{Suffix, here, there}
+use Rattle.constructs.proofs.Suffixes.{suffix-length, nil-suffix}
 use Rattle.elements.specs.Reading.{Spans}
-use Rattle.index.specs.Index.{Summary, summaryOf, summaryIn, Definite, ReadsIndex, callerRight, indexOf}
+use Rattle.index.specs.Index.{Summary, summaryOf, callerRight, indexOf}
+use Rattle.index.specs.Steps.{summaryIn, Definite, ReadsIndex}
 use Rattle.index_values.specs.Tests.{Given}
 use Rattle.index.specs.declared.read.Header.{Header}
 use Rattle.index.specs.declared.read.Read.the-variants as readIs
-use Rattle.verdict.proofs.Orders.{firsts}
-use Rattle.volume.specs.Steps.{textIn, spotOf}
-use Rattle.volume.specs.Chosen.{Indexed, constructAt, readAt, chosenIn, Chooses, ReadsPlace}
+use Rattle.verdict.specs.Steps.{firsts}
+use Rattle.volume.specs.Steps.{boundsText, boundsOf}
+use Rattle.volume.specs.Chosen.{Indexed, constructAt, readAt, chosenIn}
+use Rattle.volume.specs.ChosenSteps.{Chooses, ReadsPlace}
 use Rattle.volume.specs.declared.chosen.Chosen.{Chosen}
 use Rattle.volume.specs.declared.chosen.Chosen.the-variants as chosenIs
 use Rattle.volume.proofs.Chaining.{next-first, firsts-length}
@@ -45,13 +49,13 @@ at-suffix k {c} {cs} {ds = d ∷ ds} (here q) n =
     rw (eq-eqb (length ds) k (ap length (sym y) ∙ n), ← z)
 at-suffix k {c} {cs} {ds = d ∷ ds} (there s) n = rw (ne-eqb (length ds) k (λ e. omega (arith, suffix-length s))) (at-suffix k s n)
 
-module _ (g : Given) (letter : ℕ) (s : List ℕ) (p : Spot) (x : List ℕ) (is-text : x ≡ textIn s p) where
-  index-at : (t : Tape) (c : Construct) → p ≡ spotOf t c → textIn s p ≡ c .text → indexOf g letter (p .first .0) x ≡ indexOf g letter (c .first) (c .text)
+module _ (g : Given) (letter : ℕ) (s : List ℕ) (p : Spot) (x : List ℕ) (is-text : x ≡ boundsText s p) where
+  index-at : (t : Tape) (c : Construct) → p ≡ boundsOf t c → boundsText s p ≡ c .text → indexOf g letter (p .first .0) x ≡ indexOf g letter (c .first) (c .text)
   index-at t c at e = ap (λ (n : ℕ). indexOf g letter n x) (ap (λ (q : Spot). q .first .0) at) ∙ ap (indexOf g letter (c .first)) (is-text ∙ e)
 
   pub place-found : (h : Header) → ReadsIndex x (indexOf g letter (p .first .0) x) (readIs.Found h) → ReadsPlace g letter s p (chosenIs.Found p h)
   place-found h w t c at lies =
-      let q : answer (summaryIn (textIn s p) h) ≡ summaryOf (indexOf g letter (c .first) (c .text))
+      let q : answer (summaryIn (boundsText s p) h) ≡ summaryOf (indexOf g letter (c .first) (c .text))
       = ap (λ (y : List ℕ). answer (summaryIn y h)) (sym is-text) ∙ w .answers ∙ ap summaryOf (index-at t c at (lies .part)) in
       let at-first : p .first .0 ≡ c .first = ap (λ (q : Spot). q .first .0) at in
       let at-end : p .end ≡ c .upTo = ap (λ (q : Spot). q .end) at in
@@ -60,7 +64,7 @@ module _ (g : Given) (letter : ℕ) (s : List ℕ) (p : Spot) (x : List ℕ) (is
         answers =
             ap
             (λ (a : Answer Summary).
-            andThen a (λ y. answer (record { construct = record { first = p .first .0; upTo = p .end; text = textIn s p }; from = p .from; summary = y })))
+            andThen a (λ y. answer (record { construct = record { first = p .first .0; upTo = p .end; text = boundsText s p }; from = p .from; summary = y })))
             q
             ∙ same at-first at-end (lies .part) at-from;
         inside = record { text = lies .inside; header = subst (λ (y : List ℕ). Definite y h) is-text (w .header) };
@@ -86,20 +90,20 @@ module _ (g : Given) (letter k : ℕ) (l s : List ℕ) where
   unfolding chosenIn
   chosen-caller e = record { answers = rw e; inside = tt }
 
-  module _ (right : callerRight g letter ≡ true) (before after : List ℕ) (sc : Scanned) (w : Scans (g .size) l s before after sc) where
+  module _ (right : callerRight g letter ≡ true) (before after : List ℕ) (sc : Scanned) (w : ScansPartition (g .blockSize) l s before after sc) where
     pub chosen-list : (r : Refusal) → scannedCount sc ≡ refused r → Chooses s (chosenIn g letter k l s) (chosenIs.Refused r)
     unfolding chosenIn
     chosen-list r e = record { answers = go (tapeIn l s) (sym e ∙ w .answers); inside = tt }
       where
-        go : (a : Answer Tape) → refused r ≡ andThen a (λ t. answer (length (standing (g .size) t)))
-            → refused r ≡ require (callerRight g letter) Caller (andThen a (λ t. andThen (constructAt k (standing (g .size) t)) (readAt g letter t)))
+        go : (a : Answer Tape) → refused r ≡ andThen a (λ t. answer (length (standing (g .blockSize) t)))
+            → refused r ≡ require (callerRight g letter) Caller (andThen a (λ t. andThen (constructAt k (standing (g .blockSize) t)) (readAt g letter t)))
         go (refused q) x = let z : r ≡ q = cc in rw (right, z)
         go (answer t) x = let z : _≡_ {A = ℕ} 0 1 = cc in absurd (omega arith)
 
     tape-of : (n : ℕ) → scannedCount sc ≡ answer n → (t : Tape) × (tapeIn l s ≡ answer t)
     tape-of n e = go (tapeIn l s) refl (sym e ∙ w .answers)
       where
-        go : (a : Answer Tape) → tapeIn l s ≡ a → answer n ≡ andThen a (λ t. answer (length (standing (g .size) t))) → (t : Tape) × (tapeIn l s ≡ answer t)
+        go : (a : Answer Tape) → tapeIn l s ≡ a → answer n ≡ andThen a (λ t. answer (length (standing (g .blockSize) t))) → (t : Tape) × (tapeIn l s ≡ answer t)
         go (refused q) y x = let z : _≡_ {A = ℕ} 0 1 = cc in absurd (omega arith)
         go (answer t) y x = (t, y)
 
@@ -108,21 +112,21 @@ module _ (g : Given) (letter k : ℕ) (l s : List ℕ) where
       unfolding chosenIn
       chosen-missing h =
           let t = tape-of n e in
-          let a = lists-of (g .size) l s before after sc n w e (t .0) (read-tape l s (t .0) bytes (t .1)) room in
-          record { answers = rw (right, t .1, at-missing k (standing (g .size) (t .0)) (omega (arith, a .0))); inside = tt }
+          let a = lists-of (g .blockSize) l s before after sc n w e (t .0) (read-tape l s (t .0) bytes (t .1)) room in
+          record { answers = rw (right, t .1, at-missing k (standing (g .blockSize) (t .0)) (omega (arith, a .0))); inside = tt }
 
-      pub chosen-found : k < n → (p : Spot) → p ≡ placeIn after k → (r : Chosen) → ReadsPlace g letter s p r → Chooses s (chosenIn g letter k l s) r
+      pub chosen-found : k < n → (p : Spot) → p ≡ boundsIn after k → (r : Chosen) → ReadsPlace g letter s p r → Chooses s (chosenIn g letter k l s) r
       unfolding chosenIn
       chosen-found h p at r d =
           let t = tape-of n e in
           let en = read-tape l s (t .0) bytes (t .1) in
-          let a = lists-of (g .size) l s before after sc n w e (t .0) en room in
-          let x = next-first (standing (g .size) (t .0)) k (omega (arith, a .0)) in
-          let m = firsts-length (standing (g .size) (t .0)) k (omega (arith, a .0)) in
-          let table : after ≡ tableAfter (g .size) before (answer (t .0)) = w .holds ∙ ap (tableAfter (g .size) before) (t .1) in
-          let q : p ≡ spotOf (t .0) (x .0)
-          = at ∙ ap (placeIn after) (sym m) ∙ ap (λ (y : List ℕ). placeIn y (length (firsts k (standing (g .size) (t .0))))) table
-          ∙ spot-of (g .size) l s (t .0) en before room (x .0) (firsts k (standing (g .size) (t .0))) (x .2) in
+          let a = lists-of (g .blockSize) l s before after sc n w e (t .0) en room in
+          let x = next-first (standing (g .blockSize) (t .0)) k (omega (arith, a .0)) in
+          let m = firsts-length (standing (g .blockSize) (t .0)) k (omega (arith, a .0)) in
+          let table : after ≡ tableAfter (g .blockSize) before (answer (t .0)) = w .holds ∙ ap (tableAfter (g .blockSize) before) (t .1) in
+          let q : p ≡ boundsOf (t .0) (x .0)
+          = at ∙ ap (boundsIn after) (sym m) ∙ ap (λ (y : List ℕ). boundsIn y (length (firsts k (standing (g .blockSize) (t .0))))) table
+          ∙ spot-of (g .blockSize) l s (t .0) en before room (x .0) (firsts k (standing (g .blockSize) (t .0))) (x .2) in
           let lies : Spans s (p .from) (p .to - p .from) (x .0 .text)
-          = subst (λ (y : Spot). Spans s (y .from) (y .to - y .from) (x .0 .text)) (sym q) (spot-spans (g .size) l s (t .0) en (x .0) (firsts k (standing (g .size) (t .0))) (x .2)) in
+          = subst (λ (y : Spot). Spans s (y .from) (y .to - y .from) (x .0 .text)) (sym q) (spot-spans (g .blockSize) l s (t .0) en (x .0) (firsts k (standing (g .blockSize) (t .0))) (x .2)) in
           subst (λ (y : Answer Indexed). Chooses s y r) (sym (rw (right, t .1, at-suffix k (x .2) m))) (d (t .0) (x .0) q lies)

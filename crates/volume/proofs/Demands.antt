@@ -16,8 +16,9 @@ use Rattle.verdict.specs.Rescue.{Cut, rescue}
 use Rattle.verdict.specs.Demand.{Demand3, Verdict3}
 use Rattle.verdict.proofs.Demand.{demand3}
 use Rattle.verdict.proofs.Judged.{judged as judged-sound, named}
-use Rattle.volume.specs.Volume.{volumeWith, givenBy, agreed, labels, onVolume, orNoCut, rescueIn, verdictIn}
-use Rattle.volume.specs.Answers.{judged, cutOf, Premises}
+use Rattle.volume.specs.Volume.{volumeWith, givenBy, agreed, volumeOf, onVolume, orNoCut, rescueIn, verdictIn}
+use Rattle.volume.specs.Answers.{cutOf, Premises}
+use Rattle.volume.specs.AnswerSteps.{judged}
 use Rattle.volume.specs.declared.answers.Verdict.{Verdict}
 use Rattle.volume.specs.declared.answers.Verdict.the-variants as verdictIs
 
@@ -38,12 +39,12 @@ module _ (il is dl ds : List ℕ) where
     asked-of : {A : Type 0} (ask : Volume → Tape → Tape → Answer A) → onVolume ask il is dl ds ≡ ask v i d
     asked-of ask = let x = agreed-label (labelsOf i d) v (p .agree) in asked-with ask (x .0) (x .1) ∙ ap (λ (w : Volume). ask w i d) (x .2)
 
-    pub rescue-owes : Demand3 labels v i d (cutOf (rescueIn il is dl ds))
+    pub rescue-owes : Demand3 volumeOf v i d (cutOf (rescueIn il is dl ds))
     rescue-owes =
         let q = ap cutOf (asked-of (λ w t u. orNoCut (rescue w t u))) ∙ cut-of (rescue v i d) in
-        subst (Demand3 labels v i d) (sym q) (demand3 labels v i d (ap agreed (labels-front i d) ∙ p .agree))
+        subst (Demand3 volumeOf v i d) (sym q) (demand3 volumeOf v i d (ap agreed (labels-front i d) ∙ p .agree))
 
-    pub verdict-owes : {noBreak : Type 0} → (noBreak ↔ (verdictIn il is dl ds ≡ answer none)) → Verdict3 labels v i d noBreak (cutOf (rescueIn il is dl ds))
+    pub verdict-owes : {noBreak : Type 0} → (noBreak ↔ (verdictIn il is dl ds ≡ answer none)) → Verdict3 volumeOf v i d noBreak (cutOf (rescueIn il is dl ds))
     verdict-owes {noBreak} (to, from) = record { consistent = sound; uncut = ((λ n. rescue-owes .uncut .0 (sound .0 n)), (λ w. sound .1 (rescue-owes .uncut .1 w))) }
       where
         told : verdictIn il is dl ds ≡ answer (verdict v i d)
@@ -52,10 +53,10 @@ module _ (il is dl ds : List ℕ) where
         none-found : verdictIn il is dl ds ≡ answer none → verdict v i d ≡ none
         none-found e = let z : answer (verdict v i d) ≡ answer none = sym told ∙ e in cc
 
-        j : (verdict v i d ≡ none) ↔ Consistent labels i d
-        j = judged-sound labels v i d (ap agreed (labels-front i d) ∙ p .agree)
+        j : (verdict v i d ≡ none) ↔ Consistent volumeOf i d
+        j = judged-sound volumeOf v i d (ap agreed (labels-front i d) ∙ p .agree)
 
-        sound : noBreak ↔ Consistent labels i d
+        sound : noBreak ↔ Consistent volumeOf i d
         sound = ((λ n. j .0 (none-found (to n))), (λ w. from (told ∙ ap answer (j .1 w))))
 
   -- each break that is found is one of the five

@@ -11,23 +11,26 @@ use Rattle.refusals.specs.declared.Refusal.{Refusal}
 use Rattle.refusals.specs.declared.Refusal.the-variants.{Short}
 use Rattle.refusals.specs.Refusals.{Answer, refused, answer, require, andThen}
 use Rattle.tape.specs.Tape.{Tape, Encodes, store}
-use Rattle.tape.specs.Answers.{tapeIn, bytesBefore, orRefused, counted}
-use Rattle.tape.specs.declared.Checked.{Checked}
+use Rattle.tape.specs.Answers.{tapeIn, bytesBefore, orRefused}
+use Rattle.tape.specs.Steps.{counted}
+use Rattle.tape.specs.declared.ListChecked.{ListChecked}
 use Rattle.tape.proofs.Encoding.{read-encoded}
 use Rattle.tape.proofs.Passing.{bytes-within}
 use Rattle.elements.specs.Reading.{Spans}
 use Rattle.constructs.specs.Constructs.{Construct, standing, dataLengths}
-use Rattle.constructs.specs.Tables.{placeIn, Scans, scannedCount, tableAfter}
-use Rattle.constructs.specs.Reach.{reaches, Reaches, reachAfter}
-use Rattle.constructs.specs.declared.Place.{Place as Spot}
+use Rattle.constructs.specs.Tables.{tableAfter}
+use Rattle.constructs.specs.TableSteps.{boundsIn, ScansPartition, scannedCount}
+use Rattle.constructs.specs.ReachSteps.{reaches, Reaches, reachAfter}
+use Rattle.constructs.specs.declared.Bounds.{Bounds as Spot}
 use Rattle.constructs.specs.declared.Scanned.{Scanned}
-use Rattle.constructs.proofs.Suffixes.{Suffix, here, suffix-length, suffix-trans}
+use Rattle.constructs.specs.Steps.{Suffix, here}
+use Rattle.constructs.proofs.Suffixes.{suffix-length, suffix-trans}
 use Rattle.constructs.proofs.Scanning.{standing-few}
 use Rattle.constructs.proofs.Texts.{table-at, text-at, texts-standing}
 use Rattle.constructs.proofs.Fronts.{Below, below-first}
 use Rattle.verdict.specs.Verdict.{endsWith}
 use Rattle.verdict.specs.Rescue.{through}
-use Rattle.volume.specs.Steps.{spotOf, Located, Listed, ListsOf, ReachesOf, EndsAt, FillsOf}
+use Rattle.volume.specs.Steps.{boundsOf, Located, Listed, ListsOf, ReachesOf, EndsAt, FillsOf}
 
 same-answer : {A : Type 0} (a b : A) → answer a ≡ answer b → a ≡ b
 same-answer a b e = cc
@@ -42,8 +45,8 @@ module _ (B : ℕ) (l s : List ℕ) (t : Tape) (e : Encodes l s t) where
 
   -- a construct's four numbers
   pub spot-of : (T : List ℕ) → length T ≡ 87380 → (c : Construct) (cs : List Construct) → Suffix (c ∷ cs) (standing B t)
-      → placeIn (tableAfter B T (answer t)) (length cs)
-      ≡ spotOf t c
+      → boundsIn (tableAfter B T (answer t)) (length cs)
+      ≡ boundsOf t c
   spot-of T n c cs suf =
       let k : length cs < 21845 = omega (arith, suffix-length suf, few) in
       let at = table-at t T (omega (arith, few)) suf in
@@ -66,7 +69,7 @@ module _ (B : ℕ) (l s : List ℕ) (t : Tape) (e : Encodes l s t) where
       subst (λ (q : Spot). Located s q c) (sym (spot-of T n c cs suf)) (record { first = refl; end = refl; text = spot-spans c cs suf .part })
 
 -- a scan for constructs that answers n
-pub lists-of : (B : ℕ) (l s before after : List ℕ) (r : Scanned) (n : ℕ) → Scans B l s before after r → scannedCount r ≡ answer n → ListsOf B l s before after n
+pub lists-of : (B : ℕ) (l s before after : List ℕ) (r : Scanned) (n : ℕ) → ScansPartition B l s before after r → scannedCount r ≡ answer n → ListsOf B l s before after n
 lists-of B l s before after r n w q t e room =
     let a = tape-read e in
     let b : answer n ≡ andThen (tapeIn l s) (λ u. answer (length (standing B u))) = sym q ∙ w .answers in
@@ -76,7 +79,7 @@ lists-of B l s before after r n w q t e room =
     )
 
 -- a scan that is refused, of lists that are well formed, is none
-pub lists-refused : (B : ℕ) (l s before after : List ℕ) (r : Scanned) (n : ℕ) (q : Refusal) → Scans B l s before after r → scannedCount r ≡ refused q → ListsOf B l s before after n
+pub lists-refused : (B : ℕ) (l s before after : List ℕ) (r : Scanned) (n : ℕ) (q : Refusal) → ScansPartition B l s before after r → scannedCount r ≡ refused q → ListsOf B l s before after n
 lists-refused B l s before after r n q w h t e room =
     let a = tape-read e in
     let b : refused q ≡ answer (length (standing B t)) = sym h ∙ w .answers ∙ ap (λ (x : Answer Tape). andThen x (λ u. answer (length (standing B u)))) a in
@@ -86,7 +89,7 @@ lists-refused B l s before after r n q w h t e room =
 abbrev reachCount : List ℕ → Answer Tape → Answer ℕ
 reachCount before x = andThen x (λ u. require (leb (length u) (length before)) Short (answer (length u)))
 
-module _ (B : ℕ) (l s before after : List ℕ) (r : Checked) (w : Reaches B l s before after r) where
+module _ (B : ℕ) (l s before after : List ℕ) (r : ListChecked) (w : Reaches B l s before after r) where
   reach-fits : (t : Tape) → Encodes l s t → length before ≡ 65536 → counted r ≡ answer (length t)
   reach-fits t e room =
       let h : leb (length t) (length before) ≡ true = le-leb (length t) (length before) (omega (arith, e .elements)) in
@@ -112,7 +115,7 @@ ends-none table n count z = record { ends = go }
     go s t [] l e f = refl
     go s t (c ∷ cs) l e f = absurd (omega arith)
 
-pub ends-last : (table : List ℕ) (n count : ℕ) (p : Spot) (b : Bool) → (n ≡ 0 → ⊥) → p ≡ placeIn table (n - 1) → b ≡ eqb (p .end) count → EndsAt table n count b
+pub ends-last : (table : List ℕ) (n count : ℕ) (p : Spot) (b : Bool) → (n ≡ 0 → ⊥) → p ≡ boundsIn table (n - 1) → b ≡ eqb (p .end) count → EndsAt table n count b
 ends-last table n count p b z at q = record { ends = go }
   where
     go : (s : List ℕ) (t : Tape) (ds : List Construct) → Listed s table ds → n ≡ length ds → count ≡ length t → b ≡ endsWith t ds
@@ -120,7 +123,7 @@ ends-last table n count p b z at q = record { ends = go }
     go s t (c ∷ cs) l e f =
         let m : n - 1 ≡ length cs = omega arith in
         let w = l c cs (here refl) in
-        let h : p .end ≡ c .upTo = ap (λ (x : Spot). x .end) (at ∙ ap (placeIn table) m) ∙ w .end in
+        let h : p .end ≡ c .upTo = ap (λ (x : Spot). x .end) (at ∙ ap (boundsIn table) m) ∙ w .end in
         q ∙ ap (λ (x : ℕ). eqb x count) h ∙ ap (eqb (c .upTo)) f
 
 -- both tables filled

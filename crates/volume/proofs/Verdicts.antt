@@ -10,15 +10,15 @@ use lib.ListN.{length, take}
 use lib.Seq.{take-length}
 use Rattle.tape.specs.Tape.{Tape}
 use Rattle.constructs.specs.Constructs.{Construct, standing, dataLengths}
-use Rattle.constructs.specs.Tables.{placeIn}
-use Rattle.constructs.specs.declared.Place.{Place as Spot}
-use Rattle.constructs.proofs.Suffixes.{here}
+use Rattle.constructs.specs.TableSteps.{boundsIn}
+use Rattle.constructs.specs.declared.Bounds.{Bounds as Spot}
+use Rattle.constructs.specs.Steps.{here}
 use Rattle.index.specs.Index.{indexOf}
-use Rattle.index_values.specs.Tests.{given}
-use Rattle.index_values.specs.declared.tests.Volume.{Volume as Letters}
-use Rattle.verdict.specs.Verdict.{Index, Volume, numbered, endsWith, readIndex, readData, follows, chainBreak, verdict}
+use Rattle.index_values.specs.Steps.{given}
+use Rattle.index_values.specs.declared.tests.Partitions.{Partitions as Letters}
+use Rattle.verdict.specs.Verdict.{IndexLinks, Volume, numbered, endsWith, readIndex, readData, follows, chainBreak, verdict}
 use Rattle.volume.specs.Volume.{soundly, volumeWith}
-use Rattle.volume.specs.Steps.{linkOf, briefLink, joined, textIn, Located, lostFile, Loses, breakOf, lastBreak, JudgesLast}
+use Rattle.volume.specs.Steps.{linkOf, briefLink, joined, boundsText, Located, lostFile, Loses, breakOf, lastBreak, JudgesLast}
 use Rattle.volume.specs.declared.sound.Brief.{Brief}
 use Rattle.volume.specs.declared.lost.Lost.{Lost}
 use Rattle.volume.specs.declared.judge.Judgement.{Judgement}
@@ -28,12 +28,12 @@ use Rattle.volume.proofs.Chaining.{link-located, joined-sound}
 use Rattle.volume.proofs.Trying.{lost-located}
 
 module _ (u : List ℕ) (w : Letters) (is ti : List ℕ) (k : ℕ) (td : List ℕ) (j generation : ℕ) (ri rd : List ℕ) (here there : Spot) (t : List ℕ) (b : Brief)
-    (at-here : here ≡ placeIn ti k) (is-text : t ≡ textIn is here) (reads : briefLink b ≡ linkOf (soundly (indexOf (given u w) (w .first) (here .first .0) t)))
-    (at-there : there ≡ placeIn td j) where
+    (at-here : here ≡ boundsIn ti k) (is-text : t ≡ boundsText is here) (reads : briefLink b ≡ linkOf (soundly (indexOf (given u w) (w .«index_letter») (here .first .0) t)))
+    (at-there : there ≡ boundsIn td j) where
   abbrev v : Volume
   v = volumeWith (given u w)
 
-  module _ (ds : List ℕ) (c d : Construct) (lc : Located is (placeIn ti k) c) (ld : Located ds (placeIn td j) d) (y : Index) (r : readData v d ≡ some y)
+  module _ (ds : List ℕ) (c d : Construct) (lc : Located is (boundsIn ti k) c) (ld : Located ds (boundsIn td j) d) (y : IndexLinks) (r : readData v d ≡ some y)
       (g : generation ≡ y .generation) where
     located-here : Located is here c
     located-here = subst (λ (x : Spot). Located is x c) (sym at-here) lc
@@ -41,20 +41,20 @@ module _ (u : List ℕ) (w : Letters) (is ti : List ℕ) (k : ℕ) (td : List �
     located-there : Located ds there d
     located-there = subst (λ (x : Spot). Located ds x d) (sym at-there) ld
 
-    follows-by : joined (briefLink b) (w .other) (there .first .0) generation ≡ follows v (readIndex v c) d (readData v d)
+    follows-by : joined (briefLink b) (w .«data_letter») (there .first .0) generation ≡ follows v (readIndex v c) d (readData v d)
     follows-by =
-        rw (link-located (given u w) is (w .first) here t b is-text reads c located-here, located-there .first, g)
+        rw (link-located (given u w) is (w .«index_letter») here t b is-text reads c located-here, located-there .first, g)
         (joined-follows v (readIndex v c) d (readData v d) y r)
 
   -- the index partition's last index does not follow the data partition's last
-  pub judges-apart : joined (briefLink b) (w .other) (there .first .0) generation ≡ false → JudgesLast (given u w) is ti k td j generation ri rd (judgementIs.Broken 4 k)
+  pub judges-apart : joined (briefLink b) (w .«data_letter») (there .first .0) generation ≡ false → JudgesLast (given u w) is ti k td j generation ri rd (judgementIs.Broken 4 k)
   judges-apart f ds c d li ld lc lcd y r g hi hd ei ed = rw (sym (follows-by ds c d lc lcd y r g) ∙ f)
 
   -- it does; then the lowest file with an extent that is lost
-  module _ (f : joined (briefLink b) (w .other) (there .first .0) generation ≡ true) (lost : Lost) (l : Loses t w ri (here .end) rd (there .end) lost) where
+  module _ (f : joined (briefLink b) (w .«data_letter») (there .first .0) generation ≡ true) (lost : Lost) (l : Loses t w ri (here .end) rd (there .end) lost) where
     pub judges-lost : (a : Judgement) → breakOf a ≡ numbered 5 (lostFile lost) → JudgesLast (given u w) is ti k td j generation ri rd a
     judges-lost a e ds c d li ld lc lcd y r g hi hd ei ed =
-        let s = joined-sound b (w .other) (there .first .0) generation f in
+        let s = joined-sound b (w .«data_letter») (there .first .0) generation f in
         let x = lost-located u w is ds li ld ri rd here there t b c d is-text reads (located-here ds c d lc lcd y r g) (located-there ds c d lc lcd y r g) hi hd
         (omega arith) (omega arith) lost l s in
         let p : take (c .upTo) li ≡ li = ap (λ (n : ℕ). take n li) ei ∙ take-length li in

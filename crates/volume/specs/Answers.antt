@@ -6,20 +6,14 @@ use Prim.Native.Nat.{ℕ}
 use Rattle.refusals.specs.Refusals.{Answer, refused, answer}
 use Rattle.tape.specs.Tape.{Tape}
 use Rattle.tape.specs.Answers.{tapeIn}
-use Rattle.verdict.specs.Verdict.{Volume, Break}
+use Rattle.verdict.specs.Verdict.{Volume}
 use Rattle.verdict.specs.Rescue.{Cut}
 use Rattle.verdict.specs.Demand.{Demand3, Verdict3}
-use Rattle.volume.specs.Volume.{labels, verdictIn, rescueIn}
+use Rattle.volume.specs.Volume.{volumeOf, rescueIn}
 use Rattle.volume.specs.Steps.{cutIs}
-use Rattle.volume.specs.declared.answers.Verdict.{Verdict}
 use Rattle.volume.specs.declared.answers.Verdict.the-variants as verdictIs
 use Rattle.volume.specs.declared.answers.Rescue.{Rescue}
 use Rattle.volume.specs.declared.answers.Rescue.the-variants as rescueIs
-
-abbrev pub judged : Verdict → Answer (Option Break)
-judged verdictIs.Consistent = answer none
-judged (verdictIs.Break which number) = answer (some (record { which = which; number = number }))
-judged (verdictIs.Refused r) = refused r
 
 abbrev pub rescued : Rescue → Answer Cut
 rescued (rescueIs.Cut k) = answer (cutIs k)
@@ -30,25 +24,21 @@ abbrev pub cutOf : Answer Cut → Option Cut
 cutOf (refused r) = none
 cutOf (answer a) = some a
 
-module _ (il is dl ds : List ℕ) where
+module _ (indexList indexStore dataList dataStore : List ℕ) where
   -- the premises of demand 3: the lists are not refused 1, and the labels are sound and agree
   pub record Premises (i d : Tape) (v : Volume) : Type 0 where
-    pub indexTape : tapeIn il is ≡ answer i
-    pub dataTape : tapeIn dl ds ≡ answer d
-    pub agree : labels i d ≡ some v
+    pub indexTape : tapeIn indexList indexStore ≡ answer i
+    pub dataTape : tapeIn dataList dataStore ≡ answer d
+    pub agree : volumeOf i d ≡ some v
 
   -- what demand 3 asks of the cut that is answered, if one is
   abbrev pub RescueOwes : Option Cut → Type 0
-  RescueOwes cut = (i d : Tape) (v : Volume) → Premises i d v → Demand3 labels v i d cut
+  RescueOwes cut = (i d : Tape) (v : Volume) → Premises i d v → Demand3 volumeOf v i d cut
 
   -- what it asks of the verdict, noBreak being that none is answered
   abbrev pub VerdictOwes : Type 0 → Type 0
-  VerdictOwes noBreak = (i d : Tape) (v : Volume) → Premises i d v → Verdict3 labels v i d noBreak (cutOf (rescueIn il is dl ds))
+  VerdictOwes noBreak = (i d : Tape) (v : Volume) → Premises i d v → Verdict3 volumeOf v i d noBreak (cutOf (rescueIn indexList indexStore dataList dataStore))
 
   pub record Rescues (r : Rescue) : Type 0 where
-    pub answers : rescued r ≡ rescueIn il is dl ds
+    pub answers : rescued r ≡ rescueIn indexList indexStore dataList dataStore
     pub demand : RescueOwes (cutOf (rescued r))
-
-  pub record Judges (r : Verdict) : Type 0 where
-    pub answers : judged r ≡ verdictIn il is dl ds
-    pub demand : VerdictOwes (r ≡ verdictIs.Consistent)

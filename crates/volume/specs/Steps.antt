@@ -8,63 +8,62 @@ use lib.Dec.{leb, eqb}
 use lib.ListN.{length, getD, take, drop}
 use Rattle.refusals.specs.Refusals.{answer}
 use Rattle.slices.specs.Slices.{every}
-use Rattle.quantities.specs.Places.{Place}
+use Rattle.quantities.specs.Locations.{Location}
 use Rattle.extents.specs.Rows.{Row}
 use Rattle.index.specs.Index as text
 use Rattle.index.specs.Index.{indexOf}
 use Rattle.index_values.specs.Tests.{Given}
-use Rattle.index_values.specs.declared.tests.Volume.{Volume as Letters}
+use Rattle.index_values.specs.declared.tests.Partitions.{Partitions as Letters}
 use Rattle.tape.specs.Tape.{Tape, Encodes, maxElements}
 use Rattle.tape.specs.Answers.{bytesBefore}
 use Rattle.constructs.specs.Constructs.{Construct, standing, dataLengths}
-use Rattle.constructs.specs.Tables.{placeIn, tableLength}
-use Rattle.constructs.specs.Reach.{reaches, liesBy}
-use Rattle.constructs.specs.declared.Place.{Place as Spot}
-use Rattle.constructs.proofs.Suffixes.{Suffix}
-use Rattle.verdict.specs.Verdict.{Index, Volume, Break, orElse, unless, numbered, follows, badFileIn, verdict, isAt, endsWith, firstFailing, readIndex, readData, chained, chainBreak}
+use Rattle.constructs.specs.TableSteps.{boundsIn, tableLength}
+use Rattle.constructs.specs.ReachSteps.{reaches, liesBy}
+use Rattle.constructs.specs.declared.Bounds.{Bounds as Spot}
+use Rattle.constructs.specs.Steps.{Suffix}
+use Rattle.verdict.specs.Verdict.{IndexLinks, Volume, Break, orElse, unless, numbered, follows, badFileIn, verdict, isAt, endsWith, firstFailing, readIndex, readData, chained, chainBreak}
 use Rattle.verdict.specs.Rescue.{Cut, generationOf, target, through, chain, attempt, cutAmong, rescue}
-use Rattle.verdict.specs.Partners.{beginnings}
-use Rattle.verdict.proofs.Orders.{firsts}
+use Rattle.verdict.specs.Steps.{beginnings, firsts}
 use Rattle.volume.specs.Volume.{volumeWith, rowsOfEach}
 use Rattle.volume.specs.declared.sound.Brief.{Brief}
-use Rattle.volume.specs.declared.filling.Filled.{Filled}
+use Rattle.volume.specs.declared.filling.TablesFilled.{TablesFilled}
 use Rattle.volume.specs.declared.judge.Judgement.{Judgement}
 use Rattle.volume.specs.declared.judge.Judgement.the-variants as judgementIs
 use Rattle.volume.specs.declared.lost.Lost.{Lost}
 use Rattle.volume.specs.declared.lost.Lost.the-variants as lostIs
-use Rattle.volume.specs.declared.search.Kept.{Kept}
+use Rattle.volume.specs.declared.search.FoundCut.{FoundCut}
 use Rattle.volume.specs.declared.search.Tried.{Tried}
 use Rattle.volume.specs.declared.search.Tried.the-variants as triedIs
 use Rattle.volume.specs.declared.chains.Linked.{Linked}
 
 -- the bytes of a store that a spot names
-abbrev pub textIn : List ℕ → Spot → List ℕ
-textIn s p = take (p .to - p .from) (drop (p .from) s)
+abbrev pub boundsText : List ℕ → Spot → List ℕ
+boundsText s p = take (p .to - p .from) (drop (p .from) s)
 
 -- the spot of a construct of a tape: its text begins behind the bytes of the blocks before it, and ends before its closing mark
-abbrev pub spotOf : Tape → Construct → Spot
-spotOf t c = record { first = record { 0 = c .first }; end = c .upTo; from = bytesBefore t (c .first); to = bytesBefore t (c .upTo - 1) }
+abbrev pub boundsOf : Tape → Construct → Spot
+boundsOf t c = record { first = record { 0 = c .first }; end = c .upTo; from = bytesBefore t (c .first); to = bytesBefore t (c .upTo - 1) }
 
 -- a construct lies at a spot of the store
 pub record Located (s : List ℕ) (p : Spot) (c : Construct) : Type 0 where
   pub first : p .first .0 ≡ c .first
   pub end : p .end ≡ c .upTo
-  pub text : textIn s p ≡ c .text
+  pub text : boundsText s p ≡ c .text
 
 -- a table tells where each construct of a list, the last one first, lies
 abbrev pub Listed : List ℕ → List ℕ → List Construct → Type 0
-Listed s table ds = (c : Construct) (cs : List Construct) → Suffix (c ∷ cs) ds → Located s (placeIn table (length cs)) c
+Listed s table ds = (c : Construct) (cs : List Construct) → Suffix (c ∷ cs) ds → Located s (boundsIn table (length cs)) c
 
 -- how an index stands in the chain: its generation and its back pointer; none of an index that is not sound
 pub record Link : Type 0 where
   pub generation : ℕ
-  pub back : Option Place
+  pub back : Option Location
 
-abbrev pub linkOf : Option Index → Option Link
+abbrev pub linkOf : Option IndexLinks → Option Link
 linkOf none = none
 linkOf (some x) = some (record { generation = x .generation; back = x .back })
 
-abbrev pub briefBack : Brief → Option Place
+abbrev pub briefBack : Brief → Option Location
 briefBack b = cond (b .back) (some (record { letter = b .letter; block = b .block .0 })) none
 
 abbrev pub briefLink : Brief → Option Link
@@ -113,8 +112,8 @@ BeginsOf table n before after =
 -- an extent lies on so many elements of each partition, by tables of how far data blocks reach
 abbrev pub liesIn : Letters → List ℕ → ℕ → List ℕ → ℕ → Row → Bool
 liesIn w ri ki rd kd r =
-    cond (eqb (r .letter) (w .first)) (liesBy ri (w .size) ki (r .startblock) (r .byteoffset) (r .bytecount))
-    (cond (eqb (r .letter) (w .other)) (liesBy rd (w .size) kd (r .startblock) (r .byteoffset) (r .bytecount)) false)
+    cond (eqb (r .letter) (w .«index_letter»)) (liesBy ri (w .«block_size») ki (r .startblock) (r .byteoffset) (r .bytecount))
+    (cond (eqb (r .letter) (w .«data_letter»)) (liesBy rd (w .«block_size») kd (r .startblock) (r .byteoffset) (r .bytecount)) false)
 
 abbrev pub lostFile : Lost → Option ℕ
 lostFile (lostIs.File k) = some k
@@ -128,12 +127,12 @@ Loses t w ri ki rd kd r =
 
 -- whether an index that has the text t and says b follows the construct at there, and by the tables its extents all lie on the ki elements
 -- of its partition and on those of the other up to that construct's end
-pub data Fitting (t : List ℕ) (b : Brief) (w : Letters) (ki : ℕ) (there : Spot) (generation : ℕ) (ri rd : List ℕ) (r : Bool) : Type 0 where
-  apart : r ≡ false → joined (briefLink b) (w .other) (there .first .0) generation ≡ false → Fitting t b w ki there generation ri rd r
-  losing : (l : Lost) (m : ℕ) → r ≡ false → joined (briefLink b) (w .other) (there .first .0) generation ≡ true → Loses t w ri ki rd (there .end) l
-      → lostFile l ≡ some m → Fitting t b w ki there generation ri rd r
-  fitting : (l : Lost) → r ≡ true → joined (briefLink b) (w .other) (there .first .0) generation ≡ true → Loses t w ri ki rd (there .end) l
-      → lostFile l ≡ none → Fitting t b w ki there generation ri rd r
+pub data FitsCut (t : List ℕ) (b : Brief) (w : Letters) (ki : ℕ) (there : Spot) (generation : ℕ) (ri rd : List ℕ) (r : Bool) : Type 0 where
+  apart : r ≡ false → joined (briefLink b) (w .«data_letter») (there .first .0) generation ≡ false → FitsCut t b w ki there generation ri rd r
+  losing : (l : Lost) (m : ℕ) → r ≡ false → joined (briefLink b) (w .«data_letter») (there .first .0) generation ≡ true → Loses t w ri ki rd (there .end) l
+      → lostFile l ≡ some m → FitsCut t b w ki there generation ri rd r
+  fitting : (l : Lost) → r ≡ true → joined (briefLink b) (w .«data_letter») (there .first .0) generation ≡ true → Loses t w ri ki rd (there .end) l
+      → lostFile l ≡ none → FitsCut t b w ki there generation ri rd r
 
 -- a table of how far data blocks reach, by the lengths of a partition's data blocks
 pub record ReachTable (B : ℕ) (lengths table : List ℕ) : Type 0 where
@@ -154,7 +153,7 @@ pub record Ready (v : Volume) (is ti : List ℕ) (td gens begins ri rd : List �
   pub indexFits : (c : Construct) (bs : List Construct) → Suffix (c ∷ bs) cs → c .upTo ≤ length li
   pub dataFits : (d : Construct) (bs : List Construct) → Suffix (d ∷ bs) ds → d .upTo ≤ length ld
 
-abbrev pub cutIs : Kept → Cut
+abbrev pub cutIs : FoundCut → Cut
 cutIs k =
     record {
       indexConstruct = k .«index_construct»;
@@ -166,7 +165,7 @@ cutIs k =
 
 -- a cut that keeps construct k of the index partition and construct j of the data partition, which lie at here and there; b is what the
 -- index of the first says
-pub record Keeps (k j : ℕ) (here there : Spot) (b : Brief) (a : Kept) : Type 0 where
+pub record Keeps (k j : ℕ) (here there : Spot) (b : Brief) (a : FoundCut) : Type 0 where
   pub indexConstruct : a .«index_construct» ≡ k
   pub dataConstruct : a .«data_construct» ≡ j
   pub indexKept : a .«index_kept» ≡ here .end
@@ -203,25 +202,25 @@ pub record EndsAt (table : List ℕ) (n count : ℕ) (r : Bool) : Type 0 where
   pub ends : (s : List ℕ) (t : Tape) (ds : List Construct) → Listed s table ds → n ≡ length ds → count ≡ length t → r ≡ endsWith t ds
 
 -- the tables of a partition: its n standing constructs, and how far data blocks reach
-pub record Held (B : ℕ) (s : List ℕ) (t : Tape) (table : List ℕ) (n : ℕ) (reach : List ℕ) : Type 0 where
+pub record PartitionTables (B : ℕ) (s : List ℕ) (t : Tape) (table : List ℕ) (n : ℕ) (reach : List ℕ) : Type 0 where
   pub number : n ≡ length (standing B t)
   pub listed : Listed s table (standing B t)
   pub reaches : ReachTable B (dataLengths t) reach
 
 -- both tables filled, and whether the partition ends with its last construct
-abbrev pub FillsOf : ℕ → List ℕ → List ℕ → List ℕ → List ℕ → List ℕ → List ℕ → Filled → Type 0
+abbrev pub FillsOf : ℕ → List ℕ → List ℕ → List ℕ → List ℕ → List ℕ → List ℕ → TablesFilled → Type 0
 FillsOf B l s before table empty reach r =
     (t : Tape) → Encodes l s t → length before ≡ tableLength → length empty ≡ maxElements
-    → Held B s t table (r .count) reach × (r .ends ≡ endsWith t (standing B t))
+    → PartitionTables B s t table (r .count) reach × (r .ends ≡ endsWith t (standing B t))
 
 -- the cut by the tables of both partitions
 abbrev pub CutsBy : Given → List ℕ → List ℕ → List ℕ → ℕ → List ℕ → List ℕ → ℕ → List ℕ → Tried → Type 0
 CutsBy g is ds ti n ri td m rd r =
-    (dl : List ℕ) (i d : Tape) → Encodes dl ds d → Held (g .size) is i ti n ri → Held (g .size) ds d td m rd → triedCut r ≡ rescue (volumeWith g) i d
+    (dl : List ℕ) (i d : Tape) → Encodes dl ds d → PartitionTables (g .blockSize) is i ti n ri → PartitionTables (g .blockSize) ds d td m rd → triedCut r ≡ rescue (volumeWith g) i d
 
 -- the cut by the tables of the index partition, and the data partition's list
 abbrev pub CutsData : Given → List ℕ → List ℕ → List ℕ → List ℕ → ℕ → List ℕ → Tried → Type 0
-CutsData g is dl ds ti n ri r = (i d : Tape) → Encodes dl ds d → Held (g .size) is i ti n ri → triedCut r ≡ rescue (volumeWith g) i d
+CutsData g is dl ds ti n ri r = (i d : Tape) → Encodes dl ds d → PartitionTables (g .blockSize) is i ti n ri → triedCut r ≡ rescue (volumeWith g) i d
 
 -- the cut of the volume with that UUID and those letters
 abbrev pub Cuts : Given → List ℕ → List ℕ → List ℕ → List ℕ → Tried → Type 0
@@ -240,21 +239,21 @@ lastBreak v k c d li ld =
 -- whether they hold, of construct k of the index partition and construct j of the data partition
 abbrev pub JudgesLast : Given → List ℕ → List ℕ → ℕ → List ℕ → ℕ → ℕ → List ℕ → List ℕ → Judgement → Type 0
 JudgesLast g is ti k td j generation ri rd r =
-    (ds : List ℕ) (c d : Construct) (li ld : List ℕ) → Located is (placeIn ti k) c → Located ds (placeIn td j) d
-    → (y : Index) → readData (volumeWith g) d ≡ some y → generation ≡ y .generation
-    → ReachTable (g .size) li ri → ReachTable (g .size) ld rd → c .upTo ≡ length li → d .upTo ≡ length ld
+    (ds : List ℕ) (c d : Construct) (li ld : List ℕ) → Located is (boundsIn ti k) c → Located ds (boundsIn td j) d
+    → (y : IndexLinks) → readData (volumeWith g) d ≡ some y → generation ≡ y .generation
+    → ReachTable (g .blockSize) li ri → ReachTable (g .blockSize) ld rd → c .upTo ≡ length li → d .upTo ≡ length ld
     → breakOf r ≡ lastBreak (volumeWith g) k c d li ld
 
 -- whether the breaks from 3 on hold, by the tables of partitions that both end with a construct
 abbrev pub JudgesIndexes : Given → List ℕ → List ℕ → List ℕ → ℕ → List ℕ → List ℕ → ℕ → List ℕ → Judgement → Type 0
 JudgesIndexes g is ds ti n ri td m rd r =
-    (dl : List ℕ) (i d : Tape) → Encodes dl ds d → Held (g .size) is i ti n ri → Held (g .size) ds d td m rd
-    → endsWith i (standing (g .size) i) ≡ true → endsWith d (standing (g .size) d) ≡ true → breakOf r ≡ verdict (volumeWith g) i d
+    (dl : List ℕ) (i d : Tape) → Encodes dl ds d → PartitionTables (g .blockSize) is i ti n ri → PartitionTables (g .blockSize) ds d td m rd
+    → endsWith i (standing (g .blockSize) i) ≡ true → endsWith d (standing (g .blockSize) d) ≡ true → breakOf r ≡ verdict (volumeWith g) i d
 
 -- whether the breaks from 2 on hold, by the tables of an index partition that ends with a construct, and the data partition's list
 abbrev pub JudgesData : Given → List ℕ → List ℕ → List ℕ → List ℕ → ℕ → List ℕ → Judgement → Type 0
 JudgesData g is dl ds ti n ri r =
-    (i d : Tape) → Encodes dl ds d → Held (g .size) is i ti n ri → endsWith i (standing (g .size) i) ≡ true → breakOf r ≡ verdict (volumeWith g) i d
+    (i d : Tape) → Encodes dl ds d → PartitionTables (g .blockSize) is i ti n ri → endsWith i (standing (g .blockSize) i) ≡ true → breakOf r ≡ verdict (volumeWith g) i d
 
 -- the break of the volume with that UUID and those letters, or none
 abbrev pub Breaks : Given → List ℕ → List ℕ → List ℕ → List ℕ → Judgement → Type 0

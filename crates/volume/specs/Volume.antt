@@ -13,7 +13,7 @@ use Rattle.index.specs.Index.{File, indexOf}
 use Rattle.index_values.specs.Tests.{Given}
 use Rattle.label.specs.Label.{Label}
 use Rattle.labels.specs.Labels.{labelsOf}
-use Rattle.verdict.specs.Verdict.{Index, Volume, Break, verdict}
+use Rattle.verdict.specs.Verdict.{IndexLinks, Volume, Break, verdict}
 use Rattle.verdict.specs.Rescue.{Cut, rescue}
 
 unfoldable pub rowsOfEach : List File → List (List Row)
@@ -21,36 +21,36 @@ rowsOfEach [] = []
 rowsOfEach (f ∷ fs) = f .rows ∷ rowsOfEach fs
 
 -- what the verdict asks of an index
-abbrev pub asked : text.Index → Index
+abbrev pub asked : text.Index → IndexLinks
 asked x = record { generation = x .heading .generation; back = x .heading .back; files = rowsOfEach (x .files) }
 
 -- sound: it reads without refusal
-abbrev pub soundly : Answer text.Index → Option Index
+abbrev pub soundly : Answer text.Index → Option IndexLinks
 soundly (refused r) = none
 soundly (answer x) = some (asked x)
 
 -- the volume whose indexes are read with what the labels give: its index partition's letter is the first, its data partition's the other
 abbrev pub volumeWith : Given → Volume
 volumeWith g =
-    record { size = g .size; indexLetter = g .first; dataLetter = g .other; read = λ letter block text. soundly (indexOf g letter block text) }
+    record { size = g .blockSize; indexLetter = g .indexLetter; dataLetter = g .dataLetter; read = λ letter block text. soundly (indexOf g letter block text) }
 
 -- what labels give
 abbrev pub givenBy : Label → Given
-givenBy f = record { uuid = f .uuid; first = f .indexLetter; other = f .dataLetter; size = f .blockSize }
+givenBy f = record { uuid = f .uuid; indexLetter = f .indexLetter; dataLetter = f .dataLetter; blockSize = f .blockSize }
 
 abbrev pub agreed : Answer Label → Option Volume
 agreed (refused r) = none
 agreed (answer f) = some (volumeWith (givenBy f))
 
 -- the volume of two partitions whose labels are sound and agree
-abbrev pub labels : Tape → Tape → Option Volume
-labels i d = agreed (labelsOf i d)
+abbrev pub volumeOf : Tape → Tape → Option Volume
+volumeOf i d = agreed (labelsOf i d)
 
 module _ {A : Type 0} where
   -- what is asked of the volume: 1, index side first; what its labels are refused for; then the question
   abbrev pub onVolume : (Volume → Tape → Tape → Answer A) → List ℕ → List ℕ → List ℕ → List ℕ → Answer A
-  onVolume ask il is dl ds =
-      andThen (tapeIn il is) (λ i. andThen (tapeIn dl ds) (λ d. andThen (labelsOf i d) (λ f. ask (volumeWith (givenBy f)) i d)))
+  onVolume ask indexList indexStore dataList dataStore =
+      andThen (tapeIn indexList indexStore) (λ i. andThen (tapeIn dataList dataStore) (λ d. andThen (labelsOf i d) (λ f. ask (volumeWith (givenBy f)) i d)))
 
 -- none: consistent; else the first break
 abbrev pub verdictIn : List ℕ → List ℕ → List ℕ → List ℕ → Answer (Option Break)

@@ -5,18 +5,19 @@ use crate::filling::ELEMENTS;
 use crate::judge;
 use crate::judge::Judgement;
 use crate::search;
-use crate::search::Kept;
+use crate::search::FoundCut;
 use crate::search::Tried;
 use constructs::CONSTRUCTS;
 use constructs::NUMBERS;
-use index_values::Volume;
-use label::Fields;
+use index_values::Partitions;
 use label::Label;
+use label::LabelFields;
 use refusals::Refusal;
 ghost use mathlib.Core.Path.{_≡_};
-ghost use Rattle.index_values.specs.Tests.{given};
+ghost use Rattle.index_values.specs.Steps.{given};
 ghost use Rattle.volume.specs.Steps.{CutsBy, CutsData, Cuts};
-ghost use Rattle.volume.specs.Answers.{Rescues, Judges};
+ghost use Rattle.volume.specs.Answers.{Rescues};
+ghost use Rattle.volume.specs.AnswerSteps.{Judges};
 
 pub enum Verdict {
     Consistent,
@@ -26,7 +27,7 @@ pub enum Verdict {
 }
 
 pub enum Rescue {
-    Cut(Kept),
+    Cut(FoundCut),
     Refused(Refusal),
 }
 
@@ -35,7 +36,7 @@ fn cut_by(
     index_store: &[u8],
     data_store: &[u8],
     uuid: &[u8],
-    volume: Volume,
+    volume: Partitions,
     index_table: &[u32; NUMBERS],
     n: usize,
     index_reach: &[u32],
@@ -70,7 +71,7 @@ fn cut_data(
     data_list: &[u8],
     data_store: &[u8],
     uuid: &[u8],
-    volume: Volume,
+    volume: Partitions,
     index_table: &[u32; NUMBERS],
     n: usize,
     index_reach: &[u32],
@@ -80,7 +81,13 @@ fn cut_data(
 {
     let mut table = [0u32; NUMBERS];
     let mut reach = [0u32; ELEMENTS];
-    let m = filling::fill(data_list, data_store, volume.size, &mut table, &mut reach);
+    let m = filling::fill(
+        data_list,
+        data_store,
+        volume.block_size,
+        &mut table,
+        &mut reach,
+    );
     cut_by(
         index_store,
         data_store,
@@ -102,14 +109,20 @@ fn rescue_with(
     data_list: &[u8],
     data_store: &[u8],
     uuid: &[u8],
-    volume: Volume,
+    volume: Partitions,
 ) -> Tried
     ensures { λ r. ⌜ Cuts (given (now (uuid .entry)) volume) (now («index_list» .entry)) (now («index_store» .entry))
         (now («data_list» .entry)) (now («data_store» .entry)) r ⌝ }
 {
     let mut table = [0u32; NUMBERS];
     let mut reach = [0u32; ELEMENTS];
-    let n = filling::fill(index_list, index_store, volume.size, &mut table, &mut reach);
+    let n = filling::fill(
+        index_list,
+        index_store,
+        volume.block_size,
+        &mut table,
+        &mut reach,
+    );
     cut_data(
         index_store,
         data_list,
@@ -122,13 +135,13 @@ fn rescue_with(
     )
 }
 
-fn letters_of(f: Fields) -> Volume
-    ensures { λ r. ⌜ r ≡ record { first = f .«index_letter»; other = f .«data_letter»; size = f .«block_size» } ⌝ }
+fn letters_of(f: LabelFields) -> Partitions
+    ensures { λ r. ⌜ r ≡ record { «index_letter» = f .«index_letter»; «data_letter» = f .«data_letter»; «block_size» = f .«block_size» } ⌝ }
 {
-    Volume {
-        first: f.index_letter,
-        other: f.data_letter,
-        size: f.block_size,
+    Partitions {
+        index_letter: f.index_letter,
+        data_letter: f.data_letter,
+        block_size: f.block_size,
     }
 }
 

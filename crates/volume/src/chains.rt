@@ -1,11 +1,11 @@
 // The data partition's chain of indexes, from its first construct on.
 use crate::sound;
 use constructs::NUMBERS;
-use index_values::Volume;
+use index_values::Partitions;
 use quantities::Generation;
 ghost use lib.ListN.{length};
-ghost use Rattle.index_values.specs.Tests.{given};
-ghost use Rattle.volume.specs.Volume.{volumeWith};
+ghost use Rattle.index_values.specs.Steps.{given};
+ghost use Rattle.volume.specs.Partitions.{volumeWith};
 ghost use Rattle.volume.specs.Steps.{LinksAt, ChainsOf};
 
 // Whether a construct is sound and follows the one before it, or begins the chain; and its generation.
@@ -18,7 +18,7 @@ pub struct Linked {
 fn link(
     store: &[u8],
     uuid: &[u8],
-    volume: Volume,
+    volume: Partitions,
     table: &[u32; NUMBERS],
     k: usize,
     before: Generation,
@@ -26,7 +26,7 @@ fn link(
     ensures { λ r. ⌜ LinksAt (volumeWith (given (now (uuid .entry)) volume)) (now (store .entry)) (now (table .entry)) k (before .0) r ⌝ }
 {
     let here = constructs::construct(table, k);
-    let b = sound::brief_at(store, uuid, volume, volume.other, here);
+    let b = sound::brief_at(store, uuid, volume, volume.data_letter, here);
     let generation = b.generation;
     if k == 0 {
         if !b.sound {
@@ -42,7 +42,7 @@ fn link(
     }
     let last = constructs::construct(table, k - 1);
     Linked {
-        ok: sound::joins(b, volume.other, last.first, before),
+        ok: sound::joins(b, volume.data_letter, last.first, before),
         generation: generation,
     }
 }
@@ -51,7 +51,7 @@ fn link(
 pub fn chain(
     store: &[u8],
     uuid: &[u8],
-    volume: Volume,
+    volume: Partitions,
     table: &[u32; NUMBERS],
     n: usize,
     generations: &mut [u64],

@@ -1,23 +1,24 @@
 // The index of a partition by its construct's number.
 use crate::sound;
+use constructs::Bounds;
 use constructs::NUMBERS;
-use constructs::Place;
 use constructs::Scanned;
 use index::Header;
 use index::Read;
-use index_values::Volume;
+use index_values::Partitions;
 use refusals::Refusal;
-ghost use Rattle.index_values.specs.Tests.{given};
-ghost use Rattle.volume.specs.Chosen.{chosenIn, Chooses, ReadsPlace};
+ghost use Rattle.index_values.specs.Steps.{given};
+ghost use Rattle.volume.specs.Chosen.{chosenIn};
+ghost use Rattle.volume.specs.ChosenSteps.{Chooses, ReadsPlace};
 
 // Where the construct lies, and its index's header, whose places are those of the text; or a refusal.
 pub enum Chosen {
-    Found(Place, Header),
+    Found(Bounds, Header),
     Refused(Refusal),
 }
 
 // The index whose text lies at a place of the store.
-fn read_place(store: &[u8], uuid: &[u8], volume: Volume, letter: u8, place: Place) -> Chosen
+fn read_place(store: &[u8], uuid: &[u8], volume: Partitions, letter: u8, place: Bounds) -> Chosen
     ensures { λ r. ⌜ ReadsPlace (given (now (uuid .entry)) volume) letter (now (store .entry)) place r ⌝ }
 {
     let text = sound::text_at(store, place);
@@ -32,7 +33,7 @@ pub fn read_construct(
     list: &[u8],
     store: &[u8],
     uuid: &[u8],
-    volume: Volume,
+    volume: Partitions,
     letter: u8,
     k: u64,
 ) -> Chosen
@@ -42,7 +43,7 @@ pub fn read_construct(
         return Chosen::Refused(Refusal::Caller);
     }
     let mut table = [0u32; NUMBERS];
-    match constructs::scan(list, store, volume.size as usize, &mut table) {
+    match constructs::scan(list, store, volume.block_size as usize, &mut table) {
         Scanned::Refused(r) => Chosen::Refused(r),
         Scanned::Constructs(n) => {
             if n as u64 <= k {

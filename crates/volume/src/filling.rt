@@ -1,11 +1,11 @@
 // The tables of a partition: its standing constructs, and how far data blocks reach.
 use constructs::NUMBERS;
 use constructs::Scanned;
-use tape::Checked;
+use tape::ListChecked;
 ghost use Rattle.volume.specs.Steps.{ListsOf, ReachesOf, EndsAt, FillsOf};
 
 // How many constructs stand in a partition, and whether it ends with the last of them.
-pub struct Filled {
+pub struct TablesFilled {
     pub count: usize,
     pub ends: bool,
 }
@@ -28,8 +28,8 @@ fn fill_reach(list: &[u8], store: &[u8], size: u64, table: &mut [u32]) -> usize
     ensures { λ r. ⌜ ReachesOf size (now (list .entry)) (now (store .entry)) (now (table .entry)) (now (table .exit)) r ⌝ }
 {
     match constructs::reach::reach(list, store, size as usize, table) {
-        Checked::Elements(n) => n,
-        Checked::Refused(_) => 0,
+        ListChecked::Elements(n) => n,
+        ListChecked::Refused(_) => 0,
     }
 }
 
@@ -51,13 +51,13 @@ pub fn fill(
     size: u64,
     table: &mut [u32; NUMBERS],
     reach: &mut [u32],
-) -> Filled
+) -> TablesFilled
     ensures { λ r. ⌜ FillsOf size (now (list .entry)) (now (store .entry)) (now (table .entry)) (now (table .exit))
         (now (reach .entry)) (now (reach .exit)) r ⌝ }
 {
     let count = list_constructs(list, store, size, table);
     let elements = fill_reach(list, store, size, reach);
-    Filled {
+    TablesFilled {
         count,
         ends: ends(table, count, elements),
     }

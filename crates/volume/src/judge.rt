@@ -7,9 +7,9 @@ use crate::lost::Lost;
 use crate::sound;
 use constructs::CONSTRUCTS;
 use constructs::NUMBERS;
-use index_values::Volume;
+use index_values::Partitions;
 use quantities::Generation;
-ghost use Rattle.index_values.specs.Tests.{given};
+ghost use Rattle.index_values.specs.Steps.{given};
 ghost use Rattle.volume.specs.Steps.{JudgesLast, JudgesIndexes, JudgesData, Breaks};
 
 // No break, or which of the five, and its number.
@@ -22,7 +22,7 @@ pub enum Judgement {
 fn judge_last(
     store: &[u8],
     uuid: &[u8],
-    volume: Volume,
+    volume: Partitions,
     index_table: &[u32; NUMBERS],
     k: usize,
     data_table: &[u32; NUMBERS],
@@ -36,9 +36,9 @@ fn judge_last(
 {
     let here = constructs::construct(index_table, k);
     let text = sound::text_at(store, here);
-    let b = sound::read_brief(text, uuid, volume, volume.first, here.first);
+    let b = sound::read_brief(text, uuid, volume, volume.index_letter, here.first);
     let there = constructs::construct(data_table, j);
-    if !sound::joins(b, volume.other, there.first, generation) {
+    if !sound::joins(b, volume.data_letter, there.first, generation) {
         return Judgement::Broken(4, k as u64);
     }
     match lost::first_lost(
@@ -59,7 +59,7 @@ fn judge_indexes(
     index_store: &[u8],
     data_store: &[u8],
     uuid: &[u8],
-    volume: Volume,
+    volume: Partitions,
     index_table: &[u32; NUMBERS],
     n: usize,
     index_reach: &[u32],
@@ -96,7 +96,7 @@ fn judge_data(
     data_list: &[u8],
     data_store: &[u8],
     uuid: &[u8],
-    volume: Volume,
+    volume: Partitions,
     index_table: &[u32; NUMBERS],
     n: usize,
     index_reach: &[u32],
@@ -106,7 +106,13 @@ fn judge_data(
 {
     let mut table = [0u32; NUMBERS];
     let mut reach = [0u32; ELEMENTS];
-    let m = filling::fill(data_list, data_store, volume.size, &mut table, &mut reach);
+    let m = filling::fill(
+        data_list,
+        data_store,
+        volume.block_size,
+        &mut table,
+        &mut reach,
+    );
     if !m.ends {
         return Judgement::Broken(2, 0);
     }
@@ -131,14 +137,20 @@ pub fn judge(
     data_list: &[u8],
     data_store: &[u8],
     uuid: &[u8],
-    volume: Volume,
+    volume: Partitions,
 ) -> Judgement
     ensures { λ r. ⌜ Breaks (given (now (uuid .entry)) volume) (now («index_list» .entry)) (now («index_store» .entry))
         (now («data_list» .entry)) (now («data_store» .entry)) r ⌝ }
 {
     let mut table = [0u32; NUMBERS];
     let mut reach = [0u32; ELEMENTS];
-    let n = filling::fill(index_list, index_store, volume.size, &mut table, &mut reach);
+    let n = filling::fill(
+        index_list,
+        index_store,
+        volume.block_size,
+        &mut table,
+        &mut reach,
+    );
     if !n.ends {
         return Judgement::Broken(1, 0);
     }

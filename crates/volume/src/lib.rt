@@ -14,5 +14,5 @@ pub use answers::find_break;
 pub use answers::find_cut;
 pub use chosen::Chosen;
 pub use chosen::read_construct;
-pub use search::Kept;
+pub use search::FoundCut;
 pub use sound::between;

@@ -2,12 +2,12 @@
 use index_files::NextFile;
 use index_files::NextRow;
 use index_files::Row;
-use index_values::Volume;
+use index_values::Partitions;
 ghost use mathlib.Core.Path.{_≡_};
 ghost use Rattle.slices.specs.Slices.{every};
 ghost use Rattle.elements.specs.Reading.{childrenAt};
-ghost use Rattle.index_values.specs.Tests.{rowsOf};
-ghost use Rattle.index_files.specs.Rows.{rowIs};
+ghost use Rattle.index_values.specs.Tests.{extentRows};
+ghost use Rattle.index_files.specs.RowSteps.{rowIs};
 ghost use Rattle.volume.specs.Steps.{liesIn, Loses};
 
 // The lowest file with an extent that does not lie there, if there is one.
@@ -19,7 +19,7 @@ pub enum Lost {
 // An extent, on so many elements of each partition, by tables of how far data blocks reach.
 fn row_lies(
     row: Row,
-    volume: Volume,
+    volume: Partitions,
     index_reach: &[u32],
     index_kept: u64,
     data_reach: &[u32],
@@ -27,20 +27,20 @@ fn row_lies(
 ) -> bool
     ensures { λ r. ⌜ r ≡ liesIn volume (now («index_reach» .entry)) «index_kept» (now («data_reach» .entry)) «data_kept» (rowIs row) ⌝ }
 {
-    if row.letter == volume.first as u64 {
+    if row.letter == volume.index_letter as u64 {
         return constructs::reach::lies(
             index_reach,
-            volume.size,
+            volume.block_size,
             index_kept,
             row.startblock,
             row.byteoffset,
             row.bytecount,
         );
     }
-    if row.letter == volume.other as u64 {
+    if row.letter == volume.data_letter as u64 {
         return constructs::reach::lies(
             data_reach,
-            volume.size,
+            volume.block_size,
             data_kept,
             row.startblock,
             row.byteoffset,
@@ -54,14 +54,14 @@ fn row_lies(
 fn file_lies(
     text: &[u8],
     n: usize,
-    volume: Volume,
+    volume: Partitions,
     index_reach: &[u32],
     index_kept: u64,
     data_reach: &[u32],
     data_kept: u64,
 ) -> bool
     ensures { λ r. ⌜ r ≡ every (liesIn volume (now («index_reach» .entry)) «index_kept» (now («data_reach» .entry)) «data_kept»)
-        (rowsOf (childrenAt (now (text .entry)) n)) ⌝ }
+        (extentRows (childrenAt (now (text .entry)) n)) ⌝ }
 {
     let mut at = index_files::first_row(text, n);
     loop {
@@ -82,7 +82,7 @@ fn file_lies(
 // Of the index with that text.
 pub fn first_lost(
     text: &[u8],
-    volume: Volume,
+    volume: Partitions,
     index_reach: &[u32],
     index_kept: u64,
     data_reach: &[u32],

@@ -3,17 +3,17 @@ use crate::lost;
 use crate::lost::Lost;
 use crate::sound;
 use crate::sound::Brief;
+use constructs::Bounds;
 use constructs::NUMBERS;
-use constructs::Place;
-use index_values::Volume;
+use index_values::Partitions;
 use quantities::Generation;
 ghost use mathlib.Core.Path.{_≡_};
 ghost use Prim.Native.Nat.{_<_};
-ghost use Rattle.index_values.specs.Tests.{given};
-ghost use Rattle.volume.specs.Steps.{BeginsOf, textIn, Fitting, Keeps, Tries, Searches};
+ghost use Rattle.index_values.specs.Steps.{given};
+ghost use Rattle.volume.specs.Steps.{BeginsOf, boundsText, FitsCut, Keeps, Tries, Searches};
 
 // A cut: both construct numbers, both counts of kept elements, and the generation of the last index kept in the index partition.
-pub struct Kept {
+pub struct FoundCut {
     pub index_construct: u64,
     pub data_construct: u64,
     pub index_kept: u64,
@@ -22,7 +22,7 @@ pub struct Kept {
 }
 
 pub enum Tried {
-    Fits(Kept),
+    Fits(FoundCut),
     Fails,
 }
 
@@ -51,18 +51,18 @@ pub fn put_beginnings(table: &[u32; NUMBERS], n: usize, beginnings: &mut [u32])
 // extents all lie on what is kept up to both.
 fn cut_fits(
     store: &[u8],
-    here: Place,
+    here: Bounds,
     b: Brief,
-    volume: Volume,
-    there: Place,
+    volume: Partitions,
+    there: Bounds,
     generation: Generation,
     index_reach: &[u32],
     data_reach: &[u32],
 ) -> bool
-    ensures { λ r. ⌜ Fitting (textIn (now (store .entry)) here) b volume (here .end) there (generation .0)
+    ensures { λ r. ⌜ FitsCut (boundsText (now (store .entry)) here) b volume (here .end) there (generation .0)
         (now («index_reach» .entry)) (now («data_reach» .entry)) r ⌝ }
 {
-    if !sound::joins(b, volume.other, there.first, generation) {
+    if !sound::joins(b, volume.data_letter, there.first, generation) {
         return false;
     }
     match lost::first_lost(
@@ -79,11 +79,11 @@ fn cut_fits(
 }
 
 // The cut after construct k of the index partition, at here, whose index says b, and construct j of the data partition, at there.
-fn cut_after(k: usize, j: usize, here: Place, there: Place, b: Brief) -> Kept
+fn cut_after(k: usize, j: usize, here: Bounds, there: Bounds, b: Brief) -> FoundCut
     ensures { λ r. ⌜ Keeps k j here there b r ⌝ }
 {
     let generation = b.generation;
-    Kept {
+    FoundCut {
         index_construct: k as u64,
         data_construct: j as u64,
         index_kept: here.end as u64,
@@ -96,7 +96,7 @@ fn cut_after(k: usize, j: usize, here: Place, there: Place, b: Brief) -> Kept
 fn try_cut(
     store: &[u8],
     uuid: &[u8],
-    volume: Volume,
+    volume: Partitions,
     index_table: &[u32; NUMBERS],
     k: usize,
     data_table: &[u32; NUMBERS],
@@ -109,7 +109,7 @@ fn try_cut(
         (now (generations .entry)) (now (beginnings .entry)) (now («index_reach» .entry)) (now («data_reach» .entry)) r ⌝ }
 {
     let here = constructs::construct(index_table, k);
-    let b = sound::brief_at(store, uuid, volume, volume.first, here);
+    let b = sound::brief_at(store, uuid, volume, volume.index_letter, here);
     let j = tables::item32(beginnings, b.block.0 as usize) as usize;
     if j == 0 {
         return Tried::Fails;
@@ -135,7 +135,7 @@ fn try_cut(
 pub fn search(
     store: &[u8],
     uuid: &[u8],
-    volume: Volume,
+    volume: Partitions,
     index_table: &[u32; NUMBERS],
     n: usize,
     data_table: &[u32; NUMBERS],

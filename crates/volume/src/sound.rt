@@ -1,15 +1,15 @@
 // An index of the volume, read for the verdict.
-use constructs::Place;
+use constructs::Bounds;
 use index::Read;
-use index_values::Volume;
+use index_values::Partitions;
 use quantities::BlockNumber;
 use quantities::Generation;
 ghost use mathlib.Core.Path.{_≡_};
 ghost use Prim.Native.Nat.{_-_};
-ghost use Rattle.index_values.specs.Tests.{given};
+ghost use Rattle.index_values.specs.Steps.{given};
 ghost use Rattle.index.specs.Index.{indexOf};
-ghost use Rattle.volume.specs.Volume.{soundly};
-ghost use Rattle.volume.specs.Steps.{linkOf, briefLink, joined, textIn};
+ghost use Rattle.volume.specs.Partitions.{soundly};
+ghost use Rattle.volume.specs.Steps.{linkOf, briefLink, joined, boundsText};
 
 // Whether an index is sound; if so, its generation, and its back pointer if it has one.
 pub struct Brief {
@@ -21,7 +21,13 @@ pub struct Brief {
 }
 
 // The index at a partition letter and the number of its first block.
-pub fn read_brief(text: &[u8], uuid: &[u8], volume: Volume, letter: u8, block: BlockNumber) -> Brief
+pub fn read_brief(
+    text: &[u8],
+    uuid: &[u8],
+    volume: Partitions,
+    letter: u8,
+    block: BlockNumber,
+) -> Brief
     ensures { λ r. ⌜ briefLink r ≡ linkOf (soundly (indexOf (given (now (uuid .entry)) volume) letter (block .0) (now (text .entry)))) ⌝ }
 {
     match index::read_index(text, uuid, volume, letter, block) {
@@ -76,15 +82,15 @@ pub fn between(from: usize, to: usize) -> usize
 }
 
 // The text of a construct that lies at a place of the store.
-pub fn text_at(store: &[u8], place: Place) -> &[u8]
-    ensures { λ r. ⌜ now r ≡ textIn (now (store .entry)) place ⌝ }
+pub fn text_at(store: &[u8], place: Bounds) -> &[u8]
+    ensures { λ r. ⌜ now r ≡ boundsText (now (store .entry)) place ⌝ }
 {
     slices::part(store, place.from, between(place.from, place.to))
 }
 
 // The index of the construct at a place of the store, in the partition with that letter.
-pub fn brief_at(store: &[u8], uuid: &[u8], volume: Volume, letter: u8, place: Place) -> Brief
-    ensures { λ r. ⌜ briefLink r ≡ linkOf (soundly (indexOf (given (now (uuid .entry)) volume) letter (place .first .0) (textIn (now (store .entry)) place))) ⌝ }
+pub fn brief_at(store: &[u8], uuid: &[u8], volume: Partitions, letter: u8, place: Bounds) -> Brief
+    ensures { λ r. ⌜ briefLink r ≡ linkOf (soundly (indexOf (given (now (uuid .entry)) volume) letter (place .first .0) (boundsText (now (store .entry)) place))) ⌝ }
 {
     read_brief(text_at(store, place), uuid, volume, letter, place.first)
 }

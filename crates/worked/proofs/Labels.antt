@@ -15,25 +15,25 @@ use Rattle.slices.proofs.Writers.{placed-short}
 use Rattle.digits.specs.Runs.{digits, firstFrom, width}
 use Rattle.digits.specs.Decimal.{short}
 use Rattle.xml.specs.Grammar.{isChar, utf8}
-use Rattle.values.specs.Values.{fits, inForm, inRanges, isTime, isUuid, isCreator}
+use Rattle.values.specs.Values.{byPattern, inPattern, inRanges, isTime, isUuid, isCreator}
 use Rattle.label.specs.Label.{Label, lettersFit}
 use Rattle.label_writer.specs.Characters.{following, codePoint, isCharacter, charactersBehind, isCharacters}
-use Rattle.label_writer.specs.Text.{escape, escaped, word, textOf, areNumbers, isLawful, isGiven}
+use Rattle.label_writer.specs.Text.{escape, escaped, booleanWord, labelText, areNumbers, isLawfulLabel, isGiven}
 use Rattle.writing.specs.Writing.{answered}
 use Rattle.label_writer.proofs.Fields.{in-rules}
 use Rattle.label_writer.proofs.Lengths.{length-text, time-length, uuid-length}
 use Rattle.worked.specs.Cases.{isBench, sample, refuses, benchLength, benchShort}
 
 pub one : isBench sample ≡ true
-unfolding isBench sample isGiven isLawful areNumbers isCreator isTime isUuid inForm fits inRanges lettersFit every same bytes escaped escape charactersBehind isCharacter codePoint following isChar utf8
+unfolding isBench sample isGiven isLawfulLabel areNumbers isCreator isTime isUuid inPattern byPattern inRanges lettersFit every same bytes escaped escape charactersBehind isCharacter codePoint following isChar utf8
 one = refl
 
 size : length (short 524288) ≡ 6
 unfolding short width firstFrom digits
 size = refl
 
-compressed : length (word true) ≡ 4
-unfolding word bytes
+compressed : length (booleanWord true) ≡ 4
+unfolding booleanWord bytes
 compressed = refl
 
 module _ (f : Label) (ok : isBench f ≡ true) where
@@ -50,7 +50,7 @@ module _ (f : Label) (ok : isBench f ≡ true) where
   unfolding isBench
   given = and-left (isGiven f) four (and-left (isGiven f && four) plain (and-left (isGiven f && four && plain) sized (and-left (isGiven f && four && plain && sized) (f .compression) ok)))
 
-  bench-length : length (textOf f) ≡ 378
+  bench-length : length (labelText f) ≡ 378
   unfolding isBench isGiven
   bench-length =
       let p = and-left (isGiven f && four && plain && sized) (f .compression) ok in
@@ -59,7 +59,7 @@ module _ (f : Label) (ok : isBench f ≡ true) where
       let e : escaped (f .creator) ≡ f .creator = same-eq _ _ (and-right (isGiven f && four) plain q) in
       let b : f .blockSize ≡ 524288 = eqb-true _ _ (and-right (isGiven f && four && plain) sized p) in
       let c : f .compression ≡ true = and-right (isGiven f && four && plain && sized) (f .compression) ok in
-      let r = in-rules f (and-left (isLawful f) (isCharacters (f .creator)) given) in
+      let r = in-rules f (and-left (isLawfulLabel f) (isCharacters (f .creator)) given) in
       omega (
         arith,
         length-text f,
@@ -69,20 +69,20 @@ module _ (f : Label) (ok : isBench f ≡ true) where
         uuid-length (f .uuid) (r .uuid),
         ap (λ (m : ℕ). length (short m)) b,
         size,
-        ap (λ (t : Bool). length (word t)) c,
+        ap (λ (t : Bool). length (booleanWord t)) c,
         compressed,
       )
 
-  bench-short : (b : List ℕ) → length b ≡ 377 → refuses 10 (answered (isGiven f) (textOf f) b) ≡ true
+  bench-short : (b : List ℕ) → length b ≡ 377 → refuses 10 (answered (isGiven f) (labelText f) b) ≡ true
   bench-short b h =
       let n = bench-length in
-      rw (given, placed-short 0 (textOf f) b (omega arith))
+      rw (given, placed-short 0 (labelText f) b (omega arith))
 
 pub lengths : (f : Label) → benchLength f ≡ true
-lengths f = split (λ (t : Bool). (not t || eqb (length (textOf f)) 378) ≡ true) (isBench f) (λ e. eq-eqb _ _ (bench-length f e)) (λ e. refl)
+lengths f = split (λ (t : Bool). (not t || eqb (length (labelText f)) 378) ≡ true) (isBench f) (λ e. eq-eqb _ _ (bench-length f e)) (λ e. refl)
 
 pub shorts : (f : Label) (b : List ℕ) → benchShort f b ≡ true
 shorts f b =
-    split (λ (t : Bool). (not t || refuses 10 (answered (isGiven f) (textOf f) b)) ≡ true) (isBench f && eqb (length b) 377)
+    split (λ (t : Bool). (not t || refuses 10 (answered (isGiven f) (labelText f) b)) ≡ true) (isBench f && eqb (length b) 377)
     (λ e. bench-short f (and-left (isBench f) (eqb (length b) 377) e) b (eqb-true _ _ (and-right (isBench f) (eqb (length b) 377) e)))
     (λ e. refl)

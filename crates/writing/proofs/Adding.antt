@@ -11,7 +11,7 @@ use Rattle.slices.specs.Slices.{written}
 use Rattle.slices.specs.Writers.{Puts}
 use Rattle.slices.proofs.Writers.{reached, unreached}
 use Rattle.slices.proofs.Writing.{length-written, written-then, part-written}
-use Rattle.writing.specs.Writing.{Adds, Composes}
+use Rattle.writing.specs.Steps.{Adds, Composes}
 
 -- there is room behind v for w
 room : (out : List ℕ) (at : ℕ) (w b v : List ℕ) → length (v ++ w) ≤ length b → out ≡ written 0 v b → at ≡ length v → at + length w ≤ length out

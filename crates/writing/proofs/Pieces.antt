@@ -9,7 +9,7 @@ use Rattle.slices.specs.declared.Written.{Written}
 use Rattle.slices.specs.declared.Written.the-variants.{To, Refused}
 use Rattle.slices.specs.Writers.{Puts}
 use Rattle.writing.proofs.Adding.{adds, adds-not, adds-then, composes, front-text}
-use Rattle.writing.specs.Writing.{AddsAtMost}
+use Rattle.writing.specs.Steps.{AddsAtMost}
 
 -- what a writer was asked for is added, whether it was written, or there was no room
 module _ {m at : ℕ} {w out after : List ℕ} {r : Written} where

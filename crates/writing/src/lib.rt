@@ -2,7 +2,7 @@
 use slices::Written;
 ghost use lib.ListN.{length};
 ghost use Rattle.digits.specs.Decimal.{short};
-ghost use Rattle.writing.specs.Writing.{AddsAtMost};
+ghost use Rattle.writing.specs.Steps.{AddsAtMost};
 
 // Adds src at the place at, and answers the place behind it.
 pub fn add(out: &mut [u8], at: usize, src: &[u8]) -> usize

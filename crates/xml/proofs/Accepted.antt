@@ -8,8 +8,8 @@ use native.Mathlib.Omega.{arith}
 use borrow.Author.Tests.{eq-eqb, ne-eqb, lt-ltb, le-ltb, lt-leb, eqb-true, ltb-true, ltb-false, leb-true}
 use lib.Dec.{eqb, ltb, leb, eqb·suc-zero}
 use lib.ListN.{length}
-use Rattle.xml.specs.Bytes.{isSpace, isLetter, isNameByte, declaration}
-use Rattle.xml.specs.Machine.{Place, before, root, name, tag, key, keyed, equals, value, valued, content, opens, closed, after, amp, more, lead239, Held, blank, words, children, State, at, reads, char, inText, inside, tagEnd, outside, leave, innermost, noText, step, good, ended, run, form}
+use Rattle.xml.specs.Bytes.{isSpace, isAsciiLetter, isNameByte, declaration}
+use Rattle.xml.specs.CheckSteps.{Mode, before, root, name, tag, key, keyed, equals, value, valued, content, opens, closed, after, amp, more, lead239, Held, blank, words, children, State, at, reads, char, inText, insideElement, tagEnd, outside, leave, innermost, withoutText, formStep, good, ended, formRun, form}
 use Rattle.xml.specs.Tree.{Head, Forest, none, node}
 use Rattle.xml.specs.Grammar.{Spaces, NameBytes, Name, Char, Entity, Value, Quoted, Equals, Attribute, Start, End, Text, Elements, Document, utf8, isChar}
 use Rattle.xml.proofs.Runs.{run-to, run-word}
@@ -19,13 +19,13 @@ use Rattle.xml.proofs.Classes.{space-low, space-no-name, letter-no-spac
 use Rattle.xml.proofs.Logic.{cons-head, cons-tail}
 use Rattle.slices.specs.Words.{bytes}
 
-stays : (p : Place) (ns : List (List ℕ)) → ((b : ℕ) → isSpace b ≡ true → step p ns b ≡ at p ns) → {s t : List ℕ} → Spaces s t → run (at p ns) s ≡ run (at p ns) t
+stays : (p : Mode) (ns : List (List ℕ)) → ((b : ℕ) → isSpace b ≡ true → formStep p ns b ≡ at p ns) → {s t : List ℕ} → Spaces s t → formRun (at p ns) s ≡ formRun (at p ns) t
 stays p ns h Spaces.end = refl
 stays p ns h (Spaces.more {b} {s} e x) = run-to p ns b s (at p ns) (h b e) ∙ stays p ns h x
 
 -- characters
-tail-run : (p : Place) (ns : List (List ℕ)) {lo hi n : ℕ} {s t : List ℕ} → Tail lo hi n s t → run (at (more p lo hi n) ns) s ≡ run (at p ns) t
-unfolding step
+tail-run : (p : Mode) (ns : List (List ℕ)) {lo hi n : ℕ} {s t : List ℕ} → Tail lo hi n s t → formRun (at (more p lo hi n) ns) s ≡ formRun (at p ns) t
+unfolding formStep
 tail-run p ns (Tail.last {lo} {hi} {b} {t} h g) = run-to (more p lo hi 0) ns b t (at p ns) (simp (le-ltb b lo h, le-ltb hi b g))
 tail-run p ns (Tail.next {lo} {hi} {b} {n} {s} h g x) =
     let y : suc n - 1 ≡ n = omega arith in
@@ -65,24 +65,24 @@ code-ranges c h e = go (leb c 55295) (leb 57344 c) (leb c 65533) (leb 65536 c) (
     go false false u false w x₀ x₁ x₂ x₃ x₄ = absurd (none-of x₀ (simp x₁) (simp x₃))
 
 -- what a character does at p
-record Runs (p : Place) (ns : List (List ℕ)) (s t : List ℕ) : Type 0 where
+record Runs (p : Mode) (ns : List (List ℕ)) (s t : List ℕ) : Type 0 where
   first : ℕ
   others : List ℕ
   split : s ≡ first ∷ others
   not60 : first ≡ 60 → ⊥
   single : first < 128 → (first ≡ 38 → ⊥) → others ≡ t
-  runs : run (char p ns first) others ≡ run (at p ns) t
+  runs : formRun (char p ns first) others ≡ formRun (at p ns) t
 
-module _ (p : Place) (ns : List (List ℕ)) where
+module _ (p : Mode) (ns : List (List ℕ)) where
   -- from its bytes
   by-tail : (b lo hi n : ℕ) (s : List ℕ) {u t : List ℕ} → 128 ≤ b → char p ns b ≡ at (more p lo hi n) ns → u ≡ b ∷ s → Tail lo hi n s t → Runs p ns u t
   by-tail b lo hi n s h e z x =
-      record { first = b; others = s; split = z; not60 = omega arith; single = λ g. absurd (omega arith); runs = ap (λ (σ : State). run σ s) e ∙ tail-run p ns x }
+      record { first = b; others = s; split = z; not60 = omega arith; single = λ g. absurd (omega arith); runs = ap (λ (σ : State). formRun σ s) e ∙ tail-run p ns x }
 
   ascii-runs : (c : ℕ) (t : List ℕ) {s : List ℕ} → c < 128 → isChar c ≡ true → (c ≡ 60 → ⊥) → (c ≡ 38 → ⊥) → s ≡ c ∷ t → Runs p ns s t
   unfolding char
   ascii-runs c t h e g k z =
-      record { first = c; others = t; split = z; not60 = g; single = λ _ _. refl; runs = ap (λ (σ : State). run σ t) (simp (lt-ltb c 128 h, ne-eqb c 38 k, printable)) }
+      record { first = c; others = t; split = z; not60 = g; single = λ _ _. refl; runs = ap (λ (σ : State). formRun σ t) (simp (lt-ltb c 128 h, ne-eqb c 38 k, printable)) }
     where
       printable : (leb 32 c || isSpace c) ≡ true
       printable = ascii-printable c h e
@@ -144,10 +144,10 @@ module _ (p : Place) (ns : List (List ℕ)) where
           by-tail (224 + c / 4096) 128 159 1 _ (omega arith) (lead-237 (224 + c / 4096) (omega arith)) z (Tail.next (omega arith) (omega arith) (Tail.last (omega arith) (omega arith)))
 
   three-mid : (c : ℕ) (t : List ℕ) {s : List ℕ} → 57344 ≤ c → c ≤ 65533 → s ≡ (224 + c / 4096) ∷ (128 + c / 64 % 64) ∷ (128 + c % 64) ∷ t → Runs p ns s t
-  unfolding step
+  unfolding formStep
   three-mid c t {s} h g z = go (ltb c 61440) (ltb c 65472) refl refl
     where
-      by-239 : (d hi : ℕ) (u : List ℕ) → 61440 ≤ c → s ≡ (224 + c / 4096) ∷ d ∷ u → step (lead239 p) ns d ≡ at (more p 128 hi 0) ns → Tail 128 hi 0 u t → Runs p ns s t
+      by-239 : (d hi : ℕ) (u : List ℕ) → 61440 ≤ c → s ≡ (224 + c / 4096) ∷ d ∷ u → formStep (lead239 p) ns d ≡ at (more p 128 hi 0) ns → Tail 128 hi 0 u t → Runs p ns s t
       by-239 d hi u l z e x =
           record {
             first = 224 + c / 4096;
@@ -155,7 +155,7 @@ module _ (p : Place) (ns : List (List ℕ)) where
             split = z;
             not60 = omega arith;
             single = λ g. absurd (omega arith);
-            runs = ap (λ (σ : State). run σ (d ∷ u)) (lead-239 (224 + c / 4096) (omega arith)) ∙ run-to (lead239 p) ns d u (at (more p 128 hi 0) ns) e ∙ tail-run p ns x;
+            runs = ap (λ (σ : State). formRun σ (d ∷ u)) (lead-239 (224 + c / 4096) (omega arith)) ∙ run-to (lead239 p) ns d u (at (more p 128 hi 0) ns) e ∙ tail-run p ns x;
           }
 
       go : (q r : Bool) → ltb c 61440 ≡ q → ltb c 65472 ≡ r → Runs p ns s t
@@ -188,8 +188,8 @@ module _ (p : Place) (ns : List (List ℕ)) where
           let m : 1048576 ≤ c = ltb-false c 1048576 y in
           by-tail (240 + c / 262144) 128 143 2 _ (omega arith) (lead-244 (240 + c / 262144) (omega arith)) z (Tail.next (omega arith) (omega arith) (Tail.next (omega arith) (omega arith) (Tail.last (omega arith) (omega arith))))
 
-  entity-runs : (e t : List ℕ) → Entity e → run (char p ns 38) (e ++ t) ≡ run (at p ns) t
-  unfolding char run step reads bytes
+  entity-runs : (e t : List ℕ) → Entity e → formRun (char p ns 38) (e ++ t) ≡ formRun (at p ns) t
+  unfolding char formRun formStep reads bytes
   entity-runs e t Entity.amp = refl
   entity-runs e t Entity.lt = refl
   entity-runs e t Entity.gt = refl
@@ -220,8 +220,8 @@ module _ (p : Place) (ns : List (List ℕ)) where
 
 -- attributes
 module _ (ns : List (List ℕ)) where
-  value-run : (q : ℕ) {s t : List ℕ} → Value q s t → run (at (value q) ns) s ≡ run (at valued ns) t
-  unfolding step
+  value-run : (q : ℕ) {s t : List ℕ} → Value q s t → formRun (at (value q) ns) s ≡ formRun (at valued ns) t
+  unfolding formStep
   value-run q (Value.end {t}) = run-to (value q) ns q t (at valued ns) (simp (eq-eqb q q refl))
   value-run q (Value.more {b} {s} {s₁} h c x) =
       let r : Runs (value q) ns (b ∷ s) s₁ = char-runs (value q) ns c in
@@ -229,98 +229,98 @@ module _ (ns : List (List ℕ)) where
       let z : s ≡ r .others = cons-tail (r .split) in
       let g : b ≡ 60 → ⊥ = λ w. r .not60 (sym y ∙ w) in
       run-to (value q) ns b s (char (value q) ns b) (simp (ne-eqb b q h, ne-eqb b 60 g))
-      ∙ ap (λ (c : ℕ). run (char (value q) ns c) s) y ∙ ap (λ (u : List ℕ). run (char (value q) ns (r .first)) u) z ∙ r .runs ∙ value-run q x
+      ∙ ap (λ (c : ℕ). formRun (char (value q) ns c) s) y ∙ ap (λ (u : List ℕ). formRun (char (value q) ns (r .first)) u) z ∙ r .runs ∙ value-run q x
 
-  quoted-run : {v s t : List ℕ} → Quoted v s t → run (at equals ns) s ≡ run (at valued ns) t
-  unfolding run step isSpace
+  quoted-run : {v s t : List ℕ} → Quoted v s t → formRun (at equals ns) s ≡ formRun (at valued ns) t
+  unfolding formRun formStep isSpace
   quoted-run (Quoted.double v _) = value-run 34 v
   quoted-run (Quoted.single v _) = value-run 39 v
 
-  key-equals : {u v : List ℕ} → Spaces u v → run (at key ns) (61 ∷ u) ≡ run (at equals ns) v
-  unfolding run step isNameByte isLetter isSpace
+  key-equals : {u v : List ℕ} → Spaces u v → formRun (at key ns) (61 ∷ u) ≡ formRun (at equals ns) v
+  unfolding formRun formStep isNameByte isAsciiLetter isSpace
   key-equals y = stays equals ns (equals-stay ns) y
 
-  keyed-equals : {u v : List ℕ} → Spaces u v → run (at keyed ns) (61 ∷ u) ≡ run (at equals ns) v
-  unfolding run step isSpace
+  keyed-equals : {u v : List ℕ} → Spaces u v → formRun (at keyed ns) (61 ∷ u) ≡ formRun (at equals ns) v
+  unfolding formRun formStep isSpace
   keyed-equals y = stays equals ns (equals-stay ns) y
 
-  key-run : {s t : List ℕ} → Equals s t → run (at key ns) s ≡ run (at equals ns) t
-  unfolding step
+  key-run : {s t : List ℕ} → Equals s t → formRun (at key ns) s ≡ formRun (at equals ns) t
+  unfolding formStep
   key-run (Equals.equals Spaces.end y) = key-equals y
   key-run (Equals.equals (Spaces.more {b} {s} e x) y) =
       run-to key ns b s (at keyed ns) (simp (space-no-name b e, e)) ∙ stays keyed ns (keyed-stay ns) x ∙ keyed-equals y
 
-  key-bytes : {v : List ℕ} (s : List ℕ) → NameBytes v → run (at key ns) (v ++ s) ≡ run (at key ns) s
-  unfolding step
+  key-bytes : {v : List ℕ} (s : List ℕ) → NameBytes v → formRun (at key ns) (v ++ s) ≡ formRun (at key ns) s
+  unfolding formStep
   key-bytes s NameBytes.end = refl
   key-bytes s (NameBytes.more {b} {w} e x) = run-to key ns b (w ++ s) (at key ns) (simp e) ∙ key-bytes s x
 
   -- an attribute
-  pair-run : {k v s s₁ s₂ t : List ℕ} → Spaces s (k ++ s₁) → Name k → Equals s₁ s₂ → Quoted v s₂ t → run (at tag ns) s ≡ run (at valued ns) t
-  unfolding step
+  pair-run : {k v s s₁ s₂ t : List ℕ} → Spaces s (k ++ s₁) → Name k → Equals s₁ s₂ → Quoted v s₂ t → formRun (at tag ns) s ≡ formRun (at valued ns) t
+  unfolding formStep
   pair-run {s₁ = s₁} x (Name.name {b} {w} e y) z v =
       stays tag ns (tag-stay ns) x ∙ run-to tag ns b (w ++ s₁) (at key ns) (simp (letter-no-space b e, e))
       ∙ key-bytes s₁ y ∙ key-run z ∙ quoted-run v
 
 -- the end of a start tag
-module _ (c : ℕ) (h : isSpace c ≡ false) (g : isNameByte c ≡ false) (k : isLetter c ≡ false) (n : List ℕ) (ns : List (List ℕ)) where
-  valued-ends : {s t : List ℕ} → Spaces s (c ∷ t) → run (at valued (n ∷ ns)) s ≡ run (tagEnd (n ∷ ns) c) t
-  unfolding step
+module _ (c : ℕ) (h : isSpace c ≡ false) (g : isNameByte c ≡ false) (k : isAsciiLetter c ≡ false) (n : List ℕ) (ns : List (List ℕ)) where
+  valued-ends : {s t : List ℕ} → Spaces s (c ∷ t) → formRun (at valued (n ∷ ns)) s ≡ formRun (tagEnd (n ∷ ns) c) t
+  unfolding formStep
   valued-ends {t = t} x = stays valued (n ∷ ns) (valued-stay (n ∷ ns)) x ∙ run-to valued (n ∷ ns) c t (tagEnd (n ∷ ns) c) (simp h)
 
-  tag-ends : {s t : List ℕ} → Spaces s (c ∷ t) → run (at tag (n ∷ ns)) s ≡ run (tagEnd (n ∷ ns) c) t
-  unfolding step
+  tag-ends : {s t : List ℕ} → Spaces s (c ∷ t) → formRun (at tag (n ∷ ns)) s ≡ formRun (tagEnd (n ∷ ns) c) t
+  unfolding formStep
   tag-ends {t = t} x = stays tag (n ∷ ns) (tag-stay (n ∷ ns)) x ∙ run-to tag (n ∷ ns) c t (tagEnd (n ∷ ns) c) (simp (h, k))
 
-  name-ends : {s t : List ℕ} → Spaces s (c ∷ t) → run (at (name n) ns) s ≡ run (tagEnd (n ∷ ns) c) t
-  unfolding step
+  name-ends : {s t : List ℕ} → Spaces s (c ∷ t) → formRun (at (name n) ns) s ≡ formRun (tagEnd (n ∷ ns) c) t
+  unfolding formStep
   name-ends (Spaces.end) = run-to (name n) ns c _ (tagEnd (n ∷ ns) c) (simp (g, h))
   name-ends (Spaces.more {b} {s} e x) = run-to (name n) ns b s (at tag (n ∷ ns)) (simp (space-no-name b e, e)) ∙ tag-ends x
 
-  attribute-ends : {j v s s₁ t : List ℕ} → Attribute j v s s₁ → Spaces s₁ (c ∷ t) → run (at (name n) ns) s ≡ run (tagEnd (n ∷ ns) c) t
-  unfolding step
+  attribute-ends : {j v s s₁ t : List ℕ} → Attribute j v s s₁ → Spaces s₁ (c ∷ t) → formRun (at (name n) ns) s ≡ formRun (tagEnd (n ∷ ns) c) t
+  unfolding formStep
   attribute-ends Attribute.without x = name-ends x
   attribute-ends (Attribute.with {b} {s = s} e x y z v) w =
       run-to (name n) ns b s (at tag (n ∷ ns)) (simp (space-no-name b e, e)) ∙ pair-run (n ∷ ns) x y z v ∙ valued-ends w
 
-name-bytes : (ns : List (List ℕ)) (w : List ℕ) {v : List ℕ} (s : List ℕ) → NameBytes v → run (at (name w) ns) (v ++ s) ≡ run (at (name (w ++ v)) ns) s
-unfolding step
-name-bytes ns w s NameBytes.end = ap (λ (m : List ℕ). run (at (name m) ns) s) (sym (append-nil w))
+name-bytes : (ns : List (List ℕ)) (w : List ℕ) {v : List ℕ} (s : List ℕ) → NameBytes v → formRun (at (name w) ns) (v ++ s) ≡ formRun (at (name (w ++ v)) ns) s
+unfolding formStep
+name-bytes ns w s NameBytes.end = ap (λ (m : List ℕ). formRun (at (name m) ns) s) (sym (append-nil w))
 name-bytes ns w s (NameBytes.more {b} {w = v} e x) =
     run-to (name w) ns b (v ++ s) (at (name (w ++ b ∷ [])) ns) (simp e) ∙ name-bytes ns (w ++ b ∷ []) s x
-    ∙ ap (λ (m : List ℕ). run (at (name m) ns) s) (append-assoc w (b ∷ []) v)
+    ∙ ap (λ (m : List ℕ). formRun (at (name m) ns) s) (append-assoc w (b ∷ []) v)
 
-before-60 : (ns : List (List ℕ)) (s : List ℕ) → run (at before ns) (60 ∷ s) ≡ run (at root ns) s
-unfolding run step isSpace
+before-60 : (ns : List (List ℕ)) (s : List ℕ) → formRun (at before ns) (60 ∷ s) ≡ formRun (at root ns) s
+unfolding formRun formStep isSpace
 before-60 ns s = refl
 
-start-run : (c : ℕ) → isSpace c ≡ false → isNameByte c ≡ false → isLetter c ≡ false → (ns : List (List ℕ)) {n k v s t : List ℕ} → Start n k v s (c ∷ t)
-    → run (at before ns) s ≡ run (tagEnd (n ∷ ns) c) t
-unfolding step
+start-run : (c : ℕ) → isSpace c ≡ false → isNameByte c ≡ false → isAsciiLetter c ≡ false → (ns : List (List ℕ)) {n k v s t : List ℕ} → Start n k v s (c ∷ t)
+    → formRun (at before ns) s ≡ formRun (tagEnd (n ∷ ns) c) t
+unfolding formStep
 start-run c h g k ns (Start.start {s = s} (Name.name {b} {w} e y) a x) =
     before-60 ns (b ∷ w ++ s) ∙ run-to root ns b (w ++ s) (at (name (b ∷ [])) ns) (simp e) ∙ name-bytes ns (b ∷ []) s y
     ∙ attribute-ends c h g k (b ∷ w) ns a x
 
-content-60 : (h : Held) (ns : List (List ℕ)) (s : List ℕ) → run (at (content h) ns) (60 ∷ s) ≡ run (at (opens (noText h)) ns) s
-unfolding run step
+content-60 : (h : Held) (ns : List (List ℕ)) (s : List ℕ) → formRun (at (content h) ns) (60 ∷ s) ≡ formRun (at (opens (withoutText h)) ns) s
+unfolding formRun formStep
 content-60 h ns s = refl
 
 -- an element begins in another
-content-before : (h : Held) (ns : List (List ℕ)) {n k v s t : List ℕ} → noText h ≡ true → length ns < 64 → Start n k v s t → run (at (content h) ns) s ≡ run (at before ns) s
-unfolding step isLetter
+content-before : (h : Held) (ns : List (List ℕ)) {n k v s t : List ℕ} → withoutText h ≡ true → length ns < 64 → Start n k v s t → formRun (at (content h) ns) s ≡ formRun (at before ns) s
+unfolding formStep isAsciiLetter
 content-before h ns q l (Start.start {s = s} (Name.name {b} {w} e y) a x) =
-    content-60 h ns (b ∷ w ++ s) ∙ ap (λ (o : Bool). run (at (opens o) ns) (b ∷ w ++ s)) q
+    content-60 h ns (b ∷ w ++ s) ∙ ap (λ (o : Bool). formRun (at (opens o) ns) (b ∷ w ++ s)) q
     ∙ run-to (opens true) ns b (w ++ s) (at (name (b ∷ [])) ns) (simp (letter-not b 47 e refl, e, lt-ltb (length ns) 64 l))
     ∙ sym (before-60 ns (b ∷ w ++ s) ∙ run-to root ns b (w ++ s) (at (name (b ∷ [])) ns) (simp e))
 
 -- text, up to an end tag
 module _ (ns : List (List ℕ)) where
-  shuts : (h : Held) (u : List ℕ) → run (at (content h) ns) (60 ∷ 47 ∷ u) ≡ run (at (reads closed (innermost ns)) ns) u
-  unfolding run step
+  shuts : (h : Held) (u : List ℕ) → formRun (at (content h) ns) (60 ∷ 47 ∷ u) ≡ formRun (at (reads closed (innermost ns)) ns) u
+  unfolding formRun formStep
   shuts h u = refl
 
   abbrev Shuts : List ℕ → State → List ℕ → Type 0
-  Shuts u σ s = run σ s ≡ run (at (reads closed (innermost ns)) ns) u
+  Shuts u σ s = formRun σ s ≡ formRun (at (reads closed (innermost ns)) ns) u
 
   -- a byte of text
   text-step : (k : ℕ) {s s₁ : List ℕ} (u : List ℕ) → (r : Runs (content (words 0)) ns s s₁) → (r .first ≡ 62 → k ≡ 2 → ⊥)
@@ -334,10 +334,10 @@ module _ (ns : List (List ℕ)) where
       go true w x e f h =
           let a : r .first ≡ 93 = eqb-true (r .first) 93 e in
           let q : r .others ≡ s₁ = r .single (omega arith) (omega arith) in
-          ap (λ (σ : State). run σ (r .others)) (simp e) ∙ ap (λ (l : List ℕ). run (at (content (words (min 2 (k + 1)))) ns) l) q ∙ j a
+          ap (λ (σ : State). formRun σ (r .others)) (simp e) ∙ ap (λ (l : List ℕ). formRun (at (content (words (min 2 (k + 1)))) ns) l) q ∙ j a
       go false true true e f h = absurd (g (eqb-true (r .first) 62 f) (eqb-true k 2 h))
-      go false true false e f h = ap (λ (σ : State). run σ (r .others)) (simp (e, f, h)) ∙ r .runs ∙ i
-      go false false x e f h = ap (λ (σ : State). run σ (r .others)) (simp (e, f)) ∙ r .runs ∙ i
+      go false true false e f h = ap (λ (σ : State). formRun σ (r .others)) (simp (e, f, h)) ∙ r .runs ∙ i
+      go false false x e f h = ap (λ (σ : State). formRun σ (r .others)) (simp (e, f)) ∙ r .runs ∙ i
 
   abbrev Guard : ℕ → List ℕ → Type 0
   Guard k s = ((r : List ℕ) → 1 ≤ k → s ≡ 93 ∷ 62 ∷ r → ⊥) × ((r : List ℕ) → 2 ≤ k → s ≡ 62 ∷ r → ⊥)
@@ -354,67 +354,67 @@ module _ (ns : List (List ℕ)) where
       whole e = r .split ∙ ap (λ (b : ℕ). b ∷ r .others) e ∙ ap (λ (t : List ℕ). 93 ∷ t) (r .single (omega arith) (omega arith))
 
   -- the first byte of a character in an element
-  enter : (h : Held) {s s₁ : List ℕ} → (r : Runs (content (words 0)) ns s s₁) → run (at (content h) ns) s ≡ run (inside h ns (r .first)) (r .others)
-  unfolding step
+  enter : (h : Held) {s s₁ : List ℕ} → (r : Runs (content (words 0)) ns s s₁) → formRun (at (content h) ns) s ≡ formRun (insideElement h ns (r .first)) (r .others)
+  unfolding formStep
   enter h {s} r =
-      ap (λ (l : List ℕ). run (at (content h) ns) l) (r .split)
-      ∙ run-to (content h) ns (r .first) (r .others) (inside h ns (r .first)) (simp (ne-eqb (r .first) 60 (r .not60)))
+      ap (λ (l : List ℕ). formRun (at (content h) ns) l) (r .split)
+      ∙ run-to (content h) ns (r .first) (r .others) (insideElement h ns (r .first)) (simp (ne-eqb (r .first) 60 (r .not60)))
 
   words-run : (k : ℕ) {s u : List ℕ} → k ≤ 2 → Guard k s → Text s (60 ∷ 47 ∷ u) → Shuts u (at (content (words k)) ns) s
-  unfolding inside
+  unfolding insideElement
   words-run k {u = u} l f Text.end = shuts (words k) u
   words-run k {u = u} l f (Text.more not c x) =
       enter (words k) (char-runs (content (words 0)) ns c) ∙ char-step k u l f not (char-runs (content (words 0)) ns c) (λ j i g. words-run j i g x)
 
   blank-run : {s u : List ℕ} → Text s (60 ∷ 47 ∷ u) → Shuts u (at (content blank) ns) s
-  unfolding inside
+  unfolding insideElement
   blank-run {u = u} Text.end = shuts blank u
   blank-run {s} {u} (Text.more {s₁ = s₁} not c x) = enter blank (char-runs (content (words 0)) ns c) ∙ go (char-runs (content (words 0)) ns c) (blank-run x)
     where
-      go : (r : Runs (content (words 0)) ns s s₁) → Shuts u (at (content blank) ns) s₁ → Shuts u (inside blank ns (r .first)) (r .others)
+      go : (r : Runs (content (words 0)) ns s s₁) → Shuts u (at (content blank) ns) s₁ → Shuts u (insideElement blank ns (r .first)) (r .others)
       go r ih = split (isSpace (r .first)) refl
         where
-          split : (v : Bool) → isSpace (r .first) ≡ v → Shuts u (inside blank ns (r .first)) (r .others)
+          split : (v : Bool) → isSpace (r .first) ≡ v → Shuts u (insideElement blank ns (r .first)) (r .others)
           split true e =
               let b : r .first ≤ 32 = space-low (r .first) e in
               let q : r .others ≡ s₁ = r .single (omega arith) (omega arith) in
-              ap (λ (σ : State). run σ (r .others)) (simp e) ∙ ap (λ (l : List ℕ). run (at (content blank) ns) l) q ∙ ih
+              ap (λ (σ : State). formRun σ (r .others)) (simp e) ∙ ap (λ (l : List ℕ). formRun (at (content blank) ns) l) q ∙ ih
           split false e =
-              ap (λ (σ : State). run σ (r .others)) (simp e)
+              ap (λ (σ : State). formRun σ (r .others)) (simp e)
               ∙ char-step 0 u (omega arith) (λ q h. absurd (omega arith), λ q h. absurd (omega arith)) not r (λ j i g. words-run j i g x)
 
-closed-62 : (ns : List (List ℕ)) (t : List ℕ) → run (at closed ns) (62 ∷ t) ≡ run (leave ns) t
-unfolding run step isSpace
+closed-62 : (ns : List (List ℕ)) (t : List ℕ) → formRun (at closed ns) (62 ∷ t) ≡ formRun (leave ns) t
+unfolding formRun formStep isSpace
 closed-62 ns t = refl
 
 -- an end tag, behind its `</`
-end-run : (n : List ℕ) (ns : List (List ℕ)) {s t : List ℕ} → Spaces s (62 ∷ t) → run (at (reads closed n) (n ∷ ns)) (n ++ s) ≡ run (leave (n ∷ ns)) t
+end-run : (n : List ℕ) (ns : List (List ℕ)) {s t : List ℕ} → Spaces s (62 ∷ t) → formRun (at (reads closed n) (n ∷ ns)) (n ++ s) ≡ formRun (leave (n ∷ ns)) t
 end-run n ns {s} {t} x = run-word closed (n ∷ ns) n s ∙ stays closed (n ∷ ns) (closed-stay (n ∷ ns)) x ∙ closed-62 (n ∷ ns) t
 
 -- a start tag up to its `>`, and an empty-element tag
-open-run : (ns : List (List ℕ)) {n k v s t : List ℕ} → Start n k v s (62 ∷ t) → run (at before ns) s ≡ run (at (content blank) (n ∷ ns)) t
-unfolding isSpace isNameByte isLetter tagEnd
+open-run : (ns : List (List ℕ)) {n k v s t : List ℕ} → Start n k v s (62 ∷ t) → formRun (at before ns) s ≡ formRun (at (content blank) (n ∷ ns)) t
+unfolding isSpace isNameByte isAsciiLetter tagEnd
 open-run ns x = start-run 62 refl refl refl ns x
 
-empty-run : (ns : List (List ℕ)) {n k v s t : List ℕ} → Start n k v s (47 ∷ 62 ∷ t) → run (at before ns) s ≡ run (leave (n ∷ ns)) t
-unfolding isSpace isNameByte isLetter tagEnd run step
+empty-run : (ns : List (List ℕ)) {n k v s t : List ℕ} → Start n k v s (47 ∷ 62 ∷ t) → formRun (at before ns) s ≡ formRun (leave (n ∷ ns)) t
+unfolding isSpace isNameByte isAsciiLetter tagEnd formRun formStep
 empty-run ns x = start-run 47 refl refl refl ns x
 
-text-run : (ns : List (List ℕ)) {n k v s s₁ s₂ t : List ℕ} → Start n k v s (62 ∷ s₁) → Text s₁ s₂ → End n s₂ t → run (at before ns) s ≡ run (leave (n ∷ ns)) t
+text-run : (ns : List (List ℕ)) {n k v s s₁ s₂ t : List ℕ} → Start n k v s (62 ∷ s₁) → Text s₁ s₂ → End n s₂ t → formRun (at before ns) s ≡ formRun (leave (n ∷ ns)) t
 unfolding innermost
 text-run ns {n} x y (End.end z) = open-run ns x ∙ blank-run (n ∷ ns) y ∙ end-run n ns z
 
-nest-run : (ns : List (List ℕ)) {n k v s s₁ s₂ s₃ t : List ℕ} → Start n k v s (62 ∷ s₁) → Spaces s₁ s₂ → run (at (content blank) (n ∷ ns)) s₂ ≡ run (at (reads closed n) (n ∷ ns)) (n ++ s₃) → Spaces s₃ (62 ∷ t)
-    → run (at before ns) s ≡ run (leave (n ∷ ns)) t
+nest-run : (ns : List (List ℕ)) {n k v s s₁ s₂ s₃ t : List ℕ} → Start n k v s (62 ∷ s₁) → Spaces s₁ s₂ → formRun (at (content blank) (n ∷ ns)) s₂ ≡ formRun (at (reads closed n) (n ∷ ns)) (n ++ s₃) → Spaces s₃ (62 ∷ t)
+    → formRun (at before ns) s ≡ formRun (leave (n ∷ ns)) t
 nest-run ns {n} x y r z = open-run ns x ∙ stays (content blank) (n ∷ ns) (blank-stay (n ∷ ns)) y ∙ r ∙ end-run n ns z
 
-left-run : (n m : List ℕ) (ns : List (List ℕ)) {s t : List ℕ} → Spaces s t → run (leave (n ∷ m ∷ ns)) s ≡ run (at (content children) (m ∷ ns)) t
+left-run : (n m : List ℕ) (ns : List (List ℕ)) {s t : List ℕ} → Spaces s t → formRun (leave (n ∷ m ∷ ns)) s ≡ formRun (at (content children) (m ∷ ns)) t
 unfolding leave outside
 left-run n m ns x = stays (content children) (m ∷ ns) (children-stay (m ∷ ns)) x
 
-elements-run : (m : List ℕ) (ns : List (List ℕ)) (h : Held) {d : ℕ} {f : Forest} {s u : List ℕ} → d + suc (length ns) ≡ 64 → noText h ≡ true → Elements d f s (60 ∷ 47 ∷ u)
-    → run (at (content h) (m ∷ ns)) s ≡ run (at (reads closed m) (m ∷ ns)) u
-unfolding innermost noText
+elements-run : (m : List ℕ) (ns : List (List ℕ)) (h : Held) {d : ℕ} {f : Forest} {s u : List ℕ} → d + suc (length ns) ≡ 64 → withoutText h ≡ true → Elements d f s (60 ∷ 47 ∷ u)
+    → formRun (at (content h) (m ∷ ns)) s ≡ formRun (at (reads closed m) (m ∷ ns)) u
+unfolding innermost withoutText
 elements-run m ns h {u = u} l q Elements.end = shuts (m ∷ ns) h u
 elements-run m ns h l q (Elements.empty {n = n} x y z) =
     content-before h (m ∷ ns) q (omega arith) x ∙ empty-run (m ∷ ns) x ∙ left-run n m ns y ∙ elements-run m ns children l refl z
@@ -424,12 +424,12 @@ elements-run m ns h l q (Elements.nest {n = n} x _ y k (End.end w) v z) =
     content-before h (m ∷ ns) q (omega arith) x ∙ nest-run (m ∷ ns) x y (elements-run n (m ∷ ns) blank (omega arith) refl k) w
     ∙ left-run n m ns v ∙ elements-run m ns children l refl z
 
-after-run : (n : List ℕ) {s : List ℕ} → Spaces s [] → run (leave (n ∷ [])) s ≡ good
-unfolding leave outside run ended
+after-run : (n : List ℕ) {s : List ℕ} → Spaces s [] → formRun (leave (n ∷ [])) s ≡ good
+unfolding leave outside formRun ended
 after-run n x = stays after [] (after-stay []) x
 
-root-run : {h : Head} {k : Forest} {s : List ℕ} → Elements 64 (node h k none) s [] → run (at before []) s ≡ good
-unfolding innermost noText
+root-run : {h : Head} {k : Forest} {s : List ℕ} → Elements 64 (node h k none) s [] → formRun (at before []) s ≡ good
+unfolding innermost withoutText
 root-run (Elements.empty {n = n} x y Elements.end) = empty-run [] x ∙ after-run n y
 root-run (Elements.text {n = n} x _ y w v Elements.end) = text-run [] x y w ∙ after-run n v
 root-run (Elements.nest {n = n} x _ y k (End.end w) v Elements.end) = nest-run [] x y (elements-run n [] blank refl refl k) w ∙ after-run n v

@@ -5,8 +5,8 @@ use Prim.Native.Nat.{ℕ, _<_, _≤_}
 use native.Mathlib.Omega.{arith}
 use borrow.Author.Tests.{le-leb, leb-true, leb-false, ne-eqb, lt-leb, eqb-true}
 use lib.Dec.{eqb, leb}
-use Rattle.xml.specs.Bytes.{isSpace, isLetter, isNameByte}
-use Rattle.xml.specs.Scans.{isText}
+use Rattle.xml.specs.Bytes.{isSpace, isAsciiLetter, isNameByte}
+use Rattle.xml.specs.ScanSteps.{isText}
 use Rattle.xml.proofs.Logic.{not-so}
 
 pub space-low : (b : ℕ) → isSpace b ≡ true → b ≤ 32
@@ -20,8 +20,8 @@ space-low b = go (eqb b 32) (eqb b 9) (eqb b 13) (eqb b 10) refl refl refl refl
     go false false false true e f g h z = omega (arith, eqb-true b 10 h)
     go false false false false e f g h z = absurd (false≢true z)
 
-low-no-letter : (b : ℕ) → b ≤ 32 → isLetter b ≡ false
-unfolding isLetter
+low-no-letter : (b : ℕ) → b ≤ 32 → isAsciiLetter b ≡ false
+unfolding isAsciiLetter
 low-no-letter b h = simp (lt-leb 97 b (omega arith), lt-leb 65 b (omega arith))
 
 low-no-name : (b : ℕ) → b ≤ 32 → isNameByte b ≡ false
@@ -32,11 +32,11 @@ low-no-name b h =
 pub space-no-name : (b : ℕ) → isSpace b ≡ true → isNameByte b ≡ false
 space-no-name b e = low-no-name b (space-low b e)
 
-pub letter-no-space : (b : ℕ) → isLetter b ≡ true → isSpace b ≡ false
+pub letter-no-space : (b : ℕ) → isAsciiLetter b ≡ true → isSpace b ≡ false
 letter-no-space b e = not-so (isSpace b) (λ h. false≢true (sym (low-no-letter b (space-low b h)) ∙ e))
 
-pub letter-not : (b k : ℕ) → isLetter b ≡ true → isLetter k ≡ false → eqb b k ≡ false
-letter-not b k e f = ne-eqb b k (λ z. false≢true (sym f ∙ sym (ap isLetter z) ∙ e))
+pub letter-not : (b k : ℕ) → isAsciiLetter b ≡ true → isAsciiLetter k ≡ false → eqb b k ≡ false
+letter-not b k e f = ne-eqb b k (λ z. false≢true (sym f ∙ sym (ap isAsciiLetter z) ∙ e))
 
 pub space-not : (b k : ℕ) → isSpace b ≡ true → 32 < k → eqb b k ≡ false
 space-not b k e f = let l : b ≤ 32 = space-low b e in ne-eqb b k (omega arith)
@@ -44,12 +44,12 @@ space-not b k e f = let l : b ≤ 32 = space-low b e in ne-eqb b k (omega arith)
 pub name-not : (b k : ℕ) → isNameByte b ≡ true → isNameByte k ≡ false → eqb b k ≡ false
 name-not b k e f = ne-eqb b k (λ z. false≢true (sym f ∙ sym (ap isNameByte z) ∙ e))
 
-pub letter-name : (b : ℕ) → isLetter b ≡ true → isNameByte b ≡ true
+pub letter-name : (b : ℕ) → isAsciiLetter b ≡ true → isNameByte b ≡ true
 unfolding isNameByte
 letter-name b e = simp e
 
 high-no-name : (b : ℕ) → 122 < b → isNameByte b ≡ false
-unfolding isNameByte isLetter
+unfolding isNameByte isAsciiLetter
 high-no-name b h =
     simp (lt-leb b 122 h, lt-leb b 90 (omega arith), lt-leb b 57 (omega arith), and-false, ne-eqb b 95 (omega arith), ne-eqb b 45 (omega arith), ne-eqb b 46 (omega arith))
 
@@ -62,7 +62,7 @@ below b true e n = leb-true b 122 e
 below b false e n = absurd (false≢true (sym (high-no-name b (leb-false b 122 e)) ∙ n))
 
 pub name-text : (b : ℕ) → isNameByte b ≡ true → isText b ≡ true
-unfolding isText isNameByte isLetter
+unfolding isText isNameByte isAsciiLetter
 name-text b e =
     let h : 32 < b = above b (leb b 32) refl e in
     let g : b ≤ 122 = below b (leb b 122) refl e in
@@ -72,5 +72,5 @@ pub space-text : (b : ℕ) → isSpace b ≡ true → isText b ≡ true
 unfolding isText
 space-text b e = simp e
 
-pub letter-high : (b : ℕ) → isLetter b ≡ true → 32 < b
+pub letter-high : (b : ℕ) → isAsciiLetter b ≡ true → 32 < b
 letter-high b e = above b (leb b 32) refl (letter-name b e)

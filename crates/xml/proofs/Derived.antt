@@ -8,8 +8,8 @@ use native.Mathlib.Omega.{arith}
 use borrow.Author.Tests.{eq-eqb, eqb-true, eqb-false, ltb-true, ltb-false}
 use lib.Dec.{eqb, ltb, leb}
 use lib.ListN.{length}
-use Rattle.xml.specs.Bytes.{isSpace, isLetter, isNameByte, declaration}
-use Rattle.xml.specs.Machine.{Place, word, before, root, name, tag, key, keyed, equals, value, valued, slash, content, opens, closed, after, amp, ampA, more, lead239, Held, blank, words, children, State, stop, at, reads, char, inText, inside, tagEnd, outside, leave, innermost, noText, step, good, broken, ended, run, form}
+use Rattle.xml.specs.Bytes.{isSpace, isAsciiLetter, isNameByte, declaration}
+use Rattle.xml.specs.CheckSteps.{Mode, word, before, root, name, tag, key, keyed, equals, value, valued, slash, content, opens, closed, after, amp, ampA, more, lead239, Held, blank, words, children, State, stop, at, reads, char, inText, insideElement, tagEnd, outside, leave, innermost, withoutText, formStep, good, broken, ended, formRun, form}
 use Rattle.xml.specs.Tree.{Head, Forest, none, node}
 use Rattle.xml.specs.Grammar.{Spaces, NameBytes, Name, Char, Entity, Value, Quoted, Equals, Attribute, Start, End, Text, Elements, Document, head, utf8}
 use Rattle.xml.proofs.Classes.{space-low}
@@ -70,7 +70,7 @@ In (words k) n ns s = AtText k n ns s
 In children n ns s = Outer (n ∷ ns) s
 
 -- what remains of a text in the form at a place
-abbrev Remains : Place → List (List ℕ) → List ℕ → Type 0
+abbrev Remains : Mode → List (List ℕ) → List ℕ → Type 0
 Remains (word p w) ns s = (t : List ℕ) × (s ≡ w ++ t) × Remains p ns t
 Remains before ns s = (t : List ℕ) × Spaces s t × Whole ns t
 Remains root ns s = Whole ns (60 ∷ s)
@@ -102,9 +102,9 @@ Remains (more p lo hi n) ns s = (t : List ℕ) × Tail lo hi n s t × Remains p 
 Remains (lead239 p) ns s = (t : List ℕ) × Char (239 ∷ s) t × Remains p ns t
 
 data RemainsAt : State → List ℕ → Type 0 where
-  remains : (p : Place) (ns : List (List ℕ)) {s : List ℕ} → Remains p ns s → RemainsAt (at p ns) s
+  remains : (p : Mode) (ns : List (List ℕ)) {s : List ℕ} → Remains p ns s → RemainsAt (at p ns) s
 
-un : {p : Place} {ns : List (List ℕ)} {s : List ℕ} → RemainsAt (at p ns) s → Remains p ns s
+un : {p : Mode} {ns : List (List ℕ)} {s : List ℕ} → RemainsAt (at p ns) s → Remains p ns s
 un (remains p ns o) = o
 
 abbrev Going : State → Type 0
@@ -121,7 +121,7 @@ pick : (t : Bool) {x y : State} {s : List ℕ} {G : Type 0} → RemainsAt (cond 
 pick true o f g = f refl o
 pick false o f g = g refl o
 
-reads-back : (p : Place) (ns : List (List ℕ)) (w : List ℕ) {s : List ℕ} → RemainsAt (at (reads p w) ns) s → (t : List ℕ) × (s ≡ w ++ t) × Remains p ns t
+reads-back : (p : Mode) (ns : List (List ℕ)) (w : List ℕ) {s : List ℕ} → RemainsAt (at (reads p w) ns) s → (t : List ℕ) × (s ≡ w ++ t) × Remains p ns t
 unfolding reads
 reads-back p ns [] {s} o = (s, refl, un o)
 reads-back p ns (c ∷ w) o = un o
@@ -143,14 +143,14 @@ rest-space e (rest x y z) = rest (Spaces.more e x) y z
 equals-space : {b : ℕ} {s t : List ℕ} → isSpace b ≡ true → Equals s t → Equals (b ∷ s) t
 equals-space e (Equals.equals x y) = Equals.equals (Spaces.more e x) y
 
-name-whole : (b : ℕ) (ns : List (List ℕ)) {s : List ℕ} → isLetter b ≡ true → AtName (b ∷ []) ns s → Whole ns (60 ∷ b ∷ s)
+name-whole : (b : ℕ) (ns : List (List ℕ)) {s : List ℕ} → isAsciiLetter b ≡ true → AtName (b ∷ []) ns s → Whole ns (60 ∷ b ∷ s)
 name-whole b ns e (atName v a (rest x y z)) = whole (Start.start (Name.name e v) a x) y z
 
 -- a character read, and what remains at p after it
-abbrev Read : Place → List (List ℕ) → List ℕ → Type 0
+abbrev Read : Mode → List (List ℕ) → List ℕ → Type 0
 Read p ns s = (t : List ℕ) × Char s t × Remains p ns t
 
-char-back : (p : Place) (ns : List (List ℕ)) (b : ℕ) {s : List ℕ} → (b ≡ 60 → ⊥) → RemainsAt (char p ns b) s → Read p ns (b ∷ s)
+char-back : (p : Mode) (ns : List (List ℕ)) (b : ℕ) {s : List ℕ} → (b ≡ 60 → ⊥) → RemainsAt (char p ns b) s → Read p ns (b ∷ s)
 unfolding char
 char-back p ns b {s} g o =
     pick (ltb b 128) o
@@ -226,8 +226,8 @@ text-space {b} {s} e x =
     let y : (leb 32 b || isSpace b) ≡ true = simp (e, or-true) in
     Text.more (λ r z. let x : b ≡ 93 = cons-head z in omega arith) (ascii b s (omega arith) y (omega arith) (omega arith)) x
 
-inside-back : (h : Held) (n : List ℕ) (ns : List (List ℕ)) (b : ℕ) {s : List ℕ} → Live (content h) (n ∷ ns) → (b ≡ 60 → ⊥) → RemainsAt (inside h (n ∷ ns) b) s → In h n ns (b ∷ s)
-unfolding inside
+inside-back : (h : Held) (n : List ℕ) (ns : List (List ℕ)) (b : ℕ) {s : List ℕ} → Live (content h) (n ∷ ns) → (b ≡ 60 → ⊥) → RemainsAt (insideElement h (n ∷ ns) b) s → In h n ns (b ∷ s)
+unfolding insideElement
 inside-back blank n ns b l g o =
     pick (isSpace b) o (λ e r. let (t, x, y) = un r in (t, body-space e x, y)) (λ _ o. as-text (text-back 0 n ns b g (omega arith) o))
   where
@@ -243,8 +243,8 @@ inside-back children n ns b l g o = pick (isSpace b) o (λ e r. let (t, x, y) = 
     inner-space : {s t : List ℕ} → isSpace b ≡ true → Inner (deep ns) n s t → Inner (deep ns) n (b ∷ s) t
     inner-space e (inner x y z) = inner (Spaces.more e x) y z
 
-opens-back : (h : Held) (n : List ℕ) (ns : List (List ℕ)) {s : List ℕ} → AtOpen (noText h) n ns s → In h n ns (60 ∷ s)
-unfolding noText
+opens-back : (h : Held) (n : List ℕ) (ns : List (List ℕ)) {s : List ℕ} → AtOpen (withoutText h) n ns s → In h n ns (60 ∷ s)
+unfolding withoutText
 opens-back blank n ns (ends {t} x y) = (t, text Text.end x, y)
 opens-back blank n ns (begins {t} e x y z) = (t, nest (inner Spaces.end x y), z)
 opens-back (words k) n ns (ends x y) = atText (λ r _ z. omega (arith, cons-head z)) (λ r _ z. omega (arith, cons-head z)) Text.end x y
@@ -283,7 +283,7 @@ tag-space : (n : List ℕ) (ns : List (List ℕ)) {b : ℕ} {s : List ℕ} → i
 tag-space n ns e (bare r) = bare (rest-space e r)
 tag-space n ns e (pair x y u v w) = pair (Spaces.more e x) y u v w
 
-tag-key : (n : List ℕ) (ns : List (List ℕ)) {b : ℕ} {s : List ℕ} → isLetter b ≡ true → AtKey n ns s → AtTag n ns (b ∷ s)
+tag-key : (n : List ℕ) (ns : List (List ℕ)) {b : ℕ} {s : List ℕ} → isAsciiLetter b ≡ true → AtKey n ns s → AtTag n ns (b ∷ s)
 tag-key n ns {b} e (atKey {v} x y u w) = pair {k = b ∷ v} Spaces.end (Name.name e x) y u w
 
 name-byte : (w : List ℕ) (ns : List (List ℕ)) {b : ℕ} {s : List ℕ} → isNameByte b ≡ true → AtName (w ++ b ∷ []) ns s → AtName w ns (b ∷ s)
@@ -300,13 +300,13 @@ name-space w ns e (pair {s₃ = s₃} x y u v z) =
 key-byte : (n : List ℕ) (ns : List (List ℕ)) {b : ℕ} {s : List ℕ} → isNameByte b ≡ true → AtKey n ns s → AtKey n ns (b ∷ s)
 key-byte n ns e (atKey x y u w) = atKey (NameBytes.more e x) y u w
 
-refer : (p : Place) (ns : List (List ℕ)) (b k : ℕ) (w : List ℕ) {s : List ℕ} → eqb b k ≡ true → ((t : List ℕ) → Char (38 ∷ k ∷ w ++ t) t) → Remains (word p w) ns s → Remains (amp p) ns (b ∷ s)
+refer : (p : Mode) (ns : List (List ℕ)) (b k : ℕ) (w : List ℕ) {s : List ℕ} → eqb b k ≡ true → ((t : List ℕ) → Char (38 ∷ k ∷ w ++ t) t) → Remains (word p w) ns s → Remains (amp p) ns (b ∷ s)
 refer p ns b k w e c (t, x, y) = (t, rw (eqb-true b k e, x) (c t), y)
 
-referA : (p : Place) (ns : List (List ℕ)) (b k : ℕ) (w : List ℕ) {s : List ℕ} → eqb b k ≡ true → ((t : List ℕ) → Char (38 ∷ 97 ∷ k ∷ w ++ t) t) → Remains (word p w) ns s → Remains (ampA p) ns (b ∷ s)
+referA : (p : Mode) (ns : List (List ℕ)) (b k : ℕ) (w : List ℕ) {s : List ℕ} → eqb b k ≡ true → ((t : List ℕ) → Char (38 ∷ 97 ∷ k ∷ w ++ t) t) → Remains (word p w) ns s → Remains (ampA p) ns (b ∷ s)
 referA p ns b k w e c (t, x, y) = (t, rw (eqb-true b k e, x) (c t), y)
 
-lt-gt : (p : Place) (ns : List (List ℕ)) (b : ℕ) {s : List ℕ} → (eqb b 108 ≡ true) ⊎ (eqb b 103 ≡ true) → Remains (word p (116 ∷ 59 ∷ [])) ns s → Remains (amp p) ns (b ∷ s)
+lt-gt : (p : Mode) (ns : List (List ℕ)) (b : ℕ) {s : List ℕ} → (eqb b 108 ≡ true) ⊎ (eqb b 103 ≡ true) → Remains (word p (116 ∷ 59 ∷ [])) ns s → Remains (amp p) ns (b ∷ s)
 unfolding bytes
 lt-gt p ns b (inl e) o = refer p ns b 108 (116 ∷ 59 ∷ []) e (λ t. Char.reference Entity.lt) o
 lt-gt p ns b (inr e) o = refer p ns b 103 (116 ∷ 59 ∷ []) e (λ t. Char.reference Entity.gt) o
@@ -314,22 +314,22 @@ lt-gt p ns b (inr e) o = refer p ns b 103 (116 ∷ 59 ∷ []) e (λ t. Char.refe
 tag-ends : (o : Bool) (n : List ℕ) (ns : List (List ℕ)) (b : ℕ) {s : List ℕ} → eqb b 47 ≡ true → Remains (word closed n) (n ∷ ns) s → AtOpen o n ns (b ∷ s)
 tag-ends o n ns b e (t, x, (u, y, z)) = rw (eqb-true b 47 e, x) (ends (End.end y) z)
 
-back : (p : Place) (ns : List (List ℕ)) (b : ℕ) {s : List ℕ} → Live p ns → RemainsAt (step p ns b) s → Remains p ns (b ∷ s)
-unfolding step innermost bytes
+back : (p : Mode) (ns : List (List ℕ)) (b : ℕ) {s : List ℕ} → Live p ns → RemainsAt (formStep p ns b) s → Remains p ns (b ∷ s)
+unfolding formStep innermost bytes
 back (word p []) ns b l o = no o
 back (word p (c ∷ w)) ns b l o =
     pick (eqb b c) o (λ e r. let (t, x, y) = reads-back p ns w r in (t, rw (eqb-true b c e) (ap (λ (z : List ℕ). c ∷ z) x), y)) (λ _ o. no o)
 back before ns b {s} l o =
     pick (isSpace b) o (λ e r. let (t, x, y) = un r in (t, Spaces.more e x, y))
     (λ _ o. pick (eqb b 60) o (λ e r. (b ∷ s, Spaces.end, rw (eqb-true b 60 e) (un r))) (λ _ o. no o))
-back root ns b l o = pick (isLetter b) o (λ e r. name-whole b ns e (un r)) (λ _ o. no o)
+back root ns b l o = pick (isAsciiLetter b) o (λ e r. name-whole b ns e (un r)) (λ _ o. no o)
 back (name w) ns b l o =
     pick (isNameByte b) o (λ e r. name-byte w ns e (un r))
     (λ _ o. pick (isSpace b) o (λ e r. name-space w ns e (un r)) (λ _ o. name-rest w ns (end-back w ns b o)))
 back tag [] b l o = absurd l
 back tag (n ∷ ns) b l o =
     pick (isSpace b) o (λ e r. tag-space n ns e (un r))
-    (λ _ o. pick (isLetter b) o (λ e r. tag-key n ns e (un r)) (λ _ o. bare (end-back n ns b o)))
+    (λ _ o. pick (isAsciiLetter b) o (λ e r. tag-key n ns e (un r)) (λ _ o. bare (end-back n ns b o)))
 back key [] b l o = absurd l
 back key (n ∷ ns) b l o =
     pick (isNameByte b) o (λ e r. key-byte n ns e (un r))
@@ -360,7 +360,7 @@ back (content h) (n ∷ ns) b l o =
 back (opens o₁) [] b l o = absurd l
 back (opens o₁) (n ∷ ns) b l o =
     pick (eqb b 47) o (λ e r. tag-ends o₁ n ns b e (reads-back closed (n ∷ ns) n r))
-    (λ _ o. pick (isLetter b && (o₁ && ltb (length (n ∷ ns)) 64)) o
+    (λ _ o. pick (isAsciiLetter b && (o₁ && ltb (length (n ∷ ns)) 64)) o
     (λ e r. let (x, y) = and-both _ _ e in let (z, w) = and-both _ _ y in child o₁ n ns z (ltb-true _ 64 w) (name-whole b (n ∷ ns) x (un r)))
     (λ _ o. no o))
 back closed [] b l o = absurd l
@@ -390,7 +390,7 @@ back (lead239 p) ns b l o =
     (λ h r. let (t, x, y) = un r in (t, wide3-239 b (ltb-false b 128 e) (ltb-true b 192 h) (omega arith) (λ _. omega arith) x, y))
     (λ _ o. no o)))
 
-ended-good : (p : Place) → ended p ≡ good → p ≡ after
+ended-good : (p : Mode) → ended p ≡ good → p ≡ after
 unfolding ended
 ended-good (word p w) e = cc
 ended-good before e = cc
@@ -412,15 +412,15 @@ ended-good (ampA p) e = cc
 ended-good (more p lo hi n) e = cc
 ended-good (lead239 p) e = cc
 
-derive : (s : List ℕ) (p : Place) (ns : List (List ℕ)) → Live p ns → run (at p ns) s ≡ good → Remains p ns s
-unfolding run
-derive [] p ns l e = subst (λ (q : Place). Remains q ns []) (sym (ended-good p e)) Spaces.end
-derive (b ∷ s) p ns l e = back p ns b l (go (step p ns b) refl (step-live p ns b l) (derive s))
+derive : (s : List ℕ) (p : Mode) (ns : List (List ℕ)) → Live p ns → formRun (at p ns) s ≡ good → Remains p ns s
+unfolding formRun
+derive [] p ns l e = subst (λ (q : Mode). Remains q ns []) (sym (ended-good p e)) Spaces.end
+derive (b ∷ s) p ns l e = back p ns b l (go (formStep p ns b) refl (step-live p ns b l) (derive s))
   where
-    go : (σ : State) → step p ns b ≡ σ → LiveAt σ → ((q : Place) (ms : List (List ℕ)) → Live q ms → run (at q ms) s ≡ good → Remains q ms s) → RemainsAt (step p ns b) s
+    go : (σ : State) → formStep p ns b ≡ σ → LiveAt σ → ((q : Mode) (ms : List (List ℕ)) → Live q ms → formRun (at q ms) s ≡ good → Remains q ms s) → RemainsAt (formStep p ns b) s
     go stop h g k =
-        let y : run stop s ≡ broken (suc (length s)) = run-stop s in
-        let x : run stop s ≡ good = sym (run-to p ns b s stop h) ∙ e in
+        let y : formRun stop s ≡ broken (suc (length s)) = run-stop s in
+        let x : formRun stop s ≡ good = sym (run-to p ns b s stop h) ∙ e in
         let z : _≡_ {A = ℕ} 0 1 = cc in absurd (omega arith)
     go (at q ms) h (live g) k = rw h (remains q ms (k q ms g (sym (run-to p ns b s (at q ms) h) ∙ e)))
 

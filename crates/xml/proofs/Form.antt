@@ -8,8 +8,9 @@ use Prim.Native.Nat.{ℕ, _-_}
 use lib.ListN.{length}
 use Rattle.xml.specs.Tree.{Head, Forest}
 use Rattle.xml.specs.Grammar.{Document}
-use Rattle.xml.specs.Form.{Reads, LongestFront}
-use Rattle.xml.specs.Machine.{Outcome, good, broken, form, isGood, inForm}
+use Rattle.xml.specs.Form.{LongestFront}
+use Rattle.xml.specs.FormSteps.{Reads}
+use Rattle.xml.specs.CheckSteps.{Outcome, good, broken, form, isGood, inForm}
 use Rattle.xml.proofs.Fronts.{longest-run}
 use Rattle.xml.proofs.Derived.{form-derives}
 use Rattle.xml.proofs.Accepted.{derived-form}

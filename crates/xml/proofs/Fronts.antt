@@ -7,17 +7,17 @@ use native.Mathlib.Nat.{not-suc-le-zero, le-of-suc-le-suc}
 use lib.ListN.{length, take}
 use Rattle.slices.specs.Words.{bytes}
 use Rattle.xml.specs.Bytes.{declaration}
-use Rattle.xml.specs.Machine.{Place, word, before, root, name, tag, key, keyed, equals, value, valued, slash, content, opens, closed, after, amp, ampA, more, lead239, State, stop, at, step, good, broken, ended, run, start, form}
+use Rattle.xml.specs.CheckSteps.{Mode, word, before, root, name, tag, key, keyed, equals, value, valued, slash, content, opens, closed, after, amp, ampA, more, lead239, State, stop, at, formStep, good, broken, ended, formRun, formStart, form}
 use Rattle.xml.proofs.Runs.{run-stop, run-to, stop-not-good}
 use Rattle.xml.proofs.Live.{Live, LiveAt, live, step-live, ends}
 
 -- n bytes of s are the longest front of it that some text in the form, with which the reading of σ ends well, begins with
 pub record Longest (σ : State) (s : List ℕ) (n : ℕ) : Type 0 where
   pub inside : n ≤ length s
-  pub begins : (t : List ℕ) × (run σ (take n s ++ t) ≡ good)
-  pub last : (m : ℕ) (t : List ℕ) → n < m → m ≤ length s → run σ (take m s ++ t) ≡ good → ⊥
+  pub begins : (t : List ℕ) × (formRun σ (take n s ++ t) ≡ good)
+  pub last : (m : ℕ) (t : List ℕ) → n < m → m ≤ length s → formRun σ (take m s ++ t) ≡ good → ⊥
 
-ended-broken : (p : Place) (u : ℕ) → ended p ≡ broken u → u ≡ 0
+ended-broken : (p : Mode) (u : ℕ) → ended p ≡ broken u → u ≡ 0
 unfolding ended
 ended-broken (word p w) u e = cc
 ended-broken before u e = cc
@@ -39,21 +39,21 @@ ended-broken (ampA p) u e = cc
 ended-broken (more p lo hi n) u e = cc
 ended-broken (lead239 p) u e = cc
 
-abbrev Front : Place → List (List ℕ) → List ℕ → ℕ → Type 0
+abbrev Front : Mode → List (List ℕ) → List ℕ → ℕ → Type 0
 Front p ns s u = (n : ℕ) × (n + u ≡ length s) × Longest (at p ns) s n
 
-module _ (b : ℕ) (s : List ℕ) (p : Place) (ns : List (List ℕ)) (u : ℕ) where
-  halts : Live p ns → step p ns b ≡ stop → run stop s ≡ broken u → Front p ns (b ∷ s) u
+module _ (b : ℕ) (s : List ℕ) (p : Mode) (ns : List (List ℕ)) (u : ℕ) where
+  halts : Live p ns → formStep p ns b ≡ stop → formRun stop s ≡ broken u → Front p ns (b ∷ s) u
   halts l h e =
-      let y : run stop s ≡ broken (suc (length s)) = run-stop s in
+      let y : formRun stop s ≡ broken (suc (length s)) = run-stop s in
       let z : u ≡ suc (length s) = cc in
       (0, omega arith, record { inside = omega arith; begins = ends p ns l; last = later })
     where
-      later : (m : ℕ) (t : List ℕ) → 0 < m → m ≤ suc (length s) → run (at p ns) (take m (b ∷ s) ++ t) ≡ good → ⊥
+      later : (m : ℕ) (t : List ℕ) → 0 < m → m ≤ suc (length s) → formRun (at p ns) (take m (b ∷ s) ++ t) ≡ good → ⊥
       later zero t g k r = not-suc-le-zero g
       later (suc m) t g k r = stop-not-good (take m s ++ t) (sym (run-to p ns b (take m s ++ t) stop h) ∙ r)
 
-  goes : (q : Place) (ms : List (List ℕ)) → step p ns b ≡ at q ms → Front q ms s u → Front p ns (b ∷ s) u
+  goes : (q : Mode) (ms : List (List ℕ)) → formStep p ns b ≡ at q ms → Front q ms s u → Front p ns (b ∷ s) u
   goes q ms h (n, e, f) = (
     suc n,
     omega (arith, e),
@@ -64,22 +64,22 @@ module _ (b : ℕ) (s : List ℕ) (p : Place) (ns : List (List ℕ)) (u : ℕ) w
     },
   )
     where
-      later : (m : ℕ) (t : List ℕ) → suc n < m → m ≤ suc (length s) → run (at p ns) (take m (b ∷ s) ++ t) ≡ good → ⊥
+      later : (m : ℕ) (t : List ℕ) → suc n < m → m ≤ suc (length s) → formRun (at p ns) (take m (b ∷ s) ++ t) ≡ good → ⊥
       later zero t g k r = not-suc-le-zero g
       later (suc m) t g k r = f .last m t (le-of-suc-le-suc g) (le-of-suc-le-suc k) (sym (run-to p ns b (take m s ++ t) (at q ms) h) ∙ r)
 
-longest : (s : List ℕ) (p : Place) (ns : List (List ℕ)) (u : ℕ) → Live p ns → run (at p ns) s ≡ broken u → Front p ns s u
-unfolding run
+longest : (s : List ℕ) (p : Mode) (ns : List (List ℕ)) (u : ℕ) → Live p ns → formRun (at p ns) s ≡ broken u → Front p ns s u
+unfolding formRun
 longest [] p ns u l e =
     let z : u ≡ 0 = ended-broken p u e in
     (0, omega arith, record { inside = omega arith; begins = ends p ns l; last = λ m t g h r. omega arith })
-longest (b ∷ s) p ns u l e = go (step p ns b) refl (step-live p ns b l) (longest s)
+longest (b ∷ s) p ns u l e = go (formStep p ns b) refl (step-live p ns b l) (longest s)
   where
-    go : (σ : State) → step p ns b ≡ σ → LiveAt σ → ((q : Place) (ms : List (List ℕ)) (v : ℕ) → Live q ms → run (at q ms) s ≡ broken v → Front q ms s v) → Front p ns (b ∷ s) u
+    go : (σ : State) → formStep p ns b ≡ σ → LiveAt σ → ((q : Mode) (ms : List (List ℕ)) (v : ℕ) → Live q ms → formRun (at q ms) s ≡ broken v → Front q ms s v) → Front p ns (b ∷ s) u
     go stop h g k = halts b s p ns u l h (sym (run-to p ns b s stop h) ∙ e)
     go (at q ms) h (live g) k = goes b s p ns u q ms h (k q ms u g (sym (run-to p ns b s (at q ms) h) ∙ e))
 
-pub longest-run : (s : List ℕ) (u : ℕ) → form s ≡ broken u → Longest start s (length s - u)
+pub longest-run : (s : List ℕ) (u : ℕ) → form s ≡ broken u → Longest formStart s (length s - u)
 unfolding form declaration bytes
 longest-run s u e =
     let (n, z, f) = longest s (word before declaration) [] u (tt, tt) e in

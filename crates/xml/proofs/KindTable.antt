@@ -9,8 +9,8 @@ use lib.Dec.{eqb, T, eqb→eq}
 use lib.ListN.{length, getD}
 use Rattle.slices.specs.Slices.{within}
 use Rattle.slices.proofs.Tables.{at, passes}
-use Rattle.xml.specs.Bytes.{isSpace, isLetter, isNameByte}
-use Rattle.xml.specs.Scans.{isText, kindOf, ofKind, Kinds}
+use Rattle.xml.specs.Bytes.{isSpace, isAsciiLetter, isNameByte}
+use Rattle.xml.specs.ScanSteps.{isText, kindOf, ofKind, Kinds}
 use Rattle.xml.proofs.Classes.{space-no-name, letter-no-space, letter-name, name-text, space-text}
 
 -- the entry k of the byte b is its kind
@@ -56,24 +56,24 @@ letters false false false false = refl
 
 pub kind-name : (b : ℕ) → ofKind 97 98 b ≡ isNameByte b
 unfolding kindOf
-kind-name b = names (isLetter b) (isNameByte b) (isSpace b) (isText b) (letter-name b)
+kind-name b = names (isAsciiLetter b) (isNameByte b) (isSpace b) (isText b) (letter-name b)
 
 pub kind-space : (b : ℕ) → ofKind 100 100 b ≡ isSpace b
 unfolding kindOf
-kind-space b = spaces (isLetter b) (isNameByte b) (isSpace b) (isText b) (space-no-name b) (letter-no-space b)
+kind-space b = spaces (isAsciiLetter b) (isNameByte b) (isSpace b) (isText b) (space-no-name b) (letter-no-space b)
 
 pub kind-text : (b : ℕ) → ofKind 97 100 b ≡ isText b
 unfolding kindOf
-kind-text b = texts (isLetter b) (isNameByte b) (isSpace b) (isText b) (letter-name b) (name-text b) (space-text b)
+kind-text b = texts (isAsciiLetter b) (isNameByte b) (isSpace b) (isText b) (letter-name b) (name-text b) (space-text b)
 
-pub kind-letter : (b : ℕ) → eqb (kindOf b) 97 ≡ isLetter b
+pub kind-letter : (b : ℕ) → eqb (kindOf b) 97 ≡ isAsciiLetter b
 unfolding kindOf
-kind-letter b = letters (isLetter b) (isNameByte b) (isSpace b) (isText b)
+kind-letter b = letters (isAsciiLetter b) (isNameByte b) (isSpace b) (isText b)
 
 -- what the kind k of the byte b says
 module _ (k b : ℕ) (e : k ≡ kindOf b) where
-  pub no-letter : (k ≡ 97 → ⊥) → isLetter b ≡ false
+  pub no-letter : (k ≡ 97 → ⊥) → isAsciiLetter b ≡ false
   no-letter h = sym (kind-letter b) ∙ ne-eqb (kindOf b) 97 (λ z. h (e ∙ z))
 
-  pub a-letter : k ≡ 97 → isLetter b ≡ true
+  pub a-letter : k ≡ 97 → isAsciiLetter b ≡ true
   a-letter h = sym (kind-letter b) ∙ eq-eqb (kindOf b) 97 (sym e ∙ h)

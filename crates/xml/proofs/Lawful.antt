@@ -8,7 +8,7 @@ use lib.ListN.{length, length-append}
 use Rattle.xml.specs.Bytes.{isSpace}
 use Rattle.xml.specs.Tree.{Forest}
 use Rattle.xml.specs.Grammar.{Spaces, Char, Text, Elements, utf8}
-use Rattle.xml.specs.Form.{height, Lawful}
+use Rattle.xml.specs.FormSteps.{height, Formed}
 use Rattle.xml.proofs.Trees.{start-name}
 
 pub elements-height : {d : ℕ} {f : Forest} {s t : List ℕ} → Elements d f s t → height f ≤ d
@@ -44,7 +44,7 @@ text-part {t = t} w x e =
     let (v, f, a) = text-alone x in
     subst (λ (l : List ℕ). Text l []) (append-cancel-right v w t (sym f ∙ e)) a
 
-pub elements-lawful : {d : ℕ} {f : Forest} {s t : List ℕ} → Elements d f s t → Lawful f
+pub elements-lawful : {d : ℕ} {f : Forest} {s t : List ℕ} → Elements d f s t → Formed f
 elements-lawful Elements.end = tt
 elements-lawful (Elements.empty x y z) = (start-name x, inl (refl, Text.end), tt, elements-lawful z)
 elements-lawful (Elements.text {w = w} x e y u v z) = (start-name x, inl (refl, text-part w y e), tt, elements-lawful z)

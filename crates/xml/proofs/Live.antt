@@ -8,9 +8,9 @@ use native.Mathlib.Bridge.{le-by-compare, IsLe}
 use borrow.Author.Tests.{eq-eqb, le-ltb}
 use lib.Dec.{eqb, ltb, leb, eqb·suc-zero}
 use lib.ListN.{length}
-use Rattle.xml.specs.Bytes.{isSpace, isLetter, isNameByte}
+use Rattle.xml.specs.Bytes.{isSpace, isAsciiLetter, isNameByte}
 use Rattle.xml.proofs.Runs.{run-to, run-word}
-use Rattle.xml.specs.Machine.{Place, word, before, root, name, tag, key, keyed, equals, value, valued, slash, content, opens, closed, after, amp, ampA, more, lead239, Held, blank, words, children, State, stop, at, reads, char, inText, inside, tagEnd, outside, leave, innermost, noText, step, good, ended, run}
+use Rattle.xml.specs.CheckSteps.{Mode, word, before, root, name, tag, key, keyed, equals, value, valued, slash, content, opens, closed, after, amp, ampA, more, lead239, Held, blank, words, children, State, stop, at, reads, char, inText, insideElement, tagEnd, outside, leave, innermost, withoutText, formStep, good, ended, formRun}
 use Rattle.slices.specs.Words.{bytes}
 
 abbrev pub Some : List (List ℕ) → Type 0
@@ -27,7 +27,7 @@ Counts blank = Unit {0}
 Counts (words n) = n ≤ 2
 Counts children = Unit {0}
 
-abbrev pub Live : Place → List (List ℕ) → Type 0
+abbrev pub Live : Mode → List (List ℕ) → Type 0
 Live (word p w) ns = Left w × Live p ns
 Live before ns = Unit {0}
 Live root ns = Unit {0}
@@ -50,27 +50,27 @@ Live (lead239 p) ns = Live p ns
 
 pub data LiveAt : State → Type 0 where
   halt : LiveAt stop
-  live : {p : Place} {ns : List (List ℕ)} → Live p ns → LiveAt (at p ns)
+  live : {p : Mode} {ns : List (List ℕ)} → Live p ns → LiveAt (at p ns)
 
-wlive : {p : Place} {c : ℕ} {w : List ℕ} {ns : List (List ℕ)} → Live p ns → LiveAt (at (word p (c ∷ w)) ns)
+wlive : {p : Mode} {c : ℕ} {w : List ℕ} {ns : List (List ℕ)} → Live p ns → LiveAt (at (word p (c ∷ w)) ns)
 wlive {p} {c} {w} l = live {p = word p (c ∷ w)} (tt, l)
 
 clive : {h : Held} {ns : List (List ℕ)} → Some ns → Counts h → LiveAt (at (content h) ns)
 clive {h} l k = live {p = content h} (l, k)
 
-mlive : {p : Place} {lo hi n : ℕ} {ns : List (List ℕ)} → lo ≤ hi → Live p ns → LiveAt (at (more p lo hi n) ns)
+mlive : {p : Mode} {lo hi n : ℕ} {ns : List (List ℕ)} → lo ≤ hi → Live p ns → LiveAt (at (more p lo hi n) ns)
 mlive {p} {lo} {hi} {n} h l = live {p = more p lo hi n} (h, l)
 
 both : (t : Bool) {x y : State} → LiveAt x → LiveAt y → LiveAt (cond t x y)
 both true a b = a
 both false a b = b
 
-reads-live : (p : Place) (w : List ℕ) (ns : List (List ℕ)) → Live p ns → LiveAt (at (reads p w) ns)
+reads-live : (p : Mode) (w : List ℕ) (ns : List (List ℕ)) → Live p ns → LiveAt (at (reads p w) ns)
 unfolding reads
 reads-live p [] ns l = live l
 reads-live p (c ∷ w) ns l = wlive l
 
-char-live : (p : Place) (ns : List (List ℕ)) (b : ℕ) → Live p ns → LiveAt (char p ns b)
+char-live : (p : Mode) (ns : List (List ℕ)) (b : ℕ) → Live p ns → LiveAt (char p ns b)
 unfolding char IsLe
 char-live p ns b l =
     both (ltb b 128) (both (eqb b 38) (live l) (both (leb 32 b || isSpace b) (live l) halt)) (both (ltb b 194) halt (both (ltb b 224) (mlive (le-by-compare 128 191 tt) (l)) (both (ltb b 225) (mlive (le-by-compare 160 191 tt) (l))
@@ -81,8 +81,8 @@ text-live : (n : ℕ) (ns : List (List ℕ)) (b : ℕ) → Some ns → LiveAt (i
 unfolding inText
 text-live n ns b l = both (eqb b 93) (clive l (omega arith)) (both (eqb b 62 && eqb n 2) halt (char-live (content (words 0)) ns b (l, omega arith)))
 
-inside-live : (h : Held) (ns : List (List ℕ)) (b : ℕ) → Some ns → LiveAt (inside h ns b)
-unfolding inside
+inside-live : (h : Held) (ns : List (List ℕ)) (b : ℕ) → Some ns → LiveAt (insideElement h ns b)
+unfolding insideElement
 inside-live blank ns b l = both (isSpace b) (clive l tt) (text-live 0 ns b l)
 inside-live (words n) ns b l = text-live n ns b l
 inside-live children ns b l = both (isSpace b) (clive l tt) halt
@@ -97,14 +97,14 @@ leave-live [] = halt
 leave-live (n ∷ []) = live tt
 leave-live (n ∷ m ∷ ns) = clive tt tt
 
-pub step-live : (p : Place) (ns : List (List ℕ)) (b : ℕ) → Live p ns → LiveAt (step p ns b)
-unfolding step IsLe bytes
+pub step-live : (p : Mode) (ns : List (List ℕ)) (b : ℕ) → Live p ns → LiveAt (formStep p ns b)
+unfolding formStep IsLe bytes
 step-live (word p []) ns b l = halt
 step-live (word p (c ∷ w)) ns b l = both (eqb b c) (reads-live p w ns (l .1)) halt
 step-live before ns b l = both (isSpace b) (live tt) (both (eqb b 60) (live tt) halt)
-step-live root ns b l = both (isLetter b) (live tt) halt
+step-live root ns b l = both (isAsciiLetter b) (live tt) halt
 step-live (name w) ns b l = both (isNameByte b) (live tt) (both (isSpace b) (live tt) (end-live (w ∷ ns) b tt))
-step-live tag ns b l = both (isSpace b) (live l) (both (isLetter b) (live l) (end-live ns b l))
+step-live tag ns b l = both (isSpace b) (live l) (both (isAsciiLetter b) (live l) (end-live ns b l))
 step-live key ns b l = both (isNameByte b) (live l) (both (isSpace b) (live l) (both (eqb b 61) (live l) halt))
 step-live keyed ns b l = both (isSpace b) (live l) (both (eqb b 61) (live l) halt)
 step-live equals ns b l = both (isSpace b) (live l) (both (eqb b 34 || eqb b 39) (live l) halt)
@@ -112,7 +112,7 @@ step-live (value q) ns b l = both (eqb b q) (live l) (both (eqb b 60) halt (char
 step-live valued ns b l = both (isSpace b) (live l) (end-live ns b l)
 step-live slash ns b l = both (eqb b 62) (leave-live ns) halt
 step-live (content h) ns b l = both (eqb b 60) (live (l .0)) (inside-live h ns b (l .0))
-step-live (opens o) ns b l = both (eqb b 47) (reads-live closed (innermost ns) ns l) (both (isLetter b && (o && ltb (length ns) 64)) (live tt) halt)
+step-live (opens o) ns b l = both (eqb b 47) (reads-live closed (innermost ns) ns l) (both (isAsciiLetter b && (o && ltb (length ns) 64)) (live tt) halt)
 step-live closed ns b l = both (isSpace b) (live l) (both (eqb b 62) (leave-live ns) halt)
 step-live after ns b l = both (isSpace b) (live tt) halt
 step-live (amp p) ns b l = both (eqb b 97) (live l) (both (eqb b 108 || eqb b 103) (wlive l) (both (eqb b 113) (wlive l) halt))
@@ -125,20 +125,20 @@ closing : List (List ℕ) → List ℕ
 closing [] = []
 closing (n ∷ ns) = 60 ∷ 47 ∷ n ++ 62 ∷ closing ns
 
-shut-good : (n : List ℕ) (ns : List (List ℕ)) → run (at closed (n ∷ ns)) (62 ∷ closing ns) ≡ good
-unfolding closing run step leave outside ended isSpace innermost noText
+shut-good : (n : List ℕ) (ns : List (List ℕ)) → formRun (at closed (n ∷ ns)) (62 ∷ closing ns) ≡ good
+unfolding closing formRun formStep leave outside ended isSpace innermost withoutText
 shut-good n [] = refl
 shut-good n (m ∷ ns) = run-word closed (m ∷ ns) m (62 ∷ closing ns) ∙ shut-good m ns
 
-close-good : (n : List ℕ) (ns : List (List ℕ)) → run (at (reads closed n) (n ∷ ns)) (n ++ 62 ∷ closing ns) ≡ good
+close-good : (n : List ℕ) (ns : List (List ℕ)) → formRun (at (reads closed n) (n ∷ ns)) (n ++ 62 ∷ closing ns) ≡ good
 close-good n ns = run-word closed (n ∷ ns) n (62 ∷ closing ns) ∙ shut-good n ns
 
 -- some text ends it from here
-abbrev pub Ends : Place → List (List ℕ) → Type 0
-Ends p ns = (t : List ℕ) × (run (at p ns) t ≡ good)
+abbrev pub Ends : Mode → List (List ℕ) → Type 0
+Ends p ns = (t : List ℕ) × (formRun (at p ns) t ≡ good)
 
 content-ends : (h : Held) (ns : List (List ℕ)) → Some ns → Ends (content h) ns
-unfolding run step innermost
+unfolding formRun formStep innermost
 content-ends h [] l = absurd l
 content-ends h (n ∷ ns) l = (60 ∷ 47 ∷ n ++ 62 ∷ closing ns, close-good n ns)
 
@@ -147,17 +147,17 @@ closed-ends [] l = absurd l
 closed-ends (n ∷ ns) l = (62 ∷ closing ns, shut-good n ns)
 
 slash-ends : (ns : List (List ℕ)) → Some ns → Ends slash ns
-unfolding run step isSpace
+unfolding formRun formStep isSpace
 slash-ends [] l = absurd l
 slash-ends (n ∷ ns) l = (62 ∷ closing ns, shut-good n ns)
 
 opens-ends : (o : Bool) (ns : List (List ℕ)) → Some ns → Ends (opens o) ns
-unfolding run step innermost
+unfolding formRun formStep innermost
 opens-ends o [] l = absurd l
 opens-ends o (n ∷ ns) l = (47 ∷ n ++ 62 ∷ closing ns, close-good n ns)
 
-more-ends : (n : ℕ) (p : Place) (ns : List (List ℕ)) (lo hi : ℕ) → lo ≤ hi → Ends p ns → Ends (more p lo hi n) ns
-unfolding step IsLe
+more-ends : (n : ℕ) (p : Mode) (ns : List (List ℕ)) (lo hi : ℕ) → lo ≤ hi → Ends p ns → Ends (more p lo hi n) ns
+unfolding formStep IsLe
 more-ends zero p ns lo hi h e =
     (lo ∷ e .0, run-to (more p lo hi 0) ns lo (e .0) (at p ns) (simp (le-ltb lo lo (omega arith), le-ltb hi lo h)) ∙ e .1)
 more-ends (suc n) p ns lo hi h e =
@@ -165,8 +165,8 @@ more-ends (suc n) p ns lo hi h e =
     let y : suc n - 1 ≡ n = omega arith in
     (lo ∷ r .0, run-to (more p lo hi (suc n)) ns lo (r .0) (at (more p 128 191 n) ns) (simp (le-ltb lo lo (omega arith), le-ltb hi lo h, eqb·suc-zero n, y)) ∙ r .1)
 
-pub ends : (p : Place) (ns : List (List ℕ)) → Live p ns → Ends p ns
-unfolding run step reads tagEnd isSpace isLetter isNameByte leave outside ended IsLe bytes
+pub ends : (p : Mode) (ns : List (List ℕ)) → Live p ns → Ends p ns
+unfolding formRun formStep reads tagEnd isSpace isAsciiLetter isNameByte leave outside ended IsLe bytes
 ends (word p []) ns l = absurd (l .0)
 ends (word p (c ∷ w)) ns l = let e : Ends p ns = ends p ns (l .1) in (c ∷ w ++ e .0, run-to (word p (c ∷ w)) ns c (w ++ e .0) (at (reads p w) ns) (simp (eq-eqb c c refl)) ∙ run-word p ns w (e .0) ∙ e .1)
 ends before ns l = let e : Ends (content blank) ((97 ∷ []) ∷ ns) = content-ends blank ((97 ∷ []) ∷ ns) tt in (60 ∷ 97 ∷ 62 ∷ e .0, e .1)

@@ -11,8 +11,8 @@ use borrow.Author.Tests.{ltb-true}
 use lib.Dec.{ltb}
 use lib.ListN.{length, drop, getD, set, length-set}
 use lib.Seq.{getD-set-same, getD-set-other}
-use Rattle.xml.specs.Machine.{at, content, blank, after, outside, Outcome, broken, run}
-use Rattle.xml.specs.Scans.{part, held, Turns, TurnBetween, turned}
+use Rattle.xml.specs.CheckSteps.{at, content, blank, after, outside, Outcome, broken, formRun}
+use Rattle.xml.specs.ScanSteps.{part, held, Turns, TurnBetween, turned}
 use Rattle.xml.specs.declared.Turn.{Turn}
 
 -- the innermost is the last of the d places
@@ -57,10 +57,10 @@ pub record Stands (t : List ℕ) (o : Outcome) (starts ends : List ℕ) (d i : �
   pub room : length starts ≡ 64
   pub space : length ends ≡ 64
   pub named : (k : ℕ) → k < d → Named t starts ends k
-  pub runs : o ≡ run (at (content (held c)) (names t starts ends d)) (drop i t)
+  pub runs : o ≡ formRun (at (content (held c)) (names t starts ends d)) (drop i t)
 
 pub first : (t starts ends : List ℕ) (s e i : ℕ) → i ≤ length t → s ≤ e → e ≤ length t → length starts ≡ 63 → length ends ≡ 63
-    → Stands t (run (at (content blank) (part t s e ∷ [])) (drop i t)) (s ∷ starts) (e ∷ ends) 1 i false
+    → Stands t (formRun (at (content blank) (part t s e ∷ [])) (drop i t)) (s ∷ starts) (e ∷ ends) 1 i false
 unfolding names
 first t starts ends s e i h g k l m =
     record { inside = h; some = omega arith; few = omega arith; room = ap suc l; space = ap suc m; named = one; runs = refl }
@@ -78,7 +78,7 @@ module _ {t : List ℕ} {o : Outcome} {starts ends : List ℕ} {d i : ℕ} {c : 
   turn : (s : Turn) → r ≡ s → o ≡ turned t (innerName t starts ends d) (names t starts ends (d - 1)) s
   turn s e =
       let h : 0 < d = omega (arith, x .some) in
-      x .runs ∙ ap (λ (ns : List (List ℕ)). run (at (content (held c)) ns) (drop i t)) (names-split t starts ends d h)
+      x .runs ∙ ap (λ (ns : List (List ℕ)). formRun (at (content (held c)) ns) (drop i t)) (names-split t starts ends d h)
       ∙ y .runs (names t starts ends (d - 1)) (omega (arith, names-length t starts ends (d - 1))) ∙ ap (turned t (innerName t starts ends d) (names t starts ends (d - 1))) e
 
   pub opened-below : (s e j : ℕ) → r ≡ Turn.Opened s e j → (d < 64) × (i < j) × (j ≤ length t)
@@ -102,7 +102,7 @@ module _ {t : List ℕ} {o : Outcome} {starts ends : List ℕ} {d i : ℕ} {c : 
         named = λ k q. ⊎-elim (λ z. subst (Named t (set starts d s) (set ends d e)) (sym z) (new l m (b .1) (b .2))) (λ z. old k z) (eq-or-lt-of-le {n = k} {m = d} (omega arith));
         runs =
             turn (Turn.Opened s e j) g
-            ∙ ap (λ (ns : List (List ℕ)). run (at (content blank) ns) (drop j t))
+            ∙ ap (λ (ns : List (List ℕ)). formRun (at (content blank) ns) (drop j t))
             (sym (names-more t starts ends d s e l m ∙ ap (λ (ns : List (List ℕ)). part t s e ∷ ns) (names-split t starts ends d h)));
       }
     where
@@ -129,7 +129,7 @@ module _ {t : List ℕ} {o : Outcome} {starts ends : List ℕ} {d i : ℕ} {c : 
         room = x .room;
         space = x .space;
         named = x .named;
-        runs = turn (Turn.Inside j) g ∙ ap (λ (ns : List (List ℕ)). run (at (content (held true)) ns) (drop j t)) (sym (names-split t starts ends d h));
+        runs = turn (Turn.Inside j) g ∙ ap (λ (ns : List (List ℕ)). formRun (at (content (held true)) ns) (drop j t)) (sym (names-split t starts ends d h));
       }
 
   pub outside-ahead : (j : ℕ) → r ≡ Turn.Outside j → (i < j) × (j ≤ length t)
@@ -147,16 +147,16 @@ module _ {t : List ℕ} {o : Outcome} {starts ends : List ℕ} {d i : ℕ} {c : 
         space = x .space;
         named = λ k q. x .named k (omega arith);
         runs =
-            turn (Turn.Outside j) g ∙ ap (λ (ns : List (List ℕ)). run (outside ns) (drop j t)) (names-split t starts ends (d - 1) h)
-            ∙ ap (λ (ns : List (List ℕ)). run (at (content (held true)) ns) (drop j t)) (sym (names-split t starts ends (d - 1) h));
+            turn (Turn.Outside j) g ∙ ap (λ (ns : List (List ℕ)). formRun (outside ns) (drop j t)) (names-split t starts ends (d - 1) h)
+            ∙ ap (λ (ns : List (List ℕ)). formRun (at (content (held true)) ns) (drop j t)) (sym (names-split t starts ends (d - 1) h));
       }
 
   -- the root ends
-  pub root-ended : (j : ℕ) → r ≡ Turn.Outside j → d ≡ 1 → o ≡ run (at after []) (drop j t)
+  pub root-ended : (j : ℕ) → r ≡ Turn.Outside j → d ≡ 1 → o ≡ formRun (at after []) (drop j t)
   unfolding outside names
   root-ended j g e =
       let z : d - 1 ≡ 0 = omega arith in
-      turn (Turn.Outside j) g ∙ ap (λ (k : ℕ). run (outside (names t starts ends k)) (drop j t)) z
+      turn (Turn.Outside j) g ∙ ap (λ (k : ℕ). formRun (outside (names t starts ends k)) (drop j t)) z
 
   pub stopped : (u : ℕ) → r ≡ Turn.Broken u → o ≡ broken u
   stopped u g = turn (Turn.Broken u) g

@@ -11,7 +11,7 @@ use native.Mathlib.Omega.{arith}
 use lib.ListN.{length, drop, getD, drop-of-length-le, length-drop}
 use lib.Seq.{drop-cons, getD-drop}
 use Rattle.xml.specs.Tree.{front}
-use Rattle.xml.specs.Scans.{Past}
+use Rattle.xml.specs.ScanSteps.{Past}
 
 -- past the end there is 0
 pub beyond : (t : List ℕ) (i : ℕ) → length t ≤ i → getD t i 0 ≡ 0

@@ -5,22 +5,22 @@ use Prim.Native.Nat.{ℕ, suc}
 use native.Mathlib.Omega.{arith}
 use borrow.Author.Tests.{eq-eqb}
 use lib.ListN.{length}
-use Rattle.xml.specs.Machine.{Place, word, State, stop, at, reads, step, good, broken, run}
+use Rattle.xml.specs.CheckSteps.{Mode, word, State, stop, at, reads, formStep, good, broken, formRun}
 
-pub run-stop : (s : List ℕ) → run stop s ≡ broken (suc (length s))
-unfolding run
+pub run-stop : (s : List ℕ) → formRun stop s ≡ broken (suc (length s))
+unfolding formRun
 run-stop [] = refl
 run-stop (b ∷ s) = refl
 
-pub stop-not-good : (s : List ℕ) → run stop s ≡ good → ⊥
-stop-not-good s e = let y : run stop s ≡ broken (suc (length s)) = run-stop s in let z : _≡_ {A = ℕ} 0 1 = cc in omega arith
+pub stop-not-good : (s : List ℕ) → formRun stop s ≡ good → ⊥
+stop-not-good s e = let y : formRun stop s ≡ broken (suc (length s)) = run-stop s in let z : _≡_ {A = ℕ} 0 1 = cc in omega arith
 
-pub run-to : (p : Place) (ns : List (List ℕ)) (b : ℕ) (s : List ℕ) (σ : State) → step p ns b ≡ σ → run (at p ns) (b ∷ s) ≡ run σ s
-unfolding run
-run-to p ns b s σ e = ap (λ (σ : State). run σ s) e
+pub run-to : (p : Mode) (ns : List (List ℕ)) (b : ℕ) (s : List ℕ) (σ : State) → formStep p ns b ≡ σ → formRun (at p ns) (b ∷ s) ≡ formRun σ s
+unfolding formRun
+run-to p ns b s σ e = ap (λ (σ : State). formRun σ s) e
 
 -- the fixed word w
-pub run-word : (p : Place) (ns : List (List ℕ)) (w t : List ℕ) → run (at (reads p w) ns) (w ++ t) ≡ run (at p ns) t
-unfolding reads step
+pub run-word : (p : Mode) (ns : List (List ℕ)) (w t : List ℕ) → formRun (at (reads p w) ns) (w ++ t) ≡ formRun (at p ns) t
+unfolding reads formStep
 run-word p ns [] t = refl
 run-word p ns (c ∷ w) t = run-to (word p (c ∷ w)) ns c (w ++ t) (at (reads p w) ns) (simp (eq-eqb c c refl)) ∙ run-word p ns w t

@@ -5,9 +5,9 @@ use mathlib.Core.List.{List}
 use Prim.Native.Nat.{ℕ, _+_, _-_, _<_, _≤_}
 use native.Mathlib.Omega.{arith}
 use lib.ListN.{length, drop, getD}
-use Rattle.xml.specs.Bytes.{isLetter}
-use Rattle.xml.specs.Machine.{Place, State, stop, at, step, broken, ended, run}
-use Rattle.xml.specs.Scans.{Past, Scans, Between, goesOn}
+use Rattle.xml.specs.Bytes.{isAsciiLetter}
+use Rattle.xml.specs.CheckSteps.{Mode, State, stop, at, formStep, broken, ended, formRun}
+use Rattle.xml.specs.ScanSteps.{Past, Scans, Between, goesOn}
 use Rattle.xml.specs.declared.bytes.Scan.{Scan}
 use Rattle.xml.specs.declared.bytes.Scan.the-variants.{At, Broken}
 use Rattle.xml.proofs.Classes.{letter-high}
@@ -18,7 +18,7 @@ use Rattle.xml.proofs.Scanning.{inside, run-on, run-out, run-refused, r
 pub stands : (t : List ℕ) (i b : ℕ) → b ≡ getD t i 0 → 0 < b → i < length t
 stands t i b e h = inside t i (λ z. omega (arith, e, z))
 
-pub inside-letter : (t : List ℕ) (i : ℕ) → isLetter (getD t i 0) ≡ true → i < length t
+pub inside-letter : (t : List ℕ) (i : ℕ) → isAsciiLetter (getD t i 0) ≡ true → i < length t
 inside-letter t i e = inside t i (λ z. omega (arith, letter-high (getD t i 0) e, z))
 
 later : (i j n : ℕ) → i ≤ j → (r : Scan) → Between j n r → Between i n r
@@ -32,25 +32,25 @@ module _ {t : List ℕ} {i : ℕ} where
 
   -- it begins as another
   pub scan-from : {σ τ to : List (List ℕ) → State} {r : Scan} → ((ns : List (List ℕ)) → σ ns ≡ τ ns) → Scans t i τ to r → Scans t i σ to r
-  scan-from e s = record { runs = λ ns. ap (λ (σ : State). run σ (drop i t)) (e ns) ∙ s .runs ns; ends = s .ends }
+  scan-from e s = record { runs = λ ns. ap (λ (σ : State). formRun σ (drop i t)) (e ns) ∙ s .runs ns; ends = s .ends }
 
   -- the byte at i leads to σ, from where it goes on
-  pub scan-step : {p : Place} {σ to : List (List ℕ) → State} {r : Scan} → i < length t → ((ns : List (List ℕ)) → step p ns (getD t i 0) ≡ σ ns)
+  pub scan-step : {p : Mode} {σ to : List (List ℕ) → State} {r : Scan} → i < length t → ((ns : List (List ℕ)) → formStep p ns (getD t i 0) ≡ σ ns)
       → Scans t (i + 1) σ to r → Scans t i (at p) to r
   scan-step {p} {r = r} h f s =
       record { runs = λ ns. run-on t i p ns h (f ns) ∙ s .runs ns; ends = later i (i + 1) (length t) (omega arith) r (s .ends) }
 
   -- the same where the byte is b
-  pub scan-on : {p : Place} {σ to : List (List ℕ) → State} {r : Scan} (b : ℕ) → b ≡ getD t i 0 → 0 < b
-      → ((ns : List (List ℕ)) → step p ns b ≡ σ ns) → Scans t (i + 1) σ to r → Scans t i (at p) to r
-  scan-on {p} b e h f s = scan-step (stands t i b e h) (λ ns. ap (step p ns) (sym e) ∙ f ns) s
+  pub scan-on : {p : Mode} {σ to : List (List ℕ) → State} {r : Scan} (b : ℕ) → b ≡ getD t i 0 → 0 < b
+      → ((ns : List (List ℕ)) → formStep p ns b ≡ σ ns) → Scans t (i + 1) σ to r → Scans t i (at p) to r
+  scan-on {p} b e h f s = scan-step (stands t i b e h) (λ ns. ap (formStep p ns) (sym e) ∙ f ns) s
 
   -- the byte b does not fit, or there is none
-  pub scan-refused : {p : Place} {to : List (List ℕ) → State} (b : ℕ) → b ≡ getD t i 0 → i ≤ length t → ended p ≡ broken 0
-      → ((ns : List (List ℕ)) → step p ns b ≡ stop) → Scans t i (at p) to (Broken (length t - i))
-  scan-refused {p} b e h n f = record { runs = λ ns. run-refused t i p ns h n (ap (step p ns) (sym e) ∙ f ns); ends = tt }
+  pub scan-refused : {p : Mode} {to : List (List ℕ) → State} (b : ℕ) → b ≡ getD t i 0 → i ≤ length t → ended p ≡ broken 0
+      → ((ns : List (List ℕ)) → formStep p ns b ≡ stop) → Scans t i (at p) to (Broken (length t - i))
+  scan-refused {p} b e h n f = record { runs = λ ns. run-refused t i p ns h n (ap (formStep p ns) (sym e) ∙ f ns); ends = tt }
 
-  pub scan-out : {p : Place} {to : List (List ℕ) → State} → i ≤ length t → length t ≤ i → ended p ≡ broken 0 → Scans t i (at p) to (Broken (length t - i))
+  pub scan-out : {p : Mode} {to : List (List ℕ) → State} → i ≤ length t → length t ≤ i → ended p ≡ broken 0 → Scans t i (at p) to (Broken (length t - i))
   scan-out {p} h g n = record { runs = λ ns. run-out t i p ns g ∙ n ∙ ap broken (omega arith); ends = tt }
 
   -- the byte before stopped the machine
@@ -58,14 +58,14 @@ module _ {t : List ℕ} {i : ℕ} where
   scan-stopped h e = record { runs = λ ns. run-stopped t i h (e ns); ends = tt }
 
   -- bytes at which the machine stays
-  pub scan-past : {f : ℕ → Bool} {p : Place} {to : List (List ℕ) → State} {j : ℕ} {r : Scan}
-      → ((ns : List (List ℕ)) (b : ℕ) → f b ≡ true → step p ns b ≡ at p ns) → Past f t i j → Scans t j (at p) to r → Scans t i (at p) to r
+  pub scan-past : {f : ℕ → Bool} {p : Mode} {to : List (List ℕ) → State} {j : ℕ} {r : Scan}
+      → ((ns : List (List ℕ)) (b : ℕ) → f b ≡ true → formStep p ns b ≡ at p ns) → Past f t i j → Scans t j (at p) to r → Scans t i (at p) to r
   scan-past {f} {p} {j = j} {r} stays e s =
       record { runs = λ ns. run-past f p ns (stays ns) t i j e ∙ s .runs ns; ends = later i j (length t) (past-ahead e) r (s .ends) }
 
   -- another place takes the next byte as p does
-  pub scan-as : {p : Place} {to : List (List ℕ) → State} {r : Scan} (q : Place) → ended p ≡ ended q
-      → ((ns : List (List ℕ)) → i < length t → step p ns (getD t i 0) ≡ step q ns (getD t i 0)) → Scans t i (at q) to r → Scans t i (at p) to r
+  pub scan-as : {p : Mode} {to : List (List ℕ) → State} {r : Scan} (q : Mode) → ended p ≡ ended q
+      → ((ns : List (List ℕ)) → i < length t → formStep p ns (getD t i 0) ≡ formStep q ns (getD t i 0)) → Scans t i (at q) to r → Scans t i (at p) to r
   scan-as {p} q e f s = record { runs = λ ns. run-as t i p ns q ns e (f ns) ∙ s .runs ns; ends = s .ends }
 
   pub scan-is : {a b : List (List ℕ) → State} {r s : Scan} → Scans t i a b r → r ≡ s → Scans t i a b s

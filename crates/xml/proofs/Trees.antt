@@ -7,7 +7,7 @@ use native.Mathlib.Omega.{arith}
 use borrow.Author.Tests.{eq-eqb, ne-eqb, lt-ltb, eqb-false, ltb-true}
 use lib.Dec.{eqb, ltb}
 use lib.ListN.{length, take, drop, getD, length-append}
-use Rattle.xml.specs.Bytes.{isSpace, isLetter, isNameByte, declaration}
+use Rattle.xml.specs.Bytes.{isSpace, isAsciiLetter, isNameByte, declaration}
 use Rattle.xml.specs.Tree.{Head, Forest, none, node, past, quoteAfter, front, isNot, notOpen, behind, quoted, headOf, top, pop, closed, opened, alone, put, trees, behindTag, tagHead, forests}
 use Rattle.xml.specs.Grammar.{Spaces, NameBytes, Name, Char, Entity, Value, Quoted, Equals, Attribute, Start, End, Text, Elements, Document, head, utf8}
 use Rattle.xml.proofs.Classes.{space-low, space-no-name, letter-no-space, letter-not, space-not, name-not, letter-name}
@@ -34,7 +34,7 @@ mark-low double = (omega arith, omega arith)
 mark-low single = (omega arith, omega arith)
 
 mark-no-name : {x : ℕ} → Mark x → isNameByte x ≡ false
-unfolding isNameByte isLetter
+unfolding isNameByte isAsciiLetter
 mark-no-name angle = refl
 mark-no-name double = refl
 mark-no-name single = refl
@@ -103,7 +103,7 @@ spaces-free h Spaces.end = Free.end
 spaces-free h (Spaces.more {b} e y) = let l : b ≤ 32 = space-low b e in Free.more b (omega arith) (spaces-free h y)
 
 bytes-free : {v : List ℕ} (s : List ℕ) → NameBytes v → Free 60 (v ++ s) s
-unfolding isNameByte isLetter
+unfolding isNameByte isAsciiLetter
 bytes-free s NameBytes.end = Free.end
 bytes-free s (NameBytes.more {b} e y) = Free.more b (eqb-false b 60 (name-not b 60 e refl)) (bytes-free s y)
 
@@ -170,7 +170,7 @@ spaces-pass (Spaces.more {b} {s} e y) =
     pass-join (plain-pass b s (space-not b 62 e (omega arith)) (space-not b 34 e (omega arith)) (space-not b 39 e (omega arith)) (space-not b 47 e (omega arith))) (spaces-pass y)
 
 bytes-pass : {v : List ℕ} (s : List ℕ) → NameBytes v → Pass (v ++ s) s
-unfolding isNameByte isLetter
+unfolding isNameByte isAsciiLetter
 bytes-pass s NameBytes.end = stay
 bytes-pass s (NameBytes.more {b} {w} e y) =
     pass-join (plain-pass b (w ++ s) (name-not b 62 e refl) (name-not b 34 e refl) (name-not b 39 e refl) (name-not b 47 e refl)) (bytes-pass s y)
@@ -244,7 +244,7 @@ spaces-quoted Spaces.end = refl
 spaces-quoted (Spaces.more {b} {s} e y) = space-quoted b s e ∙ spaces-quoted y
 
 bytes-quoted : {v : List ℕ} (s : List ℕ) → NameBytes v → quoted (v ++ s) ≡ quoted s
-unfolding isNameByte isLetter
+unfolding isNameByte isAsciiLetter
 bytes-quoted s NameBytes.end = refl
 bytes-quoted s (NameBytes.more {b} {w} e y) = plain-quoted b (w ++ s) (name-not b 62 e refl) (name-not b 34 e refl) (name-not b 39 e refl) ∙ bytes-quoted s y
 
@@ -261,7 +261,7 @@ quoted-quoted {v} (Quoted.double {t = t} y e) = text-of v t (value-only double y
 quoted-quoted {v} (Quoted.single {t = t} y e) = text-of v t (value-only single y) refl e
 
 equals-stop : {s t : List ℕ} → Equals s t → front isNameByte s ≡ 0
-unfolding isNameByte isLetter
+unfolding isNameByte isAsciiLetter
 equals-stop (Equals.equals y z) = spaces-stop 61 refl y
 
 attribute-key : {k v s s₁ t : List ℕ} (c : ℕ) → isNameByte c ≡ false → isSpace c ≡ false → Attribute k v s s₁ → Spaces s₁ (c ∷ t)
@@ -288,7 +288,7 @@ record Tag (n k v s : List ℕ) (c : ℕ) (t : List ℕ) : Type 0 where
   pass : Pass rest (c ∷ t)
 
 start-tag : {n k v s t : List ℕ} (c : ℕ) → isNameByte c ≡ false → isSpace c ≡ false → quoted (c ∷ t) ≡ [] → Start n k v s (c ∷ t) → Tag n k v s c t
-unfolding isLetter
+unfolding isAsciiLetter
 start-tag c e f g (Start.start {s = s} (Name.name {b} {w} h y) a x) =
     let z : behind isNameByte (b ∷ w ++ s) ≡ s = behind-name s (name-bytes (Name.name h y)) (attribute-stop c e a x) in
     record {
@@ -303,11 +303,11 @@ start-tag c e f g (Start.start {s = s} (Name.name {b} {w} h y) a x) =
     }
 
 open-tag : {n k v s t : List ℕ} → Start n k v s (62 ∷ t) → Tag n k v s 62 t
-unfolding isNameByte isLetter isSpace quoted
+unfolding isNameByte isAsciiLetter isSpace quoted
 open-tag x = start-tag 62 refl refl refl x
 
 empty-tag : {n k v s t : List ℕ} → Start n k v s (47 ∷ 62 ∷ t) → Tag n k v s 47 (62 ∷ t)
-unfolding isNameByte isLetter isSpace quoted
+unfolding isNameByte isAsciiLetter isSpace quoted
 empty-tag x = start-tag 47 refl refl refl x
 
 -- the tag ends
@@ -363,7 +363,7 @@ elements-60 (Elements.nest x _ y k w v z) e = start-60 x
 
 -- the elements f, and then what t reads as
 spells : {d : ℕ} {f : Forest} {s t : List ℕ} → Elements d f s t → top (forests t) ≡ none → (top (forests s) ≡ f) × (pop (forests s) ≡ pop (forests t))
-unfolding top pop alone opened isNameByte isLetter
+unfolding top pop alone opened isNameByte isAsciiLetter
 spells Elements.end h = (h, refl)
 spells (Elements.empty {n = n} {k} {v} x y z) h =
     let (a, b) = spells z h in

@@ -5,9 +5,9 @@ use mathlib.Core.List.{List, [], _∷_}
 use Prim.Native.Nat.{ℕ, _<_, _≤_}
 use native.Mathlib.Omega.{arith}
 use lib.ListN.{length, drop, getD}
-use Rattle.xml.specs.Bytes.{isLetter}
-use Rattle.xml.specs.Machine.{Place, name, State, stop, at, leave, outside, step, broken, ended, run}
-use Rattle.xml.specs.Scans.{Scans, Between, Starts, StartBetween, Turns, TurnBetween, goesOn, started}
+use Rattle.xml.specs.Bytes.{isAsciiLetter}
+use Rattle.xml.specs.CheckSteps.{Mode, name, State, stop, at, leave, outside, formStep, broken, ended, formRun}
+use Rattle.xml.specs.ScanSteps.{Scans, Between, Starts, StartBetween, Turns, TurnBetween, goesOn, started}
 use Rattle.xml.specs.declared.bytes.Scan.{Scan}
 use Rattle.xml.specs.declared.bytes.Scan.the-variants.{At, Broken}
 use Rattle.xml.specs.declared.tags.Start.{Start}
@@ -30,7 +30,7 @@ module _ {t : List ℕ} {i : ℕ} {n : List ℕ} {begins : Bool} {around : List 
   turns-broken x = record { runs = λ ns g. x .runs (n ∷ ns); ends = tt }
 
   -- an end tag, read from j on
-  module _ {a b : List (List ℕ) → State} {r : Scan} (j : ℕ) (h : i < j) (e : (ns : List (List ℕ)) → run (a (n ∷ ns)) (drop i t) ≡ run (b (n ∷ ns)) (drop j t))
+  module _ {a b : List (List ℕ) → State} {r : Scan} (j : ℕ) (h : i < j) (e : (ns : List (List ℕ)) → formRun (a (n ∷ ns)) (drop i t) ≡ formRun (b (n ∷ ns)) (drop j t))
       (x : Scans t j b leave r) where
     pub turns-outside : (k : ℕ) → r ≡ At k → Turns t i n begins a around (Turn.Outside k)
     unfolding leave
@@ -42,8 +42,8 @@ module _ {t : List ℕ} {i : ℕ} {n : List ℕ} {begins : Bool} {around : List 
     turns-unread u g = record { runs = λ ns _. e ns ∙ x .runs (n ∷ ns) ∙ ap (goesOn t (leave (n ∷ ns))) g; ends = tt }
 
   -- a start tag, at a place p where one may begin
-  module _ (p : Place) (m : ended p ≡ broken 0) (yes : begins ≡ true)
-      (may : (ns : List (List ℕ)) → around ns → step p (n ∷ ns) (getD t i 0) ≡ cond (isLetter (getD t i 0)) (at (name (getD t i 0 ∷ [])) (n ∷ ns)) stop) where
+  module _ (p : Mode) (m : ended p ≡ broken 0) (yes : begins ≡ true)
+      (may : (ns : List (List ℕ)) → around ns → formStep p (n ∷ ns) (getD t i 0) ≡ cond (isAsciiLetter (getD t i 0)) (at (name (getD t i 0 ∷ [])) (n ∷ ns)) stop) where
     pub turns-opened : {r : Start} (e j : ℕ) → Starts t i r → r ≡ Start.Open e j → Turns t i n begins (at p) around (Turn.Opened i e j)
     turns-opened e j x g =
         let b : (i ≤ e) × (e ≤ length t) × (i < j) × (j ≤ length t) = subst (StartBetween i (length t)) g (x .ends) in

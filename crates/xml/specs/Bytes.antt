@@ -42,12 +42,12 @@ unfoldable pub isSpace : ℕ → Bool
 isSpace b = eqb b 32 || eqb b 9 || eqb b 13 || eqb b 10
 
 -- an ASCII letter
-unfoldable pub isLetter : ℕ → Bool
-isLetter b = within 97 122 b || within 65 90 b
+unfoldable pub isAsciiLetter : ℕ → Bool
+isAsciiLetter b = within 97 122 b || within 65 90 b
 
 -- letters, digits, `_`, `-`, `.`
 unfoldable pub isNameByte : ℕ → Bool
-isNameByte b = isLetter b || within 48 57 b || eqb b 95 || eqb b 45 || eqb b 46
+isNameByte b = isAsciiLetter b || within 48 57 b || eqb b 95 || eqb b 45 || eqb b 46
 
 -- the 38 bytes `<?xml version="1.0" encoding="UTF-8"?>`
 unfoldable pub declaration : List ℕ

@@ -7,7 +7,7 @@ use Prim.Native.Nat.{ℕ, suc, _+_, _/_, _%_}
 use lib.Dec.{ltb, eqb}
 use Rattle.slices.specs.Slices.{within}
 use Rattle.slices.specs.Words.{bytes}
-use Rattle.xml.specs.Bytes.{less, greater, bracket, slash, ampersand, equality, doubleQuote, singleQuote, isSpace, isLetter, isNameByte, declaration}
+use Rattle.xml.specs.Bytes.{less, greater, bracket, slash, ampersand, equality, doubleQuote, singleQuote, isSpace, isAsciiLetter, isNameByte, declaration}
 use Rattle.xml.specs.Tree.{Head, Forest, none, node}
 
 -- white space, or nothing
@@ -21,7 +21,7 @@ pub data NameBytes : List ℕ → Type 0 where
 
 -- an ASCII letter, then letters, digits, `_`, `-`, `.`
 pub data Name : List ℕ → Type 0 where
-  name : {b : ℕ} {w : List ℕ} → isLetter b ≡ true → NameBytes w → Name (b ∷ w)
+  name : {b : ℕ} {w : List ℕ} → isAsciiLetter b ≡ true → NameBytes w → Name (b ∷ w)
 
 -- the code points of XML 1.0's characters (its production 2)
 unfoldable pub isChar : ℕ → Bool

@@ -2,5 +2,6 @@ pub mod Bytes
 pub mod Tree
 pub mod Grammar
 pub mod Form
-pub mod Machine
-pub mod Scans
+pub mod CheckSteps
+pub mod ScanSteps
+pub mod FormSteps

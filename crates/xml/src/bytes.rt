@@ -3,8 +3,8 @@ ghost use mathlib.Core.Path.{_≡_};
 ghost use Prim.Native.Nat.{_+_, _≤_};
 ghost use lib.ListN.{length, getD};
 ghost use Rattle.xml.specs.Bytes.{isSpace, isNameByte};
-ghost use Rattle.xml.specs.Machine.{Place, at, reads};
-ghost use Rattle.xml.specs.Scans.{isText, kindOf, ofKind, Kinds, Past, Scans};
+ghost use Rattle.xml.specs.CheckSteps.{Mode, at, reads};
+ghost use Rattle.xml.specs.ScanSteps.{isText, kindOf, ofKind, Kinds, Past, Scans};
 
 // The kind of each byte: `a` a letter, `b` another byte of a name, `c` another byte that text has under no further rule, `d` white space, `e` any
 // other byte.
@@ -85,7 +85,7 @@ pub(crate) enum Scan {
 // The bytes of a word.
 pub(crate) fn word_end(text: &[u8], from: usize, word: &[u8]) -> Scan
     requires { ⌜ from ≤ length (now text) ⌝ }
-    ensures { λ r. ⌜ ((p : Place) → Scans (now (text .entry)) from (at (reads p (now (word .entry)))) (at p) r) ⌝ }
+    ensures { λ r. ⌜ ((p : Mode) → Scans (now (text .entry)) from (at (reads p (now (word .entry)))) (at p) r) ⌝ }
 {
     let mut i = from;
     let mut k: usize = 0;

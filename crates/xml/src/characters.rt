@@ -5,8 +5,8 @@ ghost use Prim.Native.Nat.{_+_, _≤_, _<_, min};
 ghost use lib.Dec.{eqb};
 ghost use lib.ListN.{length};
 ghost use mathlib.Core.Bool.{false};
-ghost use Rattle.xml.specs.Machine.{Place, at, more, lead239, amp, ampA, value, valued, content, words, opens};
-ghost use Rattle.xml.specs.Scans.{Kinds, Scans, first};
+ghost use Rattle.xml.specs.CheckSteps.{Mode, at, more, lead239, amp, ampA, value, valued, content, words, opens};
+ghost use Rattle.xml.specs.ScanSteps.{Kinds, Scans, first};
 use super::bytes::Scan;
 use super::bytes::byte;
 use super::bytes::past_text;
@@ -15,7 +15,7 @@ use super::bytes::word_end;
 // The rest of a character: a byte from lo to hi, then n bytes from 128 to 191.
 fn tail_end(text: &[u8], from: usize, lo: u8, hi: u8, n: usize) -> Scan
     requires { ⌜ from ≤ length (now text) ⌝ }
-    ensures { λ r. ⌜ ((p : Place) → Scans (now (text .entry)) from (at (more p lo hi n)) (at p) r) ⌝ }
+    ensures { λ r. ⌜ ((p : Mode) → Scans (now (text .entry)) from (at (more p lo hi n)) (at p) r) ⌝ }
 {
     let mut i = from;
     let mut low = lo;
@@ -43,7 +43,7 @@ fn tail_end(text: &[u8], from: usize, lo: u8, hi: u8, n: usize) -> Scan
 // A character after its first byte, 239.
 fn end_239(text: &[u8], from: usize) -> Scan
     requires { ⌜ from ≤ length (now text) ⌝ }
-    ensures { λ r. ⌜ ((p : Place) → Scans (now (text .entry)) from (at (lead239 p)) (at p) r) ⌝ }
+    ensures { λ r. ⌜ ((p : Mode) → Scans (now (text .entry)) from (at (lead239 p)) (at p) r) ⌝ }
 {
     let b = byte(text, from);
     if b < 128 {
@@ -61,7 +61,7 @@ fn end_239(text: &[u8], from: usize) -> Scan
 // A character after its first byte, b, which is no ASCII.
 fn wide_end(text: &[u8], i: usize, b: u8) -> Scan
     requires { ⌜ (i < length (now text)) × (128 ≤ b) ⌝ }
-    ensures { λ r. ⌜ ((p : Place) → Scans (now (text .entry)) (i + 1) (first p b) (at p) r) ⌝ }
+    ensures { λ r. ⌜ ((p : Mode) → Scans (now (text .entry)) (i + 1) (first p b) (at p) r) ⌝ }
 {
     let from = i + 1;
     if b < 194 {
@@ -100,7 +100,7 @@ fn wide_end(text: &[u8], i: usize, b: u8) -> Scan
 // A reference after `&a`.
 fn reference_a_end(text: &[u8], from: usize) -> Scan
     requires { ⌜ from ≤ length (now text) ⌝ }
-    ensures { λ r. ⌜ ((p : Place) → Scans (now (text .entry)) from (at (ampA p)) (at p) r) ⌝ }
+    ensures { λ r. ⌜ ((p : Mode) → Scans (now (text .entry)) from (at (ampA p)) (at p) r) ⌝ }
 {
     let b = byte(text, from);
     if b == b'm' {
@@ -115,7 +115,7 @@ fn reference_a_end(text: &[u8], from: usize) -> Scan
 // A reference after `&`.
 fn reference_end(text: &[u8], from: usize) -> Scan
     requires { ⌜ from ≤ length (now text) ⌝ }
-    ensures { λ r. ⌜ ((p : Place) → Scans (now (text .entry)) from (at (amp p)) (at p) r) ⌝ }
+    ensures { λ r. ⌜ ((p : Mode) → Scans (now (text .entry)) from (at (amp p)) (at p) r) ⌝ }
 {
     let b = byte(text, from);
     if b == b'a' {
@@ -136,7 +136,7 @@ fn reference_end(text: &[u8], from: usize) -> Scan
 // The character whose first byte, at i, is b, or the reference.
 fn char_end(text: &[u8], i: usize, b: u8) -> Scan
     requires { ⌜ i < length (now text) ⌝ }
-    ensures { λ r. ⌜ ((p : Place) → Scans (now (text .entry)) (i + 1) (first p b) (at p) r) ⌝ }
+    ensures { λ r. ⌜ ((p : Mode) → Scans (now (text .entry)) (i + 1) (first p b) (at p) r) ⌝ }
 {
     if 128 <= b {
         return wide_end(text, i, b);

@@ -5,8 +5,8 @@ ghost use mathlib.Core.List.{[], _∷_};
 ghost use Prim.Native.Nat.{suc, _≤_};
 ghost use lib.Dec.{ltb};
 ghost use lib.ListN.{length, drop};
-ghost use Rattle.xml.specs.Machine.{at, before, after, content, blank, opens, run, form, outcomeOf};
-ghost use Rattle.xml.specs.Scans.{Kinds, Turns, part, held};
+ghost use Rattle.xml.specs.CheckSteps.{at, before, after, content, blank, opens, formRun, form, outcomeOf};
+ghost use Rattle.xml.specs.ScanSteps.{Kinds, Turns, part, held};
 
 mod bytes;
 mod characters;
@@ -23,7 +23,7 @@ use tags::end_tag;
 use tags::start_tag;
 
 // A text in the form, or one with so many bytes left unread.
-pub enum Checked {
+pub enum FormChecked {
     Good,
     Broken(usize),
 }
@@ -92,21 +92,21 @@ fn next_tag(
 }
 
 // White space after the root element.
-fn finish(text: &[u8], from: usize, kinds: &[u8; 256]) -> Checked
+fn finish(text: &[u8], from: usize, kinds: &[u8; 256]) -> FormChecked
     requires { ⌜ (from ≤ length (now text)) × Kinds (now kinds) ⌝ }
-    ensures { λ r. ⌜ outcomeOf r ≡ run (at after []) (drop from (now (text .entry))) ⌝ }
+    ensures { λ r. ⌜ outcomeOf r ≡ formRun (at after []) (drop from (now (text .entry))) ⌝ }
 {
     let i = past_spaces(text, from, kinds);
     if i == text.len() {
-        return Checked::Good;
+        return FormChecked::Good;
     }
-    Checked::Broken(text.len() - i)
+    FormChecked::Broken(text.len() - i)
 }
 
 // The content of the root element, whose name is from start to end, and what follows it.
-fn elements(text: &[u8], from: usize, start: usize, end: usize, kinds: &[u8; 256]) -> Checked
+fn elements(text: &[u8], from: usize, start: usize, end: usize, kinds: &[u8; 256]) -> FormChecked
     requires { ⌜ (from ≤ length (now text)) × (start ≤ end) × (end ≤ length (now text)) × Kinds (now kinds) ⌝ }
-    ensures { λ r. ⌜ outcomeOf r ≡ run (at (content blank) (part (now (text .entry)) start end ∷ [])) (drop from (now (text .entry))) ⌝ }
+    ensures { λ r. ⌜ outcomeOf r ≡ formRun (at (content blank) (part (now (text .entry)) start end ∷ [])) (drop from (now (text .entry))) ⌝ }
 {
     let mut starts = [0usize; 64];
     let mut ends = [0usize; 64];
@@ -145,37 +145,37 @@ fn elements(text: &[u8], from: usize, start: usize, end: usize, kinds: &[u8; 256
                 i = j;
             }
             Turn::Broken(u) => {
-                return Checked::Broken(u);
+                return FormChecked::Broken(u);
             }
         }
     }
-    Checked::Broken(text.len() - i)
+    FormChecked::Broken(text.len() - i)
 }
 
 // What follows the declaration.
-fn root(text: &[u8], from: usize, kinds: &[u8; 256]) -> Checked
+fn root(text: &[u8], from: usize, kinds: &[u8; 256]) -> FormChecked
     requires { ⌜ (from ≤ length (now text)) × Kinds (now kinds) ⌝ }
-    ensures { λ r. ⌜ outcomeOf r ≡ run (at before []) (drop from (now (text .entry))) ⌝ }
+    ensures { λ r. ⌜ outcomeOf r ≡ formRun (at before []) (drop from (now (text .entry))) ⌝ }
 {
     let i = past_spaces(text, from, kinds);
     if byte(text, i) != b'<' {
-        return Checked::Broken(text.len() - i);
+        return FormChecked::Broken(text.len() - i);
     }
     let start = i + 1;
     match start_tag(text, start, kinds) {
         Start::Open(e, j) => elements(text, j, start, e, kinds),
         Start::Empty(j) => finish(text, j, kinds),
-        Start::Broken(u) => Checked::Broken(u),
+        Start::Broken(u) => FormChecked::Broken(u),
     }
 }
 
 // Whether the text is in the form.
-pub fn check(text: &[u8]) -> Checked
+pub fn check(text: &[u8]) -> FormChecked
     ensures { λ r. ⌜ outcomeOf r ≡ form (now (text .entry)) ⌝ }
 {
     let kinds = KINDS;
     match word_end(text, 0, b"<?xml version=\"1.0\" encoding=\"UTF-8\"?>") {
         Scan::At(j) => root(text, j, &kinds),
-        Scan::Broken(u) => Checked::Broken(u),
+        Scan::Broken(u) => FormChecked::Broken(u),
     }
 }

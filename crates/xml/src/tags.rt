@@ -1,10 +1,10 @@
-// Tags, from behind their `<` on.
+// ScansTag, from behind their `<` on.
 ghost use mathlib.Core.Path.{_≡_};
 ghost use mathlib.Core.List.{List};
 ghost use Prim.Native.Nat.{ℕ, _≤_};
 ghost use lib.ListN.{length, getD};
-ghost use Rattle.xml.specs.Machine.{Place, at, key, keyed, equals, valued, tag, tagEnd, closed, reads, leave, step, ended, broken};
-ghost use Rattle.xml.specs.Scans.{Kinds, Scans, Tags, Starts};
+ghost use Rattle.xml.specs.CheckSteps.{Mode, at, key, keyed, equals, valued, tag, tagEnd, closed, reads, leave, formStep, ended, broken};
+ghost use Rattle.xml.specs.ScanSteps.{Kinds, Scans, ScansTag, Starts};
 use super::bytes::Scan;
 use super::bytes::byte;
 use super::bytes::kind;
@@ -54,35 +54,35 @@ fn attribute_end(text: &[u8], from: usize, kinds: &[u8; 256]) -> Scan
 }
 
 // The end of a start tag: `>` or `/>`, with the position behind it; or so many bytes unread.
-enum Tag {
+enum TagEnd {
     Open(usize),
     Empty(usize),
     Broken(usize),
 }
 
 // The `>` or `/>` of a start tag.
-fn close(text: &[u8], from: usize) -> Tag
+fn close(text: &[u8], from: usize) -> TagEnd
     requires { ⌜ from ≤ length (now text) ⌝ }
-    ensures { λ r. ⌜ ((p : Place) → ended p ≡ broken 0 → ((ns : List (List ℕ)) → step p ns (getD (now (text .entry)) from 0) ≡ tagEnd ns (getD (now (text .entry)) from 0)) → Tags (now (text .entry)) from (at p) r) ⌝ }
+    ensures { λ r. ⌜ ((p : Mode) → ended p ≡ broken 0 → ((ns : List (List ℕ)) → formStep p ns (getD (now (text .entry)) from 0) ≡ tagEnd ns (getD (now (text .entry)) from 0)) → ScansTag (now (text .entry)) from (at p) r) ⌝ }
 {
     let b = byte(text, from);
     if b == b'>' {
-        return Tag::Open(from + 1);
+        return TagEnd::Open(from + 1);
     }
     if b != b'/' {
-        return Tag::Broken(text.len() - from);
+        return TagEnd::Broken(text.len() - from);
     }
     let i = from + 1;
     if byte(text, i) == b'>' {
-        return Tag::Empty(i + 1);
+        return TagEnd::Empty(i + 1);
     }
-    Tag::Broken(text.len() - i)
+    TagEnd::Broken(text.len() - i)
 }
 
 // The rest of a start tag, from the end of its name on.
-fn tag_end(text: &[u8], from: usize, kinds: &[u8; 256]) -> Tag
+fn tag_end(text: &[u8], from: usize, kinds: &[u8; 256]) -> TagEnd
     requires { ⌜ (from ≤ length (now text)) × Kinds (now kinds) ⌝ }
-    ensures { λ r. ⌜ Tags (now (text .entry)) from (at tag) r ⌝ }
+    ensures { λ r. ⌜ ScansTag (now (text .entry)) from (at tag) r ⌝ }
 {
     let i = past_spaces(text, from, kinds);
     if kind(byte(text, i), kinds) != b'a' {
@@ -90,7 +90,7 @@ fn tag_end(text: &[u8], from: usize, kinds: &[u8; 256]) -> Tag
     }
     match attribute_end(text, i + 1, kinds) {
         Scan::At(j) => close(text, past_spaces(text, j, kinds)),
-        Scan::Broken(u) => Tag::Broken(u),
+        Scan::Broken(u) => TagEnd::Broken(u),
     }
 }
 
@@ -111,9 +111,9 @@ pub(crate) fn start_tag(text: &[u8], from: usize, kinds: &[u8; 256]) -> Start
     }
     let e = past_name(text, from, kinds);
     match tag_end(text, e, kinds) {
-        Tag::Open(j) => Start::Open(e, j),
-        Tag::Empty(j) => Start::Empty(j),
-        Tag::Broken(u) => Start::Broken(u),
+        TagEnd::Open(j) => Start::Open(e, j),
+        TagEnd::Empty(j) => Start::Empty(j),
+        TagEnd::Broken(u) => Start::Broken(u),
     }
 }
 

@@ -44,8 +44,8 @@ fn say(what: &[u8], text: &[u8]) {
 // Whether the text is in the form, or can still be: nothing of it is unread.
 fn fits(text: &[u8]) -> bool {
     match xml::check(text) {
-        xml::Checked::Good => true,
-        xml::Checked::Broken(u) => u == 0,
+        xml::FormChecked::Good => true,
+        xml::FormChecked::Broken(u) => u == 0,
     }
 }
 
@@ -64,8 +64,8 @@ fn fronts_fit(text: &[u8]) -> bool {
 // A text in the form.
 fn in_form(tally: Tally, text: &[u8]) -> Tally {
     match xml::check(text) {
-        xml::Checked::Good => one_good(tally),
-        xml::Checked::Broken(_) => {
+        xml::FormChecked::Good => one_good(tally),
+        xml::FormChecked::Broken(_) => {
             say(b"refused: ", text);
             tally
         }
@@ -75,22 +75,22 @@ fn in_form(tally: Tally, text: &[u8]) -> Tally {
 // A text that is not in the form.
 fn not_in_form(tally: Tally, text: &[u8]) -> Tally {
     match xml::check(text) {
-        xml::Checked::Good => {
+        xml::FormChecked::Good => {
             say(b"in the form: ", text);
             tally
         }
-        xml::Checked::Broken(_) => one_refused(tally),
+        xml::FormChecked::Broken(_) => one_refused(tally),
     }
 }
 
 // A text that leaves the form where so many bytes are left.
 fn leaves(tally: Tally, text: &[u8], left: usize) -> Tally {
     match xml::check(text) {
-        xml::Checked::Good => {
+        xml::FormChecked::Good => {
             say(b"in the form: ", text);
             tally
         }
-        xml::Checked::Broken(u) => {
+        xml::FormChecked::Broken(u) => {
             if u == left {
                 return one_refused(tally);
             }

@@ -2,7 +2,7 @@
 use mathlib.Core.Path.{sym, _∙_, ap}
 use Prim.Native.Nat.{_-_}
 use native.Mathlib.Omega.{arith}
-use Rattle.ansi.specs.Phases.{stepOf}
+use Rattle.ansi.specs.PhaseSteps.{stepOf}
 use Rattle.ansi.proofs.Matching.{Matched, matched-start, says-here, at-small, matched-mark, matched-block, stopped-mark, stopped-block, small, bytes-bound, rows-kept, matched-end}
 use borrow.Author.Needs.{needs}
 use Rattle.ansi.proofs.walk.Statement.{statement}

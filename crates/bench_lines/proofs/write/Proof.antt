@@ -6,7 +6,7 @@ use Prim.Native.Nat.{ℕ}
 use lib.ListN.{length-replicate}
 use borrow.Author.Tests.{not-true, not-false}
 use Rattle.writing.proofs.Pieces.{delivers}
-use Rattle.bench_lines.specs.Lines.{bounded, linesOf}
+use Rattle.bench_lines.specs.Lines.{filesBounded, linesOf}
 use borrow.Author.Needs.{needs}
 use Rattle.bench_lines.proofs.write.Statement.{statement}
 use Rattle.bench_lines.proofs.write.Tie as tie
@@ -34,7 +34,7 @@ same-length c = search needs
 
 returns : tie.Need-returns
 returns c =
-    let e : bounded (c .before .before .before .before .before .before .before .before .before .before .before .before .before .before .before .before .args .index-list .now) (c .before .before .before .before .before .before .before .before .before .before .before .before .before .before .before .before .args .index-store .now) (c .before .before .before .before .before .before .before .before .before .before .before .before .before .before .before .before .args .data-list .now) (c .before .before .before .before .before .before .before .before .before .before .before .before .before .before .before .before .args .data-store .now) ≡ false = sym (c .before .before .before .before .before .before .before .before .before .before .is-bounded .ensures) ∙ not-true _ (c .before .before .before .before .before .before .before .before .before .if1 .taken) in
+    let e : filesBounded (c .before .before .before .before .before .before .before .before .before .before .before .before .before .before .before .before .args .index-list .now) (c .before .before .before .before .before .before .before .before .before .before .before .before .before .before .before .before .args .index-store .now) (c .before .before .before .before .before .before .before .before .before .before .before .before .before .before .before .before .args .data-list .now) (c .before .before .before .before .before .before .before .before .before .before .before .before .before .before .before .before .args .data-store .now) ≡ false = sym (c .before .before .before .before .before .before .before .before .before .before .is-bounded .ensures) ∙ not-true _ (c .before .before .before .before .before .before .before .before .before .if1 .taken) in
     delivers (omega (arith, length-replicate {A = ℕ} 256 0)) (c .before .before .before .before .before .before .before .add-refusal .ensures) (c .before .before .before .part .ensures) (rw e) (c .before .before .put .ensures)
 
 find-break-requires : tie.Need-find-break-requires
@@ -63,7 +63,7 @@ same-length-2 c = search needs
 
 returns-2 : tie.Need-returns-2
 returns-2 c =
-    let e : bounded (c .before .before .before .before .before .before .before .before .before .before .before .before .before .before .before .before .before .before .args .index-list .now) (c .before .before .before .before .before .before .before .before .before .before .before .before .before .before .before .before .before .before .args .index-store .now) (c .before .before .before .before .before .before .before .before .before .before .before .before .before .before .before .before .before .before .args .data-list .now) (c .before .before .before .before .before .before .before .before .before .before .before .before .before .before .before .before .before .before .args .data-store .now) ≡ true = sym (c .before .before .before .before .before .before .before .before .before .before .before .before .is-bounded .ensures) ∙ not-false _ (c .before .before .before .before .before .before .before .before .before .before .before .if1 .left) in
+    let e : filesBounded (c .before .before .before .before .before .before .before .before .before .before .before .before .before .before .before .before .before .before .args .index-list .now) (c .before .before .before .before .before .before .before .before .before .before .before .before .before .before .before .before .before .before .args .index-store .now) (c .before .before .before .before .before .before .before .before .before .before .before .before .before .before .before .before .before .before .args .data-list .now) (c .before .before .before .before .before .before .before .before .before .before .before .before .before .before .before .before .before .before .args .data-store .now) ≡ true = sym (c .before .before .before .before .before .before .before .before .before .before .before .before .is-bounded .ensures) ∙ not-false _ (c .before .before .before .before .before .before .before .before .before .before .before .if1 .left) in
     delivers (omega (arith, length-replicate {A = ℕ} 256 0)) (c .before .before .before .before .before .before .before .add-lines .ensures) (c .before .before .before .part2 .ensures) (ap₂ linesOf (c .before .before .before .before .before .before .before .before .before .before .find-break .ensures .answers) (c .before .before .before .before .before .before .before .before .before .find-cut .ensures .answers) ∙ rw e) (c .before .before .put2 .ensures)
 
 pub write-spec : {M : Type 1} → statement M

@@ -4,14 +4,15 @@ use native.Mathlib.Omega.{arith}
 use Prim.Native.Nat.{_+_, _-_, _≤_}
 use lib.ListN.{length, drop}
 use Rattle.xml.proofs.Past.{past-ahead}
-use Rattle.children.specs.Rules.{rules, placeOf, markOf}
+use Rattle.children.specs.Rules.{ruleNumber, markOf}
+use Rattle.children.specs.RowSteps.{rules}
 use Rattle.children.proofs.Tables.{place-on, mark-on, place-hit, mark-hit, place-off, mark-off, place-end, mark-end}
 use borrow.Author.Needs.{needs}
 use Rattle.children.proofs.place_of.Statement.{statement}
 use Rattle.children.proofs.place_of.Tie as tie
 
 abbrev Inv-loop : tie.InvT-loop
-Inv-loop table name i₀ k₀ i k = (i ≤ length table) × (k ≤ i) × (placeOf (rules table) name ≡ k + placeOf (rules (drop i table)) name) × (markOf (rules table) name ≡ markOf (rules (drop i table)) name)
+Inv-loop table name i₀ k₀ i k = (i ≤ length table) × (k ≤ i) × (ruleNumber (rules table) name ≡ k + ruleNumber (rules (drop i table)) name) × (markOf (rules table) name ≡ markOf (rules (drop i table)) name)
 
 abbrev μ-loop : tie.MeasureT-loop
 μ-loop table name i₀ k₀ i k = length table - i

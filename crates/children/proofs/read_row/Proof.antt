@@ -5,10 +5,12 @@ use native.Mathlib.Omega.{arith}
 use Prim.Native.Nat.{ℕ, _-_, _<_, _≤_}
 use mathlib.Core.Bool.{_&&_}
 use lib.ListN.{length, take, replicate, length-take, length-set}
-use Rattle.elements.specs.Reading.{rowAt, headAt, childrenAt, NextChild}
+use Rattle.elements.specs.Reading.{forestAt, headAt, childrenAt}
+use Rattle.elements.specs.TagSteps.{NextChild}
 use Rattle.elements.specs.declared.tags.Child.the-variants.{Done, At}
-use Rattle.children.specs.Rules.{rules, tableOf, placeOf, markOf}
-use Rattle.children.specs.Children.{noAttribute, holds}
+use Rattle.children.specs.Rules.{ruleNumber, markOf}
+use Rattle.children.specs.RowSteps.{rules, tableOf}
+use Rattle.children.specs.Children.{noAttribute, mayHold}
 use Rattle.children.proofs.Tables.{known}
 use Rattle.children.proofs.Counted.{place-counted, late, early, unfit, too-many}
 use Rattle.children.proofs.Seats.{no-seats}
@@ -28,7 +30,7 @@ returns c =
     let s = c .before .before .before .args .text .now in
     let t = c .before .before .before .args .table .now in
     unlawful s (tableOf t) (c .before .before .before .args .must) (c .before .before .before .args .at) (replicate 16 0)
-    (too-many (tableOf t) (c .before .before .before .args .must) (rowAt s (c .before .before .before .args .at)) (omega (arith, length-take 16 (rules t), c .if1 .taken)))
+    (too-many (tableOf t) (c .before .before .before .args .must) (forestAt s (c .before .before .before .args .at)) (omega (arith, length-take 16 (rules t), c .if1 .taken)))
 
 loop-holds : tie.Need-loop-holds Inv-loop μ-loop
 loop-holds c = (search needs, refl, none-passed (c .before .before .before .args .text .now) (tableOf (c .before .before .before .args .table .now)) (c .before .before .before .args .at) (replicate 16 0) no-seats)
@@ -72,10 +74,10 @@ returns-3 c =
     let q : NextChild s (l .i) (At n j) = subst (NextChild s (l .i)) (g .1) (c .before .before .before .before .before .before .before .next-child .ensures) in
     let w = c .before .before .before .name-of in
     let p = c .before .before .place-of in
-    let place : p .result .number ≡ placeOf rs (headAt s n .name) = p .ensures .0 ∙ ap (placeOf rs) (w .ensures) in
+    let place : p .result .number ≡ ruleNumber rs (headAt s n .name) = p .ensures .0 ∙ ap (ruleNumber rs) (w .ensures) in
     let mark : p .result .mark ≡ markOf rs (headAt s n .name) = p .ensures .1 ∙ ap (markOf rs) (w .ensures) in
-    let fit : (noAttribute (headAt s n) && holds (markOf rs (headAt s n .name)) (headAt s n) (childrenAt s n)) ≡ c .before .is-known .result
-    = ap (λ (m : ℕ). noAttribute (headAt s n) && holds m (headAt s n) (childrenAt s n)) (sym mark) ∙ sym (c .before .is-known .ensures) in
+    let fit : (noAttribute (headAt s n) && mayHold (markOf rs (headAt s n .name)) (headAt s n) (childrenAt s n)) ≡ c .before .is-known .result
+    = ap (λ (m : ℕ). noAttribute (headAt s n) && mayHold m (headAt s n) (childrenAt s n)) (sym mark) ∙ sym (c .before .is-known .ensures) in
     unknown-next s (take 16 rs) (c .before .before .before .before .before .before .before .before .before .before .before .before .args .at) (l .i) j (l .seats) n (l .inv .2) q (c .before .before .before .before .before .before .before .before .before .before .before .before .args .must) (unfit 16 rs (headAt s n) (childrenAt s n) (fit ∙ not-true _ (c .if2 .taken)))
 
 returns-4 : tie.Need-returns-4 Inv-loop μ-loop
@@ -89,10 +91,10 @@ returns-4 c =
     let q : NextChild s (l .i) (At n j) = subst (NextChild s (l .i)) (g .1) (c .before .before .before .before .before .before .before .before .next-child .ensures) in
     let w = c .before .before .before .before .name-of in
     let p = c .before .before .before .place-of in
-    let place : p .result .number ≡ placeOf rs (headAt s n .name) = p .ensures .0 ∙ ap (placeOf rs) (w .ensures) in
+    let place : p .result .number ≡ ruleNumber rs (headAt s n .name) = p .ensures .0 ∙ ap (ruleNumber rs) (w .ensures) in
     let mark : p .result .mark ≡ markOf rs (headAt s n .name) = p .ensures .1 ∙ ap (markOf rs) (w .ensures) in
-    let fit : (noAttribute (headAt s n) && holds (markOf rs (headAt s n .name)) (headAt s n) (childrenAt s n)) ≡ c .before .before .is-known .result
-    = ap (λ (m : ℕ). noAttribute (headAt s n) && holds m (headAt s n) (childrenAt s n)) (sym mark) ∙ sym (c .before .before .is-known .ensures) in
+    let fit : (noAttribute (headAt s n) && mayHold (markOf rs (headAt s n .name)) (headAt s n) (childrenAt s n)) ≡ c .before .before .is-known .result
+    = ap (λ (m : ℕ). noAttribute (headAt s n) && mayHold m (headAt s n) (childrenAt s n)) (sym mark) ∙ sym (c .before .before .is-known .ensures) in
     unknown-next s (take 16 rs) (c .before .before .before .before .before .before .before .before .before .before .before .before .before .args .at) (l .i) j (l .seats) n (l .inv .2) q (c .before .before .before .before .before .before .before .before .before .before .before .before .before .args .must) (late 16 rs (headAt s n) (childrenAt s n) (omega (arith, place, c .if3 .taken)))
 
 mul-if4 : tie.Need-mul-if4 Inv-loop μ-loop
@@ -112,12 +114,12 @@ returns-5 c =
     let q : NextChild s (l .i) (At n j) = subst (NextChild s (l .i)) (g .1) (c .before .before .before .before .before .before .before .before .before .next-child .ensures) in
     let w = c .before .before .before .before .before .name-of in
     let p = c .before .before .before .before .place-of in
-    let place : p .result .number ≡ placeOf rs (headAt s n .name) = p .ensures .0 ∙ ap (placeOf rs) (w .ensures) in
+    let place : p .result .number ≡ ruleNumber rs (headAt s n .name) = p .ensures .0 ∙ ap (ruleNumber rs) (w .ensures) in
     let mark : p .result .mark ≡ markOf rs (headAt s n .name) = p .ensures .1 ∙ ap (markOf rs) (w .ensures) in
-    let fit : (noAttribute (headAt s n) && holds (markOf rs (headAt s n .name)) (headAt s n) (childrenAt s n)) ≡ c .before .before .before .is-known .result
-    = ap (λ (m : ℕ). noAttribute (headAt s n) && holds m (headAt s n) (childrenAt s n)) (sym mark) ∙ sym (c .before .before .before .is-known .ensures) in
-    let few : placeOf rs (headAt s n .name) < 16 = omega (arith, place, c .before .if3 .left) in
-    let counted : p .result .number ≡ placeOf (take 16 rs) (headAt s n .name) = place ∙ sym (place-counted 16 rs (headAt s n .name) few) in
+    let fit : (noAttribute (headAt s n) && mayHold (markOf rs (headAt s n .name)) (headAt s n) (childrenAt s n)) ≡ c .before .before .before .is-known .result
+    = ap (λ (m : ℕ). noAttribute (headAt s n) && mayHold m (headAt s n) (childrenAt s n)) (sym mark) ∙ sym (c .before .before .before .is-known .ensures) in
+    let few : ruleNumber rs (headAt s n .name) < 16 = omega (arith, place, c .before .if3 .left) in
+    let counted : p .result .number ≡ ruleNumber (take 16 rs) (headAt s n .name) = place ∙ sym (place-counted 16 rs (headAt s n .name) few) in
     twice-next s (take 16 rs) (c .before .before .before .before .before .before .before .before .before .before .before .before .before .before .args .at) (l .i) j (l .seats) n (l .inv .2) q (c .before .before .before .before .before .before .before .before .before .before .before .before .before .before .args .must) (p .result .number) counted (subst (λ (k : ℕ). k < length (take 16 rs)) (sym counted) (known (take 16 rs) (headAt s n .name) (headAt s n) (childrenAt s n) (early 16 rs (headAt s n) (childrenAt s n) few ∙ fit ∙ not-false _ (c .before .before .if2 .left)))) (c .if4 .taken)
 
 mul-seats : tie.Need-mul-seats Inv-loop μ-loop
@@ -148,12 +150,12 @@ loop-again c =
     let q : NextChild s (l .i) (At n j) = subst (NextChild s (l .i)) (g .1) (c .before .before .before .before .before .before .before .before .before .next-child .ensures) in
     let w = c .before .before .before .before .before .name-of in
     let p = c .before .before .before .before .place-of in
-    let place : p .result .number ≡ placeOf rs (headAt s n .name) = p .ensures .0 ∙ ap (placeOf rs) (w .ensures) in
+    let place : p .result .number ≡ ruleNumber rs (headAt s n .name) = p .ensures .0 ∙ ap (ruleNumber rs) (w .ensures) in
     let mark : p .result .mark ≡ markOf rs (headAt s n .name) = p .ensures .1 ∙ ap (markOf rs) (w .ensures) in
-    let fit : (noAttribute (headAt s n) && holds (markOf rs (headAt s n .name)) (headAt s n) (childrenAt s n)) ≡ c .before .before .before .is-known .result
-    = ap (λ (m : ℕ). noAttribute (headAt s n) && holds m (headAt s n) (childrenAt s n)) (sym mark) ∙ sym (c .before .before .before .is-known .ensures) in
-    let few : placeOf rs (headAt s n .name) < 16 = omega (arith, place, c .before .if3 .left) in
-    let counted : p .result .number ≡ placeOf (take 16 rs) (headAt s n .name) = place ∙ sym (place-counted 16 rs (headAt s n .name) few) in
+    let fit : (noAttribute (headAt s n) && mayHold (markOf rs (headAt s n .name)) (headAt s n) (childrenAt s n)) ≡ c .before .before .before .is-known .result
+    = ap (λ (m : ℕ). noAttribute (headAt s n) && mayHold m (headAt s n) (childrenAt s n)) (sym mark) ∙ sym (c .before .before .before .is-known .ensures) in
+    let few : ruleNumber rs (headAt s n .name) < 16 = omega (arith, place, c .before .if3 .left) in
+    let counted : p .result .number ≡ ruleNumber (take 16 rs) (headAt s n .name) = place ∙ sym (place-counted 16 rs (headAt s n .name) few) in
     let room : p .result .number < length (l .seats) = omega (arith, l .inv .1, c .before .if3 .left) in (
       l .inv .0,
       length-set (l .seats) (p .result .number) n ∙ l .inv .1,

@@ -5,13 +5,13 @@ use lib.ListN.{length, drop}
 use Rattle.xml.specs.Tree.{front}
 use Rattle.xml.proofs.Past.{front-more, front-none, front-end}
 use mathlib.Core.Bool.{not}
-use Rattle.children.specs.Rules.{notMark}
+use Rattle.children.specs.RowSteps.{notRuleMark}
 use borrow.Author.Needs.{needs}
 use Rattle.children.proofs.rule_end.Statement.{statement}
 use Rattle.children.proofs.rule_end.Tie as tie
 
 abbrev Inv-loop : tie.InvT-loop
-Inv-loop table at i₀ i = (i ≤ length table) × (at + front notMark (drop at table) ≡ i + front notMark (drop i table))
+Inv-loop table at i₀ i = (i ≤ length table) × (at + front notRuleMark (drop at table) ≡ i + front notRuleMark (drop i table))
 
 abbrev μ-loop : tie.MeasureT-loop
 μ-loop table at i₀ i = length table - i
@@ -28,7 +28,7 @@ is-mark-requires c κs = search needs
 returns : tie.Need-returns Inv-loop μ-loop
 returns c =
     let l = c .before .before .before .before .loop in
-    record { found = sym (l .inv .1 ∙ front-none notMark (c .before .before .before .before .before .before .args .table .now) (l .i) (search needs) (ap not (sym (c .before .is-mark .ensures) ∙ c .if1 .taken))); inside = search needs }
+    record { found = sym (l .inv .1 ∙ front-none notRuleMark (c .before .before .before .before .before .before .args .table .now) (l .i) (search needs) (ap not (sym (c .before .is-mark .ensures) ∙ c .if1 .taken))); inside = search needs }
 
 add-i : tie.Need-add-i Inv-loop μ-loop
 add-i c = search needs
@@ -39,12 +39,12 @@ loop-less c = search needs
 loop-again : tie.Need-loop-again Inv-loop μ-loop
 loop-again c =
     let l = c .before .before .before .before .loop in
-    (search needs, l .inv .1 ∙ front-more notMark (c .before .before .before .before .before .before .args .table .now) (l .i) (search needs) (ap not (sym (c .before .is-mark .ensures) ∙ c .if1 .left)))
+    (search needs, l .inv .1 ∙ front-more notRuleMark (c .before .before .before .before .before .before .args .table .now) (l .i) (search needs) (ap not (sym (c .before .is-mark .ensures) ∙ c .if1 .left)))
 
 returns-2 : tie.Need-returns-2 Inv-loop μ-loop
 returns-2 c =
     let l = c .before .loop in
-    record { found = sym (l .inv .1 ∙ front-end notMark (c .before .before .before .args .table .now) (l .i) (search needs)); inside = l .inv .0 }
+    record { found = sym (l .inv .1 ∙ front-end notRuleMark (c .before .before .before .args .table .now) (l .i) (search needs)); inside = l .inv .0 }
 
 pub rule-end-spec : {M : Type 1} → statement M
 rule-end-spec =

@@ -2,7 +2,7 @@
 use mathlib.Core.Path.{refl, subst}
 use borrow.Author.Tests.{eq-eqb, ne-eqb}
 use Rattle.constructs.specs.declared.Phase.{Phase}
-use Rattle.constructs.specs.Phases.{Roomy}
+use Rattle.constructs.specs.PhaseSteps.{Roomy}
 use borrow.Author.Needs.{needs}
 use Rattle.constructs.proofs.close.Statement.{statement}
 use Rattle.constructs.proofs.close.Tie as tie

@@ -1,6 +1,6 @@
 -- `constructs::scan` meets its contract: the check says whether there is a tape, and the walk fills the table.
 use mathlib.Core.Path.{sym, _∙_, ap}
-use Rattle.tape.specs.Answers.{counted}
+use Rattle.tape.specs.Steps.{counted}
 use Rattle.tape.proofs.Keeping.{present}
 use Rattle.tape.proofs.Passing.{encoded}
 use Rattle.constructs.proofs.Filling.{scans-found, scans-refused}

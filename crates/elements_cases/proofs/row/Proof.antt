@@ -3,7 +3,7 @@ use Prim.Native.Nat.{_-_}
 use mathlib.Core.Path.{subst}
 use native.Mathlib.Omega.{arith}
 use lib.ListN.{length}
-use Rattle.elements.specs.Reading.{NextChild}
+use Rattle.elements.specs.TagSteps.{NextChild}
 use borrow.Author.Needs.{needs}
 use Rattle.elements_cases.proofs.row.Statement.{statement}
 use Rattle.elements_cases.proofs.row.Tie as tie

@@ -6,8 +6,9 @@ use native.Mathlib.Omega.{arith}
 use borrow.Author.Tests.{leb-true, not-true, not-false}
 use lib.ListN.{length, drop}
 use Rattle.slices.specs.Slices.{every}
-use Rattle.extents.specs.Rows.{rowsOf, rowAt}
-use Rattle.extents.specs.Lawful.{end, clear, apart}
+use Rattle.extents.specs.Rows.{rowsOf}
+use Rattle.extents.specs.Steps.{rowFrom}
+use Rattle.extents.specs.Lawful.{rowEnd, clear, apart}
 use Rattle.extents.proofs.Backwards.{above, clear-above, above-lower, above-more, apart-more, shared-before, apart-end, above-end}
 use borrow.Author.Needs.{needs}
 use Rattle.extents.proofs.apart.Statement.{statement}
@@ -62,8 +63,8 @@ loop-again c =
     let l = c .before .before .before .before .before .loop in
     let k = l .i in
     let some : 0 < k = c .before .before .before .before .loop-test .taken in
-    let r = rowAt s ((k - 1) * 5) in
-    let h : end r ≤ l .low = leb-true (end r) (l .low) (sym (c .before .ends-by .ensures) ∙ c .if1 .taken) in (
+    let r = rowFrom s ((k - 1) * 5) in
+    let h : rowEnd r ≤ l .low = leb-true (rowEnd r) (l .low) (sym (c .before .ends-by .ensures) ∙ c .if1 .taken) in (
       omega arith,
       apart-more s k some (l .inv .0) (clear-above r (l .low) (drop k (rowsOf s)) h (l .inv .2)) (l .inv .1),
       above-more s k some (l .inv .0) (r .fileoffset) (omega arith) (above-lower (l .low) (r .fileoffset) (drop k (rowsOf s)) (omega arith) (l .inv .2)),
@@ -79,7 +80,7 @@ returns c =
     let k = l .i in
     let some : 0 < k = c .before .before .before .before .before .before .loop-test .taken in
     let e : k - 1 + 1 ≡ k = omega arith in
-    let r = rowAt s ((k - 1) * 5) in
+    let r = rowFrom s ((k - 1) * 5) in
     let z = c .before .clear-of .ensures ∙ ap (λ (n : ℕ). every (clear r) (drop n (rowsOf s))) e in
     sym (shared-before s k some (l .inv .0) (sym z ∙ not-true _ (c .if2 .taken)))
 
@@ -96,7 +97,7 @@ loop-again-2 c =
     let k = l .i in
     let some : 0 < k = c .before .before .before .before .before .before .before .loop-test .taken in
     let e : k - 1 + 1 ≡ k = omega arith in
-    let r = rowAt s ((k - 1) * 5) in
+    let r = rowFrom s ((k - 1) * 5) in
     let z = c .before .before .clear-of .ensures ∙ ap (λ (n : ℕ). every (clear r) (drop n (rowsOf s))) e in
     let m = c .lower .ensures in (
       omega arith,

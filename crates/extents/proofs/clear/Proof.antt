@@ -2,8 +2,8 @@
 use mathlib.Core.Path.{_≡_, sym, _∙_}
 use mathlib.Core.Bool.{true, false}
 use lib.Dec.{leb}
-use Rattle.extents.specs.Rows.{rowAt}
-use Rattle.extents.specs.Lawful.{end}
+use Rattle.extents.specs.Steps.{rowFrom}
+use Rattle.extents.specs.Lawful.{rowEnd}
 use borrow.Author.Needs.{needs}
 use Rattle.extents.proofs.clear.Statement.{statement}
 use Rattle.extents.proofs.clear.Tie as tie
@@ -41,9 +41,9 @@ ends-by-requires c κs = search needs
 returns : tie.Need-returns
 returns c =
     let a = c .before .before .before .before .before .before .args in
-    let r = rowAt (a .rows .now) (a .one) in
-    let q = rowAt (a .rows .now) (a .other) in
-    let e : leb (end r) (q .fileoffset) ≡ true = sym (c .before .ends-by .ensures) ∙ c .if1 .taken in
+    let r = rowFrom (a .rows .now) (a .one) in
+    let q = rowFrom (a .rows .now) (a .other) in
+    let e : leb (rowEnd r) (q .fileoffset) ≡ true = sym (c .before .ends-by .ensures) ∙ c .if1 .taken in
     rw e
 
 add-ends-by-4 : tie.Need-add-ends-by-4
@@ -79,9 +79,9 @@ ends-by-requires-2 c κs = search needs
 returns-2 : tie.Need-returns-2
 returns-2 c =
     let a = c .before .before .before .before .before .before .before .before .before .before .args in
-    let r = rowAt (a .rows .now) (a .one) in
-    let q = rowAt (a .rows .now) (a .other) in
-    let e : leb (end r) (q .fileoffset) ≡ false = sym (c .before .before .before .before .before .ends-by .ensures) ∙ c .before .before .before .before .if1 .left in
+    let r = rowFrom (a .rows .now) (a .one) in
+    let q = rowFrom (a .rows .now) (a .other) in
+    let e : leb (rowEnd r) (q .fileoffset) ≡ false = sym (c .before .before .before .before .before .ends-by .ensures) ∙ c .before .before .before .before .if1 .left in
     rw e (c .ends-by2 .ensures)
 
 pub clear-spec : {M : Type 1} → statement M

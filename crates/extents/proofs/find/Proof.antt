@@ -6,9 +6,10 @@ use borrow.Author.Tests.{lt-ltb, le-ltb}
 use lib.ListN.{length, drop}
 use Rattle.refusals.specs.Refusals.{answer}
 use Rattle.quantities.specs.Letters.{isLetter}
-use Rattle.extents.specs.Rows.{Row, rowsOf, rowAt}
+use Rattle.extents.specs.Rows.{Row, rowsOf}
+use Rattle.extents.specs.Steps.{rowFrom}
 use Rattle.extents.specs.Lawful.{rowLawful}
-use Rattle.extents.specs.Map.{placeOf}
+use Rattle.extents.specs.Map.{byteAt}
 use Rattle.extents.proofs.Rows.{each-at}
 use Rattle.extents.proofs.OneRow.{in-row, inside-block, block-of-position, letter-fits}
 use Rattle.extents.proofs.Mapping.{place-here, place-on, place-end, placed}
@@ -18,7 +19,7 @@ use Rattle.extents.proofs.find.Tie as tie
 
 abbrev Inv-loop : tie.InvT-loop
 Inv-loop rows block-size position i₀ i =
-    (i ≤ lib.ListN.length rows / 5) × (placeOf block-size (position .0) (rowsOf rows) ≡ placeOf block-size (position .0) (drop i (rowsOf rows)))
+    (i ≤ lib.ListN.length rows / 5) × (byteAt block-size (position .0) (rowsOf rows) ≡ byteAt block-size (position .0) (drop i (rowsOf rows)))
 
 abbrev μ-loop : tie.MeasureT-loop
 μ-loop rows block-size position i₀ i = lib.ListN.length rows / 5 - i
@@ -58,7 +59,7 @@ sub-spot c =
     let a = c .before .before .before .before .before .before .before .before .before .before .before .args in
     let l = c .before .before .before .before .before .before .loop in
     let s = a .rows .now in
-    let r = rowAt s (l .i * 5) in
+    let r = rowFrom s (l .i * 5) in
     let here : l .i < length s / 5 = c .before .before .before .before .before .loop-test .taken in
     in-row (a .position .0) r (sym (c .before .before .before .before .holds .ensures) ∙ c .before .before .before .if2 .taken) .0
 
@@ -67,7 +68,7 @@ spot-requires c κs =
     let a = c .before .before .before .before .before .before .before .before .before .before .before .args in
     let l = c .before .before .before .before .before .before .loop in
     let s = a .rows .now in
-    let r = rowAt s (l .i * 5) in
+    let r = rowFrom s (l .i * 5) in
     let here : l .i < length s / 5 = c .before .before .before .before .before .loop-test .taken in
     inside-block (a .length .0) (a .block-size) r (each-at (rowLawful (a .length .0) (a .block-size)) s (l .i) here (c .before .before .before .before .before .before .before .before .before .before .before .pre .1))
 
@@ -82,7 +83,7 @@ narrow-requires c κs =
     let a = c .before .before .before .before .before .before .before .before .before .before .before .before .before .args in
     let l = c .before .before .before .before .before .before .before .before .loop in
     let s = a .rows .now in
-    let r = rowAt s (l .i * 5) in
+    let r = rowFrom s (l .i * 5) in
     let here : l .i < length s / 5 = c .before .before .before .before .before .before .before .loop-test .taken in
     letter-fits (r .letter) (each-at (λ (q : Row). isLetter (q .letter)) s (l .i) here (c .before .before .before .before .before .before .before .before .before .before .before .before .before .pre .0))
 
@@ -100,7 +101,7 @@ add-t17 c =
     let a = c .before .before .before .before .before .before .before .before .before .before .before .before .before .before .before .before .args in
     let l = c .before .before .before .before .before .before .before .before .before .before .before .loop in
     let s = a .rows .now in
-    let r = rowAt s (l .i * 5) in
+    let r = rowFrom s (l .i * 5) in
     let here : l .i < length s / 5 = c .before .before .before .before .before .before .before .before .before .before .loop-test .taken in
     let e = each-at (rowLawful (a .length .0) (a .block-size)) s (l .i) here (c .before .before .before .before .before .before .before .before .before .before .before .before .before .before .before .before .pre .1) in
     let b = block-of-position (a .length .0) (a .block-size) r e (a .position .0) (sym (c .before .before .before .before .before .before .before .before .before .holds .ensures) ∙ c .before .before .before .before .before .before .before .before .if2 .taken) in
@@ -111,7 +112,7 @@ returns-2 c =
     let a = c .before .before .before .before .before .before .before .before .before .before .before .before .before .before .before .before .args in
     let l = c .before .before .before .before .before .before .before .before .before .before .before .loop in
     let s = a .rows .now in
-    let r = rowAt s (l .i * 5) in
+    let r = rowFrom s (l .i * 5) in
     let here : l .i < length s / 5 = c .before .before .before .before .before .before .before .before .before .before .loop-test .taken in
     let e = placed (a .block-size) (a .position .0) r _ _ _ (c .before .before .narrow .ensures) (c .before .before .before .before .spot .ensures .0) (c .before .before .before .before .spot .ensures .1) in
     rw (lt-ltb (a .position .0) (a .length .0) (c .before .before .before .before .before .before .before .before .before .before .before .before .if1 .left))
@@ -128,7 +129,7 @@ loop-again c =
     let a = c .before .before .before .before .before .before .before .before .args in
     let l = c .before .before .before .loop in
     let s = a .rows .now in
-    let r = rowAt s (l .i * 5) in
+    let r = rowFrom s (l .i * 5) in
     let here : l .i < length s / 5 = c .before .before .loop-test .taken in
     (omega arith, l .inv .1 ∙ place-on s (a .block-size) (a .position .0) (l .i) here (sym (c .before .holds .ensures) ∙ c .if2 .left))
 
@@ -137,7 +138,7 @@ returns-3 c =
     let a = c .before .before .before .before .before .before .args in
     let l = c .before .loop in
     let s = a .rows .now in
-    let r = rowAt s (l .i * 5) in
+    let r = rowFrom s (l .i * 5) in
     rw (lt-ltb (a .position .0) (a .length .0) (c .before .before .if1 .left))
     (ap answer (sym (l .inv .1 ∙ place-end s (a .block-size) (a .position .0) (l .i) (omega arith))))
 

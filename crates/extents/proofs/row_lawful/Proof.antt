@@ -5,8 +5,8 @@ use Prim.Native.Nat.{ℕ, _+_}
 use native.Mathlib.Omega.{arith}
 use borrow.Author.Tests.{not-true, not-false}
 use lib.Dec.{leb}
-use Rattle.extents.specs.Rows.{rowAt}
-use Rattle.extents.specs.Lawful.{end}
+use Rattle.extents.specs.Steps.{rowFrom}
+use Rattle.extents.specs.Lawful.{rowEnd}
 use Rattle.extents.proofs.OneRow.{no-byte, outside-block, past-length, block-fits}
 use borrow.Author.Needs.{needs}
 use Rattle.extents.proofs.row_lawful.Statement.{statement}
@@ -33,13 +33,13 @@ shared-slice-read-count c = search needs
 returns : tie.Need-returns
 returns c =
     let a = c .before .before .before .before .args in
-    let r = rowAt (a .rows .now) (a .at) in
+    let r = rowFrom (a .rows .now) (a .at) in
     sym (no-byte (a .length .0) (a .block-size) r (c .if1 .taken))
 
 returns-2 : tie.Need-returns-2
 returns-2 c =
     let a = c .before .before .before .before .before .args in
-    let r = rowAt (a .rows .now) (a .at) in
+    let r = rowFrom (a .rows .now) (a .at) in
     sym (outside-block (a .length .0) (a .block-size) r (c .if2 .taken))
 
 add-ends-by : tie.Need-add-ends-by
@@ -57,7 +57,7 @@ ends-by-requires c κs = search needs
 returns-3 : tie.Need-returns-3
 returns-3 c =
     let a = c .before .before .before .before .before .before .before .before .args in
-    let r = rowAt (a .rows .now) (a .at) in
+    let r = rowFrom (a .rows .now) (a .at) in
     sym (past-length (a .length .0) (a .block-size) r (sym (c .before .ends-by .ensures) ∙ not-true _ (c .if3 .taken)))
 
 sub-spot : tie.Need-sub-spot
@@ -81,8 +81,8 @@ ends-by-requires-2 c κs = search needs
 returns-4 : tie.Need-returns-4
 returns-4 c =
     let a = c .before .before .before .before .before .before .before .before .before .before .before .args in
-    let r = rowAt (a .rows .now) (a .at) in
-    let e : leb (end r) (a .length .0) ≡ true = sym (c .before .before .before .before .ends-by .ensures) ∙ not-false _ (c .before .before .before .if3 .left) in
+    let r = rowFrom (a .rows .now) (a .at) in
+    let e : leb (rowEnd r) (a .length .0) ≡ true = sym (c .before .before .before .before .ends-by .ensures) ∙ not-false _ (c .before .before .before .if3 .left) in
     c .ends-by2 .ensures
     ∙ ap (λ (n : ℕ). leb (r .startblock + n) 18446744073709551615) (c .before .before .spot .ensures .0)
     ∙ sym (block-fits (a .length .0) (a .block-size) r (omega arith) (omega arith) e)

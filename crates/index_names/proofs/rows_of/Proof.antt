@@ -3,7 +3,7 @@ use mathlib.Core.Path.{ap, sym}
 use Prim.Native.Nat.{ℕ}
 use Rattle.index_names.specs.Rows.{countOnce}
 use Rattle.index_names.specs.Tables.{indexTable, placeTable, times, entryTable, ofDirectory, contentsTable, ofFile, extentinfoTable, extentTable, table}
-use Rattle.index_names.specs.Packed.{fields, packed}
+use Rattle.index_names.specs.Steps.{fields, packed}
 use Rattle.index_names.proofs.ByKind.{other, no-table}
 use Rattle.index_names.proofs.rows_of.Statement.{statement}
 use Rattle.index_names.proofs.rows_of.Tie as tie

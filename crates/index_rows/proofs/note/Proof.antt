@@ -1,7 +1,7 @@
 -- `note` meets its contract.
 use mathlib.Core.Path.{sym}
 use borrow.Author.Tests.{eq-eqb, ne-eqb, lt-ltb, le-ltb}
-use Rattle.index_rows.specs.Places.{noted}
+use Rattle.index_rows.specs.Steps.{noted}
 use borrow.Author.Needs.{needs}
 use Rattle.index_rows.proofs.note.Statement.{statement}
 use Rattle.index_rows.proofs.note.Tie as tie

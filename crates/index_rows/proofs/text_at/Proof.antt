@@ -1,6 +1,6 @@
 -- `text_at` meets its contract.
 use mathlib.Core.Path.{ap, sym, _∙_}
-use Rattle.children.specs.Children.{textOf}
+use Rattle.children.specs.Children.{textOfFirst}
 use Rattle.children.proofs.Seats.{seat-none, seat-some}
 use borrow.Author.Needs.{needs}
 use Rattle.index_rows.proofs.text_at.Statement.{statement}
@@ -16,15 +16,15 @@ part-result-end : tie.Need-part-result-end
 part-result-end c = search needs
 
 returns : tie.Need-returns
-unfolding textOf
-returns c = sym (ap textOf (seat-none (c .before .before .before .args .text .now) (c .before .before .before .args .n) (c .before .if1 .taken)))
+unfolding textOfFirst
+returns c = sym (ap textOfFirst (seat-none (c .before .before .before .args .text .now) (c .before .before .before .args .n) (c .before .if1 .taken)))
 
 text-of-requires : tie.Need-text-of-requires
 text-of-requires c κs = search needs
 
 returns-2 : tie.Need-returns-2
-unfolding textOf
-returns-2 c = c .text-of .ensures ∙ sym (ap textOf (seat-some (c .before .before .before .args .text .now) (c .before .before .before .args .n) (c .before .if1 .left)))
+unfolding textOfFirst
+returns-2 c = c .text-of .ensures ∙ sym (ap textOfFirst (seat-some (c .before .before .before .args .text .now) (c .before .before .before .args .n) (c .before .if1 .left)))
 
 pub text-at-spec : {M : Type 1} → statement M
 text-at-spec =

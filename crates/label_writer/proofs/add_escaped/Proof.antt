@@ -4,7 +4,7 @@ use Rattle.label_writer.specs.Text.{escaped}
 use Rattle.writing.proofs.Adding.{adds-as, adds-none, adds-then}
 use Prim.Native.Nat.{_-_, _≤_}
 use lib.ListN.{length, take}
-use Rattle.writing.specs.Writing.{Adds}
+use Rattle.writing.specs.Steps.{Adds}
 use Rattle.label_writer.proofs.Escaping.{escaped-on, escaped-all}
 use borrow.Author.Needs.{needs}
 use Rattle.label_writer.proofs.add_escaped.Statement.{statement}

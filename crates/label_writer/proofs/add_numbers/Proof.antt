@@ -1,6 +1,6 @@
 -- `add_numbers` meets its contract: the pieces one after the other.
 use Rattle.slices.specs.Words.{bytes}
-use Rattle.label_writer.specs.Text.{numbers}
+use Rattle.label_writer.specs.Text.{sizeAndCompression}
 use Rattle.writing.proofs.Adding.{adds-then}
 use borrow.Author.Needs.{needs}
 use Rattle.label_writer.proofs.add_numbers.Statement.{statement}
@@ -34,7 +34,7 @@ same-length : tie.Need-same-length
 same-length c = search needs
 
 returns : tie.Need-returns
-unfolding numbers bytes
+unfolding sizeAndCompression bytes
 returns c = adds-then (adds-then (adds-then (adds-then (c .before .before .before .before .before .before .before .before .before .before .before .before .before .before .before .before .before .before .before .before .add .ensures .added) (c .before .before .before .before .before .before .before .before .before .before .before .before .before .before .before .before .add-number .ensures .added)) (c .before .before .before .before .before .before .before .before .before .before .before .add2 .ensures .added)) (c .before .before .before .before .before .before .before .add-word .ensures)) (c .before .before .add3 .ensures .added)
 
 pub add-numbers-spec : {M : Type 1} → statement M

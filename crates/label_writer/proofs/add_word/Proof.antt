@@ -1,6 +1,6 @@
 -- `add_word` meets its contract: a word at each return.
 use Rattle.slices.specs.Words.{bytes}
-use Rattle.label_writer.specs.Text.{word}
+use Rattle.label_writer.specs.Text.{booleanWord}
 use Rattle.writing.proofs.Adding.{adds-as}
 use borrow.Author.Needs.{needs}
 use Rattle.label_writer.proofs.add_word.Statement.{statement}
@@ -16,7 +16,7 @@ same-length : tie.Need-same-length
 same-length c = search needs
 
 returns : tie.Need-returns
-unfolding word bytes
+unfolding booleanWord bytes
 returns c = adds-as (rw (c .before .before .before .before .before .if1 .taken)) (c .before .before .add .ensures .added)
 
 slice-aggregate-add-2 : tie.Need-slice-aggregate-add-2
@@ -29,7 +29,7 @@ same-length-2 : tie.Need-same-length-2
 same-length-2 c = search needs
 
 returns-2 : tie.Need-returns-2
-unfolding word bytes
+unfolding booleanWord bytes
 returns-2 c = adds-as (rw (c .before .before .before .before .before .if1 .left)) (c .before .before .add2 .ensures .added)
 
 pub add-word-spec : {M : Type 1} → statement M

@@ -1,6 +1,6 @@
 -- `compose` meets its contract: the parts one after the other, from the front on.
 use Rattle.slices.specs.Words.{bytes}
-use Rattle.label_writer.specs.Text.{opening, closing, textOf}
+use Rattle.label_writer.specs.Text.{textFront, textEnd, labelText}
 use Rattle.writing.proofs.Adding.{adds-then, composes}
 use Rattle.xml.specs.Bytes.{declaration}
 use borrow.Author.Needs.{needs}
@@ -32,7 +32,7 @@ same-length : tie.Need-same-length
 same-length c = search needs
 
 returns : tie.Need-returns
-unfolding textOf opening closing declaration bytes
+unfolding labelText textFront textEnd declaration bytes
 returns c = composes (adds-then (adds-then (adds-then (adds-then (c .before .before .before .before .before .before .before .before .before .before .before .before .before .before .before .before .before .before .before .add .ensures .added) (c .before .before .before .before .before .before .before .before .before .before .before .before .before .before .before .add-texts .ensures)) (c .before .before .before .before .before .before .before .before .before .before .before .add-letters .ensures)) (c .before .before .before .before .before .before .before .add-numbers .ensures)) (c .before .before .add2 .ensures .added))
 
 pub compose-spec : {M : Type 1} → statement M

@@ -1,7 +1,7 @@
 -- `deliver` meets its contract: 14 for a text outside the form, or it is put.
 use mathlib.Core.Path.{_≡_, ap, sym, subst, _∙_}
 use mathlib.Core.Bool.{true, false}
-use Rattle.xml.specs.Machine.{isGood, inForm, outcomeOf}
+use Rattle.xml.specs.CheckSteps.{isGood, inForm, outcomeOf}
 use Rattle.writing.proofs.Given.{writes, writes-not}
 use Prim.Native.Nat.{ℕ, _-_}
 use native.Mathlib.Omega.{arith}

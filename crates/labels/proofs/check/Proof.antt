@@ -3,10 +3,11 @@ use mathlib.Core.Path.{_≡_, sym, _∙_, ap, subst}
 use Prim.Native.Nat.{ℕ, _+_, _-_}
 use native.Mathlib.Omega.{arith}
 use lib.Seq.{length-take-le}
-use Rattle.tape.specs.Answers.{counted, orRefused}
+use Rattle.tape.specs.Answers.{orRefused}
+use Rattle.tape.specs.Steps.{counted}
 use Rattle.tape.proofs.Keeping.{Present, present, absent-list}
 use Rattle.label.proofs.Places.{refuses, reads-as}
-use Rattle.labels.specs.Reading.{BeginWithin, ChecksLabels}
+use Rattle.labels.specs.Steps.{BeginWithin, ChecksLabels}
 use Rattle.labels.proofs.Moving.{reads-moved, begins}
 use Rattle.labels.proofs.Blocks.{LaidOut, laid-out, not-laid}
 use Rattle.labels.proofs.Sides.{no-list, no-data-list, no-layout, no-data-layout, in-parts, places-laid}

@@ -2,7 +2,7 @@
 use mathlib.Core.Path.{ap, sym, subst}
 use native.Mathlib.Omega.{arith}
 use Rattle.label.specs.declared.reader.Label.the-variants.{Says}
-use Rattle.labels.specs.Reading.{labelMoved, BeginWithin}
+use Rattle.labels.specs.Steps.{labelMoved, BeginWithin}
 use borrow.Author.Needs.{needs}
 use Rattle.labels.proofs.in_store.Statement.{statement}
 use Rattle.labels.proofs.in_store.Tie as tie

@@ -1,6 +1,6 @@
 -- `past_block` meets its contract: what each entry says.
 use mathlib.Core.Path.{sym, _∙_, ap}
-use Rattle.labels.specs.Reading.{pastBlock}
+use Rattle.labels.specs.Steps.{pastBlock}
 use borrow.Author.Needs.{needs}
 use Rattle.labels.proofs.past_block.Statement.{statement}
 use Rattle.labels.proofs.past_block.Tie as tie

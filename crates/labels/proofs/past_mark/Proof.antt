@@ -1,6 +1,6 @@
 -- `past_mark` meets its contract: what each entry says.
 use mathlib.Core.Path.{sym, _∙_, ap}
-use Rattle.labels.specs.Reading.{pastMark}
+use Rattle.labels.specs.Steps.{pastMark}
 use borrow.Author.Needs.{needs}
 use Rattle.labels.proofs.past_mark.Statement.{statement}
 use Rattle.labels.proofs.past_mark.Tie as tie

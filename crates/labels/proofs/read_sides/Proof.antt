@@ -1,7 +1,7 @@
 -- `read_sides` meets its contract: a check at each return.
 use mathlib.Core.Path.{ap, sym, _∙_}
-use Rattle.vol1.specs.Vol1.{meansVol1}
-use Rattle.label.specs.Reading.{means}
+use Rattle.vol1.specs.Steps.{meansVol1}
+use Rattle.label.specs.Steps.{means}
 use Rattle.label.proofs.Places.{refuses, said-inside, said-places}
 use Rattle.labels.proofs.Sides.{vol1-refused, no-vol1, no-data-vol1, no-label, no-data-label, disagreed, agreed}
 use borrow.Author.Needs.{needs}

@@ -1,7 +1,8 @@
 -- `tape::block` meets its contract: the place that is found is the part of the store that holds the block.
 use mathlib.Core.Path.{_≡_, refl, subst}
 use Rattle.tape.specs.declared.Located.{Located}
-use Rattle.tape.specs.Answers.{located, blockOf, Holds}
+use Rattle.tape.specs.Answers.{blockOf, Holds}
+use Rattle.tape.specs.Steps.{located}
 use Rattle.tape.proofs.Blocks.{shows-part}
 use borrow.Author.Needs.{needs}
 use Rattle.tape.proofs.block.Statement.{statement}

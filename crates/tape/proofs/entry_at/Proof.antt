@@ -4,7 +4,7 @@ use native.Mathlib.Omega.{arith}
 use borrow.Author.Needs.{needs}
 use borrow.Author.Tests.{lt-ltb, le-ltb, le-leb, lt-leb, eq-eqb, ne-eqb}
 use lib.ListN.{length}
-use Rattle.tape.specs.Reading.{entryAt}
+use Rattle.tape.specs.ReadingSteps.{entryAt}
 use Rattle.tape.proofs.entry_at.Statement.{statement}
 use Rattle.tape.proofs.entry_at.Tie as tie
 

@@ -5,10 +5,11 @@ use lib.Dec.{eqb}
 use borrow.Author.Needs.{needs}
 use borrow.Author.Tests.{eq-eqb, ne-eqb, not-true, not-false}
 use Rattle.tape.specs.declared.Spot.{Spot}
-use Rattle.tape.specs.Walks.{spotBelow}
+use Rattle.tape.specs.WalkSteps.{spotBelow}
 use Rattle.refusals.specs.Refusals.{Answer}
 use Rattle.quantities.specs.Letters.{areLetters}
-use Rattle.tape.specs.Answers.{counted, Place, placeOf, Finds}
+use Rattle.tape.specs.Answers.{StorePart, placeOf}
+use Rattle.tape.specs.Steps.{counted, FindsBlock}
 use Rattle.tape.proofs.Keeping.{Present, present}
 use Rattle.tape.proofs.Blocks.{placeFrom, place-letters, place-index, place-data, place-found, finds}
 use Rattle.tape.proofs.find_block.Statement.{statement}
@@ -35,10 +36,10 @@ data-present f =
     (ap counted (sym (g .1)) ∙ f .before .before .before .check2 .ensures)
 
 -- what is answered, the place being known
-answers : (f : tie.After-are-letters) (p : Answer Place)
+answers : (f : tie.After-are-letters) (p : Answer StorePart)
     → (let a = f .before .before .before .before .before .args in
     p ≡ placeOf (a .index-letter) (a .data-letter) (a .letter) (a .number .0) (a .index-list .now) (a .index-store .now) (a .data-list .now) (a .data-store .now)
-    → Finds (a .index-letter) (a .data-letter) (a .letter) (a .number .0) (a .index-list .now) (a .index-store .now) (a .data-list .now) (a .data-store .now) p)
+    → FindsBlock (a .index-letter) (a .data-letter) (a .letter) (a .number .0) (a .index-list .now) (a .index-store .now) (a .data-list .now) (a .data-store .now) p)
 answers f p e =
     let a = f .before .before .before .before .before .args in
     finds (a .index-letter) (a .data-letter) (a .letter) (a .number .0) (a .index-list .now) (a .index-store .now) (a .data-list .now) (a .data-store .now)
@@ -49,7 +50,7 @@ found : (f : tie.After-known-told2) (side : Bool) (x : Spot)
     → (let a = f .before .before .before .before .before .before .before .before .before .before .before .before .before .before .args in
     eqb (a .letter) (a .index-letter) ≡ side
     → x ≡ spotBelow (cond side (f .before .before .before .before .before .index-count .given .0 .0) (f .before .data-count .given .0 .0)) (cond side (a .index-list .now) (a .data-list .now)) (a .number .0)
-    → Finds (a .index-letter) (a .data-letter) (a .letter) (a .number .0) (a .index-list .now) (a .index-store .now) (a .data-list .now) (a .data-store .now) (placeFrom side x))
+    → FindsBlock (a .index-letter) (a .data-letter) (a .letter) (a .number .0) (a .index-list .now) (a .index-store .now) (a .data-list .now) (a .data-store .now) (placeFrom side x))
 found f side x e h =
     let a = f .before .before .before .before .before .before .before .before .before .before .before .before .before .before .args in
     answers (f .before .before .before .before .before .before .before .before .before) (placeFrom side x)

@@ -3,7 +3,8 @@ use mathlib.Core.Path.{sym, _∙_, ap}
 use borrow.Author.Needs.{needs}
 use Rattle.refusals.specs.Refusals.{Answer, answer, andThen}
 use Rattle.tape.specs.declared.Front.{Front}
-use Rattle.tape.specs.Answers.{counted, lengths, Fronts}
+use Rattle.tape.specs.Answers.{lengths, Fronts}
+use Rattle.tape.specs.Steps.{counted}
 use Rattle.tape.proofs.Keeping.{present, reach-kept, keeping-present, keeping-absent}
 use Rattle.tape.proofs.keep.Statement.{statement}
 use Rattle.tape.proofs.keep.Tie as tie

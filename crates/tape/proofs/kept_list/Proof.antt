@@ -1,7 +1,7 @@
 -- `tape::kept_list` meets its contract: the length that `keep` answers is that of the front.
 use mathlib.Core.Path.{refl, sym, _∙_, ap}
 use lib.Seq.{length-take-le}
-use Rattle.tape.specs.Answers.{keptLengths}
+use Rattle.tape.specs.Steps.{keptLengths}
 use Rattle.tape.proofs.Keeping.{parts, no-parts}
 use borrow.Author.Needs.{needs}
 use Rattle.tape.proofs.kept_list.Statement.{statement}

@@ -6,8 +6,8 @@ use native.Mathlib.Omega.{arith}
 use borrow.Author.Needs.{needs}
 use lib.ListN.{length}
 use Rattle.tape.specs.Tape.{maxElements, maxBlock}
-use Rattle.tape.specs.Reading.{cells}
-use Rattle.tape.specs.Walks.{totalsFrom}
+use Rattle.tape.specs.ReadingSteps.{cells}
+use Rattle.tape.specs.WalkSteps.{totalsFrom}
 use Rattle.tape.proofs.Entries.{lies-as}
 use Rattle.tape.proofs.Counting.{totals-more, totals-end, totals-full, left, left-all, left-on, left-none}
 use Rattle.tape.proofs.sum_up.Statement.{statement}

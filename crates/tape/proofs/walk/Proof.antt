@@ -3,7 +3,7 @@ use mathlib.Core.Path.{_≡_, refl, sym, _∙_}
 use Prim.Native.Nat.{_≤_, _*_, _-_, _+_}
 use borrow.Author.Needs.{needs}
 use Rattle.tape.specs.Tape.{maxElements, maxBlock}
-use Rattle.tape.specs.Walks.{reach}
+use Rattle.tape.specs.WalkSteps.{reach}
 use Rattle.tape.proofs.Entries.{lies-as}
 use Rattle.tape.proofs.Walking.{reach-step, reach-done}
 use Rattle.tape.proofs.walk.Statement.{statement}

@@ -3,7 +3,8 @@ use Prim.Native.Nat.{_+_, _-_, _≤_}
 use mathlib.Core.Path.{_≡_, ap, subst}
 use native.Mathlib.Omega.{arith}
 use lib.ListN.{length, drop}
-use Rattle.texts.specs.Decoded.{decoded, codePoints, NextByte}
+use Rattle.texts.specs.Decoded.{decoded, codePoints}
+use Rattle.texts.specs.Steps.{NextByte}
 use borrow.Author.Needs.{needs}
 use Rattle.texts.proofs.code_points.Statement.{statement}
 use Rattle.texts.proofs.code_points.Tie as tie

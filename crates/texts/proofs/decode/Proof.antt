@@ -7,7 +7,8 @@ use lib.ListN.{length, drop, length-set}
 use Rattle.slices.specs.Slices.{written}
 use Rattle.slices.proofs.Writing.{written-nil}
 use Rattle.slices.proofs.Writers.{puts-short, puts-whole}
-use Rattle.texts.specs.Decoded.{decoded, NextByte}
+use Rattle.texts.specs.Decoded.{decoded}
+use Rattle.texts.specs.Steps.{NextByte}
 use Rattle.texts.proofs.Meanings.{written-on}
 use borrow.Author.Needs.{needs}
 use Rattle.texts.proofs.decode.Statement.{statement}

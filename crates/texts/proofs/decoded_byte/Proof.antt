@@ -4,7 +4,8 @@ use mathlib.Core.Path.{_≡_, refl, ap, sym, _∙_, subst}
 use mathlib.Core.List.{List, _∷_}
 use native.Mathlib.Omega.{arith}
 use lib.ListN.{length, drop, getD}
-use Rattle.texts.specs.Decoded.{decoded, NextByte}
+use Rattle.texts.specs.Decoded.{decoded}
+use Rattle.texts.specs.Steps.{NextByte}
 use borrow.Author.Needs.{needs}
 use Rattle.texts.proofs.decoded_byte.Statement.{statement}
 use Rattle.texts.proofs.decoded_byte.Tie as tie

@@ -3,7 +3,8 @@ use Prim.Native.Nat.{_+_, _-_, _≤_}
 use mathlib.Core.Path.{_≡_, ap, subst}
 use native.Mathlib.Omega.{arith}
 use lib.ListN.{length, drop}
-use Rattle.texts.specs.Decoded.{decoded, NextByte}
+use Rattle.texts.specs.Decoded.{decoded}
+use Rattle.texts.specs.Steps.{NextByte}
 use borrow.Author.Needs.{needs}
 use Rattle.texts.proofs.decoded_len.Statement.{statement}
 use Rattle.texts.proofs.decoded_len.Tie as tie

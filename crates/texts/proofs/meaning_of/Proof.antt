@@ -1,7 +1,7 @@
 -- `meaning_of` meets its contract: the references are tried in the definition's order.
 use mathlib.Core.Path.{sym, _∙_}
 use Rattle.slices.specs.Words.{bytes}
-use Rattle.texts.specs.Decoded.{reference}
+use Rattle.texts.specs.Decoded.{referenceMeant}
 use borrow.Author.Needs.{needs}
 use Rattle.texts.proofs.meaning_of.Statement.{statement}
 use Rattle.texts.proofs.meaning_of.Tie as tie
@@ -13,7 +13,7 @@ stands-requires : tie.Need-stands-requires
 stands-requires c κs = search needs
 
 returns : tie.Need-returns
-unfolding reference bytes
+unfolding referenceMeant bytes
 returns c = rw (sym (c .before .stands .ensures) ∙ c .if1 .taken)
 
 slice-aggregate-stands-2 : tie.Need-slice-aggregate-stands-2
@@ -23,7 +23,7 @@ stands-requires-2 : tie.Need-stands-requires-2
 stands-requires-2 c κs = search needs
 
 returns-2 : tie.Need-returns-2
-unfolding reference bytes
+unfolding referenceMeant bytes
 returns-2 c = rw (sym (c .before .before .before .before .stands .ensures) ∙ c .before .before .before .if1 .left, sym (c .before .stands2 .ensures) ∙ c .if2 .taken)
 
 slice-aggregate-stands-3 : tie.Need-slice-aggregate-stands-3
@@ -33,7 +33,7 @@ stands-requires-3 : tie.Need-stands-requires-3
 stands-requires-3 c κs = search needs
 
 returns-3 : tie.Need-returns-3
-unfolding reference bytes
+unfolding referenceMeant bytes
 returns-3 c = rw (sym (c .before .before .before .before .before .before .before .stands .ensures) ∙ c .before .before .before .before .before .before .if1 .left, sym (c .before .before .before .before .stands2 .ensures) ∙ c .before .before .before .if2 .left, sym (c .before .stands3 .ensures) ∙ c .if3 .taken)
 
 slice-aggregate-stands-4 : tie.Need-slice-aggregate-stands-4
@@ -43,7 +43,7 @@ stands-requires-4 : tie.Need-stands-requires-4
 stands-requires-4 c κs = search needs
 
 returns-4 : tie.Need-returns-4
-unfolding reference bytes
+unfolding referenceMeant bytes
 returns-4 c =
     rw (
       sym (c .before .before .before .before .before .before .before .before .before .before .stands .ensures) ∙ c .before .before .before .before .before .before .before .before .before .if1 .left,
@@ -59,7 +59,7 @@ stands-requires-5 : tie.Need-stands-requires-5
 stands-requires-5 c κs = search needs
 
 returns-5 : tie.Need-returns-5
-unfolding reference bytes
+unfolding referenceMeant bytes
 returns-5 c =
     rw (
       sym (c .before .before .before .before .before .before .before .before .before .before .before .before .before .stands .ensures) ∙ c .before .before .before .before .before .before .before .before .before .before .before .before .if1 .left,
@@ -70,7 +70,7 @@ returns-5 c =
     )
 
 returns-6 : tie.Need-returns-6
-unfolding reference bytes
+unfolding referenceMeant bytes
 returns-6 c =
     rw (
       sym (c .before .before .before .before .before .before .before .before .before .before .before .before .before .stands .ensures) ∙ c .before .before .before .before .before .before .before .before .before .before .before .before .if1 .left,

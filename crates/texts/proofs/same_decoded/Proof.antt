@@ -5,7 +5,8 @@ use borrow.Author.Tests.{eq-eqb, ne-eqb}
 use native.Mathlib.Omega.{arith}
 use lib.ListN.{length, drop}
 use Rattle.slices.specs.Slices.{same}
-use Rattle.texts.specs.Decoded.{decoded, NextByte}
+use Rattle.texts.specs.Decoded.{decoded}
+use Rattle.texts.specs.Steps.{NextByte}
 use borrow.Author.Needs.{needs}
 use Rattle.texts.proofs.same_decoded.Statement.{statement}
 use Rattle.texts.proofs.same_decoded.Tie as tie

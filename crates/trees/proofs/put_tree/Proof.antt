@@ -3,7 +3,7 @@ use Prim.Native.Nat.{_-_}
 use mathlib.Core.Path.{subst}
 use native.Mathlib.Omega.{arith}
 use lib.ListN.{length}
-use Rattle.elements.specs.Reading.{NextTag}
+use Rattle.elements.specs.TagSteps.{NextTag}
 use borrow.Author.Needs.{needs}
 use Rattle.trees.proofs.put_tree.Statement.{statement}
 use Rattle.trees.proofs.put_tree.Tie as tie

@@ -7,7 +7,8 @@ use Prim.Native.Nat.{_-_, _≤_}
 use lib.ListN.{length, drop}
 use Rattle.slices.specs.Slices.{every}
 use Rattle.texts.specs.declared.Spelled.the-variants.{End, Byte}
-use Rattle.texts.specs.Decoded.{decoded, NextByte}
+use Rattle.texts.specs.Decoded.{decoded}
+use Rattle.texts.specs.Steps.{NextByte}
 use borrow.Author.Needs.{needs}
 use Rattle.values.proofs.all_plain.Statement.{statement}
 use Rattle.values.proofs.all_plain.Tie as tie

@@ -1,7 +1,7 @@
 -- `values::byte_fits` meets its contract: one case of the definition at each return; the table tells a hex digit.
 use mathlib.Core.Path.{ap, _∙_}
 use borrow.Author.Tests.{eq-eqb, ne-eqb, le-leb, lt-leb}
-use Rattle.values.specs.Values.{fits}
+use Rattle.values.specs.Values.{byPattern}
 use Rattle.digits.proofs.Entries.{hex-entry, hex-digit}
 use lib.ListN.{getD}
 use lib.Dec.{ltb}
@@ -12,25 +12,25 @@ use Rattle.values.proofs.byte_fits.Statement.{statement}
 use Rattle.values.proofs.byte_fits.Tie as tie
 
 returns : tie.Need-returns
-unfolding fits
+unfolding byPattern
 returns c = simp (eq-eqb _ _ (c .before .if1 .taken), lt-leb _ _ (c .if2 .taken))
 
 returns-2 : tie.Need-returns-2
-unfolding fits
+unfolding byPattern
 returns-2 c = simp (eq-eqb _ _ (c .before .if1 .taken), le-leb _ _ (c .if2 .left))
 
 entry-requires : tie.Need-entry-requires
 entry-requires c κs = search needs
 
 returns-3 : tie.Need-returns-3
-unfolding fits
+unfolding byPattern
 returns-3 c =
     let b = c .before .before .before .args .b in
     let e = c .entry .ensures ∙ ap (λ (t : List ℕ). getD t b 0) (c .before .before .before .pre) ∙ hex-entry b (search needs) in
     ap (λ (n : ℕ). ltb n 16) e ∙ hex-digit b ∙ simp (ne-eqb _ _ (c .before .before .if1 .left), eq-eqb _ _ (c .before .if3 .taken))
 
 returns-4 : tie.Need-returns-4
-unfolding fits
+unfolding byPattern
 returns-4 c = simp (ne-eqb _ _ (c .before .if1 .left), ne-eqb _ _ (c .if3 .left))
 
 pub byte-fits-spec : {M : Type 1} → statement M

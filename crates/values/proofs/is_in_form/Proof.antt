@@ -1,7 +1,7 @@
 -- `values::is_in_form` meets its contract. Invariant: what is left is in what is left of the form exactly where the text is in the form.
 use mathlib.Core.Path.{_≡_, refl, sym, _∙_}
 use borrow.Author.Tests.{not-true, not-false}
-use Rattle.values.specs.Values.{inForm}
+use Rattle.values.specs.Values.{inPattern}
 use Prim.Native.Nat.{_-_, _≤_}
 use lib.ListN.{length, drop}
 use Rattle.values.proofs.Forms.{form-on, form-off, form-end, form-differs}
@@ -10,7 +10,7 @@ use Rattle.values.proofs.is_in_form.Statement.{statement}
 use Rattle.values.proofs.is_in_form.Tie as tie
 
 abbrev Inv-loop : tie.InvT-loop
-Inv-loop form raw hex i₀ i = (i ≤ length raw) × (length form ≡ length raw) × (inForm form raw ≡ inForm (drop i form) (drop i raw))
+Inv-loop form raw hex i₀ i = (i ≤ length raw) × (length form ≡ length raw) × (inPattern form raw ≡ inPattern (drop i form) (drop i raw))
 
 abbrev μ-loop : tie.MeasureT-loop
 μ-loop form raw hex i₀ i = length raw - i

@@ -3,7 +3,7 @@ use mathlib.Core.Path.{_≡_, ap, sym, _∙_}
 use borrow.Author.Tests.{le-leb, lt-leb, not-true, not-false}
 use mathlib.Core.Bool.{true}
 use mathlib.Core.Option.{some, none}
-use Rattle.digits.specs.Decimal.{valueOf}
+use Rattle.digits.specs.Steps.{valueOf}
 use Rattle.slices.specs.Words.{bytes}
 use Rattle.texts.specs.Decoded.{begins}
 use Rattle.values.proofs.Parts.{version-short, version-other, version-rest}

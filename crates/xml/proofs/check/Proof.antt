@@ -3,9 +3,9 @@ use mathlib.Core.Path.{refl, ap, _∙_, sym}
 use mathlib.Core.List.{[]}
 use borrow.Author.Needs.{needs}
 use Rattle.slices.specs.Words.{bytes}
-use Rattle.xml.specs.Bytes.{isSpace, isLetter, isNameByte, declaration}
-use Rattle.xml.specs.Machine.{before, at, reads, form}
-use Rattle.xml.specs.Scans.{isText, kindOf, goesOn}
+use Rattle.xml.specs.Bytes.{isSpace, isAsciiLetter, isNameByte, declaration}
+use Rattle.xml.specs.CheckSteps.{before, at, reads, form}
+use Rattle.xml.specs.ScanSteps.{isText, kindOf, goesOn}
 use Rattle.xml.proofs.KindTable.{right, table-kinds}
 use Rattle.xml.proofs.Scanned.{scan-bounds}
 use Rattle.xml.proofs.check.Statement.{statement}
@@ -21,7 +21,7 @@ enum-known-j : tie.Need-enum-known-j
 enum-known-j c = search needs
 
 root-requires : tie.Need-root-requires
-unfolding right kindOf isText isSpace isLetter isNameByte
+unfolding right kindOf isText isSpace isAsciiLetter isNameByte
 root-requires c κs =
     let b = scan-bounds (c .before .before .j .given .0 .0) (c .before .before .before .before .word-end .ensures before) (c .before .before .j .given .1) in
     (b .1, table-kinds _ refl tt)

@@ -5,15 +5,15 @@ use Prim.Native.Nat.{_-_}
 use native.Mathlib.Omega.{arith}
 use lib.ListN.{length, drop, replicate}
 use borrow.Author.Needs.{needs}
-use Rattle.xml.specs.Machine.{at, content, blank, broken, ended, run}
-use Rattle.xml.specs.Scans.{part}
+use Rattle.xml.specs.CheckSteps.{at, content, blank, broken, ended, formRun}
+use Rattle.xml.specs.ScanSteps.{part}
 use Rattle.xml.proofs.Scanning.{run-out}
 use Rattle.xml.proofs.OpenElements.{Stands, first, opened-below, opened, inside-ahead, inside, outside-ahead, left, root-ended, stopped}
 use Rattle.xml.proofs.elements.Statement.{statement}
 use Rattle.xml.proofs.elements.Tie as tie
 
 abbrev Inv-loop : tie.InvT-loop
-Inv-loop text from start end kinds starts₀ ends₀ depth₀ i₀ children₀ starts ends depth i children = Stands text (run (at (content blank) (part text start end ∷ [])) (drop from text)) starts ends depth i children
+Inv-loop text from start end kinds starts₀ ends₀ depth₀ i₀ children₀ starts ends depth i children = Stands text (formRun (at (content blank) (part text start end ∷ [])) (drop from text)) starts ends depth i children
 
 abbrev μ-loop : tie.MeasureT-loop
 μ-loop text from start end kinds starts₀ ends₀ depth₀ i₀ children₀ starts ends depth i children = length text - i

@@ -6,7 +6,7 @@ use native.Mathlib.Omega.{arith}
 use lib.ListN.{length}
 use borrow.Author.Needs.{needs}
 use Rattle.xml.specs.Bytes.{isSpace}
-use Rattle.xml.specs.Machine.{after, step, ended}
+use Rattle.xml.specs.CheckSteps.{after, formStep, ended}
 use Rattle.xml.proofs.Past.{past-stop}
 use Rattle.xml.proofs.Stays.{after-stay}
 use Rattle.xml.proofs.Scanning.{run-past, run-out, run-on, run-stopped}
@@ -26,7 +26,7 @@ sub-t7 : tie.Need-sub-t7
 sub-t7 c = search needs
 
 returns-2 : tie.Need-returns-2
-unfolding step
+unfolding formStep
 returns-2 c =
     let t = c .before .before .before .args .text .now in
     let i = c .before .past-spaces .result in

@@ -7,8 +7,8 @@ use lib.ListN.{getD}
 use borrow.Author.Tests.{ne-eqb}
 use borrow.Author.Needs.{needs}
 use Rattle.xml.specs.Bytes.{isSpace}
-use Rattle.xml.specs.Machine.{at, content, words, opens, step, ended}
-use Rattle.xml.specs.Scans.{held}
+use Rattle.xml.specs.CheckSteps.{at, content, words, opens, formStep, ended}
+use Rattle.xml.specs.ScanSteps.{held}
 use Rattle.xml.proofs.Past.{past-not}
 use Rattle.xml.proofs.Stays.{held-stay, held-opens, held-mixed, held-text}
 use Rattle.xml.proofs.Scanned.{stands, scan-past, scan-on, scan-as, scan-is, scan-done, scan-refused, scan-bounds}
@@ -46,7 +46,7 @@ returns c =
     let h = stands t i (c .before .before .byte .result) (c .before .before .byte .ensures) (search needs) in
     turns-after (ltb (c .before .before .before .before .before .args .depth) 64) (i + 1) (λ z. z) (λ ns g. ap (λ (k : ℕ). ltb k 64) g)
     (scan-past (held-stay (c .before .before .before .before .before .args .children)) e
-    (scan-on (c .before .before .byte .result) (c .before .before .byte .ensures) (search needs) (λ ns. ap (step (content (held (c .before .before .before .before .before .args .children))) ns) (c .before .if1 .taken) ∙ held-opens (c .before .before .before .before .before .args .children) ns) (scan-done (search needs))))
+    (scan-on (c .before .before .byte .result) (c .before .before .byte .ensures) (search needs) (λ ns. ap (formStep (content (held (c .before .before .before .before .before .args .children))) ns) (c .before .if1 .taken) ∙ held-opens (c .before .before .before .before .before .args .children) ns) (scan-done (search needs))))
     (c .read-tag .ensures true)
 
 sub-t16 : tie.Need-sub-t16

@@ -5,8 +5,8 @@ use mathlib.Core.List.{_∷_}
 use Prim.Native.Nat.{_+_}
 use borrow.Author.Tests.{ne-eqb, not-true, not-false}
 use borrow.Author.Needs.{needs}
-use Rattle.xml.specs.Machine.{at, opens, closed, reads, innermost, step, ended}
-use Rattle.xml.specs.Scans.{part}
+use Rattle.xml.specs.CheckSteps.{at, opens, closed, reads, innermost, formStep, ended}
+use Rattle.xml.specs.ScanSteps.{part}
 use Rattle.xml.proofs.Scanning.{run-on, run-refused}
 use Rattle.xml.proofs.Scanned.{stands}
 use Rattle.xml.proofs.Turned.{turns-outside, turns-unread, turns-opened, turns-inside, turns-cut}
@@ -50,30 +50,30 @@ enum-known-u : tie.Need-enum-known-u
 enum-known-u c = search needs
 
 returns : tie.Need-returns
-unfolding step innermost
+unfolding formStep innermost
 returns c =
     let t = c .before .before .before .before .before .before .before .before .args .text .now in
     let i = c .before .before .before .before .before .before .before .before .args .from in
     let n = part t (c .before .before .before .before .before .before .before .before .args .start) (c .before .before .before .before .before .before .before .before .args .end) in
     let e = c .before .before .before .before .before .before .byte .ensures in
     let h = stands t i (c .before .before .before .before .before .before .byte .result) e (search needs) in
-    λ o. turns-outside {b = at (reads closed n)} (i + 1) (search needs) (λ ns. run-on t i (opens o) (n ∷ ns) h (ap (step (opens o) (n ∷ ns)) (sym e ∙ c .before .before .before .before .before .if1 .taken))) (c .before .before .before .end-tag .ensures) (c .before .j .given .0 .0) (c .before .j .given .1)
+    λ o. turns-outside {b = at (reads closed n)} (i + 1) (search needs) (λ ns. run-on t i (opens o) (n ∷ ns) h (ap (formStep (opens o) (n ∷ ns)) (sym e ∙ c .before .before .before .before .before .if1 .taken))) (c .before .before .before .end-tag .ensures) (c .before .j .given .0 .0) (c .before .j .given .1)
 
 returns-2 : tie.Need-returns-2
-unfolding step innermost
+unfolding formStep innermost
 returns-2 c =
     let t = c .before .before .before .before .before .before .before .before .args .text .now in
     let i = c .before .before .before .before .before .before .before .before .args .from in
     let n = part t (c .before .before .before .before .before .before .before .before .args .start) (c .before .before .before .before .before .before .before .before .args .end) in
     let e = c .before .before .before .before .before .before .byte .ensures in
     let h = stands t i (c .before .before .before .before .before .before .byte .result) e (search needs) in
-    λ o. turns-unread {b = at (reads closed n)} (i + 1) (search needs) (λ ns. run-on t i (opens o) (n ∷ ns) h (ap (step (opens o) (n ∷ ns)) (sym e ∙ c .before .before .before .before .before .if1 .taken))) (c .before .before .before .end-tag .ensures) (c .before .u .given .0 .0) (c .before .u .given .1)
+    λ o. turns-unread {b = at (reads closed n)} (i + 1) (search needs) (λ ns. run-on t i (opens o) (n ∷ ns) h (ap (formStep (opens o) (n ∷ ns)) (sym e ∙ c .before .before .before .before .before .if1 .taken))) (c .before .before .before .end-tag .ensures) (c .before .u .given .0 .0) (c .before .u .given .1)
 
 sub-t23 : tie.Need-sub-t23
 sub-t23 c = search needs
 
 returns-3 : tie.Need-returns-3
-unfolding step ended
+unfolding formStep ended
 returns-3 c =
     let t = c .before .before .before .before .args .text .now in
     let i = c .before .before .before .before .args .from in
@@ -95,7 +95,7 @@ enum-known-u-2 : tie.Need-enum-known-u-2
 enum-known-u-2 c = search needs
 
 returns-4 : tie.Need-returns-4
-unfolding step ended
+unfolding formStep ended
 returns-4 c =
     let t = c .before .before .before .before .before .before .before .before .args .text .now in
     let i = c .before .before .before .before .before .before .before .before .args .from in
@@ -105,7 +105,7 @@ returns-4 c =
     λ o. turns-opened (opens o) refl yes (λ ns f. simp (← e, ne-eqb _ _ (c .before .before .before .before .before .if1 .left), f, yes, and-true)) (c .before .e .given .0 .0) (c .before .e .given .0 .1 .0) (c .before .before .before .start-tag .ensures) (c .before .e .given .1)
 
 returns-5 : tie.Need-returns-5
-unfolding step ended
+unfolding formStep ended
 returns-5 c =
     let t = c .before .before .before .before .before .before .before .before .args .text .now in
     let i = c .before .before .before .before .before .before .before .before .args .from in
@@ -115,7 +115,7 @@ returns-5 c =
     λ o. turns-inside (opens o) refl yes (λ ns f. simp (← e, ne-eqb _ _ (c .before .before .before .before .before .if1 .left), f, yes, and-true)) (c .before .j2 .given .0 .0) (c .before .before .before .start-tag .ensures) (c .before .j2 .given .1)
 
 returns-6 : tie.Need-returns-6
-unfolding step ended
+unfolding formStep ended
 returns-6 c =
     let t = c .before .before .before .before .before .before .before .before .args .text .now in
     let i = c .before .before .before .before .before .before .before .before .args .from in

@@ -8,8 +8,8 @@ use lib.ListN.{length, getD}
 use borrow.Author.Tests.{ne-eqb}
 use borrow.Author.Needs.{needs}
 use Rattle.xml.specs.Bytes.{isSpace}
-use Rattle.xml.specs.Machine.{before, root, outside, step, ended}
-use Rattle.xml.specs.Scans.{StartBetween, started}
+use Rattle.xml.specs.CheckSteps.{before, root, outside, formStep, ended}
+use Rattle.xml.specs.ScanSteps.{StartBetween, started}
 use Rattle.xml.specs.declared.tags.Start.{Start}
 use Rattle.xml.proofs.Past.{past-not}
 use Rattle.xml.proofs.Stays.{before-stay}
@@ -28,7 +28,7 @@ sub-t13 : tie.Need-sub-t13
 sub-t13 c = search needs
 
 returns : tie.Need-returns
-unfolding isSpace step ended
+unfolding isSpace formStep ended
 returns c =
     let t = c .before .before .before .before .args .text .now in
     let i = c .before .before .past-spaces .result in
@@ -81,31 +81,31 @@ enum-known-u : tie.Need-enum-known-u
 enum-known-u c = search needs
 
 returns-2 : tie.Need-returns-2
-unfolding isSpace step ended
+unfolding isSpace formStep ended
 returns-2 c =
     let t = c .before .before .before .before .before .before .before .before .before .args .text .now in
     let i = c .before .before .before .before .before .before .before .past-spaces .result in
     let e = c .before .before .before .before .before .before .before .past-spaces .ensures in
     let h = stands t i (c .before .before .before .before .before .before .byte .result) (c .before .before .before .before .before .before .byte .ensures) (search needs) in
-    c .elements .ensures ∙ sym (run-past isSpace before [] (before-stay []) t (c .before .before .before .before .before .before .before .before .before .args .from) i e ∙ run-on t i before [] h (ap (step before []) (sym (c .before .before .before .before .before .before .byte .ensures) ∙ c .before .before .before .before .before .if1 .left)) ∙ c .before .before .before .before .start-tag .ensures .runs root [] refl refl ∙ ap (started t (i + 1) []) (c .before .before .e .given .1))
+    c .elements .ensures ∙ sym (run-past isSpace before [] (before-stay []) t (c .before .before .before .before .before .before .before .before .before .args .from) i e ∙ run-on t i before [] h (ap (formStep before []) (sym (c .before .before .before .before .before .before .byte .ensures) ∙ c .before .before .before .before .before .if1 .left)) ∙ c .before .before .before .before .start-tag .ensures .runs root [] refl refl ∙ ap (started t (i + 1) []) (c .before .before .e .given .1))
 
 returns-3 : tie.Need-returns-3
-unfolding isSpace step ended outside
+unfolding isSpace formStep ended outside
 returns-3 c =
     let t = c .before .before .before .before .before .before .before .before .before .args .text .now in
     let i = c .before .before .before .before .before .before .before .past-spaces .result in
     let e = c .before .before .before .before .before .before .before .past-spaces .ensures in
     let h = stands t i (c .before .before .before .before .before .before .byte .result) (c .before .before .before .before .before .before .byte .ensures) (search needs) in
-    c .finish .ensures ∙ sym (run-past isSpace before [] (before-stay []) t (c .before .before .before .before .before .before .before .before .before .args .from) i e ∙ run-on t i before [] h (ap (step before []) (sym (c .before .before .before .before .before .before .byte .ensures) ∙ c .before .before .before .before .before .if1 .left)) ∙ c .before .before .before .before .start-tag .ensures .runs root [] refl refl ∙ ap (started t (i + 1) []) (c .before .before .j .given .1))
+    c .finish .ensures ∙ sym (run-past isSpace before [] (before-stay []) t (c .before .before .before .before .before .before .before .before .before .args .from) i e ∙ run-on t i before [] h (ap (formStep before []) (sym (c .before .before .before .before .before .before .byte .ensures) ∙ c .before .before .before .before .before .if1 .left)) ∙ c .before .before .before .before .start-tag .ensures .runs root [] refl refl ∙ ap (started t (i + 1) []) (c .before .before .j .given .1))
 
 returns-4 : tie.Need-returns-4
-unfolding isSpace step ended
+unfolding isSpace formStep ended
 returns-4 c =
     let t = c .before .before .before .before .before .before .before .before .args .text .now in
     let i = c .before .before .before .before .before .before .past-spaces .result in
     let e = c .before .before .before .before .before .before .past-spaces .ensures in
     let h = stands t i (c .before .before .before .before .before .byte .result) (c .before .before .before .before .before .byte .ensures) (search needs) in
-    sym (run-past isSpace before [] (before-stay []) t (c .before .before .before .before .before .before .before .before .args .from) i e ∙ run-on t i before [] h (ap (step before []) (sym (c .before .before .before .before .before .byte .ensures) ∙ c .before .before .before .before .if1 .left)) ∙ c .before .before .before .start-tag .ensures .runs root [] refl refl ∙ ap (started t (i + 1) []) (c .before .u .given .1))
+    sym (run-past isSpace before [] (before-stay []) t (c .before .before .before .before .before .before .before .before .args .from) i e ∙ run-on t i before [] h (ap (formStep before []) (sym (c .before .before .before .before .before .byte .ensures) ∙ c .before .before .before .before .if1 .left)) ∙ c .before .before .before .start-tag .ensures .runs root [] refl refl ∙ ap (started t (i + 1) []) (c .before .u .given .1))
 
 pub root-spec : {M : Type 1} → statement M
 root-spec =

@@ -3,7 +3,7 @@ use borrow.Author.Tests.{not-true, not-false}
 use mathlib.Core.Path.{sym, ap, _∙_}
 use Rattle.slices.specs.Words.{bytes}
 use Rattle.ansi_labels.specs.Labels.{isLabel}
-use Rattle.ansi.specs.Reading.{opening}
+use Rattle.ansi.specs.ReadingSteps.{opening}
 use Rattle.ansi.proofs.Walks.{opens-at}
 use borrow.Author.Needs.{needs}
 use Rattle.ansi.proofs.phases.begin_file.Statement.{statement}

@@ -2,7 +2,8 @@
 use mathlib.Core.Path.{sym, _∙_, ap}
 use native.Mathlib.Omega.{arith}
 use lib.ListN.{length}
-use Rattle.ansi.specs.Answers.{filesOn, readCount}
+use Rattle.ansi.specs.Answers.{filesOn}
+use Rattle.ansi.specs.Steps.{readCount}
 use Rattle.ansi.proofs.Answering.{by-layout, few-told}
 use Rattle.api.proofs.Showing.{shown, not-shown}
 use Rattle.api.proofs.Headers.{shown-counted}

@@ -1,6 +1,6 @@
 -- `klapouzen_ansi_place` meets its contract: the place that is answered, and that it is behind the longest front.
 use mathlib.Core.Path.{sym, _∙_, ap}
-use Rattle.tape.specs.Answers.{counted}
+use Rattle.tape.specs.Steps.{counted}
 use Rattle.ansi.proofs.Answering.{place-longest, place-none}
 use Rattle.api.proofs.Showing.{shown, not-shown}
 use borrow.Author.Needs.{needs}

@@ -1,7 +1,7 @@
 -- `klapouzen_check_form` meets its contract: the outcome of the form.
 use mathlib.Core.Path.{_≡_, sym, _∙_, ap}
 use mathlib.Core.Bool.{true, false}
-use Rattle.xml.specs.Machine.{inForm, isGood, outcomeOf}
+use Rattle.xml.specs.CheckSteps.{inForm, isGood, outcomeOf}
 use borrow.Author.Needs.{needs}
 use Rattle.api.proofs.files.klapouzen_check_form.Statement.{statement}
 use Rattle.api.proofs.files.klapouzen_check_form.Tie as tie

@@ -1,6 +1,6 @@
 -- `counted` meets its contract: by what was filled.
 use mathlib.Core.Path.{sym, ap}
-use Rattle.index_files.specs.Filling.{countSaid}
+use Rattle.index_files.specs.FillingSteps.{countAnswered}
 use Rattle.api.proofs.Showing.{not-shown}
 use borrow.Author.Needs.{needs}
 use Rattle.api.proofs.indexes.counted.Statement.{statement}
@@ -19,7 +19,7 @@ returns : tie.Need-returns
 returns c = search needs
 
 returns-2 : tie.Need-returns-2
-returns-2 c = not-shown (c .before .before .filled2 .given .0 .0) (ap countSaid (sym (c .before .before .filled2 .given .1))) (c .number .ensures)
+returns-2 c = not-shown (c .before .before .filled2 .given .0 .0) (ap countAnswered (sym (c .before .before .filled2 .given .1))) (c .number .ensures)
 
 pub counted-spec : {M : Type 1} → statement M
 counted-spec =

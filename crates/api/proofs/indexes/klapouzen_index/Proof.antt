@@ -1,7 +1,7 @@
 -- `klapouzen_index` meets its contract: the construct's place and its index's header, in numbers.
 use Rattle.api.proofs.Headers.{says-construct}
 use Rattle.api.proofs.Showing.{not-told}
-use Rattle.volume.specs.Chosen.{chosenBy, Chooses}
+use Rattle.volume.specs.ChosenSteps.{chosenBy, Chooses}
 use mathlib.Core.Path.{sym, subst, ap, _∙_}
 use borrow.Author.Needs.{needs}
 use Rattle.api.proofs.indexes.klapouzen_index.Statement.{statement}

@@ -1,6 +1,7 @@
 -- `klapouzen_read_index` meets its contract: what the reader answers, in numbers.
 use mathlib.Core.Path.{sym, subst, _∙_, ap}
-use Rattle.index.specs.Index.{means, summary, ReadsIndex}
+use Rattle.index.specs.Index.{summary}
+use Rattle.index.specs.Steps.{means, ReadsIndex}
 use Rattle.api.proofs.Showing.{not-told}
 use Rattle.index_files.proofs.Mapped.{mapped-refused}
 use Rattle.api.proofs.Headers.{says-index}

@@ -1,6 +1,6 @@
 -- `klapouzen_read_vol1` meets its contract: what the reader answers.
 use mathlib.Core.Path.{sym, _∙_, ap}
-use Rattle.vol1.specs.Vol1.{meansVol1}
+use Rattle.vol1.specs.Steps.{meansVol1}
 use Rattle.api.proofs.Showing.{shown, not-shown}
 use borrow.Author.Needs.{needs}
 use Rattle.api.proofs.labelling.klapouzen_read_vol1.Statement.{statement}

@@ -1,7 +1,8 @@
 -- `klapouzen_block` meets its contract: the place that was found.
 use mathlib.Core.Path.{sym, _∙_, ap, subst}
 use Rattle.refusals.specs.Refusals.{Answer}
-use Rattle.tape.specs.Answers.{Place, located, placeOf, blockOf, Holds}
+use Rattle.tape.specs.Answers.{StorePart, placeOf, blockOf, Holds}
+use Rattle.tape.specs.Steps.{located}
 use Rattle.api.proofs.Showing.{shown, not-shown}
 use borrow.Author.Needs.{needs}
 use Rattle.api.proofs.partitions.klapouzen_block.Statement.{statement}
@@ -15,7 +16,7 @@ held : (f : tie.After-find-block)
     (blockOf (a .index-letter) (a .data-letter) (a .letter) (a .number) (a .index-list .now) (a .index-store .now) (a .data-list .now) (a .data-store .now)))
 held f =
     let a = f .before .before .before .before .before .args in
-    subst (λ (p : Answer Place). Holds (a .index-store .now) (a .data-store .now) p
+    subst (λ (p : Answer StorePart). Holds (a .index-store .now) (a .data-store .now) p
     (blockOf (a .index-letter) (a .data-letter) (a .letter) (a .number) (a .index-list .now) (a .index-store .now) (a .data-list .now) (a .data-store .now)))
     (f .find-block .ensures .place) (f .find-block .ensures .holds)
 

@@ -1,6 +1,6 @@
 -- `klapouzen_check_list` meets its contract: what the check answers.
 use mathlib.Core.Path.{sym, _∙_, ap}
-use Rattle.tape.specs.Answers.{counted}
+use Rattle.tape.specs.Steps.{counted}
 use Rattle.api.proofs.Showing.{shown, not-shown}
 use borrow.Author.Needs.{needs}
 use Rattle.api.proofs.partitions.klapouzen_check_list.Statement.{statement}

@@ -2,7 +2,7 @@
 use mathlib.Core.Path.{sym, _∙_, ap}
 use borrow.Author.Tests.{not-true, not-false}
 use Rattle.refusals.specs.declared.Refusal.the-variants.{Caller}
-use Rattle.constructs.specs.Tables.{scannedCount}
+use Rattle.constructs.specs.TableSteps.{scannedCount}
 use Rattle.api.proofs.Showing.{shown, not-shown}
 use Rattle.api.proofs.Sizing.{unsized-count, unsized-table, sized-count, sized-table}
 use borrow.Author.Needs.{needs}

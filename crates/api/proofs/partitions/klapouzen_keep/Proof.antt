@@ -1,6 +1,6 @@
 -- `klapouzen_keep` meets its contract: the lengths that are kept.
 use mathlib.Core.Path.{sym, _∙_, ap}
-use Rattle.tape.specs.Answers.{keptLengths}
+use Rattle.tape.specs.Steps.{keptLengths}
 use Rattle.api.proofs.Showing.{shown, not-shown}
 use borrow.Author.Needs.{needs}
 use Rattle.api.proofs.partitions.klapouzen_keep.Statement.{statement}

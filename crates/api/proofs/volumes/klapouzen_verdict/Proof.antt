@@ -1,6 +1,6 @@
 -- `klapouzen_verdict` meets its contract: the first break, or none, and demand 3 of that.
 use mathlib.Core.Path.{sym, _∙_, ap}
-use Rattle.volume.specs.Answers.{judged}
+use Rattle.volume.specs.AnswerSteps.{judged}
 use Rattle.api.proofs.Demands.{judges-out}
 use Rattle.api.proofs.Showing.{shown, not-shown}
 use borrow.Author.Needs.{needs}

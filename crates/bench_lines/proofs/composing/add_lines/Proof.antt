@@ -2,7 +2,8 @@
 use native.Mathlib.Omega.{arith}
 use mathlib.Core.Path.{sym, ap}
 use Rattle.volume.specs.declared.answers.Verdict.{Verdict}
-use Rattle.volume.specs.Answers.{judged, rescued}
+use Rattle.volume.specs.Answers.{rescued}
+use Rattle.volume.specs.AnswerSteps.{judged}
 use Rattle.writing.proofs.Pieces.{then, within, the-same}
 use Rattle.slices.specs.Words.{bytes}
 use Rattle.bench_lines.specs.Lines.{consistentLine, linesOf}

@@ -1,6 +1,6 @@
 -- `reach` meets its contract: the lengths are put into the table, and turned into reaches there.
 use mathlib.Core.Path.{sym, _∙_, ap}
-use Rattle.tape.specs.Answers.{counted}
+use Rattle.tape.specs.Steps.{counted}
 use Rattle.tape.proofs.Keeping.{present}
 use Rattle.tape.proofs.Passing.{encoded}
 use Rattle.constructs.proofs.Reaching.{small-lengths, reaches-found, reaches-short, reaches-refused}

@@ -1,7 +1,8 @@
 -- `has_children` meets its contract: its children's row has an element where a start tag or an empty-element tag comes next.
 use mathlib.Core.Path.{sym, ap, _∙_, subst}
 use Rattle.xml.specs.Tree.{top, opened, alone}
-use Rattle.elements.specs.Reading.{isRow, NextTag}
+use Rattle.elements.specs.Reading.{hasElement}
+use Rattle.elements.specs.TagSteps.{NextTag}
 use Rattle.elements.proofs.Rows.{row-end, row-close}
 use borrow.Author.Needs.{needs}
 use Rattle.elements.proofs.heads.has_children.Statement.{statement}
@@ -26,35 +27,35 @@ enum-told-4 : tie.Need-enum-told-4
 enum-told-4 c = search needs
 
 returns : tie.Need-returns
-unfolding isRow
+unfolding hasElement
 returns c =
     let s = c .before .before .before .before .before .args .text .now in
     let t = subst (NextTag s (c .before .before .before .first-child .result)) (c .enum-told .given .1) (c .before .before .next-tag .ensures) in
-    sym (ap isRow (sym (c .before .before .before .first-child .ensures .row) ∙ row-end t))
+    sym (ap hasElement (sym (c .before .before .before .first-child .ensures .row) ∙ row-end t))
 
 returns-2 : tie.Need-returns-2
-unfolding isRow
+unfolding hasElement
 returns-2 c =
     let s = c .before .before .before .before .before .args .text .now in
     let g = c .enum-told2 .given in
     let t = subst (NextTag s (c .before .before .before .first-child .result)) (g .1) (c .before .before .next-tag .ensures) in
-    sym (ap isRow (sym (c .before .before .before .first-child .ensures .row) ∙ row-close t))
+    sym (ap hasElement (sym (c .before .before .before .first-child .ensures .row) ∙ row-close t))
 
 returns-3 : tie.Need-returns-3
-unfolding isRow top opened
+unfolding hasElement top opened
 returns-3 c =
     let s = c .before .before .before .before .before .args .text .now in
     let g = c .enum-told3 .given in
     let t = subst (NextTag s (c .before .before .before .first-child .result)) (g .1) (c .before .before .next-tag .ensures) in
-    sym (ap isRow (sym (c .before .before .before .first-child .ensures .row) ∙ ap top (t .left)))
+    sym (ap hasElement (sym (c .before .before .before .first-child .ensures .row) ∙ ap top (t .left)))
 
 returns-4 : tie.Need-returns-4
-unfolding isRow top alone
+unfolding hasElement top alone
 returns-4 c =
     let s = c .before .before .before .before .before .args .text .now in
     let g = c .enum-told4 .given in
     let t = subst (NextTag s (c .before .before .before .first-child .result)) (g .1) (c .before .before .next-tag .ensures) in
-    sym (ap isRow (sym (c .before .before .before .first-child .ensures .row) ∙ ap top (t .left)))
+    sym (ap hasElement (sym (c .before .before .before .first-child .ensures .row) ∙ ap top (t .left)))
 
 pub has-children-spec : {M : Type 1} → statement M
 has-children-spec =

@@ -1,7 +1,7 @@
 -- `next_item` meets its contract: an element without children goes on where it says, any other where it is left.
 use mathlib.Core.Path.{subst}
 use Rattle.elements.specs.declared.starts.Next.the-variants.{End, Close, Opens}
-use Rattle.elements.specs.Starts.{NextStart}
+use Rattle.elements.specs.StartSteps.{NextStart}
 use Rattle.elements.proofs.Rows.{row-end, row-close}
 use Rattle.elements.proofs.Plain.{inner-first}
 use borrow.Author.Needs.{needs}

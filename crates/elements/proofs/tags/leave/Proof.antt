@@ -7,7 +7,7 @@ use native.Mathlib.Numerals.{add-one}
 use lib.ListN.{length}
 use Rattle.xml.specs.Tree.{pop, closed, opened, alone}
 use Rattle.elements.specs.Tags.{tagsOf, tagsLeft, tagsAround}
-use Rattle.elements.specs.Reading.{NextTag}
+use Rattle.elements.specs.TagSteps.{NextTag}
 use Rattle.elements.proofs.Rows.{behind}
 use Rattle.elements.proofs.Left.{left-end, pops, pops-none}
 use borrow.Author.Needs.{needs}

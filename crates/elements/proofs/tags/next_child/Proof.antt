@@ -1,6 +1,6 @@
 -- `next_child` meets its contract: the row's first element by its tag, and the row behind it where the element is left.
 use mathlib.Core.Path.{subst}
-use Rattle.elements.specs.Reading.{NextTag}
+use Rattle.elements.specs.TagSteps.{NextTag}
 use Rattle.elements.proofs.Rows.{row-end, row-close, first-open, first-empty}
 use borrow.Author.Needs.{needs}
 use Rattle.elements.proofs.tags.next_child.Statement.{statement}

@@ -1,6 +1,7 @@
 -- `has_row` meets its contract: by its first element.
 use mathlib.Core.Path.{ap, sym, subst}
-use Rattle.elements.specs.Reading.{NextTag, isRow}
+use Rattle.elements.specs.Reading.{hasElement}
+use Rattle.elements.specs.TagSteps.{NextTag}
 use Rattle.elements.specs.declared.tags.Tag.the-variants.{End, Close, Open, Empty}
 use Rattle.elements.proofs.Rows.{row-end, row-close, node-open, node-empty}
 use borrow.Author.Needs.{needs}
@@ -23,28 +24,28 @@ enum-told-4 : tie.Need-enum-told-4
 enum-told-4 c = search needs
 
 returns : tie.Need-returns
-unfolding isRow
+unfolding hasElement
 returns c =
     let t : NextTag (c .before .before .before .before .args .text .now) (c .before .before .before .before .args .at) End = subst (NextTag (c .before .before .before .before .args .text .now) (c .before .before .before .before .args .at)) (c .enum-told .given .1) (c .before .before .next-tag .ensures) in
-    sym (ap isRow (row-end t))
+    sym (ap hasElement (row-end t))
 
 returns-2 : tie.Need-returns-2
-unfolding isRow
+unfolding hasElement
 returns-2 c =
     let t : NextTag (c .before .before .before .before .args .text .now) (c .before .before .before .before .args .at) (Close (c .enum-told2 .given .0 .0)) = subst (NextTag (c .before .before .before .before .args .text .now) (c .before .before .before .before .args .at)) (c .enum-told2 .given .1) (c .before .before .next-tag .ensures) in
-    sym (ap isRow (row-close t))
+    sym (ap hasElement (row-close t))
 
 returns-3 : tie.Need-returns-3
-unfolding isRow
+unfolding hasElement
 returns-3 c =
     let t : NextTag (c .before .before .before .before .args .text .now) (c .before .before .before .before .args .at) (Open (c .enum-told3 .given .0 .0)) = subst (NextTag (c .before .before .before .before .args .text .now) (c .before .before .before .before .args .at)) (c .enum-told3 .given .1) (c .before .before .next-tag .ensures) in
-    sym (ap isRow (node-open t))
+    sym (ap hasElement (node-open t))
 
 returns-4 : tie.Need-returns-4
-unfolding isRow
+unfolding hasElement
 returns-4 c =
     let t : NextTag (c .before .before .before .before .args .text .now) (c .before .before .before .before .args .at) (Empty (c .enum-told4 .given .0 .0)) = subst (NextTag (c .before .before .before .before .args .text .now) (c .before .before .before .before .args .at)) (c .enum-told4 .given .1) (c .before .before .next-tag .ensures) in
-    sym (ap isRow (node-empty t))
+    sym (ap hasElement (node-empty t))
 
 pub has-row-spec : {M : Type 1} → statement M
 has-row-spec =

@@ -4,10 +4,10 @@ use mathlib.Core.List.{List}
 use Prim.Native.Nat.{ℕ}
 use native.Mathlib.Omega.{arith}
 use Rattle.xml.specs.Tree.{Forest}
-use Rattle.elements.specs.Reading.{isRow, rowAt}
-use Rattle.values.specs.Values as is
-use Rattle.index_values.specs.Entries.{numberSaid}
-use Rattle.index.specs.Index.{isTrue, placeIn}
+use Rattle.elements.specs.Reading.{hasElement, forestAt}
+use Rattle.values.specs.Values as values
+use Rattle.index_values.specs.Entries.{numberOrZero}
+use Rattle.index.specs.Index.{isTrue, locationOf}
 use Rattle.index.proofs.Answers.{same-heading, no-back-at}
 use Rattle.index_values.proofs.Seated.{generation-placed, updatetime-placed, location-placed, allow-placed, highest-placed, back-placed}
 use borrow.Author.Needs.{needs}
@@ -81,17 +81,17 @@ returns c =
           let back = c .before .before .before .before .before .before .before .before .before .before .before .before .before .before .row-at2 .ensures .0 ∙ sym (back-placed s k t p) in
           same-heading (c .before .before .before .before .before .before .before .before .before .before .before .before .before .before .before .before .before .before .before .args .release) k (c .before .before .before .before .before .before .before .before .before .before .before .before .before .before .before .before .before .before .before .args .entries) (c .before .before .before .before .before .before .before .before .before .before .before .before .before .before .before .before .before .before .before .args .files) (c .before .before .before .before .before .before .before .before .before .before .before .before .number-placed .result) (c .number-placed2 .result) _ _ (c .before .before .before .before .before .before .before .before .before .letter-named .result) (c .before .before .before .before .before .before .before .before .block-named .result .0) (c .before .before .before .before .before .before .letter-named2 .result) (c .before .before .before .before .before .block-named2 .result .0) (c .before .before .before .before .before .before .before .has-row .result) (c .before .before .is-true .result)
           e f
-          (c .before .before .before .before .before .before .before .before .before .before .before .before .number-placed .ensures ∙ ap numberSaid (sym (generation-placed s k t p)))
+          (c .before .before .before .before .before .before .before .before .before .before .before .before .number-placed .ensures ∙ ap numberOrZero (sym (generation-placed s k t p)))
           (c .before .before .before .before .before .before .before .before .before .before .span-at .ensures .part ∙ sym (updatetime-placed s k t p))
-          (c .before .before .before .before .before .before .before .before .before .letter-named .ensures ∙ ap (λ (f : Forest). placeIn f .letter) here) (c .before .before .before .before .before .before .before .before .block-named .ensures ∙ ap (λ (f : Forest). placeIn f .block) here)
-          (c .before .before .before .before .before .before .before .has-row .ensures ∙ ap isRow back)
-          (c .before .before .before .before .before .before .letter-named2 .ensures ∙ ap (λ (f : Forest). placeIn f .letter) back) (c .before .before .before .before .before .block-named2 .ensures ∙ ap (λ (f : Forest). placeIn f .block) back)
-          (c .before .before .is-true .ensures ∙ ap (λ (x : List ℕ). isTrue (is.boolean x)) (c .before .before .before .text-at .ensures ∙ sym (allow-placed s k t p)))
-          (c .number-placed2 .ensures ∙ ap numberSaid (sym (highest-placed s k t p))) refl;
+          (c .before .before .before .before .before .before .before .before .before .letter-named .ensures ∙ ap (λ (f : Forest). locationOf f .letter) here) (c .before .before .before .before .before .before .before .before .block-named .ensures ∙ ap (λ (f : Forest). locationOf f .block) here)
+          (c .before .before .before .before .before .before .before .has-row .ensures ∙ ap hasElement back)
+          (c .before .before .before .before .before .before .letter-named2 .ensures ∙ ap (λ (f : Forest). locationOf f .letter) back) (c .before .before .before .before .before .block-named2 .ensures ∙ ap (λ (f : Forest). locationOf f .block) back)
+          (c .before .before .is-true .ensures ∙ ap (λ (x : List ℕ). isTrue (values.boolean x)) (c .before .before .before .text-at .ensures ∙ sym (allow-placed s k t p)))
+          (c .number-placed2 .ensures ∙ ap numberOrZero (sym (highest-placed s k t p))) refl;
       definite =
           record {
             time = c .before .before .before .before .before .before .before .before .before .before .span-at .ensures .inside;
-            noBack = no-back-at (rowAt (c .before .before .before .before .before .before .before .before .before .before .before .before .before .before .before .before .before .before .before .args .text .now) (c .before .before .before .before .before .before .before .before .before .before .before .before .before .before .row-at2 .result)) (c .before .before .before .before .before .before .before .has-row .result) (c .before .before .before .before .before .before .letter-named2 .result) (c .before .before .before .before .before .block-named2 .result .0) (c .before .before .before .before .before .before .before .has-row .ensures) (c .before .before .before .before .before .before .letter-named2 .ensures) (c .before .before .before .before .before .block-named2 .ensures);
+            noBack = no-back-at (forestAt (c .before .before .before .before .before .before .before .before .before .before .before .before .before .before .before .before .before .before .before .args .text .now) (c .before .before .before .before .before .before .before .before .before .before .before .before .before .before .row-at2 .result)) (c .before .before .before .before .before .before .before .has-row .result) (c .before .before .before .before .before .before .letter-named2 .result) (c .before .before .before .before .before .block-named2 .result .0) (c .before .before .before .before .before .before .before .has-row .ensures) (c .before .before .before .before .before .before .letter-named2 .ensures) (c .before .before .before .before .before .block-named2 .ensures);
           };
     }
 

@@ -1,7 +1,7 @@
 -- `is_caller_right` meets its contract: the tests in their order.
 use mathlib.Core.Bool.{Bool, _||_, and-false}
 use lib.Dec.{eqb}
-use Rattle.index_values.specs.Tests.{given}
+use Rattle.index_values.specs.Steps.{given}
 use Rattle.index.proofs.Answers.{caller-last}
 use mathlib.Core.Path.{ap, sym, _∙_}
 use borrow.Author.Tests.{eq-eqb, ne-eqb, not-true, not-false}
@@ -49,10 +49,10 @@ unfolding callerRight
 returns-5 c = simp (sym (c .before .before .before .before .before .before .before .before .before .before .is-letter .ensures) ∙ not-false _ (c .before .before .before .before .before .before .before .before .before .if1 .left), sym (c .before .before .before .before .before .before .before .is-letter2 .ensures) ∙ not-false _ (c .before .before .before .before .before .before .if2 .left), ne-eqb _ _ (c .before .before .before .before .if3 .left), sym (c .before .before .before .is-block-size .ensures) ∙ not-false _ (c .before .before .if4 .left), sym (c .before .is-uuid .ensures) ∙ not-true _ (c .if5 .taken), and-false)
 
 returns-6 : tie.Need-returns-6
-returns-6 c = sym (caller-last (given (c .before .before .before .before .before .before .before .before .before .before .before .before .before .before .before .args .uuid .now) (c .before .before .before .before .before .before .before .before .before .before .before .before .before .before .before .args .volume)) (c .before .before .before .before .before .before .before .before .before .before .before .before .before .before .before .args .letter) (sym (c .before .before .before .before .before .before .before .before .before .before .before .before .is-letter .ensures) ∙ not-false _ (c .before .before .before .before .before .before .before .before .before .before .before .if1 .left)) (sym (c .before .before .before .before .before .before .before .before .before .is-letter2 .ensures) ∙ not-false _ (c .before .before .before .before .before .before .before .before .if2 .left)) (ne-eqb _ _ (c .before .before .before .before .before .before .if3 .left)) (sym (c .before .before .before .before .before .is-block-size .ensures) ∙ not-false _ (c .before .before .before .before .if4 .left)) (sym (c .before .before .before .is-uuid .ensures) ∙ not-false _ (c .before .before .if5 .left)) ∙ ap (λ (b : Bool). b || eqb (c .before .before .before .before .before .before .before .before .before .before .before .before .before .before .before .args .letter) (c .before .before .before .before .before .before .before .before .before .before .before .before .before .before .before .args .volume .other)) (eq-eqb _ _ (c .if6 .taken)))
+returns-6 c = sym (caller-last (given (c .before .before .before .before .before .before .before .before .before .before .before .before .before .before .before .args .uuid .now) (c .before .before .before .before .before .before .before .before .before .before .before .before .before .before .before .args .volume)) (c .before .before .before .before .before .before .before .before .before .before .before .before .before .before .before .args .letter) (sym (c .before .before .before .before .before .before .before .before .before .before .before .before .is-letter .ensures) ∙ not-false _ (c .before .before .before .before .before .before .before .before .before .before .before .if1 .left)) (sym (c .before .before .before .before .before .before .before .before .before .is-letter2 .ensures) ∙ not-false _ (c .before .before .before .before .before .before .before .before .if2 .left)) (ne-eqb _ _ (c .before .before .before .before .before .before .if3 .left)) (sym (c .before .before .before .before .before .is-block-size .ensures) ∙ not-false _ (c .before .before .before .before .if4 .left)) (sym (c .before .before .before .is-uuid .ensures) ∙ not-false _ (c .before .before .if5 .left)) ∙ ap (λ (b : Bool). b || eqb (c .before .before .before .before .before .before .before .before .before .before .before .before .before .before .before .args .letter) (c .before .before .before .before .before .before .before .before .before .before .before .before .before .before .before .args .volume .«data_letter»)) (eq-eqb _ _ (c .if6 .taken)))
 
 returns-7 : tie.Need-returns-7
-returns-7 c = sym (caller-last (given (c .before .before .before .before .before .before .before .before .before .before .before .before .before .before .before .before .args .uuid .now) (c .before .before .before .before .before .before .before .before .before .before .before .before .before .before .before .before .args .volume)) (c .before .before .before .before .before .before .before .before .before .before .before .before .before .before .before .before .args .letter) (sym (c .before .before .before .before .before .before .before .before .before .before .before .before .before .is-letter .ensures) ∙ not-false _ (c .before .before .before .before .before .before .before .before .before .before .before .before .if1 .left)) (sym (c .before .before .before .before .before .before .before .before .before .before .is-letter2 .ensures) ∙ not-false _ (c .before .before .before .before .before .before .before .before .before .if2 .left)) (ne-eqb _ _ (c .before .before .before .before .before .before .before .if3 .left)) (sym (c .before .before .before .before .before .before .is-block-size .ensures) ∙ not-false _ (c .before .before .before .before .before .if4 .left)) (sym (c .before .before .before .before .is-uuid .ensures) ∙ not-false _ (c .before .before .before .if5 .left)) ∙ ap (λ (b : Bool). b || eqb (c .before .before .before .before .before .before .before .before .before .before .before .before .before .before .before .before .args .letter) (c .before .before .before .before .before .before .before .before .before .before .before .before .before .before .before .before .args .volume .other)) (ne-eqb _ _ (c .before .if6 .left)))
+returns-7 c = sym (caller-last (given (c .before .before .before .before .before .before .before .before .before .before .before .before .before .before .before .before .args .uuid .now) (c .before .before .before .before .before .before .before .before .before .before .before .before .before .before .before .before .args .volume)) (c .before .before .before .before .before .before .before .before .before .before .before .before .before .before .before .before .args .letter) (sym (c .before .before .before .before .before .before .before .before .before .before .before .before .before .is-letter .ensures) ∙ not-false _ (c .before .before .before .before .before .before .before .before .before .before .before .before .if1 .left)) (sym (c .before .before .before .before .before .before .before .before .before .before .is-letter2 .ensures) ∙ not-false _ (c .before .before .before .before .before .before .before .before .before .if2 .left)) (ne-eqb _ _ (c .before .before .before .before .before .before .before .if3 .left)) (sym (c .before .before .before .before .before .before .is-block-size .ensures) ∙ not-false _ (c .before .before .before .before .before .if4 .left)) (sym (c .before .before .before .before .is-uuid .ensures) ∙ not-false _ (c .before .before .before .if5 .left)) ∙ ap (λ (b : Bool). b || eqb (c .before .before .before .before .before .before .before .before .before .before .before .before .before .before .before .before .args .letter) (c .before .before .before .before .before .before .before .before .before .before .before .before .before .before .before .before .args .volume .«data_letter»)) (ne-eqb _ _ (c .before .if6 .left)))
 
 pub is-caller-right-spec : {M : Type 1} → statement M
 is-caller-right-spec =

@@ -1,6 +1,6 @@
 -- `is_true` meets its contract: by what is read.
 use mathlib.Core.Path.{ap, sym, _∙_}
-use Rattle.values.specs.Values.{booleanOf}
+use Rattle.values.specs.Steps.{booleanOf}
 use Rattle.index.specs.Index.{isTrue}
 use borrow.Author.Needs.{needs}
 use Rattle.index.proofs.read.is_true.Statement.{statement}

@@ -1,7 +1,7 @@
 -- `letter_named` meets its contract: the letter that the text of `partition` says.
 use mathlib.Core.Path.{ap, _∙_}
 use Rattle.slices.specs.Words.{bytes}
-use Rattle.index_values.specs.Tests.{letterSaid}
+use Rattle.index_values.specs.Tests.{letterOrZero}
 use borrow.Author.Needs.{needs}
 use Rattle.index.proofs.read.letter_named.Statement.{statement}
 use Rattle.index.proofs.read.letter_named.Tie as tie
@@ -17,7 +17,7 @@ letter-said-requires c κs = search needs
 
 returns : tie.Need-returns
 unfolding bytes
-returns c = c .letter-said .ensures ∙ ap letterSaid (c .before .text-in .ensures)
+returns c = c .letter-said .ensures ∙ ap letterOrZero (c .before .text-in .ensures)
 
 pub letter-named-spec : {M : Type 1} → statement M
 letter-named-spec =

@@ -1,8 +1,8 @@
 -- `read_index` meets its contract: what the caller gives, the length, the form, then the root.
 use mathlib.Core.Path.{ap, sym, _∙_}
 use borrow.Author.Tests.{le-leb, lt-leb, not-true, not-false}
-use Rattle.xml.specs.Machine.{isGood, inForm, outcomeOf}
-use Rattle.index_values.specs.Tests.{given}
+use Rattle.xml.specs.CheckSteps.{isGood, inForm, outcomeOf}
+use Rattle.index_values.specs.Steps.{given}
 use Rattle.index.proofs.Answers.{reads-refused, same-read, index-14, index-15, index-4, index-read}
 use borrow.Author.Needs.{needs}
 use Rattle.index.proofs.read.read_index.Statement.{statement}

@@ -2,13 +2,14 @@
 use mathlib.Core.Path.{subst}
 use Prim.Native.Nat.{_≤_, _<_}
 use native.Mathlib.Omega.{arith}
-use Rattle.xml.specs.Form.{height}
+use Rattle.xml.specs.FormSteps.{height}
 use Rattle.xml.proofs.Form.{form-reads}
-use Rattle.elements.specs.Reading.{rowAt, headAt, childrenAt, NextTag}
+use Rattle.elements.specs.Reading.{forestAt, headAt, childrenAt}
+use Rattle.elements.specs.TagSteps.{NextTag}
 use Rattle.elements.specs.declared.tags.Tag.the-variants.{End, Close, Open, Empty}
 use Rattle.elements.proofs.Roots.{root-height, height-children}
 use Rattle.elements.proofs.Rows.{row-end, row-close, node-open, node-empty}
-use Rattle.index_values.specs.Tests.{given}
+use Rattle.index_values.specs.Steps.{given}
 use Rattle.index.proofs.Answers.{reads-refused, same-read, root-none, root-tag}
 use borrow.Author.Needs.{needs}
 use Rattle.index.proofs.read.read_root.Statement.{statement}
@@ -31,8 +32,8 @@ read-tag-requires c κs =
     let s = c .before .before .before .before .before .before .args .text .now in
     let n = c .before .n .given .0 .0 in
     let t : NextTag s 38 (Empty n) = subst (NextTag s 38) (c .before .n .given .1) (c .before .before .before .next-tag .ensures) in
-    let h : height (rowAt s 38) ≤ 64 = root-height (form-reads s (c .before .before .before .before .before .before .pre) .2) in
-    let w : height (childrenAt s n) < height (rowAt s 38) = rw (node-empty t) (height-children _ _ _) in
+    let h : height (forestAt s 38) ≤ 64 = root-height (form-reads s (c .before .before .before .before .before .before .pre) .2) in
+    let w : height (childrenAt s n) < height (forestAt s 38) = rw (node-empty t) (height-children _ _ _) in
     omega arith
 
 enum-known-n-2 : tie.Need-enum-known-n-2
@@ -43,35 +44,35 @@ read-tag-requires-2 c κs =
     let s = c .before .before .before .before .before .before .args .text .now in
     let n = c .before .n2 .given .0 .0 in
     let t : NextTag s 38 (Open n) = subst (NextTag s 38) (c .before .n2 .given .1) (c .before .before .before .next-tag .ensures) in
-    let h : height (rowAt s 38) ≤ 64 = root-height (form-reads s (c .before .before .before .before .before .before .pre) .2) in
-    let w : height (childrenAt s n) < height (rowAt s 38) = rw (node-open t) (height-children _ _ _) in
+    let h : height (forestAt s 38) ≤ 64 = root-height (form-reads s (c .before .before .before .before .before .before .pre) .2) in
+    let w : height (childrenAt s n) < height (forestAt s 38) = rw (node-open t) (height-children _ _ _) in
     omega arith
 
 returns : tie.Need-returns
 returns c =
     let s = c .before .before .before .before .before .args .text .now in
     let t : NextTag s 38 (End) = subst (NextTag s 38) (c .enum-told .given .1) (c .before .before .next-tag .ensures) in
-    reads-refused (root-none (given (c .before .before .before .before .before .args .uuid .now) (c .before .before .before .before .before .args .volume)) (c .before .before .before .before .before .args .letter) (c .before .before .before .before .before .args .block .0) (rowAt s 38) (row-end t))
+    reads-refused (root-none (given (c .before .before .before .before .before .args .uuid .now) (c .before .before .before .before .before .args .volume)) (c .before .before .before .before .before .args .letter) (c .before .before .before .before .before .args .block .0) (forestAt s 38) (row-end t))
 
 returns-2 : tie.Need-returns-2
 returns-2 c =
     let s = c .before .before .before .before .before .args .text .now in
     let t : NextTag s 38 (Close (c .enum-told2 .given .0 .0)) = subst (NextTag s 38) (c .enum-told2 .given .1) (c .before .before .next-tag .ensures) in
-    reads-refused (root-none (given (c .before .before .before .before .before .args .uuid .now) (c .before .before .before .before .before .args .volume)) (c .before .before .before .before .before .args .letter) (c .before .before .before .before .before .args .block .0) (rowAt s 38) (row-close t))
+    reads-refused (root-none (given (c .before .before .before .before .before .args .uuid .now) (c .before .before .before .before .before .args .volume)) (c .before .before .before .before .before .args .letter) (c .before .before .before .before .before .args .block .0) (forestAt s 38) (row-close t))
 
 returns-3 : tie.Need-returns-3
 returns-3 c =
     let s = c .before .before .before .before .before .before .before .args .text .now in
     let n = c .before .before .n .given .0 .0 in
     let t : NextTag s 38 (Empty n) = subst (NextTag s 38) (c .before .before .n .given .1) (c .before .before .before .before .next-tag .ensures) in
-    same-read (c .read-tag .ensures) (root-tag (given (c .before .before .before .before .before .before .before .args .uuid .now) (c .before .before .before .before .before .before .before .args .volume)) (c .before .before .before .before .before .before .before .args .letter) (c .before .before .before .before .before .before .before .args .block .0) (rowAt s 38) (headAt s n) (childrenAt s n) _ (node-empty t))
+    same-read (c .read-tag .ensures) (root-tag (given (c .before .before .before .before .before .before .before .args .uuid .now) (c .before .before .before .before .before .before .before .args .volume)) (c .before .before .before .before .before .before .before .args .letter) (c .before .before .before .before .before .before .before .args .block .0) (forestAt s 38) (headAt s n) (childrenAt s n) _ (node-empty t))
 
 returns-4 : tie.Need-returns-4
 returns-4 c =
     let s = c .before .before .before .before .before .before .before .args .text .now in
     let n = c .before .before .n2 .given .0 .0 in
     let t : NextTag s 38 (Open n) = subst (NextTag s 38) (c .before .before .n2 .given .1) (c .before .before .before .before .next-tag .ensures) in
-    same-read (c .read-tag2 .ensures) (root-tag (given (c .before .before .before .before .before .before .before .args .uuid .now) (c .before .before .before .before .before .before .before .args .volume)) (c .before .before .before .before .before .before .before .args .letter) (c .before .before .before .before .before .before .before .args .block .0) (rowAt s 38) (headAt s n) (childrenAt s n) _ (node-open t))
+    same-read (c .read-tag2 .ensures) (root-tag (given (c .before .before .before .before .before .before .before .args .uuid .now) (c .before .before .before .before .before .before .before .args .volume)) (c .before .before .before .before .before .before .before .args .letter) (c .before .before .before .before .before .before .before .args .block .0) (forestAt s 38) (headAt s n) (childrenAt s n) _ (node-open t))
 
 pub read-root-spec : {M : Type 1} → statement M
 read-root-spec =

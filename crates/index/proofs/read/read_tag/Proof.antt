@@ -5,11 +5,12 @@ use Prim.Native.Nat.{ℕ, _≤_}
 use borrow.Author.Tests.{not-true, not-false}
 use Rattle.slices.specs.Slices.{same}
 use Rattle.slices.specs.Words.{bytes}
-use Rattle.xml.specs.Form.{height}
+use Rattle.xml.specs.FormSteps.{height}
 use Rattle.xml.specs.Tree.{Forest}
 use Rattle.elements.specs.Reading.{headAt, childrenAt}
-use Rattle.values.specs.Values as is
-use Rattle.index_values.specs.Tests.{given}
+use Rattle.values.specs.Values as values
+use Rattle.values.specs.Steps.{versionOf}
+use Rattle.index_values.specs.Steps.{given}
 use Rattle.index.specs.Index.{childrenRead}
 use Rattle.index.proofs.Answers.{reads-refused, same-read, root-name, root-key, root-version, root-read}
 use borrow.Author.Needs.{needs}
@@ -71,7 +72,7 @@ returns-3 c =
     let s = c .before .before .before .before .before .before .before .before .before .before .before .before .before .args .text .now in
     let g = given (c .before .before .before .before .before .before .before .before .before .before .before .before .before .args .uuid .now) (c .before .before .before .before .before .before .before .before .before .before .before .before .before .args .volume) in
     let n = c .before .before .before .before .before .before .before .before .before .before .before .before .before .args .n in
-    reads-refused (root-version g (c .before .before .before .before .before .before .before .before .before .before .before .before .before .args .letter) (c .before .before .before .before .before .before .before .before .before .before .before .before .before .args .block .0) (headAt s n) (childrenAt s n) (sym (c .before .before .before .before .before .before .before .before .before .name-is .ensures) ∙ not-false _ (c .before .before .before .before .before .before .before .before .if1 .left)) (ap (λ (k : List ℕ). same k (bytes "version")) (sym (c .before .before .before .before .before .before .before .key-of .ensures)) ∙ sym (c .before .before .before .before .before .same .ensures) ∙ not-false _ (c .before .before .before .before .if2 .left)) (ap is.version (sym (c .before .before .before .value-of .ensures)) ∙ sym (c .before .before .read-version .ensures) ∙ ap is.versionOf (c .enum-told .given .1)))
+    reads-refused (root-version g (c .before .before .before .before .before .before .before .before .before .before .before .before .before .args .letter) (c .before .before .before .before .before .before .before .before .before .before .before .before .before .args .block .0) (headAt s n) (childrenAt s n) (sym (c .before .before .before .before .before .before .before .before .before .name-is .ensures) ∙ not-false _ (c .before .before .before .before .before .before .before .before .if1 .left)) (ap (λ (k : List ℕ). same k (bytes "version")) (sym (c .before .before .before .before .before .before .before .key-of .ensures)) ∙ sym (c .before .before .before .before .before .same .ensures) ∙ not-false _ (c .before .before .before .before .if2 .left)) (ap values.version (sym (c .before .before .before .value-of .ensures)) ∙ sym (c .before .before .read-version .ensures) ∙ ap versionOf (c .enum-told .given .1)))
 
 returns-4 : tie.Need-returns-4
 unfolding bytes
@@ -81,7 +82,7 @@ returns-4 c =
     let n = c .before .before .before .before .before .before .before .before .before .before .before .before .before .before .before .before .args .n in
     same-read (c .read-children .ensures)
     (ap (λ (k : Forest). childrenRead g (c .before .before .before .before .before .before .before .before .before .before .before .before .before .before .before .before .args .letter) (c .before .before .before .before .before .before .before .before .before .before .before .before .before .before .before .before .args .block .0) (c .before .before .before .release .given .0 .0) k) (c .before .first-child .ensures .row)
-    ∙ root-read g (c .before .before .before .before .before .before .before .before .before .before .before .before .before .before .before .before .args .letter) (c .before .before .before .before .before .before .before .before .before .before .before .before .before .before .before .before .args .block .0) (headAt s n) (childrenAt s n) (sym (c .before .before .before .before .before .before .before .before .before .before .before .before .name-is .ensures) ∙ not-false _ (c .before .before .before .before .before .before .before .before .before .before .before .if1 .left)) (ap (λ (k : List ℕ). same k (bytes "version")) (sym (c .before .before .before .before .before .before .before .before .before .before .key-of .ensures)) ∙ sym (c .before .before .before .before .before .before .before .before .same .ensures) ∙ not-false _ (c .before .before .before .before .before .before .before .if2 .left)) (c .before .before .before .release .given .0 .0) (ap is.version (sym (c .before .before .before .before .before .before .value-of .ensures)) ∙ sym (c .before .before .before .before .before .read-version .ensures) ∙ ap is.versionOf (c .before .before .before .release .given .1)))
+    ∙ root-read g (c .before .before .before .before .before .before .before .before .before .before .before .before .before .before .before .before .args .letter) (c .before .before .before .before .before .before .before .before .before .before .before .before .before .before .before .before .args .block .0) (headAt s n) (childrenAt s n) (sym (c .before .before .before .before .before .before .before .before .before .before .before .before .name-is .ensures) ∙ not-false _ (c .before .before .before .before .before .before .before .before .before .before .before .if1 .left)) (ap (λ (k : List ℕ). same k (bytes "version")) (sym (c .before .before .before .before .before .before .before .before .before .before .key-of .ensures)) ∙ sym (c .before .before .before .before .before .before .before .before .same .ensures) ∙ not-false _ (c .before .before .before .before .before .before .before .if2 .left)) (c .before .before .before .release .given .0 .0) (ap values.version (sym (c .before .before .before .before .before .before .value-of .ensures)) ∙ sym (c .before .before .before .before .before .read-version .ensures) ∙ ap versionOf (c .before .before .before .release .given .1)))
 
 pub read-tag-spec : {M : Type 1} → statement M
 read-tag-spec =

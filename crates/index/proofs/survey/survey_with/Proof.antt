@@ -1,6 +1,6 @@
 -- `survey_with` meets its contract: what the walk gathered, summed up.
-use Rattle.elements.specs.Reading.{rowAt}
-use Rattle.index_values.specs.Tests.{given}
+use Rattle.elements.specs.Reading.{forestAt}
+use Rattle.index_values.specs.Steps.{given}
 use borrow.Author.Needs.{needs}
 use Rattle.index.proofs.survey.survey_with.Statement.{statement}
 use Rattle.index.proofs.survey.survey_with.Tie as tie
@@ -15,7 +15,7 @@ returns : tie.Need-returns
 returns c =
     let a = c .before .before .before .before .before .before .before .before .args in
     record {
-      sums = c .sum-up .ensures (given (a .uuid .now) (a .volume)) (rowAt (a .text .now) (a .at)) (a .table .now) (c .before .before .before .walk .ensures .gathers);
+      sums = c .sum-up .ensures (given (a .uuid .now) (a .volume)) (forestAt (a .text .now) (a .at)) (a .table .now) (c .before .before .before .walk .ensures .gathers);
       places = c .before .before .before .walk .ensures .places;
     }
 

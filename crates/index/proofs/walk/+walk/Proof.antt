@@ -6,19 +6,20 @@ use native.Mathlib.Omega.{arith}
 use borrow.Author.Tests.{not-true, not-false}
 use lib.ListN.{length}
 use Rattle.xml.specs.Tree.{Forest, none}
-use Rattle.xml.specs.Form.{height}
+use Rattle.xml.specs.FormSteps.{height}
 use Rattle.elements.specs.declared.tags.Tag.the-variants.{Open, Empty}
 use Rattle.elements.specs.declared.starts.Next.the-variants.{End, Close, Opens}
 use Rattle.elements.specs.Tags.{tagsAround}
-use Rattle.elements.specs.Reading.{rowAt, headAt, childrenAt, NextTag, Behind, FirstOf}
-use Rattle.elements.specs.Starts.{NextStart}
+use Rattle.elements.specs.Reading.{forestAt, headAt, childrenAt}
+use Rattle.elements.specs.TagSteps.{NextTag, Behind, FirstOf}
+use Rattle.elements.specs.StartSteps.{NextStart}
 use Rattle.elements.proofs.Rows.{row-end, row-close, behind-end, behind-close, behind-along, first-open, first-empty, children-open, children-empty}
 use Rattle.elements.proofs.Roots.{height-open, height-rest}
-use Rattle.index_values.specs.Elements.{numberOf}
-use Rattle.index_values.specs.Tests.{given}
-use Rattle.index.specs.Sweep.{gathered, fresh, ended, closed, sweep}
+use Rattle.index_values.specs.Elements.{nameNumber}
+use Rattle.index_values.specs.Steps.{given}
+use Rattle.index.specs.SweepSteps.{gathered, noneSeen, afterRow, afterElement, sweep}
 use Rattle.index.specs.declared.walk.Sums.{Sums}
-use Rattle.index_rows.specs.Places.{Placed}
+use Rattle.index_rows.specs.Steps.{Placed}
 use Rattle.index_rows.proofs.Placing.{Noting, noting-none, noting-more, noting-all}
 use Rattle.index.proofs.Steps.{row-over, step-holds, step-other}
 use borrow.Author.Needs.{needs}
@@ -71,15 +72,15 @@ claims t = (
 
 abbrev walk-Inv-loop : walk-lts.InvT-loop
 walk-Inv-loop text uuid uids₀ rows₀ at kind depth volume i₀ a₀ seen₀ places₀ uids rows i a seen places =
-    (at ≤ i) × (i ≤ length text) × (height (rowAt text i) ≤ depth) × (tagsAround text at ≡ tagsAround text i)
-    × (sweep (given uuid volume) kind fresh (rowAt text at) (gathered a₀ uids₀) ≡ sweep (given uuid volume) kind seen (rowAt text i) (gathered a uids))
-    × Noting text kind (rowAt text at) (rowAt text i) places
+    (at ≤ i) × (i ≤ length text) × (height (forestAt text i) ≤ depth) × (tagsAround text at ≡ tagsAround text i)
+    × (sweep (given uuid volume) kind noneSeen (forestAt text at) (gathered a₀ uids₀) ≡ sweep (given uuid volume) kind seen (forestAt text i) (gathered a uids))
+    × Noting text kind (forestAt text at) (forestAt text i) places
 
 abbrev walk-μ-loop : walk-lts.MeasureT-loop
 walk-μ-loop text uuid uids₀ rows₀ at kind depth volume i₀ a₀ seen₀ places₀ uids rows i a seen places = length text - i
 
 walk-loop-holds : (t : ℕ) → walk-lts.Need-loop-holds (claims t) (walk-at t) walk.Post walk-Inv-loop walk-μ-loop
-walk-loop-holds t c = (search needs, search needs, c .before .before .pre .1 .1, refl, refl, noting-none (c .before .before .args .text .now) (c .before .before .args .kind) (rowAt (c .before .before .args .text .now) (c .before .before .args .at)))
+walk-loop-holds t c = (search needs, search needs, c .before .before .pre .1 .1, refl, refl, noting-none (c .before .before .args .text .now) (c .before .before .args .kind) (forestAt (c .before .before .args .text .now) (c .before .before .args .at)))
 
 walk-next-start-requires : (t : ℕ) → walk-lts.Need-next-start-requires (claims t) (walk-at t) walk.Post walk-Inv-loop walk-μ-loop
 walk-next-start-requires t c κs = search needs
@@ -91,7 +92,7 @@ walk-over-requires : (t : ℕ) → walk-lts.Need-over-requires (claims t) (walk-
 walk-over-requires t c κs = search needs
 
 walk-returns : (t : ℕ) → walk-lts.Need-returns (claims t) (walk-at t) walk.Post walk-Inv-loop walk-μ-loop
-unfolding ended
+unfolding afterRow
 walk-returns t c =
     let a = c .before .before .before .before .before .before .before .before .args in
     let s = a .text .now in
@@ -100,9 +101,9 @@ walk-returns t c =
     let tag : NextStart s (l .i) End = subst (NextStart s (l .i)) (c .before .before .enum-told .given .1) (c .before .before .before .before .next-start .ensures) in
     let behind : Behind s (a .at) (length s) = behind-along (omega (arith, l .inv .0)) (l .inv .3) (behind-end tag) in
     record {
-      gathers = ap (λ (x : Sums). gathered x (l .uids)) (c .over .ensures .sums) ∙ sym (l .inv .4 ∙ row-over g (a .kind) (l .seen) (gathered (l .a) (l .uids)) (rowAt s (l .i)) (row-end tag));
+      gathers = ap (λ (x : Sums). gathered x (l .uids)) (c .over .ensures .sums) ∙ sym (l .inv .4 ∙ row-over g (a .kind) (l .seen) (gathered (l .a) (l .uids)) (forestAt s (l .i)) (row-end tag));
       behind = subst (Behind s (a .at)) (sym (c .over .ensures .at)) behind;
-      places = subst (Placed s (a .kind) (rowAt s (a .at))) (sym (c .over .ensures .places)) (noting-all s (a .kind) (rowAt s (a .at)) (rowAt s (l .i)) (l .places) (row-end tag) (l .inv .5));
+      places = subst (Placed s (a .kind) (forestAt s (a .at))) (sym (c .over .ensures .places)) (noting-all s (a .kind) (forestAt s (a .at)) (forestAt s (l .i)) (l .places) (row-end tag) (l .inv .5));
     }
 
 walk-enum-known-n : (t : ℕ) → walk-lts.Need-enum-known-n (claims t) (walk-at t) walk.Post walk-Inv-loop walk-μ-loop
@@ -112,7 +113,7 @@ walk-over-requires-2 : (t : ℕ) → walk-lts.Need-over-requires-2 (claims t) (w
 walk-over-requires-2 t c κs = search needs
 
 walk-returns-2 : (t : ℕ) → walk-lts.Need-returns-2 (claims t) (walk-at t) walk.Post walk-Inv-loop walk-μ-loop
-unfolding ended
+unfolding afterRow
 walk-returns-2 t c =
     let a = c .before .before .before .before .before .before .before .before .before .args in
     let s = a .text .now in
@@ -122,9 +123,9 @@ walk-returns-2 t c =
     let tag : NextStart s (l .i) (Close n) = subst (NextStart s (l .i)) (c .before .before .before .n .given .1) (c .before .before .before .before .before .next-start .ensures) in
     let behind : Behind s (a .at) n = behind-along (omega (arith, l .inv .0)) (l .inv .3) (behind-close tag) in
     record {
-      gathers = ap (λ (x : Sums). gathered x (l .uids)) (c .over2 .ensures .sums) ∙ sym (l .inv .4 ∙ row-over g (a .kind) (l .seen) (gathered (l .a) (l .uids)) (rowAt s (l .i)) (row-close tag));
+      gathers = ap (λ (x : Sums). gathered x (l .uids)) (c .over2 .ensures .sums) ∙ sym (l .inv .4 ∙ row-over g (a .kind) (l .seen) (gathered (l .a) (l .uids)) (forestAt s (l .i)) (row-close tag));
       behind = subst (Behind s (a .at)) (sym (c .over2 .ensures .at)) behind;
-      places = subst (Placed s (a .kind) (rowAt s (a .at))) (sym (c .over2 .ensures .places)) (noting-all s (a .kind) (rowAt s (a .at)) (rowAt s (l .i)) (l .places) (row-close tag) (l .inv .5));
+      places = subst (Placed s (a .kind) (forestAt s (a .at))) (sym (c .over2 .ensures .places)) (noting-all s (a .kind) (forestAt s (a .at)) (forestAt s (l .i)) (l .places) (row-close tag) (l .inv .5));
     }
 
 walk-enum-known-h : (t : ℕ) → walk-lts.Need-enum-known-h (claims t) (walk-at t) walk.Post walk-Inv-loop walk-μ-loop
@@ -175,13 +176,13 @@ walk-loop-again t c =
     let met = c .before .before .before .before .meet .ensures in
     let srt = c .before .before .before .before .meet .result in
     let first : FirstOf s (l .i) (x .at) (c .behind .result) = c .behind .ensures (l .i) o in
-    let low : height (rowAt s (c .behind .result)) ≤ height (rowAt s (l .i)) = height-rest first in (
+    let low : height (forestAt s (c .behind .result)) ≤ height (forestAt s (l .i)) = height-rest first in (
       omega (arith, first .place, first .after),
       first .after .1,
       omega arith,
       l .inv .3 ∙ first .tagsKept,
       l .inv .4 ∙ step-other g (a .kind) (l .seen) (gathered (l .a) (l .uids)) first srt _ (c .before .before .before .enter .result) (met .known) (met .seen) (c .before .before .before .enter .ensures) (sym (c .before .before .is-open .ensures) ∙ not-true _ (c .before .if1 .taken)),
-      noting-more s (a .kind) (numberOf (a .kind) (headAt s (x .at))) (l .places) _ first refl (met .places) (rowAt s (a .at)) (l .inv .5),
+      noting-more s (a .kind) (nameNumber (a .kind) (headAt s (x .at))) (l .places) _ first refl (met .places) (forestAt s (a .at)) (l .inv .5),
     )
 
 walk-close-empty-requires : (t : ℕ) → walk-lts.Need-close-empty-requires (claims t) (walk-at t) walk.Post walk-Inv-loop walk-μ-loop
@@ -212,15 +213,15 @@ walk-loop-again-2 t c =
     let tag : NextTag s (l .i) (Empty (x .at)) = rw (c .before .before .before .if2 .taken) at (o .tag) in
     let first : FirstOf s (l .i) (x .at) (x .at) = first-empty tag in
     let closes =
-    c .close-empty .ensures (a .uuid .now) ∙ ap (closed g srt none (l .a .entries)) (sym (row-over g srt fresh b none refl))
-    ∙ ap (λ (f : Forest). closed g srt f (l .a .entries) (sweep g srt fresh f b)) (sym (children-empty tag)) in
-    let low : height (rowAt s (x .at)) ≤ height (rowAt s (l .i)) = height-rest first in (
+    c .close-empty .ensures (a .uuid .now) ∙ ap (afterElement g srt none (l .a .entries)) (sym (row-over g srt noneSeen b none refl))
+    ∙ ap (λ (f : Forest). afterElement g srt f (l .a .entries) (sweep g srt noneSeen f b)) (sym (children-empty tag)) in
+    let low : height (forestAt s (x .at)) ≤ height (forestAt s (l .i)) = height-rest first in (
       omega (arith, first .place, first .after),
       first .after .1,
       omega arith,
       l .inv .3 ∙ first .tagsKept,
       l .inv .4 ∙ step-holds g (a .kind) (l .seen) (gathered (l .a) (l .uids)) first srt _ (c .before .before .before .before .before .before .enter .result) (met .known) (met .seen) (c .before .before .before .before .before .before .enter .ensures) _ (sym (c .before .before .before .before .before .is-open .ensures) ∙ not-false _ (c .before .before .before .before .if1 .left)) closes,
-      noting-more s (a .kind) (numberOf (a .kind) (headAt s (x .at))) (l .places) _ first refl (met .places) (rowAt s (a .at)) (l .inv .5),
+      noting-more s (a .kind) (nameNumber (a .kind) (headAt s (x .at))) (l .places) _ first refl (met .places) (forestAt s (a .at)) (l .inv .5),
     )
 
 walk-sub-walk : (t : ℕ) → walk-lts.Need-sub-walk (claims t) (walk-at t) walk.Post walk-Inv-loop walk-μ-loop
@@ -278,14 +279,14 @@ walk-loop-again-3 t c =
     let held : Placed s srt k (c .before .before .before .walk .result .places) = subst (λ (f : Forest). Placed s srt f (c .before .before .before .walk .result .places)) (sym (children-open tag)) (c .before .before .before .walk .ensures .places) in
     let closes =
     c .close-element .ensures k (a .uuid .now) (λ q. held)
-    ∙ ap (closed g srt k (l .a .entries)) (c .before .before .before .walk .ensures .gathers ∙ ap (λ (f : Forest). sweep g srt fresh f b) (sym (children-open tag))) in
-    let low : height (rowAt s (c .before .before .before .walk .result .at)) ≤ height (rowAt s (l .i)) = height-rest first in (
+    ∙ ap (afterElement g srt k (l .a .entries)) (c .before .before .before .walk .ensures .gathers ∙ ap (λ (f : Forest). sweep g srt noneSeen f b) (sym (children-open tag))) in
+    let low : height (forestAt s (c .before .before .before .walk .result .at)) ≤ height (forestAt s (l .i)) = height-rest first in (
       omega (arith, first .place, first .after),
       first .after .1,
       omega arith,
       l .inv .3 ∙ first .tagsKept,
       l .inv .4 ∙ step-holds g (a .kind) (l .seen) (gathered (l .a) (l .uids)) first srt _ (c .before .before .before .before .before .before .before .before .before .enter .result) (met .known) (met .seen) (c .before .before .before .before .before .before .before .before .before .enter .ensures) _ (sym (c .before .before .before .before .before .before .before .before .is-open .ensures) ∙ not-false _ (c .before .before .before .before .before .before .before .if1 .left)) closes,
-      noting-more s (a .kind) (numberOf (a .kind) (headAt s (x .at))) (l .places) _ first refl (met .places) (rowAt s (a .at)) (l .inv .5),
+      noting-more s (a .kind) (nameNumber (a .kind) (headAt s (x .at))) (l .places) _ first refl (met .places) (forestAt s (a .at)) (l .inv .5),
     )
 
 pub +walk-spec : {M : Type 1} → statement M

@@ -3,11 +3,11 @@ use mathlib.Core.Path.{ap, _∙_, subst}
 use mathlib.Core.Bool.{Bool, cond}
 use Prim.Native.Nat.{ℕ}
 use lib.ListN.{getD, set}
-use Rattle.children.specs.Children.{textOf}
-use Rattle.children.specs.Rows.{seat}
-use Rattle.index_rows.specs.Places.{Placed}
-use Rattle.index_values.specs.Entries.{isEntry, numberSaid}
-use Rattle.index_values.specs.Tests.{given}
+use Rattle.children.specs.Children.{textOfFirst}
+use Rattle.children.specs.RowSteps.{seat}
+use Rattle.index_rows.specs.Steps.{Placed}
+use Rattle.index_values.specs.Entries.{isEntry, numberOrZero}
+use Rattle.index_values.specs.Steps.{given}
 use Rattle.index_values.proofs.Seated.{fileuid-placed}
 use Rattle.index.proofs.Gathering.{closed-parts, uid-parts}
 use borrow.Author.Needs.{needs}
@@ -35,7 +35,7 @@ returns c k uuid placed =
     let s = a .text .now in
     let t = a .w .places in
     let u = a .uids .now in
-    let n = numberSaid (textOf (seat s (getD t 0 0))) in
+    let n = numberOrZero (textOfFirst (seat s (getD t 0 0))) in
     let v = c .before .judge .ensures k (λ q. subst (λ (j : ℕ). Placed s j k t) q (placed (ap isEntry q))) in
     closed-parts (given uuid (a .volume)) (a .sort) k (a .number) (a .w .sums) _ _ _ u _ (v .0) (v .1 uuid) (c .settle .ensures)
     (c .before .before .before .before .put-uid .ensures ∙ ap (λ (b : Bool). cond b (set u (a .number) n) u) (c .before .before .before .before .before .is-entry .ensures)

@@ -1,8 +1,9 @@
 -- `enter` meets its contract: part by part.
 use mathlib.Core.Path.{refl, ap, _∙_}
 use mathlib.Core.Bool.{Bool, _&&_, cond}
-use Rattle.index.specs.Sweep.{more}
-use Rattle.index_values.specs.Tests.{given, valued, own}
+use Rattle.index.specs.SweepSteps.{oneMore}
+use Rattle.index_values.specs.Tests.{valued, own}
+use Rattle.index_values.specs.Steps.{given}
 use Rattle.elements.specs.Reading.{headAt, childrenAt}
 use Rattle.index.proofs.Gathering.{begun-parts}
 use borrow.Author.Needs.{needs}
@@ -53,7 +54,7 @@ returns c =
     (c .before .before .before .before .before .both2 .ensures ∙ ap (λ (b : Bool). a .values && b) (c .before .before .before .before .before .before .is-valued .ensures ∙ ap (valued q) raw))
     (c .before .before .before .both3 .ensures ∙ ap (λ (b : Bool). a .own && b) (c .before .before .before .before .is-own .ensures ∙ ap (own g q) raw))
     refl
-    (c .before .bump-if .ensures ∙ ap (λ (b : Bool). cond b (more (a .entries)) (a .entries)) (c .before .before .is-entry .ensures))
+    (c .before .bump-if .ensures ∙ ap (λ (b : Bool). cond b (oneMore (a .entries)) (a .entries)) (c .before .before .is-entry .ensures))
     (c .bump-if2 .ensures)
 
 pub enter-spec : {M : Type 1} → statement M

@@ -6,15 +6,15 @@ use borrow.Author.Tests.{not-true, not-false}
 use mathlib.Core.Bool.{Bool}
 use lib.ListN.{getD}
 use Rattle.children.specs.Children.{below}
-use Rattle.index.specs.Structure.{once}
-use Rattle.index.specs.Sweep.{done}
+use Rattle.index.specs.Structure.{rightOften}
+use Rattle.index.specs.SweepSteps.{rowDone}
 use Rattle.children.proofs.Below.{below-step, below-false}
 use borrow.Author.Needs.{needs}
 use Rattle.index.proofs.walk.is_done.Statement.{statement}
 use Rattle.index.proofs.walk.is_done.Tie as tie
 
 abbrev Inv-loop : tie.InvT-loop
-Inv-loop kind seen needed j₀ j = (j ≤ 16) × (below 16 (λ (i : ℕ). once needed i (getD seen i 0)) ≡ below j (λ (i : ℕ). once needed i (getD seen i 0)))
+Inv-loop kind seen needed j₀ j = (j ≤ 16) × (below 16 (λ (i : ℕ). rightOften needed i (getD seen i 0)) ≡ below j (λ (i : ℕ). rightOften needed i (getD seen i 0)))
 
 abbrev μ-loop : tie.MeasureT-loop
 μ-loop kind seen needed j₀ j = j
@@ -23,7 +23,7 @@ may-repeat-requires : tie.Need-may-repeat-requires Inv-loop μ-loop
 may-repeat-requires c κs = search needs
 
 returns : tie.Need-returns Inv-loop μ-loop
-unfolding done
+unfolding rowDone
 returns c = rw (← c .before .may-repeat .ensures, c .if1 .taken)
 
 must-in-requires : tie.Need-must-in-requires Inv-loop μ-loop
@@ -45,11 +45,11 @@ is-once-requires : tie.Need-is-once-requires Inv-loop μ-loop
 is-once-requires c κs = search needs
 
 returns-2 : tie.Need-returns-2 Inv-loop μ-loop
-unfolding done
+unfolding rowDone
 returns-2 c =
     let w = c .before .before .before .before .before .before .before .before .args .seen .now in
     let q = c .before .before .before .before .before .must-in .result in
-    let t : ℕ → Bool = λ (i : ℕ). once q i (getD w i 0) in
+    let t : ℕ → Bool = λ (i : ℕ). rightOften q i (getD w i 0) in
     let l = c .before .before .before .before .loop in
     sym (rw (← c .before .before .before .before .before .before .before .may-repeat .ensures, c .before .before .before .before .before .before .if1 .left, ← c .before .before .before .before .before .must-in .ensures) (l .inv .1 ∙ below-false t (l .j) (l .j - 1) (search needs) (sym (c .before .is-once .ensures) ∙ not-true _ (c .if2 .taken))))
 
@@ -60,16 +60,16 @@ loop-again : tie.Need-loop-again Inv-loop μ-loop
 loop-again c =
     let w = c .before .before .before .before .before .before .before .before .args .seen .now in
     let q = c .before .before .before .before .before .must-in .result in
-    let t : ℕ → Bool = λ (i : ℕ). once q i (getD w i 0) in
+    let t : ℕ → Bool = λ (i : ℕ). rightOften q i (getD w i 0) in
     let l = c .before .before .before .before .loop in
     (search needs, l .inv .1 ∙ below-step t (l .j) (search needs) (sym (c .before .is-once .ensures) ∙ not-false _ (c .if2 .left)))
 
 returns-3 : tie.Need-returns-3 Inv-loop μ-loop
-unfolding done below
+unfolding rowDone below
 returns-3 c =
     let w = c .before .before .before .before .before .args .seen .now in
     let q = c .before .before .must-in .result in
-    let t : ℕ → Bool = λ (i : ℕ). once q i (getD w i 0) in
+    let t : ℕ → Bool = λ (i : ℕ). rightOften q i (getD w i 0) in
     let l = c .before .loop in
     let z : l .j ≡ 0 = omega arith in
     sym (rw (← c .before .before .before .before .may-repeat .ensures, c .before .before .before .if1 .left, ← c .before .before .must-in .ensures) (l .inv .1 ∙ ap (λ (n : ℕ). below n t) z))

@@ -2,7 +2,7 @@
 use mathlib.Core.Path.{ap, _∙_}
 use Prim.Native.Nat.{ℕ}
 use lib.ListN.{set}
-use Rattle.index.specs.Sweep.{marked, more}
+use Rattle.index.specs.SweepSteps.{marked, oneMore}
 use borrow.Author.Needs.{needs}
 use Rattle.index.proofs.walk.mark.Statement.{statement}
 use Rattle.index.proofs.walk.mark.Tie as tie
@@ -18,7 +18,7 @@ put-requires c κs = search needs
 
 returns : tie.Need-returns
 unfolding marked
-returns c = c .put .ensures ∙ ap (λ (v : ℕ). set (c .before .before .before .before .before .before .args .seen .now) (c .before .before .before .before .before .before .args .j) v) (c .before .bump .ensures ∙ ap more (c .before .before .before .item .ensures))
+returns c = c .put .ensures ∙ ap (λ (v : ℕ). set (c .before .before .before .before .before .before .args .seen .now) (c .before .before .before .before .before .before .args .j) v) (c .before .bump .ensures ∙ ap oneMore (c .before .before .before .item .ensures))
 
 pub mark-spec : {M : Type 1} → statement M
 mark-spec = tie.close (tie.spec item-requires bump-requires put-requires returns)

@@ -2,8 +2,8 @@
 use mathlib.Core.Path.{ap, _∙_}
 use Prim.Native.Nat.{ℕ}
 use Rattle.index_names.specs.Sorts.{sort}
-use Rattle.index_rows.specs.Places.{noted}
-use Rattle.index.specs.Sweep.{marked}
+use Rattle.index_rows.specs.Steps.{noted}
+use Rattle.index.specs.SweepSteps.{marked}
 use borrow.Author.Needs.{needs}
 use Rattle.index.proofs.walk.meet.Statement.{statement}
 use Rattle.index.proofs.walk.meet.Tie as tie

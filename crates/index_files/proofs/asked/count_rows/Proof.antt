@@ -4,7 +4,8 @@ use Prim.Native.Nat.{_+_, _-_, _≤_}
 use native.Mathlib.Omega.{arith}
 use lib.ListN.{length}
 use Rattle.elements.specs.declared.tags.Child.the-variants.{Done, At}
-use Rattle.elements.specs.Reading.{rowAt, NextChild}
+use Rattle.elements.specs.Reading.{forestAt}
+use Rattle.elements.specs.TagSteps.{NextChild}
 use Rattle.index_values.specs.Tests.{rowsIn}
 use Rattle.index_files.proofs.Meeting.{rows-over}
 use Rattle.index_files.proofs.Asking.{rows-counted}
@@ -13,7 +14,7 @@ use Rattle.index_files.proofs.asked.count_rows.Statement.{statement}
 use Rattle.index_files.proofs.asked.count_rows.Tie as tie
 
 abbrev Inv-loop : tie.InvT-loop
-Inv-loop text at i₀ n₀ i n = (n ≤ i) × (n + length (rowsIn (rowAt text i)) ≡ length (rowsIn (rowAt text at)))
+Inv-loop text at i₀ n₀ i n = (n ≤ i) × (n + length (rowsIn (forestAt text i)) ≡ length (rowsIn (forestAt text at)))
 
 abbrev μ-loop : tie.MeasureT-loop
 μ-loop text at i₀ n₀ i n = length text - i

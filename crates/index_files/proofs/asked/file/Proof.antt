@@ -3,7 +3,7 @@ use mathlib.Core.Path.{ap, sym, _∙_}
 use Rattle.refusals.specs.Refusals.{Answer, answer, andThen}
 use Rattle.elements.specs.Reading.{childrenAt}
 use Rattle.index.specs.Index.{File}
-use Rattle.index_files.specs.Asked.{fileFound, shown}
+use Rattle.index_files.specs.AskedSteps.{fileFound, shown}
 use Rattle.index_files.proofs.Asking.{head-shown}
 use borrow.Author.Needs.{needs}
 use Rattle.index_files.proofs.asked.file.Statement.{statement}

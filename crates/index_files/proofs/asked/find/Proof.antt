@@ -5,7 +5,7 @@ use native.Mathlib.Omega.{arith}
 use lib.ListN.{length}
 use Rattle.elements.specs.Reading.{leftAt, childrenAt}
 use Rattle.index_files.specs.declared.files.NextFile.the-variants.{Done, File}
-use Rattle.index_files.specs.Files.{filesLeft, FileFrom}
+use Rattle.index_files.specs.FileSteps.{filesLeft, FileFrom}
 use Rattle.index_files.specs.Asked.{nth}
 use Rattle.index_files.proofs.Asking.{nth-none, nth-first, nth-later}
 use borrow.Author.Needs.{needs}

@@ -4,7 +4,7 @@ use lib.ListN.{length}
 use Rattle.slices.specs.Words.{bytes}
 use Rattle.xml.specs.Tree.{Forest}
 use Rattle.index_values.specs.Elements.{textIn}
-use Rattle.index_values.specs.Entries.{numberSaid}
+use Rattle.index_values.specs.Entries.{numberOrZero}
 use Rattle.index_values.specs.Tests.{rowsIn}
 use borrow.Author.Needs.{needs}
 use Rattle.index_files.proofs.asked.head_at.Statement.{statement}
@@ -38,7 +38,7 @@ returns : tie.Need-returns
 unfolding bytes
 returns c =
     record {
-      length = c .before .before .before .before .number-said .ensures ∙ ap numberSaid (c .before .before .before .before .before .text-in .ensures ∙ ap (textIn (bytes "length")) (c .before .before .before .before .before .before .before .first-child .ensures .row));
+      length = c .before .before .before .before .number-said .ensures ∙ ap numberOrZero (c .before .before .before .before .before .text-in .ensures ∙ ap (textIn (bytes "length")) (c .before .before .before .before .before .before .before .first-child .ensures .row));
       name = record { part = c .before .before .span-in .ensures .part ∙ ap (textIn (bytes "name")) (c .before .before .before .before .before .before .before .first-child .ensures .row); inside = c .before .before .span-in .ensures .inside };
       rows = c .count-rows .ensures ∙ ap (λ (f : Forest). length (rowsIn f)) (c .before .first-row .ensures .row);
     }

@@ -2,8 +2,9 @@
 use mathlib.Core.Path.{ap, sym, _∙_}
 use Rattle.refusals.specs.Refusals.{Answer, answer, andThen}
 use Rattle.xml.specs.Tree.{Forest}
-use Rattle.index.specs.Index.{fileOf, means}
-use Rattle.index_values.specs.Tests.{given}
+use Rattle.index.specs.Index.{fileOf}
+use Rattle.index.specs.Steps.{means}
+use Rattle.index_values.specs.Steps.{given}
 use Rattle.index_files.specs.Asked.{nth}
 use Rattle.index_files.proofs.Asking.{index-refused, file-found}
 use borrow.Author.Needs.{needs}

@@ -1,6 +1,6 @@
 -- `put_rows` meets its contract: 10 before anything is written.
 use native.Mathlib.Omega.{arith}
-use Rattle.elements.specs.Reading.{rowAt}
+use Rattle.elements.specs.Reading.{forestAt}
 use Rattle.index_values.specs.Tests.{rowsIn}
 use Rattle.index_files.proofs.Putting.{put-short, put-all}
 use borrow.Author.Needs.{needs}
@@ -12,7 +12,7 @@ count-rows-requires c κs = search needs
 
 returns : tie.Need-returns
 returns c =
-    put-short 5 (rowsIn (rowAt (c .before .before .before .before .args .text .now) (c .before .before .before .before .args .at))) (c .before .count-rows .result) (c .before .before .before .before .args .out .now) (c .before .count-rows .ensures) (omega (arith, c .if1 .taken))
+    put-short 5 (rowsIn (forestAt (c .before .before .before .before .args .text .now) (c .before .before .before .before .args .at))) (c .before .count-rows .result) (c .before .before .before .before .args .out .now) (c .before .count-rows .ensures) (omega (arith, c .if1 .taken))
 
 write-rows-requires : tie.Need-write-rows-requires
 write-rows-requires c κs = omega (arith, c .before .if1 .left, c .before .before .count-rows .ensures)
@@ -22,7 +22,7 @@ same-length c = search needs
 
 returns-2 : tie.Need-returns-2
 returns-2 c =
-    put-all 5 (rowsIn (rowAt (c .before .before .before .before .before .before .before .before .args .text .now) (c .before .before .before .before .before .before .before .before .args .at))) (c .before .before .before .before .before .count-rows .result) (c .before .before .before .before .before .before .before .before .args .out .now) (c .before .before .before .before .before .count-rows .ensures) (omega (arith, c .before .before .before .before .if1 .left)) _ (c .before .before .write-rows .ensures .holds)
+    put-all 5 (rowsIn (forestAt (c .before .before .before .before .before .before .before .before .args .text .now) (c .before .before .before .before .before .before .before .before .args .at))) (c .before .before .before .before .before .count-rows .result) (c .before .before .before .before .before .before .before .before .args .out .now) (c .before .before .before .before .before .count-rows .ensures) (omega (arith, c .before .before .before .before .if1 .left)) _ (c .before .before .write-rows .ensures .holds)
 
 pub put-rows-spec : {M : Type 1} → statement M
 put-rows-spec =

@@ -3,8 +3,8 @@ use mathlib.Core.Path.{ap, sym, _∙_}
 use lib.ListN.{length}
 use Rattle.xml.specs.Tree.{Forest}
 use Rattle.index_values.specs.Tests.{rowsIn}
-use Rattle.index_files.specs.Asked.{fileFound}
-use Rattle.index_files.specs.Filling.{fitting, rowsFor}
+use Rattle.index_files.specs.AskedSteps.{fileFound}
+use Rattle.index_files.specs.Filling.{withRoom, rowsFor}
 use Rattle.index_files.proofs.Putting.{put-refused, put-as}
 use borrow.Author.Needs.{needs}
 use Rattle.index_files.proofs.asked.rows.Statement.{statement}
@@ -35,7 +35,7 @@ same-length c = search needs
 returns-2 : tie.Need-returns-2
 returns-2 c =
     put-as
-    (ap (λ (f : Forest). fitting 5 (length (c .before .before .before .before .before .before .before .before .before .before .before .before .args .out .now)) (rowsIn f)) (c .before .before .before .before .first-row .ensures .row)
+    (ap (λ (f : Forest). withRoom 5 (length (c .before .before .before .before .before .before .before .before .before .before .before .before .args .out .now)) (rowsIn f)) (c .before .before .before .before .first-row .ensures .row)
     ∙ ap (rowsFor (length (c .before .before .before .before .before .before .before .before .before .before .before .before .args .out .now))) (ap (fileFound (c .before .before .before .before .before .before .before .before .before .before .before .before .args .text .now)) (sym (c .before .before .before .before .before .before .n .given .1)) ∙ c .before .before .before .before .before .before .before .before .locate .ensures))
     (c .before .before .put-rows .ensures)
 

@@ -1,7 +1,7 @@
 -- `first_row` meets its contract: the row in the file's extentinfo.
 use mathlib.Core.Path.{ap, _∙_}
 use Rattle.slices.specs.Words.{bytes}
-use Rattle.index_values.specs.Elements.{rowIn}
+use Rattle.index_values.specs.Elements.{childrenIn}
 use borrow.Author.Needs.{needs}
 use Rattle.index_files.proofs.extent_rows.first_row.Statement.{statement}
 use Rattle.index_files.proofs.extent_rows.first_row.Tie as tie
@@ -17,7 +17,7 @@ row-in-requires c κs = search needs
 
 returns : tie.Need-returns
 unfolding bytes
-returns c = record { row = c .row-in .ensures ∙ ap (rowIn (bytes "extentinfo")) (c .before .before .first-child .ensures .row) }
+returns c = record { row = c .row-in .ensures ∙ ap (childrenIn (bytes "extentinfo")) (c .before .before .first-child .ensures .row) }
 
 pub first-row-spec : {M : Type 1} → statement M
 first-row-spec =

@@ -3,7 +3,8 @@ use mathlib.Core.Path.{ap, sym, _∙_, subst}
 use mathlib.Core.List.{_∷_}
 use native.Mathlib.Omega.{arith}
 use Rattle.elements.specs.declared.tags.Child.the-variants.{Done, At}
-use Rattle.elements.specs.Reading.{rowAt, NextChild}
+use Rattle.elements.specs.Reading.{forestAt}
+use Rattle.elements.specs.TagSteps.{NextChild}
 use Rattle.extents.specs.Rows as extents
 use Rattle.index_values.specs.Tests.{rowOf, rowsIn}
 use Rattle.index_files.proofs.Meeting.{rows-over, rows-first}
@@ -40,7 +41,7 @@ returns-2 c =
     let g = c .before .before .before .n .given in
     let f : NextChild s i (At (g .0 .0) (g .0 .1 .0)) = subst (NextChild s i) (g .1) (c .before .before .before .before .before .next-child .ensures) in
     record {
-      rows = rows-first s i f ∙ ap (λ (x : extents.Row). x ∷ rowsIn (rowAt s (g .0 .1 .0))) (sym (c .row-from .ensures ∙ ap rowOf (c .before .first-child .ensures .row)));
+      rows = rows-first s i f ∙ ap (λ (x : extents.Row). x ∷ rowsIn (forestAt s (g .0 .1 .0))) (sym (c .row-from .ensures ∙ ap rowOf (c .before .first-child .ensures .row)));
       place = (omega (arith, f .place, f .after), f .after .1);
     }
 

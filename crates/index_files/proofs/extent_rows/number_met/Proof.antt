@@ -1,6 +1,6 @@
 -- `number_met` meets its contract.
 use mathlib.Core.Path.{ap, _∙_}
-use Rattle.index_values.specs.Entries.{numberSaid}
+use Rattle.index_values.specs.Entries.{numberOrZero}
 use borrow.Author.Needs.{needs}
 use Rattle.index_files.proofs.extent_rows.number_met.Statement.{statement}
 use Rattle.index_files.proofs.extent_rows.number_met.Tie as tie
@@ -12,7 +12,7 @@ number-said-requires : tie.Need-number-said-requires
 number-said-requires c κs = search needs
 
 returns : tie.Need-returns
-returns c = c .number-said .ensures ∙ ap numberSaid (c .before .text-met .ensures)
+returns c = c .number-said .ensures ∙ ap numberOrZero (c .before .text-met .ensures)
 
 pub number-met-spec : {M : Type 1} → statement M
 number-met-spec = tie.close (tie.spec text-met-requires number-said-requires returns)

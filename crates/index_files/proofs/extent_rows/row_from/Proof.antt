@@ -1,6 +1,6 @@
 -- `row_from` meets its contract: number by number, as the tags that were met say.
 use mathlib.Core.Path.{ap, _∙_}
-use Rattle.index_values.specs.Tests.{letterSaid}
+use Rattle.index_values.specs.Tests.{letterOrZero}
 use Rattle.index_files.proofs.Meeting.{row-met}
 use borrow.Author.Needs.{needs}
 use Rattle.index_files.proofs.extent_rows.row_from.Statement.{statement}
@@ -32,7 +32,7 @@ number-met-requires-4 c κs = search needs
 
 returns : tie.Need-returns
 returns c =
-    row-met (c .before .before .before .before .before .before .before .before .args .text .now) (c .before .before .before .before .before .before .before .before .args .at) (c .before .before .before .before .before .before .tags-in .result) _ _ _ _ _ (c .before .before .before .before .before .before .tags-in .ensures) (c .before .before .before .before .letter-said .ensures ∙ ap letterSaid (c .before .before .before .before .before .text-met .ensures)) (c .before .before .before .number-met .ensures) (c .before .before .number-met2 .ensures) (c .before .number-met3 .ensures) (c .number-met4 .ensures)
+    row-met (c .before .before .before .before .before .before .before .before .args .text .now) (c .before .before .before .before .before .before .before .before .args .at) (c .before .before .before .before .before .before .tags-in .result) _ _ _ _ _ (c .before .before .before .before .before .before .tags-in .ensures) (c .before .before .before .before .letter-said .ensures ∙ ap letterOrZero (c .before .before .before .before .before .text-met .ensures)) (c .before .before .before .number-met .ensures) (c .before .before .number-met2 .ensures) (c .before .number-met3 .ensures) (c .number-met4 .ensures)
 
 pub row-from-spec : {M : Type 1} → statement M
 row-from-spec =

@@ -4,8 +4,8 @@ use Prim.Native.Nat.{_-_}
 use native.Mathlib.Omega.{arith}
 use lib.ListN.{length}
 use Rattle.elements.specs.declared.tags.Child.the-variants.{Done, At}
-use Rattle.elements.specs.Reading.{NextChild}
-use Rattle.index_files.specs.Met.{Along}
+use Rattle.elements.specs.TagSteps.{NextChild}
+use Rattle.index_files.specs.MetSteps.{Along}
 use Rattle.index_files.proofs.Meeting.{along-start, along-step, along-over}
 use borrow.Author.Needs.{needs}
 use Rattle.index_files.proofs.extent_rows.tags_in.Statement.{statement}

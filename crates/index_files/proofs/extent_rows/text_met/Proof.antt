@@ -1,7 +1,7 @@
 -- `text_met` meets its contract.
 use mathlib.Core.Path.{sym, _∙_}
 use borrow.Author.Tests.{eq-eqb, ne-eqb}
-use Rattle.index_files.specs.Met.{textMet}
+use Rattle.index_files.specs.MetSteps.{textMet}
 use borrow.Author.Needs.{needs}
 use Rattle.index_files.proofs.extent_rows.text_met.Statement.{statement}
 use Rattle.index_files.proofs.extent_rows.text_met.Tie as tie

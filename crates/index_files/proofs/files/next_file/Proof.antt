@@ -4,8 +4,9 @@ use Prim.Native.Nat.{_-_, _≤_}
 use native.Mathlib.Omega.{arith}
 use lib.ListN.{length}
 use Rattle.elements.specs.declared.tags.Tag.the-variants.{End, Close, Open, Empty}
-use Rattle.elements.specs.Reading.{leftAt, NextTag}
-use Rattle.index_files.specs.Files.{filesLeft, namesFile, namesSkipped}
+use Rattle.elements.specs.Reading.{leftAt}
+use Rattle.elements.specs.TagSteps.{NextTag}
+use Rattle.index_files.specs.FileSteps.{filesLeft, namesFile, namesSkipped}
 use Rattle.index_files.proofs.Passing.{files-end, files-close, file-open, files-skipped, files-open, file-empty, files-empty, file-along}
 use borrow.Author.Needs.{needs}
 use Rattle.index_files.proofs.files.next_file.Statement.{statement}

@@ -1,5 +1,5 @@
 -- `put_row` meets its contract: five stores, one behind the other.
-use Rattle.index_files.specs.Rows.{rowIs}
+use Rattle.index_files.specs.RowSteps.{rowIs}
 use Rattle.index_files.proofs.Buffers.{five-written}
 use borrow.Author.Needs.{needs}
 use Rattle.index_files.proofs.filling.put_row.Statement.{statement}

@@ -5,8 +5,9 @@ use native.Mathlib.Omega.{arith}
 use lib.ListN.{length}
 use Rattle.refusals.specs.Refusals.{answer}
 use Rattle.index_files.specs.declared.files.NextFile.the-variants.{Done, File}
-use Rattle.index_files.specs.Files.{filesFrom, FileFrom}
-use Rattle.index_files.specs.Filling.{counted, allRows}
+use Rattle.index_files.specs.FileSteps.{filesFrom, FileFrom}
+use Rattle.index_files.specs.Filling.{allRows}
+use Rattle.index_files.specs.FillingSteps.{countOf}
 use Rattle.index_files.proofs.Putting.{fits, fits-not}
 use Rattle.index_files.proofs.AllRows.{rows-none, rows-more}
 use borrow.Author.Needs.{needs}
@@ -35,7 +36,7 @@ returns c =
     let l = c .before .before .before .loop in
     let e : FileFrom s (l .i) Done = subst (FileFrom s (l .i)) (c .enum-told .given .1) (c .before .before .next-file .ensures) in
     let z : l .n ≡ length (allRows (filesFrom s 38)) = omega (arith, l .inv .1, ap length (rows-none s (l .i) e)) in
-    ap answer z ∙ ap counted (fits 5 (c .before .before .before .before .before .args .room) (allRows (filesFrom s 38)) (omega (arith, l .inv, z)))
+    ap answer z ∙ ap countOf (fits 5 (c .before .before .before .before .before .args .room) (allRows (filesFrom s 38)) (omega (arith, l .inv, z)))
 
 enum-known-tag : tie.Need-enum-known-tag Inv-loop μ-loop
 enum-known-tag c = search needs
@@ -55,7 +56,7 @@ returns-2 c =
     let l = c .before .before .before .before .before .before .before .loop in
     let g = c .before .before .before .before .tag .given in
     let f : FileFrom s (l .i) (File (g .0 .0) (g .0 .1 .0)) = subst (FileFrom s (l .i)) (g .1) (c .before .before .before .before .before .before .next-file .ensures) in
-    ap counted (fits-not 5 (c .before .before .before .before .before .before .before .before .before .args .room) (allRows (filesFrom s 38)) (omega (arith, l .inv, c .if1 .taken, c .before .count-rows .ensures, rows-more s (l .i) f (c .before .before .first-row .ensures))))
+    ap countOf (fits-not 5 (c .before .before .before .before .before .before .before .before .before .args .room) (allRows (filesFrom s 38)) (omega (arith, l .inv, c .if1 .taken, c .before .count-rows .ensures, rows-more s (l .i) f (c .before .before .first-row .ensures))))
 
 add-n : tie.Need-add-n Inv-loop μ-loop
 add-n c = search needs

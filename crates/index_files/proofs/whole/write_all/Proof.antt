@@ -4,11 +4,11 @@ use Prim.Native.Nat.{_+_, _-_, _*_}
 use native.Mathlib.Omega.{arith}
 use lib.ListN.{length}
 use Rattle.slices.specs.Slices.{written}
-use Rattle.elements.specs.Reading.{rowAt}
+use Rattle.elements.specs.Reading.{forestAt}
 use Rattle.extents.specs.Rows.{numbersOf}
 use Rattle.index_values.specs.Tests.{rowsIn}
 use Rattle.index_files.specs.declared.files.NextFile.the-variants.{Done, File}
-use Rattle.index_files.specs.Files.{filesFrom, FileFrom}
+use Rattle.index_files.specs.FileSteps.{filesFrom, FileFrom}
 use Rattle.index_files.specs.Filling.{allRows}
 use Rattle.index_files.proofs.Buffers.{Writing, writing-first, writing-done, writing-fits, writing-on}
 use Rattle.index_files.proofs.AllRows.{rows-none, rows-file}
@@ -54,7 +54,7 @@ write-rows-requires c κs =
     let l = c .before .before .before .before .before .before .loop in
     let g = c .before .before .before .n .given in
     let f : FileFrom s (l .i) (File (g .0 .0) (g .0 .1 .0)) = subst (FileFrom s (l .i)) (g .1) (c .before .before .before .before .before .next-file .ensures) in
-    writing-fits (l .inv) (rowsIn (rowAt s (c .before .first-row .result))) (allRows (filesFrom s (g .0 .1 .0))) (rows-file s (l .i) f (c .before .first-row .ensures))
+    writing-fits (l .inv) (rowsIn (forestAt s (c .before .first-row .result))) (allRows (filesFrom s (g .0 .1 .0))) (rows-file s (l .i) f (c .before .first-row .ensures))
 
 loop-less : tie.Need-loop-less Inv-loop μ-loop
 loop-less c =
@@ -70,7 +70,7 @@ loop-again c =
     let l = c .before .before .before .before .before .before .before .before .before .loop in
     let g = c .before .before .before .before .before .before .n .given in
     let f : FileFrom s (l .i) (File (g .0 .0) (g .0 .1 .0)) = subst (FileFrom s (l .i)) (g .1) (c .before .before .before .before .before .before .before .before .next-file .ensures) in
-    writing-on (l .inv) (rowsIn (rowAt s (c .before .before .before .before .first-row .result))) (allRows (filesFrom s (g .0 .1 .0))) (rows-file s (l .i) f (c .before .before .before .before .first-row .ensures)) (c .before .before .write-rows .ensures)
+    writing-on (l .inv) (rowsIn (forestAt s (c .before .before .before .before .first-row .result))) (allRows (filesFrom s (g .0 .1 .0))) (rows-file s (l .i) f (c .before .before .before .before .first-row .ensures)) (c .before .before .write-rows .ensures)
 
 pub write-all-spec : {M : Type 1} → statement M
 write-all-spec =

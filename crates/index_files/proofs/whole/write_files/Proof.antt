@@ -7,7 +7,7 @@ use lib.ListN.{length}
 use Rattle.elements.specs.Reading.{childrenAt}
 use Rattle.index.specs.Index.{fileOf}
 use Rattle.index_files.specs.declared.files.NextFile.the-variants.{Done, File}
-use Rattle.index_files.specs.Files.{filesFrom, FileFrom}
+use Rattle.index_files.specs.FileSteps.{filesFrom, FileFrom}
 use Rattle.index_files.proofs.Buffers.{Telling, telling-first, telling-done, telling-fits, telling-on}
 use borrow.Author.Needs.{needs}
 use Rattle.index_files.proofs.whole.write_files.Statement.{statement}

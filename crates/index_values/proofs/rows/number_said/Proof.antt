@@ -1,6 +1,6 @@
 -- `number_said` meets its contract: the number that is read, or 0.
 use mathlib.Core.Path.{ap, sym, _∙_}
-use Rattle.digits.specs.Decimal.{valueOf}
+use Rattle.digits.specs.Steps.{valueOf}
 use Rattle.index_values.specs.Entries.{orZero}
 use borrow.Author.Needs.{needs}
 use Rattle.index_values.proofs.rows.number_said.Statement.{statement}

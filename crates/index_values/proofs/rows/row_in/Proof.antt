@@ -5,18 +5,18 @@ use native.Mathlib.Omega.{arith}
 use mathlib.Core.List.{List}
 use lib.ListN.{length}
 use Rattle.slices.specs.Slices.{same}
-use Rattle.elements.specs.Reading.{rowAt}
-use Rattle.elements.specs.Starts.{NextItem}
+use Rattle.elements.specs.Reading.{forestAt}
+use Rattle.elements.specs.StartSteps.{NextItem}
 use Rattle.elements.proofs.Rows.{row-past}
 use Rattle.elements.specs.declared.starts.Item.the-variants.{Done, At}
-use Rattle.index_values.specs.Elements.{rowIn}
+use Rattle.index_values.specs.Elements.{childrenIn}
 use Rattle.index_values.proofs.Found.{row-none, row-here, row-next}
 use borrow.Author.Needs.{needs}
 use Rattle.index_values.proofs.rows.row_in.Statement.{statement}
 use Rattle.index_values.proofs.rows.row_in.Tie as tie
 
 abbrev Inv-loop : tie.InvT-loop
-Inv-loop text at name i₀ i = rowIn name (rowAt text at) ≡ rowIn name (rowAt text i)
+Inv-loop text at name i₀ i = childrenIn name (forestAt text at) ≡ childrenIn name (forestAt text i)
 
 abbrev μ-loop : tie.MeasureT-loop
 μ-loop text at name i₀ i = length text - i

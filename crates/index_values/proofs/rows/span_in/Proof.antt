@@ -5,8 +5,8 @@ use native.Mathlib.Omega.{arith}
 use mathlib.Core.List.{List}
 use lib.ListN.{length}
 use Rattle.slices.specs.Slices.{same}
-use Rattle.elements.specs.Reading.{rowAt}
-use Rattle.elements.specs.Starts.{NextItem}
+use Rattle.elements.specs.Reading.{forestAt}
+use Rattle.elements.specs.StartSteps.{NextItem}
 use Rattle.elements.specs.declared.starts.Item.the-variants.{Done, At}
 use Rattle.index_values.specs.Elements.{textIn}
 use Rattle.index_values.proofs.Found.{text-none, text-here, text-next}
@@ -15,7 +15,7 @@ use Rattle.index_values.proofs.rows.span_in.Statement.{statement}
 use Rattle.index_values.proofs.rows.span_in.Tie as tie
 
 abbrev Inv-loop : tie.InvT-loop
-Inv-loop text at name i₀ i = textIn name (rowAt text at) ≡ textIn name (rowAt text i)
+Inv-loop text at name i₀ i = textIn name (forestAt text at) ≡ textIn name (forestAt text i)
 
 abbrev μ-loop : tie.MeasureT-loop
 μ-loop text at name i₀ i = length text - i

@@ -17,7 +17,7 @@ is-own-letter-requires c κs = search needs
 
 returns : tie.Need-returns
 unfolding own
-returns c = simp (eq-eqb _ _ (c .before .before .if1 .taken)) (c .is-own-letter .ensures ∙ ap (λ (b : ℕ). eqb b (c .before .before .before .before .before .args .volume .first) || eqb b (c .before .before .before .before .before .args .volume .other)) (c .before .letter-said .ensures))
+returns c = simp (eq-eqb _ _ (c .before .before .if1 .taken)) (c .is-own-letter .ensures ∙ ap (λ (b : ℕ). eqb b (c .before .before .before .before .before .args .volume .«index_letter») || eqb b (c .before .before .before .before .before .args .volume .«data_letter»)) (c .before .letter-said .ensures))
 
 same-uuid-requires : tie.Need-same-uuid-requires
 same-uuid-requires c κs = search needs

@@ -1,6 +1,6 @@
 -- `judge` meets its contract: by the rows that were read.
 use mathlib.Core.Path.{ap, sym, _∙_}
-use Rattle.index_values.specs.Entries.{numberSaid}
+use Rattle.index_values.specs.Entries.{numberOrZero}
 use Rattle.index_values.proofs.Judging.{no-file, too-many, judged}
 use Rattle.index_values.proofs.Seated.{length-placed, extents-placed}
 use borrow.Author.Needs.{needs}
@@ -40,7 +40,7 @@ returns-3 c f p =
     let s = c .before .before .before .before .before .before .before .before .before .before .before .before .args .text .now in
     let t = c .before .before .before .before .before .before .before .before .before .before .before .before .args .places .now in
     let placed = p (c .before .before .before .before .before .before .before .before .before .before .if1 .left) in
-    judged (c .before .before .before .before .before .before .before .before .before .before .before .before .args .sort) f (c .before .before .before .before .before .before .before .before .before .before .before .before .args .volume) s (c .before .before .before .before .before .before .before .before .row-at .result) (c .before .before .before .before .before .before .before .before .before .before .if1 .left) (c .before .before .before .before .before .before .before .before .row-at .ensures .0 ∙ sym (extents-placed s f t placed)) _ (c .before .before .before .before .before .before .read-rows .result) (c .before .before .before .before .before .before .read-rows .ensures) (c .before .before .before .before .before .if2 .left) (c .before .before .before .number-placed .result) (c .before .before .before .number-placed .ensures ∙ ap numberSaid (sym (length-placed s f t placed))) (c .are-lawful .result) (c .are-lawful .ensures)
+    judged (c .before .before .before .before .before .before .before .before .before .before .before .before .args .sort) f (c .before .before .before .before .before .before .before .before .before .before .before .before .args .volume) s (c .before .before .before .before .before .before .before .before .row-at .result) (c .before .before .before .before .before .before .before .before .before .before .if1 .left) (c .before .before .before .before .before .before .before .before .row-at .ensures .0 ∙ sym (extents-placed s f t placed)) _ (c .before .before .before .before .before .before .read-rows .result) (c .before .before .before .before .before .before .read-rows .ensures) (c .before .before .before .before .before .if2 .left) (c .before .before .before .number-placed .result) (c .before .before .before .number-placed .ensures ∙ ap numberOrZero (sym (length-placed s f t placed))) (c .are-lawful .result) (c .are-lawful .ensures)
 
 pub judge-spec : {M : Type 1} → statement M
 judge-spec =

@@ -1,6 +1,6 @@
 -- `letter_said` meets its contract: the letter that is read, or 0.
 use mathlib.Core.Path.{ap, sym, _∙_}
-use Rattle.values.specs.Values.{letterOf}
+use Rattle.values.specs.Steps.{letterOf}
 use Rattle.index_values.specs.Entries.{orZero}
 use borrow.Author.Needs.{needs}
 use Rattle.index_values.proofs.tests.letter_said.Statement.{statement}

@@ -3,9 +3,9 @@ use mathlib.Core.Path.{ap, sym, _∙_}
 use Prim.Native.Nat.{ℕ, _+_}
 use native.Mathlib.Omega.{arith}
 use lib.ListN.{set}
-use Rattle.elements.specs.Reading.{rowAt}
-use Rattle.index_values.specs.Entries.{numberSaid}
-use Rattle.index_values.specs.Tests.{rowOf, letterSaid}
+use Rattle.elements.specs.Reading.{forestAt}
+use Rattle.index_values.specs.Entries.{numberOrZero}
+use Rattle.index_values.specs.Tests.{rowOf, letterOrZero}
 use Rattle.index_values.proofs.RowTable.{put-five}
 use Rattle.index_values.proofs.Seated.{fileoffset-placed, partition-placed, startblock-placed, byteoffset-placed, bytecount-placed}
 use borrow.Author.Needs.{needs}
@@ -86,15 +86,15 @@ unfolding rowOf
 returns c =
     let at = c .before .before .before .before .before .before .before .before .before .before .before .before .before .before .before .before .before .before .before .before .before .before .before .before .before .before .before .before .before .before .args .at in
     let s = c .before .before .before .before .before .before .before .before .before .before .before .before .before .before .before .before .before .before .before .before .before .before .before .before .before .before .before .before .before .before .args .text .now in
-    let f = rowAt s (c .before .before .before .before .before .before .before .before .before .before .before .before .before .before .before .before .before .before .before .before .before .before .before .before .before .before .before .before .before .before .args .from) in
+    let f = forestAt s (c .before .before .before .before .before .before .before .before .before .before .before .before .before .before .before .before .before .before .before .before .before .before .before .before .before .before .before .before .before .before .args .from) in
     let t = c .before .before .before .before .before .before .before .before .before .before .before .before .before .before .before .before .before .before .before .before .before .before .before .before .before .before .before .read-row .result .places in
     let placed = c .before .before .before .before .before .before .before .before .before .before .before .before .before .before .before .before .before .before .before .before .before .before .before .before .before .before .before .read-row .ensures .0 in (
       put-five at (rowOf f) (c .before .before .before .before .before .before .before .before .before .before .before .before .before .before .before .before .before .before .before .before .before .before .before .before .before .before .before .before .before .before .args .out .now) (c .before .before .before .before .before .before .before .before .before .before .before .before .before .before .before .before .before .before .before .before .before .before .put .last .0) (c .before .before .before .before .before .before .before .before .before .before .before .before .before .before .before .before .before .put2 .last .0) (c .before .before .before .before .before .before .before .before .before .before .before .before .put3 .last .0) (c .before .before .before .before .before .before .before .put4 .last .0) (c .before .before .put5 .last .0)
-          (c .before .before .before .before .before .before .before .before .before .before .before .before .before .before .before .before .before .before .before .before .before .before .put .ensures ∙ ap (λ (v : ℕ). set (c .before .before .before .before .before .before .before .before .before .before .before .before .before .before .before .before .before .before .before .before .before .before .before .before .before .before .before .before .before .before .args .out .now) at v) (c .before .before .before .before .before .before .before .before .before .before .before .before .before .before .before .before .before .before .before .before .before .before .before .before .letter-said .ensures ∙ ap letterSaid (c .before .before .before .before .before .before .before .before .before .before .before .before .before .before .before .before .before .before .before .before .before .before .before .before .before .text-at .ensures ∙ sym (partition-placed s f t placed))))
-          (c .before .before .before .before .before .before .before .before .before .before .before .before .before .before .before .before .before .put2 .ensures ∙ ap (λ (v : ℕ). set (c .before .before .before .before .before .before .before .before .before .before .before .before .before .before .before .before .before .before .before .before .before .before .put .last .0) (at + 1) v) (c .before .before .before .before .before .before .before .before .before .before .before .before .before .before .before .before .before .before .number-placed .ensures ∙ ap numberSaid (sym (startblock-placed s f t placed))))
-          (c .before .before .before .before .before .before .before .before .before .before .before .before .put3 .ensures ∙ ap (λ (v : ℕ). set (c .before .before .before .before .before .before .before .before .before .before .before .before .before .before .before .before .before .put2 .last .0) (at + 2) v) (c .before .before .before .before .before .before .before .before .before .before .before .before .before .number-placed2 .ensures ∙ ap numberSaid (sym (byteoffset-placed s f t placed))))
-          (c .before .before .before .before .before .before .before .put4 .ensures ∙ ap (λ (v : ℕ). set (c .before .before .before .before .before .before .before .before .before .before .before .before .put3 .last .0) (at + 3) v) (c .before .before .before .before .before .before .before .before .number-placed3 .ensures ∙ ap numberSaid (sym (bytecount-placed s f t placed))))
-          (c .before .before .put5 .ensures ∙ ap (λ (v : ℕ). set (c .before .before .before .before .before .before .before .put4 .last .0) (at + 4) v) (c .before .before .before .number-placed4 .ensures ∙ ap numberSaid (sym (fileoffset-placed s f t placed)))),
+          (c .before .before .before .before .before .before .before .before .before .before .before .before .before .before .before .before .before .before .before .before .before .before .put .ensures ∙ ap (λ (v : ℕ). set (c .before .before .before .before .before .before .before .before .before .before .before .before .before .before .before .before .before .before .before .before .before .before .before .before .before .before .before .before .before .before .args .out .now) at v) (c .before .before .before .before .before .before .before .before .before .before .before .before .before .before .before .before .before .before .before .before .before .before .before .before .letter-said .ensures ∙ ap letterOrZero (c .before .before .before .before .before .before .before .before .before .before .before .before .before .before .before .before .before .before .before .before .before .before .before .before .before .text-at .ensures ∙ sym (partition-placed s f t placed))))
+          (c .before .before .before .before .before .before .before .before .before .before .before .before .before .before .before .before .before .put2 .ensures ∙ ap (λ (v : ℕ). set (c .before .before .before .before .before .before .before .before .before .before .before .before .before .before .before .before .before .before .before .before .before .before .put .last .0) (at + 1) v) (c .before .before .before .before .before .before .before .before .before .before .before .before .before .before .before .before .before .before .number-placed .ensures ∙ ap numberOrZero (sym (startblock-placed s f t placed))))
+          (c .before .before .before .before .before .before .before .before .before .before .before .before .put3 .ensures ∙ ap (λ (v : ℕ). set (c .before .before .before .before .before .before .before .before .before .before .before .before .before .before .before .before .before .put2 .last .0) (at + 2) v) (c .before .before .before .before .before .before .before .before .before .before .before .before .before .number-placed2 .ensures ∙ ap numberOrZero (sym (byteoffset-placed s f t placed))))
+          (c .before .before .before .before .before .before .before .put4 .ensures ∙ ap (λ (v : ℕ). set (c .before .before .before .before .before .before .before .before .before .before .before .before .put3 .last .0) (at + 3) v) (c .before .before .before .before .before .before .before .before .number-placed3 .ensures ∙ ap numberOrZero (sym (bytecount-placed s f t placed))))
+          (c .before .before .put5 .ensures ∙ ap (λ (v : ℕ). set (c .before .before .before .before .before .before .before .put4 .last .0) (at + 4) v) (c .before .before .before .number-placed4 .ensures ∙ ap numberOrZero (sym (fileoffset-placed s f t placed)))),
       c .before .before .before .before .before .before .before .before .before .before .before .before .before .before .before .before .before .before .before .before .before .before .before .before .before .before .before .read-row .ensures .1,
     )
 

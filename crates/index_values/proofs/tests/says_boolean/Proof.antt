@@ -1,6 +1,6 @@
 -- `says_boolean` meets its contract: by what is read.
 use mathlib.Core.Path.{ap, sym, _∙_}
-use Rattle.values.specs.Values.{booleanOf}
+use Rattle.values.specs.Steps.{booleanOf}
 use Rattle.index_values.specs.Tests.{isSome}
 use borrow.Author.Needs.{needs}
 use Rattle.index_values.proofs.tests.says_boolean.Statement.{statement}

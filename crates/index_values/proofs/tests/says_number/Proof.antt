@@ -1,6 +1,6 @@
 -- `says_number` meets its contract: by what is read.
 use mathlib.Core.Path.{ap, sym, _∙_}
-use Rattle.digits.specs.Decimal.{valueOf}
+use Rattle.digits.specs.Steps.{valueOf}
 use Rattle.index_values.specs.Tests.{isSome}
 use borrow.Author.Needs.{needs}
 use Rattle.index_values.proofs.tests.says_number.Statement.{statement}

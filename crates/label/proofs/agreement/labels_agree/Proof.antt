@@ -1,7 +1,7 @@
 -- `labels_agree` meets its contract: a test at each return.
 use Rattle.label.specs.Agreement.{agree, sameTexts, sameNumbers, ownLetters}
 use Rattle.slices.specs.Slices as slices
-use Rattle.label.specs.Reading.{fieldsIn}
+use Rattle.label.specs.Steps.{fieldsIn}
 use mathlib.Core.Path.{sym, _∙_}
 use borrow.Author.Tests.{not-true, not-false}
 use Rattle.label.proofs.Tests.{first-off, second-off, third-off, fourth}

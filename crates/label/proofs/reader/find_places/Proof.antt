@@ -3,9 +3,8 @@ use mathlib.Core.Path.{sym, subst, _∙_}
 use lib.ListN.{drop}
 use Rattle.slices.specs.Words.{bytes}
 use Rattle.elements.specs.Tags.{Tags, tagsIn}
-use Rattle.elements.specs.Reading.{rowAt, childrenAt}
-use Rattle.children.specs.Rules.{isMark, rules, longer}
-use Rattle.children.specs.Rows.{Seated, Placed}
+use Rattle.elements.specs.Reading.{forestAt, childrenAt}
+use Rattle.children.specs.RowSteps.{isRuleMark, rules, longer, Seated, PlacedSeats}
 use Rattle.label.specs.Label.{ofRoot, ofLocation, ofPartitions}
 use Rattle.label.proofs.Shape.{shaped, found, standing}
 use Rattle.xml.specs.Tree.{Forest}
@@ -74,7 +73,7 @@ array-read-t46 : tie.Need-array-read-t46
 array-read-t46 c = search needs
 
 returns : tie.Need-returns
-unfolding bytes rules longer isMark
+unfolding bytes rules longer isRuleMark
 returns c =
     let s = c .before .before .before .before .before .before .before .before .before .before .before .before .before .before .args .text .now in
     let all = c .before .before .before .before .before .before .before .before .before .before .read-row in
@@ -82,10 +81,10 @@ returns c =
     let parts = c .before .before .read-row3 in
     let A : Seated s ofRoot 7 (childrenAt s (c .before .before .before .before .before .before .before .before .before .before .before .before .before .before .args .n)) (all .result .ok) (all .result .seats)
     = subst (λ (f : Forest). Seated s ofRoot 7 f (all .result .ok) (all .result .seats)) (c .before .before .before .before .before .before .before .before .before .before .before .before .first-child .ensures .row) (all .ensures .row) in
-    let P : Seated s ofLocation 1 (rowAt s (c .before .before .before .before .before .before .before .before .first-child2 .result)) (place .result .ok) (place .result .seats) = place .ensures .row in
-    let Q : Seated s ofPartitions 2 (rowAt s (c .before .before .before .before .first-child3 .result)) (parts .result .ok) (parts .result .seats) = parts .ensures .row in
-    let G : Placed s ofRoot (tagsIn (drop (c .before .before .before .before .before .before .before .before .before .before .before .before .before .before .args .n) s)) (all .result .ok) (all .result .seats)
-    = subst (λ (g : Tags). Placed s ofRoot g (all .result .ok) (all .result .seats)) (c .before .before .before .before .before .before .before .before .before .before .before .before .first-child .ensures .tags) (all .ensures .places) in
+    let P : Seated s ofLocation 1 (forestAt s (c .before .before .before .before .before .before .before .before .first-child2 .result)) (place .result .ok) (place .result .seats) = place .ensures .row in
+    let Q : Seated s ofPartitions 2 (forestAt s (c .before .before .before .before .first-child3 .result)) (parts .result .ok) (parts .result .seats) = parts .ensures .row in
+    let G : PlacedSeats s ofRoot (tagsIn (drop (c .before .before .before .before .before .before .before .before .before .before .before .before .before .before .args .n) s)) (all .result .ok) (all .result .seats)
+    = subst (λ (g : Tags). PlacedSeats s ofRoot g (all .result .ok) (all .result .seats)) (c .before .before .before .before .before .before .before .before .before .before .before .before .first-child .ensures .tags) (all .ensures .places) in
     record {
       shaped = c .all-three .ensures ∙ shaped A (c .before .before .before .before .before .before .before .before .first-child2 .ensures .row) P (c .before .before .before .before .first-child3 .ensures .row) Q;
       texts = λ t. found A (c .before .before .before .before .before .before .before .before .first-child2 .ensures .row) P (c .before .before .before .before .first-child3 .ensures .row) Q (sym (c .all-three .ensures) ∙ t);

@@ -1,11 +1,11 @@
 -- `read` meets its contract: the length, the form, and the root.
 use mathlib.Core.Path.{_≡_, ap, sym, subst, _∙_}
 use mathlib.Core.Bool.{true, false}
-use Rattle.xml.specs.Machine.{isGood, inForm, outcomeOf}
+use Rattle.xml.specs.CheckSteps.{isGood, inForm, outcomeOf}
 use Rattle.elements.specs.Tags.{Tags}
-use Rattle.elements.specs.Reading.{NextChild}
+use Rattle.elements.specs.TagSteps.{NextChild}
 use Rattle.elements.specs.declared.tags.Child.the-variants.{Done, At}
-use Rattle.children.specs.Children.{childrenOf}
+use Rattle.children.specs.Children.{childrenOfFirst}
 use Rattle.label.specs.TextPlaces.{placesIn}
 use Rattle.label.proofs.Values.{too-long, unformed, no-first, the-first}
 use Rattle.label.proofs.Places.{refuses, reads-as}
@@ -52,13 +52,13 @@ returns-3 c =
     refuses (no-first s (c .before .before .before .before .before .before .if1 .left) f e)
 
 returns-4 : tie.Need-returns-4
-unfolding inForm childrenOf
+unfolding inForm childrenOfFirst
 returns-4 c =
     let s = c .before .before .before .before .before .before .before .before .before .before .args .text .now in
     let f : inForm s ≡ true = ap isGood (sym (c .before .before .before .before .before .before .before .check .ensures) ∙ ap outcomeOf (c .before .before .before .before .before .enum-told .given .1)) in
     let g = c .before .before .n .given in
     let q : NextChild s 38 (At (g .0 .0) (g .0 .1 .0)) = subst (NextChild s 38) (g .1) (c .before .before .before .before .next-child .ensures) in
-    reads-as (the-first s (c .before .before .before .before .before .before .before .before .if1 .left) f _ _ _ (q .row)) (ap (λ (t : Tags). placesIn s (childrenOf t)) (sym (q .tags))) (c .read-root .ensures)
+    reads-as (the-first s (c .before .before .before .before .before .before .before .before .if1 .left) f _ _ _ (q .row)) (ap (λ (t : Tags). placesIn s (childrenOfFirst t)) (sym (q .tags))) (c .read-root .ensures)
 
 pub read-spec : {M : Type 1} → statement M
 read-spec =

@@ -2,7 +2,8 @@
 use mathlib.Core.Path.{_≡_, ap, sym, _∙_}
 use mathlib.Core.Option.{some, none}
 use borrow.Author.Tests.{not-true, not-false}
-use Rattle.values.specs.Values.{letter, letterOf}
+use Rattle.values.specs.Values.{letter}
+use Rattle.values.specs.Steps.{letterOf}
 use borrow.Author.Needs.{needs}
 use Rattle.label.proofs.reader.read_letters.Statement.{statement}
 use Rattle.label.proofs.reader.read_letters.Tie as tie

@@ -1,10 +1,11 @@
 -- `read_root` meets its contract: a test at each return.
 use mathlib.Core.Path.{_≡_, ap, sym, _∙_}
 use borrow.Author.Tests.{not-true, not-false}
-use Rattle.label.specs.Label.{value, labelFrom}
+use Rattle.label.specs.Label.{labelFrom}
 use mathlib.Core.Option.{some, none}
 use Rattle.elements.specs.Reading.{headAt, childrenAt}
-use Rattle.values.specs.Values.{version, versionOf}
+use Rattle.values.specs.Values.{version}
+use Rattle.values.specs.Steps.{versionOf}
 use Rattle.label.proofs.Values.{no-root, no-version, no-shape, the-root}
 use Rattle.label.proofs.Places.{refuses, reads-as}
 use borrow.Author.Needs.{needs}

@@ -2,7 +2,7 @@
 use mathlib.Core.Path.{_≡_, ap, sym, _∙_}
 use mathlib.Core.Option.{some, none}
 use borrow.Author.Tests.{not-true, not-false}
-use Rattle.digits.specs.Decimal.{valueOf}
+use Rattle.digits.specs.Steps.{valueOf}
 use Rattle.values.specs.Values.{number}
 use borrow.Author.Needs.{needs}
 use Rattle.label.proofs.reader.read_size.Statement.{statement}

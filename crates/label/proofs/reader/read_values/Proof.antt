@@ -4,11 +4,11 @@ use mathlib.Core.Bool.{true, false, _&&_}
 use mathlib.Core.List.{List}
 use Prim.Native.Nat.{ℕ}
 use borrow.Author.Tests.{not-true, not-false}
-use Rattle.digits.specs.Decimal.{valueOf}
+use Rattle.digits.specs.Steps.{valueOf}
 use Rattle.texts.specs.Decoded.{decoded}
-use Rattle.values.specs.Values.{number, boolean, booleanOf, isTime, isUuid, isCreator}
-use Rattle.label.specs.Reading.{textsAt}
-use Rattle.label.specs.Parts.{sized, lettersOf}
+use Rattle.values.specs.Values.{number, boolean, isTime, isUuid, isCreator}
+use Rattle.values.specs.Steps.{booleanOf}
+use Rattle.label.specs.Steps.{textsAt, sized, lettersOf}
 use Rattle.label.proofs.Values.{texts-same, letters-same, no-texts, no-letters, no-size, no-compression, the-label}
 use Rattle.label.proofs.Places.{refuses, same-places}
 use borrow.Author.Needs.{needs}

@@ -1,6 +1,6 @@
 -- `cut_by` meets its contract: the search over the tables.
 use Rattle.volume.proofs.Answering.{cuts-by}
-use Rattle.index_values.specs.Tests.{given}
+use Rattle.index_values.specs.Steps.{given}
 use borrow.Author.Needs.{needs}
 use Rattle.volume.proofs.answers.cut_by.Statement.{statement}
 use Rattle.volume.proofs.answers.cut_by.Tie as tie

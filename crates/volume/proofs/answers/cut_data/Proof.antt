@@ -1,6 +1,6 @@
 -- `cut_data` meets its contract: the cut by the tables of both partitions.
 use Rattle.volume.proofs.Answering.{cuts-with}
-use Rattle.index_values.specs.Tests.{given}
+use Rattle.index_values.specs.Steps.{given}
 use borrow.Author.Needs.{needs}
 use Rattle.volume.proofs.answers.cut_data.Statement.{statement}
 use Rattle.volume.proofs.answers.cut_data.Tie as tie

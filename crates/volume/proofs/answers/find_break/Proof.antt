@@ -4,9 +4,9 @@ use Rattle.volume.specs.declared.answers.Verdict.the-variants.{Consisten
 use Rattle.volume.specs.declared.judge.Judgement.{Judgement}
 use Rattle.volume.specs.Steps.{breakOf}
 use Rattle.verdict.specs.Verdict.{verdict}
-use Rattle.index_values.specs.Tests.{given}
+use Rattle.index_values.specs.Steps.{given}
 use Rattle.elements.specs.Reading.{partAt}
-use Rattle.label.specs.Reading.{fieldsIn, means}
+use Rattle.label.specs.Steps.{fieldsIn, means}
 use Rattle.refusals.specs.Refusals.{answer}
 use Prim.Native.Nat.{ℕ}
 use mathlib.Core.List.{List}

@@ -5,9 +5,9 @@ use Rattle.volume.specs.declared.search.Tried.{Tried}
 use Rattle.volume.specs.Steps.{triedCut}
 use Rattle.volume.specs.Volume.{orNoCut}
 use Rattle.verdict.specs.Rescue.{rescue}
-use Rattle.index_values.specs.Tests.{given}
+use Rattle.index_values.specs.Steps.{given}
 use Rattle.elements.specs.Reading.{partAt}
-use Rattle.label.specs.Reading.{fieldsIn, means}
+use Rattle.label.specs.Steps.{fieldsIn, means}
 use Rattle.refusals.specs.declared.Refusal.the-variants.{NoCut}
 use Prim.Native.Nat.{ℕ}
 use mathlib.Core.List.{List}

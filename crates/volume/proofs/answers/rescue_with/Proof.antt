@@ -1,6 +1,6 @@
 -- `rescue_with` meets its contract: the cut by the index partition's tables.
 use Rattle.volume.proofs.Answering.{cuts-on}
-use Rattle.index_values.specs.Tests.{given}
+use Rattle.index_values.specs.Steps.{given}
 use borrow.Author.Needs.{needs}
 use Rattle.volume.proofs.answers.rescue_with.Statement.{statement}
 use Rattle.volume.proofs.answers.rescue_with.Tie as tie

@@ -1,7 +1,7 @@
 -- `read_construct` meets its contract: 14, 1, 2, then the text.
 use Rattle.volume.proofs.Choosing.{chosen-caller, chosen-list, chosen-missing, chosen-found}
-use Rattle.index_values.specs.Tests.{given}
-use Rattle.constructs.specs.Tables.{scannedCount}
+use Rattle.index_values.specs.Steps.{given}
+use Rattle.constructs.specs.TableSteps.{scannedCount}
 use borrow.Author.Tests.{not-true, not-false}
 use lib.ListN.{replicate, length-replicate}
 use Prim.Native.Nat.{ℕ}

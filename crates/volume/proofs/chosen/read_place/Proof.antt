@@ -1,7 +1,7 @@
 -- `read_place` meets its contract.
 use Rattle.volume.proofs.Choosing.{place-found, place-refused}
-use Rattle.index_values.specs.Tests.{given}
-use Rattle.index.specs.Index.{ReadsIndex}
+use Rattle.index_values.specs.Steps.{given}
+use Rattle.index.specs.Steps.{ReadsIndex}
 use mathlib.Core.Path.{subst}
 use borrow.Author.Needs.{needs}
 use Rattle.volume.proofs.chosen.read_place.Statement.{statement}

@@ -1,6 +1,6 @@
 -- `fill_reach` meets its contract: the table has room for every well-formed list.
 use Rattle.volume.proofs.Partitions.{reaches-of, reaches-refused}
-use Rattle.tape.specs.Answers.{counted}
+use Rattle.tape.specs.Steps.{counted}
 use mathlib.Core.Path.{ap}
 use borrow.Author.Needs.{needs}
 use Rattle.volume.proofs.filling.fill_reach.Statement.{statement}

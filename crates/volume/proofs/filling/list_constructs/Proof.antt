@@ -1,6 +1,6 @@
 -- `list_constructs` meets its contract: well-formed lists are not refused.
 use Rattle.volume.proofs.Partitions.{lists-of, lists-refused}
-use Rattle.constructs.specs.Tables.{scannedCount}
+use Rattle.constructs.specs.TableSteps.{scannedCount}
 use mathlib.Core.Path.{ap}
 use borrow.Author.Needs.{needs}
 use Rattle.volume.proofs.filling.list_constructs.Statement.{statement}

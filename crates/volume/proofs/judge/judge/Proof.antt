@@ -1,6 +1,6 @@
 -- `judge` meets its contract: break 1, then the breaks by the index partition's tables.
 use Rattle.volume.proofs.Answering.{judges-1, judges-on}
-use Rattle.index_values.specs.Tests.{given}
+use Rattle.index_values.specs.Steps.{given}
 use borrow.Author.Tests.{not-true, not-false}
 use borrow.Author.Needs.{needs}
 use Rattle.volume.proofs.judge.judge.Statement.{statement}

@@ -1,6 +1,6 @@
 -- `judge_data` meets its contract: break 2, then the breaks by the tables of both partitions.
 use Rattle.volume.proofs.Answering.{judges-2, judges-by}
-use Rattle.index_values.specs.Tests.{given}
+use Rattle.index_values.specs.Steps.{given}
 use borrow.Author.Tests.{not-true, not-false}
 use borrow.Author.Needs.{needs}
 use Rattle.volume.proofs.judge.judge_data.Statement.{statement}

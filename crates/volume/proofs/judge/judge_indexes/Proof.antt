@@ -1,6 +1,6 @@
 -- `judge_indexes` meets its contract: break 3, then the breaks of the last constructs.
 use Rattle.volume.proofs.Answering.{judges-3, judges-rest}
-use Rattle.index_values.specs.Tests.{given}
+use Rattle.index_values.specs.Steps.{given}
 use borrow.Author.Needs.{needs}
 use Rattle.volume.proofs.judge.judge_indexes.Statement.{statement}
 use Rattle.volume.proofs.judge.judge_indexes.Tie as tie

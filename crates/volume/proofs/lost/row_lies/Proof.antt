@@ -1,6 +1,6 @@
 -- `row_lies` meets its contract: the letter picks the table.
 use Rattle.volume.proofs.Extents.{row-first, row-other, row-neither}
-use Rattle.index_files.specs.Rows.{rowIs}
+use Rattle.index_files.specs.RowSteps.{rowIs}
 use borrow.Author.Needs.{needs}
 use Rattle.volume.proofs.lost.row_lies.Statement.{statement}
 use Rattle.volume.proofs.lost.row_lies.Tie as tie

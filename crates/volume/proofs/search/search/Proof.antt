@@ -1,7 +1,7 @@
 -- `search` meets its contract: from the last construct back.
 use Rattle.volume.proofs.Trying.{SearchesAt, searches-start, searches-on, searches-found, searches-end}
 use Rattle.volume.specs.Steps.{Tries}
-use Rattle.index_values.specs.Tests.{given}
+use Rattle.index_values.specs.Steps.{given}
 use native.Mathlib.Omega.{arith}
 use Prim.Native.Nat.{_-_, _≤_}
 use mathlib.Core.Path.{subst}

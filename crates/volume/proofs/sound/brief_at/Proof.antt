@@ -1,7 +1,7 @@
 -- `brief_at` meets its contract: what is read of the text there.
 use Rattle.volume.specs.Volume.{soundly}
 use Rattle.volume.specs.Steps.{linkOf}
-use Rattle.index_values.specs.Tests.{given}
+use Rattle.index_values.specs.Steps.{given}
 use Rattle.index.specs.Index.{indexOf}
 use mathlib.Core.List.{List}
 use Prim.Native.Nat.{ℕ}

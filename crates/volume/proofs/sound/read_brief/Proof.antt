@@ -1,7 +1,8 @@
 -- `read_brief` meets its contract: a refusal is no sound index.
 use Rattle.volume.proofs.Briefs.{link-found, link-refused}
-use Rattle.index_values.specs.Tests.{given}
-use Rattle.index.specs.Index.{indexOf, means}
+use Rattle.index_values.specs.Steps.{given}
+use Rattle.index.specs.Index.{indexOf}
+use Rattle.index.specs.Steps.{means}
 use mathlib.Core.Path.{ap, sym, _∙_}
 use borrow.Author.Needs.{needs}
 use Rattle.volume.proofs.sound.read_brief.Statement.{statement}

@@ -6,7 +6,7 @@ use lib.ListN.{length, drop}
 use borrow.Author.Tests.{lt-leb, le-leb}
 use borrow.Author.Needs.{needs}
 use Rattle.xml.specs.Tree.{front}
-use Rattle.xml.specs.Scans.{ofKind}
+use Rattle.xml.specs.ScanSteps.{ofKind}
 use Rattle.xml.proofs.Past.{front-more, front-none, front-end}
 use Rattle.xml.proofs.bytes.skip.Statement.{statement}
 use Rattle.xml.proofs.bytes.skip.Tie as tie

@@ -4,7 +4,7 @@ use mathlib.Core.List.{List}
 use Prim.Native.Nat.{ℕ, _-_, _≤_}
 use lib.ListN.{length, drop}
 use borrow.Author.Needs.{needs}
-use Rattle.xml.specs.Machine.{Place, at, reads, run}
+use Rattle.xml.specs.CheckSteps.{Mode, at, reads, formRun}
 use Rattle.xml.proofs.Scanning.{word-out, word-refused, word-on, word-done}
 use Rattle.xml.proofs.bytes.word_end.Statement.{statement}
 use Rattle.xml.proofs.bytes.word_end.Tie as tie
@@ -12,7 +12,7 @@ use Rattle.xml.proofs.bytes.word_end.Tie as tie
 abbrev Inv-loop : tie.InvT-loop
 Inv-loop text from word i₀ k₀ i k =
     (from ≤ i) × (i ≤ length text) × (k ≤ length word)
-    × ((p : Place) (ns : List (List ℕ)) → run (at (reads p word) ns) (drop from text) ≡ run (at (reads p (drop k word)) ns) (drop i text))
+    × ((p : Mode) (ns : List (List ℕ)) → formRun (at (reads p word) ns) (drop from text) ≡ formRun (at (reads p (drop k word)) ns) (drop i text))
 
 abbrev μ-loop : tie.MeasureT-loop
 μ-loop text from word i₀ k₀ i k = length word - k

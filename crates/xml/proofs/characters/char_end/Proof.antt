@@ -5,7 +5,7 @@ use native.Mathlib.Omega.{arith}
 use borrow.Author.Tests.{eq-eqb, ne-eqb, lt-ltb, le-leb, lt-leb}
 use borrow.Author.Needs.{needs}
 use Rattle.xml.specs.Bytes.{isSpace}
-use Rattle.xml.specs.Machine.{char}
+use Rattle.xml.specs.CheckSteps.{char}
 use Rattle.xml.proofs.Scanned.{scan-stopped, scan-from, scan-done}
 use Rattle.xml.proofs.characters.char_end.Statement.{statement}
 use Rattle.xml.proofs.characters.char_end.Tie as tie

@@ -3,7 +3,7 @@ use mathlib.Core.Path.{refl}
 use borrow.Author.Tests.{eq-eqb, ne-eqb}
 use borrow.Author.Needs.{needs}
 use Rattle.slices.specs.Words.{bytes}
-use Rattle.xml.specs.Machine.{step, ended, reads}
+use Rattle.xml.specs.CheckSteps.{formStep, ended, reads}
 use Rattle.xml.proofs.Scanned.{stands, scan-refused, scan-on}
 use Rattle.xml.proofs.characters.reference_a_end.Statement.{statement}
 use Rattle.xml.proofs.characters.reference_a_end.Tie as tie
@@ -25,7 +25,7 @@ word-end-requires c κs =
     search needs
 
 returns : tie.Need-returns
-unfolding step reads bytes
+unfolding formStep reads bytes
 returns c = λ p. scan-on (c .before .before .before .byte .result) (c .before .before .before .byte .ensures) (search needs) (λ ns. simp (eq-eqb _ _ (c .before .before .if1 .taken))) (c .word-end .ensures p)
 
 add-word-end-2 : tie.Need-add-word-end-2
@@ -42,14 +42,14 @@ word-end-requires-2 c κs =
     search needs
 
 returns-2 : tie.Need-returns-2
-unfolding step reads bytes
+unfolding formStep reads bytes
 returns-2 c = λ p. scan-on (c .before .before .before .before .byte .result) (c .before .before .before .before .byte .ensures) (search needs) (λ ns. simp (ne-eqb _ _ (c .before .before .before .if1 .left), eq-eqb _ _ (c .before .before .if2 .taken))) (c .word-end2 .ensures p)
 
 sub-t14 : tie.Need-sub-t14
 sub-t14 c = search needs
 
 returns-3 : tie.Need-returns-3
-unfolding step ended bytes
+unfolding formStep ended bytes
 returns-3 c = λ p. scan-refused (c .before .before .byte .result) (c .before .before .byte .ensures) (search needs) refl (λ ns. simp (ne-eqb _ _ (c .before .if1 .left), ne-eqb _ _ (c .if2 .left)))
 
 pub reference-a-end-spec : {M : Type 1} → statement M

@@ -3,7 +3,7 @@ use mathlib.Core.Path.{refl}
 use borrow.Author.Tests.{eq-eqb, ne-eqb}
 use borrow.Author.Needs.{needs}
 use Rattle.slices.specs.Words.{bytes}
-use Rattle.xml.specs.Machine.{step, ended, reads}
+use Rattle.xml.specs.CheckSteps.{formStep, ended, reads}
 use Rattle.xml.proofs.Scanned.{stands, scan-refused, scan-on}
 use Rattle.xml.proofs.characters.reference_end.Statement.{statement}
 use Rattle.xml.proofs.characters.reference_end.Tie as tie
@@ -22,7 +22,7 @@ reference-a-end-requires c κs =
     search needs
 
 returns : tie.Need-returns
-unfolding step reads bytes
+unfolding formStep reads bytes
 returns c = λ p. scan-on (c .before .before .byte .result) (c .before .before .byte .ensures) (search needs) (λ ns. simp (eq-eqb _ _ (c .before .if1 .taken))) (c .reference-a-end .ensures p)
 
 add-word-end : tie.Need-add-word-end
@@ -39,7 +39,7 @@ word-end-requires c κs =
     search needs
 
 returns-2 : tie.Need-returns-2
-unfolding step reads bytes
+unfolding formStep reads bytes
 returns-2 c = λ p. scan-on (c .before .before .before .before .byte .result) (c .before .before .before .before .byte .ensures) (search needs) (λ ns. simp (ne-eqb _ _ (c .before .before .before .if1 .left), eq-eqb _ _ (c .before .before .if2 .taken))) (c .word-end .ensures p)
 
 add-word-end-2 : tie.Need-add-word-end-2
@@ -56,7 +56,7 @@ word-end-requires-2 c κs =
     search needs
 
 returns-3 : tie.Need-returns-3
-unfolding step reads bytes
+unfolding formStep reads bytes
 returns-3 c = λ p. scan-on (c .before .before .before .before .before .byte .result) (c .before .before .before .before .before .byte .ensures) (search needs) (λ ns. simp (ne-eqb _ _ (c .before .before .before .before .if1 .left), ne-eqb _ _ (c .before .before .before .if2 .left), eq-eqb _ _ (c .before .before .if3 .taken))) (c .word-end2 .ensures p)
 
 add-word-end-3 : tie.Need-add-word-end-3
@@ -73,14 +73,14 @@ word-end-requires-3 c κs =
     search needs
 
 returns-4 : tie.Need-returns-4
-unfolding step reads bytes
+unfolding formStep reads bytes
 returns-4 c = λ p. scan-on (c .before .before .before .before .before .before .byte .result) (c .before .before .before .before .before .before .byte .ensures) (search needs) (λ ns. simp (ne-eqb _ _ (c .before .before .before .before .before .if1 .left), ne-eqb _ _ (c .before .before .before .before .if2 .left), ne-eqb _ _ (c .before .before .before .if3 .left), eq-eqb _ _ (c .before .before .if4 .taken))) (c .word-end3 .ensures p)
 
 sub-t19 : tie.Need-sub-t19
 sub-t19 c = search needs
 
 returns-5 : tie.Need-returns-5
-unfolding step ended bytes
+unfolding formStep ended bytes
 returns-5 c = λ p. scan-refused (c .before .before .before .before .byte .result) (c .before .before .before .before .byte .ensures) (search needs) refl (λ ns. simp (ne-eqb _ _ (c .before .before .before .if1 .left), ne-eqb _ _ (c .before .before .if2 .left), ne-eqb _ _ (c .before .if3 .left), ne-eqb _ _ (c .if4 .left)))
 
 pub reference-end-spec : {M : Type 1} → statement M

@@ -5,8 +5,8 @@ use Prim.Native.Nat.{_-_, _≤_}
 use lib.ListN.{length, getD}
 use borrow.Author.Tests.{eq-eqb, ne-eqb}
 use borrow.Author.Needs.{needs}
-use Rattle.xml.specs.Machine.{at, content, words, opens, noText, step, inside, inText, ended}
-use Rattle.xml.specs.Scans.{Scans}
+use Rattle.xml.specs.CheckSteps.{at, content, words, opens, withoutText, formStep, insideElement, inText, ended}
+use Rattle.xml.specs.ScanSteps.{Scans}
 use Rattle.xml.specs.declared.bytes.Scan.{Scan}
 use Rattle.xml.proofs.Past.{past-ahead}
 use Rattle.xml.proofs.Stays.{text-stay}
@@ -38,7 +38,7 @@ add-t13 : tie.Need-add-t13 Inv-loop μ-loop
 add-t13 c = search needs
 
 returns : tie.Need-returns Inv-loop μ-loop
-unfolding step noText
+unfolding formStep withoutText
 returns c = c .before .before .before .loop .inv .3 _ (scan-step (search needs) (λ ns. simp (eq-eqb _ _ (c .if1 .taken))) (scan-done (search needs)))
 
 one-more-requires : tie.Need-one-more-requires Inv-loop μ-loop
@@ -51,7 +51,7 @@ loop-less : tie.Need-loop-less Inv-loop μ-loop
 loop-less c = search needs
 
 loop-again : tie.Need-loop-again Inv-loop μ-loop
-unfolding step inside inText
+unfolding formStep insideElement inText
 loop-again c =
     let l = c .before .before .before .before .before .loop in
     (search needs, search needs, search needs, λ r x. l .inv .3 r (scan-step (search needs) (λ ns. simp (ne-eqb _ _ (c .before .before .if1 .left), eq-eqb _ _ (c .before .if2 .taken), ← c .one-more .ensures)) x))
@@ -63,7 +63,7 @@ sub-t16 : tie.Need-sub-t16 Inv-loop μ-loop
 sub-t16 c = search needs
 
 returns-2 : tie.Need-returns-2 Inv-loop μ-loop
-unfolding step inside inText ended
+unfolding formStep insideElement inText ended
 returns-2 c = c .before .before .before .before .before .before .loop .inv .3 _ (scan-refused (getD (c .before .before .before .before .before .before .before .before .before .args .text .now) (c .before .before .before .before .before .before .loop .i) 0) refl (search needs) refl (λ ns. simp (ne-eqb _ _ (c .before .before .before .if1 .left), ne-eqb _ _ (c .before .before .if2 .left), ← c .before .ends-section .ensures, c .if3 .taken)))
 
 char-end-requires : tie.Need-char-end-requires Inv-loop μ-loop
@@ -84,7 +84,7 @@ loop-less-2 c =
     search needs
 
 loop-again-2 : tie.Need-loop-again-2 Inv-loop μ-loop
-unfolding step inside inText
+unfolding formStep insideElement inText
 loop-again-2 c =
     let r = c .before .before .before .before .char-end .ensures (content (words 0)) in
     let j = c .before .before .j .given in
@@ -102,7 +102,7 @@ enum-known-u : tie.Need-enum-known-u Inv-loop μ-loop
 enum-known-u c = search needs
 
 returns-3 : tie.Need-returns-3 Inv-loop μ-loop
-unfolding step inside inText
+unfolding formStep insideElement inText
 returns-3 c =
     let r = c .before .before .before .char-end .ensures (content (words 0)) in
     let u = c .before .u .given in

@@ -4,8 +4,8 @@ use Prim.Native.Nat.{_-_, _≤_}
 use lib.ListN.{length, getD}
 use borrow.Author.Tests.{eq-eqb, ne-eqb}
 use borrow.Author.Needs.{needs}
-use Rattle.xml.specs.Machine.{at, value, valued, step, ended}
-use Rattle.xml.specs.Scans.{Scans}
+use Rattle.xml.specs.CheckSteps.{at, value, valued, formStep, ended}
+use Rattle.xml.specs.ScanSteps.{Scans}
 use Rattle.xml.specs.declared.bytes.Scan.{Scan}
 use Rattle.xml.proofs.Scanned.{scan-refused, scan-step, scan-done, scan-out, scan-then, scan-broken, scan-bounds}
 use Rattle.xml.proofs.characters.value_end.Statement.{statement}
@@ -27,14 +27,14 @@ add-t12 : tie.Need-add-t12 Inv-loop μ-loop
 add-t12 c = search needs
 
 returns : tie.Need-returns Inv-loop μ-loop
-unfolding step
+unfolding formStep
 returns c = c .before .before .before .loop .inv .2 _ (scan-step (search needs) (λ ns. simp (eq-eqb _ _ (c .if1 .taken))) (scan-done (search needs)))
 
 sub-t14 : tie.Need-sub-t14 Inv-loop μ-loop
 sub-t14 c = search needs
 
 returns-2 : tie.Need-returns-2 Inv-loop μ-loop
-unfolding step ended
+unfolding formStep ended
 returns-2 c = c .before .before .before .before .loop .inv .2 _ (scan-refused (getD (c .before .before .before .before .before .before .args .text .now) (c .before .before .before .before .loop .i) 0) refl (search needs) refl (λ ns. simp (ne-eqb _ _ (c .before .if1 .left), eq-eqb _ _ (c .if2 .taken))))
 
 char-end-requires : tie.Need-char-end-requires Inv-loop μ-loop
@@ -49,7 +49,7 @@ loop-less c =
     search needs
 
 loop-again : tie.Need-loop-again Inv-loop μ-loop
-unfolding step
+unfolding formStep
 loop-again c =
     let r = c .before .before .before .char-end .ensures (value (c .before .before .before .before .before .before .before .before .before .before .args .q)) in
     let j = c .before .j .given in
@@ -60,7 +60,7 @@ enum-known-u : tie.Need-enum-known-u Inv-loop μ-loop
 enum-known-u c = search needs
 
 returns-3 : tie.Need-returns-3 Inv-loop μ-loop
-unfolding step
+unfolding formStep
 returns-3 c =
     let r = c .before .before .before .char-end .ensures (value (c .before .before .before .before .before .before .before .before .before .before .args .q)) in
     let u = c .before .u .given in

@@ -1,7 +1,7 @@
 -- `wide_end` meets its contract: its tests are those of `char`.
 use borrow.Author.Tests.{lt-ltb, le-ltb}
 use borrow.Author.Needs.{needs}
-use Rattle.xml.specs.Machine.{char}
+use Rattle.xml.specs.CheckSteps.{char}
 use Rattle.xml.proofs.Scanned.{scan-stopped, scan-from}
 use Rattle.xml.proofs.characters.wide_end.Statement.{statement}
 use Rattle.xml.proofs.characters.wide_end.Tie as tie

@@ -1,7 +1,7 @@
 -- `attribute_end` meets its contract: behind the name `key` takes each byte as `keyed` does.
 use mathlib.Core.Path.{refl}
 use borrow.Author.Needs.{needs}
-use Rattle.xml.specs.Machine.{keyed, step, ended}
+use Rattle.xml.specs.CheckSteps.{keyed, formStep, ended}
 use Rattle.xml.proofs.Past.{past-stop}
 use Rattle.xml.proofs.Stays.{key-stay}
 use Rattle.xml.proofs.Scanned.{scan-past, scan-as, scan-then, scan-broken, scan-bounds}
@@ -26,14 +26,14 @@ enum-known-u : tie.Need-enum-known-u
 enum-known-u c = search needs
 
 returns : tie.Need-returns
-unfolding step ended
+unfolding formStep ended
 returns c =
     let e = c .before .before .before .before .before .past-name .ensures in
     let j = c .before .before .j .given in
     scan-past key-stay e (scan-as keyed refl (λ ns h. simp (past-stop e h)) (scan-then (j .0 .0) (c .before .before .before .before .equals-end .ensures) (j .1) (c .quoted-end .ensures)))
 
 returns-2 : tie.Need-returns-2
-unfolding step ended
+unfolding formStep ended
 returns-2 c =
     let e = c .before .before .before .before .past-name .ensures in
     let u = c .before .u .given in

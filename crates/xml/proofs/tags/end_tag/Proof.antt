@@ -1,6 +1,6 @@
 -- `end_tag` meets its contract: the name, and then the rest of the tag.
 use borrow.Author.Needs.{needs}
-use Rattle.xml.specs.Machine.{closed}
+use Rattle.xml.specs.CheckSteps.{closed}
 use Rattle.xml.proofs.Scanned.{scan-then, scan-broken, scan-bounds}
 use Rattle.xml.proofs.tags.end_tag.Statement.{statement}
 use Rattle.xml.proofs.tags.end_tag.Tie as tie

@@ -4,7 +4,7 @@ use mathlib.Core.Bool.{false}
 use borrow.Author.Tests.{ne-eqb}
 use borrow.Author.Needs.{needs}
 use Rattle.xml.specs.Bytes.{isSpace}
-use Rattle.xml.specs.Machine.{keyed, step, ended}
+use Rattle.xml.specs.CheckSteps.{keyed, formStep, ended}
 use Rattle.xml.proofs.Past.{past-not}
 use Rattle.xml.proofs.Stays.{keyed-stay}
 use Rattle.xml.proofs.Scanned.{stands, scan-past, scan-on, scan-done, scan-refused}
@@ -21,16 +21,16 @@ add-t7 : tie.Need-add-t7
 add-t7 c = search needs
 
 returns : tie.Need-returns
-unfolding step isSpace
+unfolding formStep isSpace
 returns c =
     let h = stands (c .before .before .before .before .args .text .now) (c .before .before .past-spaces .result) (c .before .byte .result) (c .before .byte .ensures) (search needs) in
-    scan-past keyed-stay (c .before .before .past-spaces .ensures) (scan-on (c .before .byte .result) (c .before .byte .ensures) (search needs) (λ ns. ap (step keyed ns) (c .if1 .taken)) (scan-done (search needs)))
+    scan-past keyed-stay (c .before .before .past-spaces .ensures) (scan-on (c .before .byte .result) (c .before .byte .ensures) (search needs) (λ ns. ap (formStep keyed ns) (c .if1 .taken)) (scan-done (search needs)))
 
 sub-t9 : tie.Need-sub-t9
 sub-t9 c = search needs
 
 returns-2 : tie.Need-returns-2
-unfolding step isSpace ended
+unfolding formStep isSpace ended
 returns-2 c =
     let e = c .before .before .past-spaces .ensures in
     let s : isSpace (c .before .byte .result) ≡ false = ap isSpace (c .before .byte .ensures) ∙ past-not e refl in

@@ -4,7 +4,7 @@ use mathlib.Core.Bool.{false}
 use borrow.Author.Tests.{eq-eqb, ne-eqb}
 use borrow.Author.Needs.{needs}
 use Rattle.xml.specs.Bytes.{isSpace}
-use Rattle.xml.specs.Machine.{step, ended}
+use Rattle.xml.specs.CheckSteps.{formStep, ended}
 use Rattle.xml.proofs.Past.{past-not}
 use Rattle.xml.proofs.Stays.{equals-stay}
 use Rattle.xml.proofs.Scanned.{stands, scan-past, scan-on, scan-refused}
@@ -26,7 +26,7 @@ value-end-requires c κs =
     search needs
 
 returns : tie.Need-returns
-unfolding step isSpace
+unfolding formStep isSpace
 returns c =
     let e = c .before .before .before .past-spaces .ensures in
     let s : isSpace (c .before .before .byte .result) ≡ false = ap isSpace (c .before .before .byte .ensures) ∙ past-not e refl in
@@ -41,7 +41,7 @@ value-end-requires-2 c κs =
     search needs
 
 returns-2 : tie.Need-returns-2
-unfolding step isSpace
+unfolding formStep isSpace
 returns-2 c =
     let e = c .before .before .before .before .past-spaces .ensures in
     let s : isSpace (c .before .before .before .byte .result) ≡ false = ap isSpace (c .before .before .before .byte .ensures) ∙ past-not e refl in
@@ -51,7 +51,7 @@ sub-t10 : tie.Need-sub-t10
 sub-t10 c = search needs
 
 returns-3 : tie.Need-returns-3
-unfolding step isSpace ended
+unfolding formStep isSpace ended
 returns-3 c =
     let e = c .before .before .before .past-spaces .ensures in
     let s : isSpace (c .before .before .byte .result) ≡ false = ap isSpace (c .before .before .byte .ensures) ∙ past-not e refl in

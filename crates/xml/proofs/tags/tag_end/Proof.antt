@@ -3,9 +3,9 @@ use mathlib.Core.Path.{_≡_, refl, ap, _∙_}
 use mathlib.Core.Bool.{true, false}
 use lib.ListN.{getD}
 use borrow.Author.Needs.{needs}
-use Rattle.xml.specs.Bytes.{isSpace, isLetter}
-use Rattle.xml.specs.Machine.{at, tag, valued, step, ended}
-use Rattle.xml.specs.Scans.{kindOf}
+use Rattle.xml.specs.Bytes.{isSpace, isAsciiLetter}
+use Rattle.xml.specs.CheckSteps.{at, tag, valued, formStep, ended}
+use Rattle.xml.specs.ScanSteps.{kindOf}
 use Rattle.xml.proofs.KindTable.{no-letter, a-letter}
 use Rattle.xml.proofs.Past.{past-not}
 use Rattle.xml.proofs.Stays.{tag-stay, valued-stay}
@@ -27,13 +27,13 @@ close-requires : tie.Need-close-requires
 close-requires c κs = search needs
 
 returns : tie.Need-returns
-unfolding isSpace step ended
+unfolding isSpace formStep ended
 returns c =
     let t = c .before .before .before .before .before .before .args .text .now in
     let i = c .before .before .before .before .past-spaces .result in
     let e = c .before .before .before .before .past-spaces .ensures in
     let s : isSpace (getD t i 0) ≡ false = past-not e refl in
-    let l : isLetter (getD t i 0) ≡ false = no-letter (c .before .before .kind .result) (getD t i 0) (c .before .before .kind .ensures ∙ ap kindOf (c .before .before .before .byte .ensures)) (c .before .if1 .taken) in
+    let l : isAsciiLetter (getD t i 0) ≡ false = no-letter (c .before .before .kind .result) (getD t i 0) (c .before .before .kind .ensures ∙ ap kindOf (c .before .before .before .byte .ensures)) (c .before .if1 .taken) in
     tags-after i (scan-past tag-stay e (scan-done (e .inside))) (c .close .ensures tag refl (λ ns. simp (s, l)))
 
 add-attribute-end : tie.Need-add-attribute-end
@@ -46,7 +46,7 @@ attribute-end-requires c κs =
     let i = c .before .before .before .past-spaces .result in
     let e = c .before .before .before .past-spaces .ensures in
     let s : isSpace (getD t i 0) ≡ false = past-not e refl in
-    let l : isLetter (getD t i 0) ≡ true = a-letter (c .before .kind .result) (getD t i 0) (c .before .kind .ensures ∙ ap kindOf (c .before .before .byte .ensures)) (c .if1 .left) in
+    let l : isAsciiLetter (getD t i 0) ≡ true = a-letter (c .before .kind .result) (getD t i 0) (c .before .kind .ensures ∙ ap kindOf (c .before .before .byte .ensures)) (c .if1 .left) in
     let h = inside-letter t i l in
     (search needs, c .before .before .before .before .before .pre .1)
 
@@ -65,13 +65,13 @@ enum-known-u : tie.Need-enum-known-u
 enum-known-u c = search needs
 
 returns-2 : tie.Need-returns-2
-unfolding isSpace step ended
+unfolding isSpace formStep ended
 returns-2 c =
     let t = c .before .before .before .before .before .before .before .before .before .before .before .args .text .now in
     let i = c .before .before .before .before .before .before .before .before .before .past-spaces .result in
     let e = c .before .before .before .before .before .before .before .before .before .past-spaces .ensures in
     let s : isSpace (getD t i 0) ≡ false = past-not e refl in
-    let l : isLetter (getD t i 0) ≡ true = a-letter (c .before .before .before .before .before .before .before .kind .result) (getD t i 0) (c .before .before .before .before .before .before .before .kind .ensures ∙ ap kindOf (c .before .before .before .before .before .before .before .before .byte .ensures)) (c .before .before .before .before .before .before .if1 .left) in
+    let l : isAsciiLetter (getD t i 0) ≡ true = a-letter (c .before .before .before .before .before .before .before .kind .result) (getD t i 0) (c .before .before .before .before .before .before .before .kind .ensures ∙ ap kindOf (c .before .before .before .before .before .before .before .before .byte .ensures)) (c .before .before .before .before .before .before .if1 .left) in
     let h = inside-letter t i l in
     let j = c .before .before .before .j .given in
     let e₂ = c .before .past-spaces2 .ensures in
@@ -81,13 +81,13 @@ returns-2 c =
     (c .close2 .ensures valued refl (λ ns. simp s₂))
 
 returns-3 : tie.Need-returns-3
-unfolding isSpace step
+unfolding isSpace formStep
 returns-3 c =
     let t = c .before .before .before .before .before .before .before .before .before .args .text .now in
     let i = c .before .before .before .before .before .before .before .past-spaces .result in
     let e = c .before .before .before .before .before .before .before .past-spaces .ensures in
     let s : isSpace (getD t i 0) ≡ false = past-not e refl in
-    let l : isLetter (getD t i 0) ≡ true = a-letter (c .before .before .before .before .before .kind .result) (getD t i 0) (c .before .before .before .before .before .kind .ensures ∙ ap kindOf (c .before .before .before .before .before .before .byte .ensures)) (c .before .before .before .before .if1 .left) in
+    let l : isAsciiLetter (getD t i 0) ≡ true = a-letter (c .before .before .before .before .before .kind .result) (getD t i 0) (c .before .before .before .before .before .kind .ensures ∙ ap kindOf (c .before .before .before .before .before .before .byte .ensures)) (c .before .before .before .before .if1 .left) in
     let h = inside-letter t i l in
     let u = c .before .u .given in
     tags-broken {b = at valued} (scan-past tag-stay e (scan-step h (λ ns. simp (s, l)) (scan-broken (u .0 .0) (c .before .before .before .attribute-end .ensures) (u .1))))

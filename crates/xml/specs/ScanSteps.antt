@@ -6,12 +6,12 @@ use Prim.Native.Nat.{ℕ, _+_, _-_, _≤_, _<_}
 use lib.ListN.{length, take, drop, getD}
 use lib.Dec.{eqb}
 use Rattle.slices.specs.Slices.{within}
-use Rattle.xml.specs.Bytes.{isSpace, isLetter, isNameByte}
+use Rattle.xml.specs.Bytes.{isSpace, isAsciiLetter, isNameByte}
 use Rattle.xml.specs.Tree.{front}
-use Rattle.xml.specs.Machine.{Held, blank, children, Place, name, content, State, stop, at, char, outside, leave, step, Outcome, broken, ended, run}
+use Rattle.xml.specs.CheckSteps.{Held, blank, children, Mode, name, content, State, stop, at, char, outside, leave, formStep, Outcome, broken, ended, formRun}
 use Rattle.xml.specs.declared.bytes.Scan.{Scan}
 use Rattle.xml.specs.declared.bytes.Scan.the-variants.{At, Broken}
-use Rattle.xml.specs.declared.tags.Tag.{Tag}
+use Rattle.xml.specs.declared.tags.TagEnd.{TagEnd}
 use Rattle.xml.specs.declared.tags.Start.{Start}
 use Rattle.xml.specs.declared.Turn.{Turn}
 
@@ -21,7 +21,7 @@ isText b = isSpace b || (within 32 127 b && not (eqb b 60 || eqb b 38 || eqb b 6
 
 -- `a` a letter, `b` another byte of a name, `c` another byte of text, `d` white space, `e` any other byte
 unfoldable pub kindOf : ℕ → ℕ
-kindOf b = cond (isLetter b) 97 (cond (isNameByte b) 98 (cond (isSpace b) 100 (cond (isText b) 99 101)))
+kindOf b = cond (isAsciiLetter b) 97 (cond (isNameByte b) 98 (cond (isSpace b) 100 (cond (isText b) 99 101)))
 
 abbrev pub ofKind : ℕ → ℕ → ℕ → Bool
 ofKind lo hi b = within lo hi (kindOf b)
@@ -36,12 +36,12 @@ pub record Past (f : ℕ → Bool) (t : List ℕ) (i j : ℕ) : Type 0 where
   pub inside : j ≤ length t
 
 -- after the first byte of a character, b, before which the machine was at p
-abbrev pub first : Place → ℕ → List (List ℕ) → State
+abbrev pub first : Mode → ℕ → List (List ℕ) → State
 first p b ns = char p ns b
 
 -- the outcome where a scan that leads to the state σ ended so
 abbrev pub goesOn : List ℕ → State → Scan → Outcome
-goesOn t σ (At i) = run σ (drop i t)
+goesOn t σ (At i) = formRun σ (drop i t)
 goesOn t σ (Broken u) = broken u
 
 -- from i on, and not past n
@@ -51,7 +51,7 @@ Between i n (Broken u) = Unit {0}
 
 -- a scan of t from i on, where the machine is at `from`, to where it is at `to`, whatever elements are open
 pub record Scans (t : List ℕ) (i : ℕ) (from to : List (List ℕ) → State) (r : Scan) : Type 0 where
-  pub runs : (ns : List (List ℕ)) → run (from ns) (drop i t) ≡ goesOn t (to ns) r
+  pub runs : (ns : List (List ℕ)) → formRun (from ns) (drop i t) ≡ goesOn t (to ns) r
   pub ends : Between i (length t) r
 
 -- the bytes of t from i to j
@@ -59,25 +59,25 @@ abbrev pub part : List ℕ → ℕ → ℕ → List ℕ
 part t i j = take (j - i) (drop i t)
 
 -- the outcome where the rest of a start tag in the elements ns, its own first, ended so
-abbrev pub tagged : List ℕ → List (List ℕ) → Tag → Outcome
-tagged t ns (Tag.Open i) = run (at (content blank) ns) (drop i t)
-tagged t ns (Tag.Empty i) = run (leave ns) (drop i t)
-tagged t ns (Tag.Broken u) = broken u
+abbrev pub tagged : List ℕ → List (List ℕ) → TagEnd → Outcome
+tagged t ns (TagEnd.Open i) = formRun (at (content blank) ns) (drop i t)
+tagged t ns (TagEnd.Empty i) = formRun (leave ns) (drop i t)
+tagged t ns (TagEnd.Broken u) = broken u
 
-abbrev pub TagBetween : ℕ → ℕ → Tag → Type 0
-TagBetween i n (Tag.Open j) = (i ≤ j) × (j ≤ n)
-TagBetween i n (Tag.Empty j) = (i ≤ j) × (j ≤ n)
-TagBetween i n (Tag.Broken u) = Unit {0}
+abbrev pub TagBetween : ℕ → ℕ → TagEnd → Type 0
+TagBetween i n (TagEnd.Open j) = (i ≤ j) × (j ≤ n)
+TagBetween i n (TagEnd.Empty j) = (i ≤ j) × (j ≤ n)
+TagBetween i n (TagEnd.Broken u) = Unit {0}
 
 -- the rest of a start tag, from i on, where the machine is at `from`
-pub record Tags (t : List ℕ) (i : ℕ) (from : List (List ℕ) → State) (r : Tag) : Type 0 where
-  pub runs : (ns : List (List ℕ)) → run (from ns) (drop i t) ≡ tagged t ns r
+pub record ScansTag (t : List ℕ) (i : ℕ) (from : List (List ℕ) → State) (r : TagEnd) : Type 0 where
+  pub runs : (ns : List (List ℕ)) → formRun (from ns) (drop i t) ≡ tagged t ns r
   pub ends : TagBetween i (length t) r
 
 -- the outcome where a start tag from i on, inside the elements ns, ended so
 abbrev pub started : List ℕ → ℕ → List (List ℕ) → Start → Outcome
-started t i ns (Start.Open e j) = run (at (content blank) (part t i e ∷ ns)) (drop j t)
-started t i ns (Start.Empty j) = run (outside ns) (drop j t)
+started t i ns (Start.Open e j) = formRun (at (content blank) (part t i e ∷ ns)) (drop j t)
+started t i ns (Start.Empty j) = formRun (outside ns) (drop j t)
 started t i ns (Start.Broken u) = broken u
 
 abbrev pub StartBetween : ℕ → ℕ → Start → Type 0
@@ -87,15 +87,15 @@ StartBetween i n (Start.Broken u) = Unit {0}
 
 -- a start tag from i on, at a place where only one may be
 pub record Starts (t : List ℕ) (i : ℕ) (r : Start) : Type 0 where
-  pub runs : (p : Place) (ns : List (List ℕ)) → ended p ≡ broken 0
-      → step p ns (getD t i 0) ≡ cond (isLetter (getD t i 0)) (at (name (getD t i 0 ∷ [])) ns) stop → run (at p ns) (drop i t) ≡ started t i ns r
+  pub runs : (p : Mode) (ns : List (List ℕ)) → ended p ≡ broken 0
+      → formStep p ns (getD t i 0) ≡ cond (isAsciiLetter (getD t i 0)) (at (name (getD t i 0 ∷ [])) ns) stop → formRun (at p ns) (drop i t) ≡ started t i ns r
   pub ends : StartBetween i (length t) r
 
 -- the outcome where the next tag of the element n, inside the elements ns, ended so
 abbrev pub turned : List ℕ → List ℕ → List (List ℕ) → Turn → Outcome
-turned t n ns (Turn.Opened s e j) = run (at (content blank) (part t s e ∷ n ∷ ns)) (drop j t)
-turned t n ns (Turn.Inside j) = run (at (content children) (n ∷ ns)) (drop j t)
-turned t n ns (Turn.Outside j) = run (outside ns) (drop j t)
+turned t n ns (Turn.Opened s e j) = formRun (at (content blank) (part t s e ∷ n ∷ ns)) (drop j t)
+turned t n ns (Turn.Inside j) = formRun (at (content children) (n ∷ ns)) (drop j t)
+turned t n ns (Turn.Outside j) = formRun (outside ns) (drop j t)
 turned t n ns (Turn.Broken u) = broken u
 
 -- ahead of i, and not past n; an element opens only where one may
@@ -107,7 +107,7 @@ TurnBetween i n begins (Turn.Broken u) = Unit {0}
 
 -- the next tag of the element n, from i on, where the machine is at `from`, in all elements around n that are as `around` says
 pub record Turns (t : List ℕ) (i : ℕ) (n : List ℕ) (begins : Bool) (from : List (List ℕ) → State) (around : List (List ℕ) → Type 0) (r : Turn) : Type 0 where
-  pub runs : (ns : List (List ℕ)) → around ns → run (from (n ∷ ns)) (drop i t) ≡ turned t n ns r
+  pub runs : (ns : List (List ℕ)) → around ns → formRun (from (n ∷ ns)) (drop i t) ≡ turned t n ns r
   pub ends : TurnBetween i (length t) begins r
 
 -- an element with children so far, or with white space alone

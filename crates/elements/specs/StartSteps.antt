@@ -7,7 +7,8 @@ use lib.Dec.{eqb}
 use lib.ListN.{length, drop}
 use Rattle.xml.specs.Tree.{none}
 use Rattle.elements.specs.Tags.{textPlace}
-use Rattle.elements.specs.Reading.{rowAt, headAt, emptyAt, childrenAt, isRow, NextTag, Behind, FirstOf, Spans}
+use Rattle.elements.specs.Reading.{forestAt, headAt, emptyAt, childrenAt, hasElement, Spans}
+use Rattle.elements.specs.TagSteps.{NextTag, Behind, FirstOf}
 use Rattle.elements.specs.declared.tags.Tag.{Tag}
 use Rattle.elements.specs.declared.tags.Tag.the-variants as tag
 use Rattle.elements.specs.declared.starts.Start.{Start}
@@ -23,7 +24,7 @@ pub record Shape (s : List ℕ) (h : Start) : Type 0 where
   pub empty : emptyAt s (h .at) ≡ h .empty
   pub text : Spans s (h .text .from) (h .text .len) (headAt s (h .at) .text)
   pub place : h .text ≡ textPlace s (drop (h .at) s)
-  pub leaf : h .leaf ≡ not (isRow (childrenAt s (h .at)))
+  pub leaf : h .leaf ≡ not (hasElement (childrenAt s (h .at)))
 
 -- the element whose tag is at n; one without children is left at the place told
 pub record Opening (s : List ℕ) (n : ℕ) (h : Start) : Type 0 where
@@ -37,7 +38,7 @@ abbrev pub tagOf : Start → Tag
 tagOf h = cond (h .empty) (tag.Empty (h .at)) (tag.Open (h .at))
 
 -- the element that comes next from i on; where it has no children, its row goes on at the place told
-pub record Starts (s : List ℕ) (i : ℕ) (h : Start) : Type 0 where
+pub record StartsElement (s : List ℕ) (i : ℕ) (h : Start) : Type 0 where
   pub tag : NextTag s i (tagOf h)
   pub shape : Shape s h
   pub next : h .leaf ≡ true → FirstOf s i (h .at) (h .next)
@@ -45,7 +46,7 @@ pub record Starts (s : List ℕ) (i : ℕ) (h : Start) : Type 0 where
 abbrev pub NextStart : List ℕ → ℕ → Next → Type 0
 NextStart s i End = NextTag s i tag.End
 NextStart s i (Close n) = NextTag s i (tag.Close n)
-NextStart s i (Opens h) = Starts s i h
+NextStart s i (Opens h) = StartsElement s i h
 
 -- the first element of the row at i; the row goes on at j
 pub record ItemOf (s : List ℕ) (i : ℕ) (h : Start) (j : ℕ) : Type 0 where
@@ -53,5 +54,5 @@ pub record ItemOf (s : List ℕ) (i : ℕ) (h : Start) (j : ℕ) : Type 0 where
   pub shape : Shape s h
 
 abbrev pub NextItem : List ℕ → ℕ → Item → Type 0
-NextItem s i Done = rowAt s i ≡ none
+NextItem s i Done = forestAt s i ≡ none
 NextItem s i (At h j) = ItemOf s i h j

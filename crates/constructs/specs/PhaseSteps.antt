@@ -38,7 +38,7 @@ closedTable table n Data at off = table
 closedTable table n Defect at off = table
 
 -- there is room in the table, and the numbers fit it
-pub record Fitting (n first end from to : ℕ) : Type 0 where
+pub record FitsTable (n first end from to : ℕ) : Type 0 where
   pub few : n < maxConstructs
   pub inFirst : first ≤ maxElements
   pub inEnd : end ≤ maxElements
@@ -46,7 +46,7 @@ pub record Fitting (n first end from to : ℕ) : Type 0 where
   pub inTo : to ≤ maxStore
 
 abbrev pub Roomy : ℕ → Phase → ℕ → ℕ → Type 0
-Roomy n (Index first from short) at off = Fitting n first (at + 1) from off
+Roomy n (Index first from short) at off = FitsTable n first (at + 1) from off
 Roomy n (Labels k) at off = Unit {0}
 Roomy n Data at off = Unit {0}
 Roomy n Defect at off = Unit {0}

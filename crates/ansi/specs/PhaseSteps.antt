@@ -6,11 +6,11 @@ use lib.ListN.{take, drop}
 use Rattle.tape.specs.Tape.{mark, block}
 use Rattle.ansi.specs.declared.phases.Phase.{Phase}
 use Rattle.ansi.specs.declared.phases.Phase.the-variants as phase
-use Rattle.ansi.specs.declared.phases.Next.{Next}
-use Rattle.ansi.specs.declared.phases.Next.the-variants as nextIs
+use Rattle.ansi.specs.declared.phases.PhaseNext.{PhaseNext}
+use Rattle.ansi.specs.declared.phases.PhaseNext.the-variants as nextIs
 use Rattle.ansi_labels.specs.Labels.{isLabel, isNumbered, labelNumber}
 use Rattle.ansi.specs.Layout.{TapeFile}
-use Rattle.ansi.specs.Reading.{Stage, start, volume, header, headers, blocks, trailer, second, trailers, between, done, Step, go, found, stop, step}
+use Rattle.ansi.specs.ReadingSteps.{Stage, start, volume, header, headers, blocks, trailer, second, trailers, between, done, Step, go, found, stop, readStep}
 
 -- the label that begins at a place of the store
 abbrev pub labelAt : List ℕ → ℕ → List ℕ
@@ -29,7 +29,7 @@ stageOf s (phase.Trailers k) = trailers k
 stageOf s phase.Between = between
 stageOf s phase.Done = done
 
-abbrev pub stepOf : List ℕ → Next → Step
+abbrev pub stepOf : List ℕ → PhaseNext → Step
 stepOf s (nextIs.Go p) = go (stageOf s p)
 stepOf s (nextIs.Stop r) = stop r
 
@@ -41,11 +41,11 @@ unfiled (stop r) = stop r
 
 -- what the block of so many bytes that begins at a place of the store does in a phase
 abbrev pub blockStep : List ℕ → Phase → ℕ → ℕ → Step
-blockStep s p from len = step 0 (stageOf s p) (block (take len (drop from s)))
+blockStep s p from len = readStep 0 (stageOf s p) (block (take len (drop from s)))
 
 -- what a mark does, without the file that it may make known
 abbrev pub markStep : List ℕ → Phase → Step
-markStep s p = unfiled (step 0 (stageOf s p) mark)
+markStep s p = unfiled (readStep 0 (stageOf s p) mark)
 
 -- the number from which on optional labels may follow behind the block x; 0 where it is none of them
 unfoldable pub passedTo : List ℕ → List ℕ → ℕ → List ℕ → ℕ
@@ -59,7 +59,7 @@ known (stop r) = []
 
 -- the file that a mark, element n, makes known
 abbrev pub knownAt : List ℕ → ℕ → Phase → List TapeFile
-knownAt s n p = known (step n (stageOf s p) mark)
+knownAt s n p = known (readStep n (stageOf s p) mark)
 
 -- the data blocks counted so far leave room for one more
 abbrev pub Small : Phase → Type 0

@@ -13,7 +13,7 @@ use Rattle.tape.specs.declared.Spot.the-variants as Spot·is
 use Rattle.tape.specs.declared.Totals.{Totals}
 use Rattle.tape.specs.declared.Totals.the-variants.{Of, Bad}
 use Rattle.tape.specs.Tape.{Cell, maxElements}
-use Rattle.tape.specs.Reading.{total, entryAt}
+use Rattle.tape.specs.ReadingSteps.{total, entryAt}
 
 -- the number of elements and the bytes of their blocks, with n elements and v bytes already counted; none past the bound
 unfoldable pub totalsFrom : ℕ → ℕ → Option (List Cell) → Totals

@@ -6,7 +6,7 @@ use Prim.Native.Nat.{ℕ, _<_}
 use lib.Dec.{eqb, ltb}
 use lib.ListN.{getD, set}
 use Rattle.xml.specs.Tree.{Forest, none, node}
-use Rattle.children.specs.Rows.{seat}
+use Rattle.children.specs.RowSteps.{seat}
 use Rattle.index_names.specs.Names.{names, numberIn}
 
 -- the first element of that number, alone, in a row of an element of that kind

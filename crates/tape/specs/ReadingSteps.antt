@@ -60,12 +60,12 @@ filled [] s = []
 filled (markCell ∷ cs) s = mark ∷ filled cs s
 filled (blockCell n ∷ cs) s = block (take n s) ∷ filled cs (drop n s)
 
-abbrev pub fits : List Cell → List ℕ → Bool
-fits cs s = leb (length cs) maxElements && eqb (total cs) (length s) && leb (length s) maxStore
+abbrev pub withinBounds : List Cell → List ℕ → Bool
+withinBounds cs s = leb (length cs) maxElements && eqb (total cs) (length s) && leb (length s) maxStore
 
 unfoldable pub filledWith : List ℕ → Option (List Cell) → Option Tape
 filledWith s none = none
-filledWith s (some cs) = cond (fits cs s) (some (filled cs s)) none
+filledWith s (some cs) = cond (withinBounds cs s) (some (filled cs s)) none
 
 -- the tape that a list and a store encode
 unfoldable pub tapeOf : List ℕ → List ℕ → Option Tape

@@ -49,26 +49,26 @@ closing h n x =
     cond (isTrailer h x) (cond (eqb (blockCount x) n) (go second) (stop BlockCount)) (cond (isLabel (bytes "EOV1") x) (stop EndOfVolume) wrong)
 
 -- element n
-unfoldable pub step : ℕ → Stage → Element → Step
-step n start mark = wrong
-step n start (block x) = cond (isVolume x) (go (volume 2)) wrong
-step n (volume k) mark = wrong
-step n (volume k) (block x) = passing (bytes "VOL") (bytes "UVL") k x volume (opening x)
-step n (header h) mark = wrong
-step n (header h) (block x) = cond (isHeader2 x) (go (headers h x 3)) wrong
-step n (headers h g k) mark = found (tapeFileOf h g (suc n)) (blocks h 0)
-step n (headers h g k) (block x) = passing (bytes "HDR") (bytes "UHL") k x (headers h g) wrong
-step n (blocks h m) mark = go (trailer h m)
-step n (blocks h m) (block x) = cond (isData x) (go (blocks h (suc m))) wrong
-step n (trailer h m) mark = wrong
-step n (trailer h m) (block x) = closing h m x
-step n second mark = wrong
-step n second (block x) = cond (isLabel (bytes "EOF2") x) (go (trailers 3)) wrong
-step n (trailers k) mark = go between
-step n (trailers k) (block x) = passing (bytes "EOF") (bytes "UTL") k x trailers wrong
-step n between mark = go done
-step n between (block x) = opening x
-step n done e = wrong
+unfoldable pub readStep : ℕ → Stage → Element → Step
+readStep n start mark = wrong
+readStep n start (block x) = cond (isVolume x) (go (volume 2)) wrong
+readStep n (volume k) mark = wrong
+readStep n (volume k) (block x) = passing (bytes "VOL") (bytes "UVL") k x volume (opening x)
+readStep n (header h) mark = wrong
+readStep n (header h) (block x) = cond (isHeader2 x) (go (headers h x 3)) wrong
+readStep n (headers h g k) mark = found (tapeFileOf h g (suc n)) (blocks h 0)
+readStep n (headers h g k) (block x) = passing (bytes "HDR") (bytes "UHL") k x (headers h g) wrong
+readStep n (blocks h m) mark = go (trailer h m)
+readStep n (blocks h m) (block x) = cond (isData x) (go (blocks h (suc m))) wrong
+readStep n (trailer h m) mark = wrong
+readStep n (trailer h m) (block x) = closing h m x
+readStep n second mark = wrong
+readStep n second (block x) = cond (isLabel (bytes "EOF2") x) (go (trailers 3)) wrong
+readStep n (trailers k) mark = go between
+readStep n (trailers k) (block x) = passing (bytes "EOF") (bytes "UTL") k x trailers wrong
+readStep n between mark = go done
+readStep n between (block x) = opening x
+readStep n done e = wrong
 
 -- where the tape ends
 unfoldable pub ending : Stage → Answer (List TapeFile)
@@ -89,13 +89,13 @@ follow next (found f σ) = andThen (next σ) (λ fs. answer (f ∷ fs))
 follow next (stop r) = refused r
 
 -- the files from element n on
-unfoldable pub run : Tape → ℕ → Stage → Answer (List TapeFile)
-run [] n σ = ending σ
-run (e ∷ t) n σ = follow (run t (suc n)) (step n σ e)
+unfoldable pub readRun : Tape → ℕ → Stage → Answer (List TapeFile)
+readRun [] n σ = ending σ
+readRun (e ∷ t) n σ = follow (readRun t (suc n)) (readStep n σ e)
 
 -- the files of a tape
 unfoldable pub ansiOf : Tape → Answer (List TapeFile)
-ansiOf t = run t 0 start
+ansiOf t = readRun t 0 start
 
 -- how many elements are passed before one can't stand
 unfoldable pub passedOn : ℕ → (Stage → ℕ) → Step → ℕ
@@ -105,7 +105,7 @@ passedOn n next (stop r) = n
 
 unfoldable pub passedFrom : Tape → ℕ → Stage → ℕ
 passedFrom [] n σ = n
-passedFrom (e ∷ t) n σ = passedOn n (passedFrom t (suc n)) (step n σ e)
+passedFrom (e ∷ t) n σ = passedOn n (passedFrom t (suc n)) (readStep n σ e)
 
 unfoldable pub frontOf : Tape → ℕ
 frontOf t = passedFrom t 0 start

@@ -6,18 +6,28 @@ use lib.Dec.{leb}
 use lib.ListN.{length}
 use Rattle.refusals.specs.declared.Refusal.{Refusal}
 use Rattle.refusals.specs.declared.Refusal.the-variants.{Labels, Short}
-use Rattle.refusals.specs.Refusals.{refused, answer, require}
+use Rattle.refusals.specs.Refusals.{refused, answer, require, Answer, andThen}
 use Rattle.slices.specs.Slices.{written}
-use Rattle.slices.specs.Writers.{stored}
+use Rattle.slices.specs.Writers.{heldAfter}
 use Rattle.tape.specs.Tape.{Tape, Encodes}
 use Rattle.ansi.specs.declared.Walked.{Walked}
 use Rattle.ansi.specs.declared.Walked.the-variants as walkedIs
 use Rattle.ansi.specs.declared.phases.Phase.{Phase}
 use Rattle.ansi.specs.declared.phases.Phase.the-variants as phase
-use Rattle.ansi.specs.declared.Read.{Read}
+use Rattle.ansi.specs.declared.FilesRead.{FilesRead}
 use Rattle.ansi.specs.Layout.{TapeFile, maxFiles}
-use Rattle.ansi.specs.Reading.{ansiOf, frontOf}
-use Rattle.ansi.specs.Answers.{fileSize, allBytes, readCount}
+use Rattle.ansi.specs.ReadingSteps.{ansiOf, frontOf}
+use Rattle.ansi.specs.Answers.{fileSize, allBytes, filesAfter, filesOn}
+use Rattle.ansi.specs.declared.FilesRead.the-variants as readIs
+
+abbrev pub readCount : FilesRead → Answer ℕ
+readCount (readIs.Files n) = answer n
+readCount (readIs.Refused r) = refused r
+
+-- what reading answers, and what the buffer holds after
+pub record ReadsFiles (l s before after : List ℕ) (r : FilesRead) : Type 0 where
+  pub answers : readCount r ≡ andThen (filesOn (length before) l s) (λ fs. answer (length fs))
+  pub holds : after ≡ filesAfter (filesOn (length before) l s) before
 
 -- the walk over a list: the bytes of all files at the front of the rows, and where they end
 pub record AllRead (t : Tape) (before after : List ℕ) (end : ℕ) : Type 0 where
@@ -55,9 +65,9 @@ atEnd (phase.Trailers k) end count = walkedIs.Refused Labels count
 atEnd phase.Between end count = walkedIs.Refused Labels count
 
 -- the rows w put to the front of a lent buffer
-pub record HandsOut (w before after : List ℕ) (r : Read) : Type 0 where
+pub record HandsOut (w before after : List ℕ) (r : FilesRead) : Type 0 where
   pub answers : readCount r ≡ require (leb (length w) (length before)) Short (answer (length w / fileSize))
-  pub holds : after ≡ stored 0 w before
+  pub holds : after ≡ heldAfter 0 w before
 
 -- the length of the rows: one file more than a tape can have
 abbrev pub rowsLength : ℕ

@@ -8,9 +8,9 @@ use lib.Dec.{leb, ltb, eqb}
 use Rattle.refusals.specs.Refusals.{Answer, require}
 use Rattle.slices.specs.Words.{bytes}
 use Rattle.refusals.specs.declared.Refusal.the-variants.{Form}
-use Rattle.xml.specs.Bytes.{isSpace, isLetter, isNameByte, declaration}
-use Rattle.xml.specs.declared.Checked.{Checked}
-use Rattle.xml.specs.declared.Checked.the-variants.{Good, Broken}
+use Rattle.xml.specs.Bytes.{isSpace, isAsciiLetter, isNameByte, declaration}
+use Rattle.xml.specs.declared.FormChecked.{FormChecked}
+use Rattle.xml.specs.declared.FormChecked.the-variants.{Good, Broken}
 
 -- what an element holds so far: white space alone; text that ends in 0, 1, or 2 or more `]`; elements
 pub data Held : Type 0 where
@@ -18,39 +18,39 @@ pub data Held : Type 0 where
   words : ℕ → Held
   children : Held
 
-pub data Place : Type 0 where
-  word : Place → List ℕ → Place  -- in a fixed word, of which the list, not empty, is left; the place to go on at
-  before : Place  -- between the declaration and the root
-  root : Place  -- after the root's `<`
-  name : List ℕ → Place  -- in the name of a start tag, of which the list is read
-  tag : Place  -- in a start tag, after the name and white space
-  key : Place  -- in an attribute's name
-  keyed : Place  -- after an attribute's name and white space
-  equals : Place  -- after `=`
-  value : ℕ → Place  -- in an attribute's value that ends with this quote
-  valued : Place  -- after an attribute's value
-  slash : Place  -- after the `/` of an empty-element tag
-  content : Held → Place  -- in an element
-  opens : Bool → Place  -- after a `<` in an element; an element may begin here, or not, beside text
-  closed : Place  -- after the name of an end tag
-  after : Place  -- after the root
-  amp : Place → Place  -- after `&`
-  ampA : Place → Place  -- after `&a`
-  more : Place → ℕ → ℕ → ℕ → Place  -- in a character: a byte from lo to hi, then n bytes from 128 to 191
-  lead239 : Place → Place  -- in a character, after the byte 239: U+FFFE and U+FFFF are no characters
+pub data Mode : Type 0 where
+  word : Mode → List ℕ → Mode  -- in a fixed word, of which the list, not empty, is left; the place to go on at
+  before : Mode  -- between the declaration and the root
+  root : Mode  -- after the root's `<`
+  name : List ℕ → Mode  -- in the name of a start tag, of which the list is read
+  tag : Mode  -- in a start tag, after the name and white space
+  key : Mode  -- in an attribute's name
+  keyed : Mode  -- after an attribute's name and white space
+  equals : Mode  -- after `=`
+  value : ℕ → Mode  -- in an attribute's value that ends with this quote
+  valued : Mode  -- after an attribute's value
+  slash : Mode  -- after the `/` of an empty-element tag
+  content : Held → Mode  -- in an element
+  opens : Bool → Mode  -- after a `<` in an element; an element may begin here, or not, beside text
+  closed : Mode  -- after the name of an end tag
+  after : Mode  -- after the root
+  amp : Mode → Mode  -- after `&`
+  ampA : Mode → Mode  -- after `&a`
+  more : Mode → ℕ → ℕ → ℕ → Mode  -- in a character: a byte from lo to hi, then n bytes from 128 to 191
+  lead239 : Mode → Mode  -- in a character, after the byte 239: U+FFFE and U+FFFF are no characters
 
 -- a place with the names of the open elements, the innermost first; or stopped
 pub data State : Type 0 where
   stop : State
-  at : Place → List (List ℕ) → State
+  at : Mode → List (List ℕ) → State
 
 -- at the word w, and then at p
-unfoldable pub reads : Place → List ℕ → Place
+unfoldable pub reads : Mode → List ℕ → Mode
 reads p [] = p
 reads p (c ∷ w) = word p (c ∷ w)
 
 -- the first byte of a character, before which the machine was at p
-unfoldable pub char : Place → List (List ℕ) → ℕ → State
+unfoldable pub char : Mode → List (List ℕ) → ℕ → State
 char p ns b =
     cond (ltb b 128) (cond (eqb b 38) (at (amp p) ns) (cond (leb 32 b || isSpace b) (at p ns) stop))
     (cond (ltb b 194) stop
@@ -71,10 +71,10 @@ inText n ns b =
     (cond (eqb b 62 && eqb n 2) stop (char (content (words 0)) ns b))
 
 -- a byte of an element, other than `<`
-unfoldable pub inside : Held → List (List ℕ) → ℕ → State
-inside blank ns b = cond (isSpace b) (at (content blank) ns) (inText 0 ns b)
-inside (words n) ns b = inText n ns b
-inside children ns b = cond (isSpace b) (at (content children) ns) stop
+unfoldable pub insideElement : Held → List (List ℕ) → ℕ → State
+insideElement blank ns b = cond (isSpace b) (at (content blank) ns) (inText 0 ns b)
+insideElement (words n) ns b = inText n ns b
+insideElement children ns b = cond (isSpace b) (at (content children) ns) stop
 
 -- the `>` or `/` of a start tag
 unfoldable pub tagEnd : List (List ℕ) → ℕ → State
@@ -94,41 +94,41 @@ unfoldable pub innermost : List (List ℕ) → List ℕ
 innermost [] = []
 innermost (n ∷ ns) = n
 
-unfoldable pub noText : Held → Bool
-noText blank = true
-noText (words n) = false
-noText children = true
+unfoldable pub withoutText : Held → Bool
+withoutText blank = true
+withoutText (words n) = false
+withoutText children = true
 
-unfoldable pub step : Place → List (List ℕ) → ℕ → State
-step (word p []) ns b = stop
-step (word p (c ∷ w)) ns b = cond (eqb b c) (at (reads p w) ns) stop
-step before ns b = cond (isSpace b) (at before ns) (cond (eqb b 60) (at root ns) stop)
-step root ns b = cond (isLetter b) (at (name (b ∷ [])) ns) stop
-step (name w) ns b =
+unfoldable pub formStep : Mode → List (List ℕ) → ℕ → State
+formStep (word p []) ns b = stop
+formStep (word p (c ∷ w)) ns b = cond (eqb b c) (at (reads p w) ns) stop
+formStep before ns b = cond (isSpace b) (at before ns) (cond (eqb b 60) (at root ns) stop)
+formStep root ns b = cond (isAsciiLetter b) (at (name (b ∷ [])) ns) stop
+formStep (name w) ns b =
     cond (isNameByte b) (at (name (w ++ b ∷ [])) ns) (cond (isSpace b) (at tag (w ∷ ns)) (tagEnd (w ∷ ns) b))
-step tag ns b = cond (isSpace b) (at tag ns) (cond (isLetter b) (at key ns) (tagEnd ns b))
-step key ns b = cond (isNameByte b) (at key ns) (cond (isSpace b) (at keyed ns) (cond (eqb b 61) (at equals ns) stop))
-step keyed ns b = cond (isSpace b) (at keyed ns) (cond (eqb b 61) (at equals ns) stop)
-step equals ns b = cond (isSpace b) (at equals ns) (cond (eqb b 34 || eqb b 39) (at (value b) ns) stop)
-step (value q) ns b = cond (eqb b q) (at valued ns) (cond (eqb b 60) stop (char (value q) ns b))
-step valued ns b = cond (isSpace b) (at valued ns) (tagEnd ns b)
-step slash ns b = cond (eqb b 62) (leave ns) stop
-step (content h) ns b = cond (eqb b 60) (at (opens (noText h)) ns) (inside h ns b)
-step (opens o) ns b =
+formStep tag ns b = cond (isSpace b) (at tag ns) (cond (isAsciiLetter b) (at key ns) (tagEnd ns b))
+formStep key ns b = cond (isNameByte b) (at key ns) (cond (isSpace b) (at keyed ns) (cond (eqb b 61) (at equals ns) stop))
+formStep keyed ns b = cond (isSpace b) (at keyed ns) (cond (eqb b 61) (at equals ns) stop)
+formStep equals ns b = cond (isSpace b) (at equals ns) (cond (eqb b 34 || eqb b 39) (at (value b) ns) stop)
+formStep (value q) ns b = cond (eqb b q) (at valued ns) (cond (eqb b 60) stop (char (value q) ns b))
+formStep valued ns b = cond (isSpace b) (at valued ns) (tagEnd ns b)
+formStep slash ns b = cond (eqb b 62) (leave ns) stop
+formStep (content h) ns b = cond (eqb b 60) (at (opens (withoutText h)) ns) (insideElement h ns b)
+formStep (opens o) ns b =
     cond (eqb b 47) (at (reads closed (innermost ns)) ns)
-    (cond (isLetter b && (o && ltb (length ns) 64)) (at (name (b ∷ [])) ns) stop)
-step closed ns b = cond (isSpace b) (at closed ns) (cond (eqb b 62) (leave ns) stop)
-step after ns b = cond (isSpace b) (at after ns) stop
-step (amp p) ns b =
+    (cond (isAsciiLetter b && (o && ltb (length ns) 64)) (at (name (b ∷ [])) ns) stop)
+formStep closed ns b = cond (isSpace b) (at closed ns) (cond (eqb b 62) (leave ns) stop)
+formStep after ns b = cond (isSpace b) (at after ns) stop
+formStep (amp p) ns b =
     cond (eqb b 97) (at (ampA p) ns)
     (cond (eqb b 108 || eqb b 103) (at (word p (bytes "t;")) ns)
     (cond (eqb b 113) (at (word p (bytes "uot;")) ns) stop))
-step (ampA p) ns b =
+formStep (ampA p) ns b =
     cond (eqb b 109) (at (word p (bytes "p;")) ns)
     (cond (eqb b 112) (at (word p (bytes "os;")) ns) stop)
-step (more p lo hi n) ns b =
+formStep (more p lo hi n) ns b =
     cond (ltb b lo) stop (cond (ltb hi b) stop (cond (eqb n 0) (at p ns) (at (more p 128 191 (n - 1)) ns)))
-step (lead239 p) ns b =
+formStep (lead239 p) ns b =
     cond (ltb b 128) stop
     (cond (ltb b 191) (at (more p 128 191 0) ns) (cond (ltb b 192) (at (more p 128 189 0) ns) stop))
 
@@ -138,7 +138,7 @@ pub data Outcome : Type 0 where
   broken : ℕ → Outcome
 
 -- the text ends at this place
-unfoldable pub ended : Place → Outcome
+unfoldable pub ended : Mode → Outcome
 ended (word p w) = broken 0
 ended before = broken 0
 ended root = broken 0
@@ -160,17 +160,17 @@ ended (more p lo hi n) = broken 0
 ended (lead239 p) = broken 0
 
 -- from a state on: where the machine has stopped, the byte that stopped it and the rest are unread
-unfoldable pub run : State → List ℕ → Outcome
-run σ [] = elim σ [ stop ↦ broken 1 | at p ns ↦ ended p ]
-run σ (b ∷ s) = elim σ [ stop ↦ broken (suc (suc (length s))) | at p ns ↦ run (step p ns b) s ]
+unfoldable pub formRun : State → List ℕ → Outcome
+formRun σ [] = elim σ [ stop ↦ broken 1 | at p ns ↦ ended p ]
+formRun σ (b ∷ s) = elim σ [ stop ↦ broken (suc (suc (length s))) | at p ns ↦ formRun (formStep p ns b) s ]
 
 -- before a text
-abbrev pub start : State
-start = at (word before declaration) []
+abbrev pub formStart : State
+formStart = at (word before declaration) []
 
 -- what becomes of a whole text
 unfoldable pub form : List ℕ → Outcome
-form s = run start s
+form s = formRun formStart s
 
 abbrev pub isGood : Outcome → Bool
 isGood good = true
@@ -185,6 +185,6 @@ module _ {A : Type 0} where
   requireForm s next = require (inForm s) Form next
 
 -- the outcome that `check` answers
-abbrev pub outcomeOf : Checked → Outcome
+abbrev pub outcomeOf : FormChecked → Outcome
 outcomeOf Good = good
 outcomeOf (Broken u) = broken u

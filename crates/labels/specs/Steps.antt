@@ -4,14 +4,12 @@ use mathlib.Core.Bool.{cond}
 use mathlib.Core.List.{List, []}
 use Prim.Native.Nat.{ℕ, _+_, _≤_}
 use lib.ListN.{length}
-use Rattle.refusals.specs.Refusals.{Answer, refused, answer}
 use Rattle.tape.specs.Tape.{Tape, Encodes}
 use Rattle.tape.specs.Answers.{tapeIn}
 use Rattle.tape.specs.declared.Entry.{Entry}
 use Rattle.tape.specs.declared.Entry.the-variants as entry
-use Rattle.elements.specs.declared.heads.Span.{Span}
-use Rattle.label.specs.TextPlaces.{TextPlaces, textPlaces}
-use Rattle.label.specs.Reading.{ReadsLabel}
+use Rattle.label.specs.TextPlaces.{textPlaces}
+use Rattle.label.specs.Steps.{ReadsLabel}
 use Rattle.label.specs.declared.reader.Label.{Label}
 use Rattle.label.specs.declared.reader.Label.the-variants.{Says, Refused}
 use Rattle.labels.specs.declared.Step.{Step}
@@ -19,6 +17,7 @@ use Rattle.labels.specs.declared.Step.the-variants.{Past, Other}
 use Rattle.labels.specs.declared.Laid.{Laid}
 use Rattle.labels.specs.declared.Laid.the-variants.{Blocks, Otherwise}
 use Rattle.labels.specs.Labels.{isLaid, bytesAt, labelsFrom, labelsIn}
+use Rattle.labels.specs.Places.{spanMoved, placesOn}
 
 -- past a block, with its length; or something else stands there
 abbrev pub pastBlock : Entry → Step
@@ -41,14 +40,6 @@ layoutOf t = cond (isLaid t) (Blocks (length (bytesAt t 0)) (length (bytesAt t 2
 abbrev pub LaysOut : List ℕ → Laid → Type 0
 LaysOut l r = (s : List ℕ) (t : Tape) → Encodes l s t → r ≡ layoutOf t
 
--- a span of a text that begins `by` bytes into a store, as a span of the store
-abbrev pub spanMoved : ℕ → Span → Span
-spanMoved by w = record { from = by + w .from; len = w .len }
-
--- the three of a label
-abbrev pub placesMoved : ℕ → TextPlaces → TextPlaces
-placesMoved by w = record { creator = spanMoved by (w .creator); time = spanMoved by (w .time); uuid = spanMoved by (w .uuid) }
-
 -- what a label says, with its spans moved
 abbrev pub labelMoved : ℕ → Label → Label
 labelMoved by (Refused r) = Refused r
@@ -69,11 +60,6 @@ labelMoved by (Says f) =
 abbrev pub BeginWithin : ℕ → Label → Type 0
 BeginWithin n (Refused r) = Unit {0}
 BeginWithin n (Says f) = (f .creator .from ≤ n) × (f .time .from ≤ n) × (f .uuid .from ≤ n)
-
--- where the texts of a side's label stand in its store: in block 2, which follows block 0
-abbrev pub placesOn : Answer Tape → TextPlaces
-placesOn (refused r) = textPlaces []
-placesOn (answer t) = placesMoved (length (bytesAt t 0)) (textPlaces (bytesAt t 2))
 
 -- what the labels of two sides say, the places being in the index store
 abbrev pub ChecksLabels : List ℕ → List ℕ → List ℕ → List ℕ → Label → Type 0

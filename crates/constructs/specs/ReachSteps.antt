@@ -8,9 +8,10 @@ use lib.Seq.{sets}
 use mathlib.Core.Path.{_≡_}
 use Rattle.refusals.specs.declared.Refusal.the-variants.{Short}
 use Rattle.refusals.specs.Refusals.{Answer, refused, answer, require, andThen}
-use Rattle.tape.specs.declared.Checked.{Checked}
+use Rattle.tape.specs.declared.ListChecked.{ListChecked}
 use Rattle.tape.specs.Tape.{Tape, Encodes}
-use Rattle.tape.specs.Answers.{tapeIn, counted}
+use Rattle.tape.specs.Answers.{tapeIn}
+use Rattle.tape.specs.Steps.{counted}
 use Rattle.constructs.specs.Constructs.{dataLengths}
 
 -- a data block of x bytes, or 0 for any other element, before an element from which data blocks reach next bytes: a block of exactly B
@@ -49,7 +50,7 @@ abbrev pub reachAfter : ℕ → List ℕ → Answer Tape → List ℕ
 reachAfter B before (refused r) = before
 reachAfter B before (answer t) = cond (leb (length t) (length before)) (reaches B (dataLengths t) ++ drop (length t) before) before
 
-pub record Reaches (B : ℕ) (l s before after : List ℕ) (r : Checked) : Type 0 where
+pub record Reaches (B : ℕ) (l s before after : List ℕ) (r : ListChecked) : Type 0 where
   pub answers : counted r ≡ andThen (tapeIn l s) (λ t. require (leb (length t) (length before)) Short (answer (length t)))
   pub holds : after ≡ reachAfter B before (tapeIn l s)
 

@@ -1,0 +1,10 @@
+-- What this crate's functions owe each other.
+use mathlib.Core.Option.{Option, some, none}
+use Prim.Native.Nat.{ℕ}
+use Rattle.digits.specs.declared.Number.{Number}
+use Rattle.digits.specs.declared.Number.the-variants.{Value, Nothing}
+
+-- what an answer says
+abbrev pub valueOf : Number → Option ℕ
+valueOf (Value n) = some n
+valueOf Nothing = none

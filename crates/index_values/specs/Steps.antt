@@ -1,0 +1,26 @@
+-- What this crate's functions owe each other.
+use mathlib.Core.Path.{_≡_}
+use mathlib.Core.Bool.{Bool}
+use mathlib.Core.List.{List}
+use Prim.Native.Nat.{ℕ, _*_, _≤_, _<_}
+use lib.ListN.{length, take}
+use Rattle.xml.specs.Tree.{Forest}
+use Rattle.extents.specs.Rows as numbers
+use Rattle.extents.specs.Rows.{Row}
+use Rattle.index_rows.specs.Steps.{Placed}
+use Rattle.index_names.specs.Sorts.{file, uuid}
+use Rattle.index_values.specs.declared.tests.Partitions.{Partitions}
+use Rattle.index_values.specs.Tests.{Given, few, lawfulFile, most}
+
+abbrev pub given : List ℕ → Partitions → Given
+given u v = record { uuid = u; indexLetter = v .«index_letter»; dataLetter = v .«data_letter»; blockSize = v .«block_size» }
+
+-- n rows stand in the front of out, if there are not too many
+pub record RowsRead (rows : List Row) (out : List ℕ) (n : ℕ) : Type 0 where
+  pub all : n ≤ most → (numbers.rowsOf (take (n * 5) out) ≡ rows) × (length rows ≡ n)
+  pub many : most < n → most < length rows
+
+-- the two tests of the extents of an element of sort s, whose children stand at places t of the text x
+abbrev pub TestsExtents : List ℕ → List ℕ → ℕ → Partitions → Bool → Bool → Type 0
+TestsExtents x t s v isFew isLawful =
+    (c : Forest) → (s ≡ file → Placed x file c t) → (isFew ≡ few s c) × ((u : List ℕ) → isLawful ≡ lawfulFile (given u v) s c)
