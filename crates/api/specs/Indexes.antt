@@ -5,7 +5,7 @@ use mathlib.Core.Option.{Option, none, some}
 use Prim.Native.Nat.{ℕ, _-_}
 use lib.ListN.{length, take, drop, getD}
 use Rattle.refusals.specs.Refusals.{Answer}
-use Rattle.quantities.specs.Locations.{Location}
+use Rattle.quantities.specs.Addresses.{Address}
 use Rattle.index.specs.Index.{Index, Summary, summary, indexOf}
 use Rattle.index_files.specs.Asked.{fileIn}
 use Rattle.index_files.specs.Filling.{TellsPart, Stored, SaysFile, rowsFor, filesFor, allRowsFor, HoldsRows, HoldsFiles}
@@ -13,7 +13,7 @@ use Rattle.volume.specs.Chosen.{Indexed, chosenIn}
 use Rattle.api.specs.Outputs.{ShownAs, Shown, bit, one}
 
 -- whether there is a back pointer, its letter, its block
-abbrev pub backNumbers : Option Location → List ℕ
+abbrev pub backNumbers : Option Address → List ℕ
 backNumbers none = 0 ∷ 0 ∷ 0 ∷ []
 backNumbers (some p) = 1 ∷ p .letter ∷ p .block ∷ []
 

@@ -14,7 +14,7 @@ use Rattle.slices.specs.Slices.{same}
 use Rattle.slices.specs.Words.{bytes}
 use Rattle.quantities.specs.Letters.{isLetter}
 use Rattle.quantities.specs.Sizes.{isBlockSize}
-use Rattle.quantities.specs.Locations.{Location}
+use Rattle.quantities.specs.Addresses.{Address}
 use Rattle.xml.specs.Tree.{Head, Forest, none as noElement, node}
 use Rattle.xml.specs.CheckSteps.{inForm}
 use Rattle.elements.specs.Reading.{forestAt, hasElement}
@@ -154,7 +154,7 @@ no-back noElement e = rw no-number
 no-back (node h k r) e = let z : _≡_ {A = ℕ} 0 1 = cc in absurd (omega arith)
 
 pub no-back-at : (f : Forest) (back : Bool) (letter block : ℕ) → back ≡ hasElement f → letter ≡ locationOf f .letter → block ≡ locationOf f .block → back ≡ false
-    → _≡_ {A = Location} (record { letter = letter; block = block }) (record { letter = 0; block = 0 })
+    → _≡_ {A = Address} (record { letter = letter; block = block }) (record { letter = 0; block = 0 })
 no-back-at f back letter block b l n e = rw (l, n) (no-back f (sym b ∙ e))
 
 pub same-heading : (release : ℕ) (k : Forest) (entries files generation highest directories : ℕ) (time : List ℕ) (letter block letter₂ block₂ : ℕ) (back allow : Bool)

@@ -24,7 +24,7 @@ use Rattle.index.specs.declared.walk.Sums.{Sums}
 use Rattle.index.specs.declared.walk.Left.{Left}
 use mathlib.Core.Option.{Option, some, none}
 use Rattle.refusals.specs.Refusals.{Answer, refused, answer}
-use Rattle.quantities.specs.Locations.{Location}
+use Rattle.quantities.specs.Addresses.{Address}
 use Rattle.index.specs.declared.read.Header.{Header}
 use Rattle.index.specs.declared.read.Read.the-variants.{Found, Refused}
 
@@ -38,10 +38,10 @@ pub record Surveyed (g : Given) (k : Forest) (sums : Sums) : Type 0 where
   pub entries : sums .few ≡ true → sums .entries ≡ entriesOf (elements index k)
   pub files : sums .few ≡ true → sums .files ≡ fileCount (elements index k)
 
-abbrev pub locationFrom : ℕ → BlockNumber → Location
+abbrev pub locationFrom : ℕ → BlockNumber → Address
 locationFrom l b = record { letter = l; block = b .0 }
 
-abbrev pub backOf : Header → Option Location
+abbrev pub backOf : Header → Option Address
 backOf h = cond (h .back) (some (locationFrom (h .«back_letter») (h .«back_block»))) none
 
 -- what a reader's header means of a text

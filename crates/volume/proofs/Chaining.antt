@@ -7,7 +7,7 @@ use Prim.Native.Nat.{ℕ, suc, _+_, _-_, _≤_, _<_}
 use native.Mathlib.Omega.{arith}
 use lib.ListN.{length, set, length-drop}
 use lib.Seq.{getD-set-same, getD-set-other, drop-length}
-use Rattle.quantities.specs.Locations.{Location}
+use Rattle.quantities.specs.Addresses.{Address}
 use Rattle.quantities.specs.declared.Generation.{Generation}
 use Rattle.constructs.specs.Constructs.{Construct}
 use Rattle.constructs.specs.TableSteps.{boundsIn}
@@ -45,7 +45,7 @@ begins-linked v none = refl
 begins-linked v (some x) = refl
 
 begins-by : (b : Brief) → b .sound ≡ true → linkBegins (briefLink b) ≡ not (b .back)
-begins-by b e = rw e (split (λ k. isNone {A = Location} (cond k (some (record { letter = b .letter; block = b .block .0 })) none) ≡ not k) (b .back) (λ u. refl) (λ u. refl))
+begins-by b e = rw e (split (λ k. isNone {A = Address} (cond k (some (record { letter = b .letter; block = b .block .0 })) none) ≡ not k) (b .back) (λ u. refl) (λ u. refl))
 
 -- the generation of a sound index
 pub link-generation : (o : Option IndexLinks) (b : Brief) → briefLink b ≡ linkOf o → b .sound ≡ true → b .generation .0 ≡ generationOf o
