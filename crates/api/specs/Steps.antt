@@ -1,4 +1,4 @@
--- What this crate's functions owe each other.
+-- What a reader hands out, in the numbers that C is told.
 use mathlib.Core.List.{List, [], _∷_}
 use Prim.Native.Nat.{ℕ, _-_}
 use Rattle.index.specs.declared.read.Header.{Header}

@@ -7,9 +7,8 @@ use writing::add;
 use writing::add_number;
 ghost use Prim.Native.Nat.{_+_};
 ghost use lib.ListN.{length};
-ghost use Rattle.volume.specs.Answers.{rescued};
+ghost use Rattle.volume.specs.Answers.{rescued, cutIs};
 ghost use Rattle.volume.specs.AnswerSteps.{judged};
-ghost use Rattle.volume.specs.Steps.{cutIs};
 ghost use Rattle.bench_lines.specs.Lines.{pair, refusedLine, breakLine, cutLine, rescueLine, linesOf};
 ghost use Rattle.writing.specs.Steps.{AddsAtMost};
 

@@ -1,11 +1,9 @@
 -- The rules for the children of an element: the name of each, and a mark that says what the child may hold, `=` (61) a value, `/` (47) children, `*` (42)
 -- anything. A table of them is written as bytes, each name with its mark behind it.
-use mathlib.Core.Bool.{Bool, cond, not, _||_}
+use mathlib.Core.Bool.{cond}
 use mathlib.Core.List.{List, [], _∷_}
 use Prim.Native.Nat.{ℕ, suc}
 use Prim.Native.String.{String}
-use lib.Dec.{eqb}
-use lib.ListN.{take}
 use Rattle.slices.specs.Slices.{same}
 use Rattle.slices.specs.Words.{bytes}
 

@@ -1,4 +1,4 @@
--- What this crate's functions owe each other.
+-- What scanning a list owes: the table with the constructs that stand, and a construct read from it.
 use mathlib.Core.Path.{_≡_}
 use mathlib.Core.Bool.{cond}
 use mathlib.Core.List.{List}

@@ -1,10 +1,6 @@
 -- Constructs in a table of numbers, four for each, the first construct first.
-use mathlib.Core.Path.{_≡_}
-use mathlib.Core.Bool.{cond}
 use mathlib.Core.List.{List, [], _∷_, _++_}
-use Prim.Native.Nat.{ℕ, _+_, _-_, _*_}
-use lib.Dec.{leb}
-use lib.ListN.{length, getD}
+use Prim.Native.Nat.{ℕ, _+_, _-_}
 use lib.Seq.{sets}
 use Rattle.tape.specs.Tape.{Tape}
 use Rattle.tape.specs.Answers.{bytesBefore}

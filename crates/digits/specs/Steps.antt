@@ -1,4 +1,4 @@
--- What this crate's functions owe each other.
+-- What an answer of the reader of numbers says.
 use mathlib.Core.Option.{Option, some, none}
 use Prim.Native.Nat.{ℕ}
 use Rattle.digits.specs.declared.Number.{Number}

@@ -2,8 +2,8 @@
 -- may lie anywhere, past the end too; a tag's place is that of the byte behind its `<`.
 use mathlib.Core.Path.{_≡_}
 use mathlib.Core.Bool.{Bool, true, false, cond}
-use mathlib.Core.List.{List, []}
-use Prim.Native.Nat.{ℕ, _+_, _≤_, min}
+use mathlib.Core.List.{List}
+use Prim.Native.Nat.{ℕ, _+_, _≤_}
 use lib.ListN.{length, take, drop}
 use Rattle.xml.specs.Tree.{Head, Forest, none, node, past, tagHead, top, forests}
 use Rattle.elements.specs.declared.heads.Span.{Span}

@@ -1,4 +1,4 @@
--- What this crate's functions owe each other.
+-- What a reader that goes from tag to tag owes: the next tag, the next element, where reading goes on behind an element.
 use mathlib.Core.Path.{_≡_}
 use mathlib.Core.Bool.{true, false}
 use mathlib.Core.List.{List, []}

@@ -1,7 +1,6 @@
 -- Rows of extents (01, Extents): five numbers each, in a list of numbers one after the other.
 use mathlib.Core.List.{List, [], _∷_, _++_}
 use Prim.Native.Nat.{ℕ, _+_}
-use lib.ListN.{getD}
 
 -- a row: which bytes of a file stand where on a partition
 pub record Row : Type 0 where

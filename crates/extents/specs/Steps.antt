@@ -1,4 +1,4 @@
--- What this crate's functions owe each other.
+-- The row whose numbers begin at a place, and what an answer of the byte map says.
 use Rattle.refusals.specs.Refusals.{Answer, refused, answer}
 use Rattle.extents.specs.declared.ByteAt.{ByteAt}
 use Rattle.extents.specs.declared.ByteAt.the-variants.{Stored, Unstored, Refused}

@@ -1,9 +1,7 @@
 -- A file asked for by its number (01, Index: files number from 0 in text order). Refusals: those of reading the index, then 2 for no such
 -- file.
-use mathlib.Core.Path.{_≡_}
 use mathlib.Core.List.{List, [], _∷_}
 use Prim.Native.Nat.{ℕ, zero, suc}
-use lib.ListN.{length, take, drop}
 use Rattle.refusals.specs.Refusals.{Answer, refused, answer, andThen}
 use Rattle.refusals.specs.declared.Refusal.the-variants.{Missing}
 use Rattle.index.specs.Index.{Index, File}

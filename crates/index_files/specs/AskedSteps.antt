@@ -1,4 +1,4 @@
--- What this crate's functions owe each other.
+-- What finding a file by its number owes.
 use mathlib.Core.Path.{_≡_}
 use mathlib.Core.List.{List}
 use Prim.Native.Nat.{ℕ}

@@ -1,4 +1,4 @@
--- What this crate's functions owe each other.
+-- What filling a lent buffer with files or rows owes.
 use mathlib.Core.Path.{_≡_}
 use mathlib.Core.List.{List, [], _∷_}
 use Prim.Native.Nat.{ℕ, _+_, _*_}

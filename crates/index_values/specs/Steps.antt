@@ -1,4 +1,4 @@
--- What this crate's functions owe each other.
+-- What reading and testing a file's extents owes.
 use mathlib.Core.Path.{_≡_}
 use mathlib.Core.Bool.{Bool}
 use mathlib.Core.List.{List}

@@ -1,12 +1,11 @@
 -- What each element of an index is tested for by itself (01, Index, Values, Extents and Refusal numbers): its value (6), that it is of this
 -- volume (8), the number of a file's extents (15), and that they are lawful (11).
-use mathlib.Core.Path.{_≡_}
 use mathlib.Core.Bool.{Bool, true, false, cond, not, _&&_, _||_}
 use mathlib.Core.List.{List, [], _∷_}
 use mathlib.Core.Option.{Option, some, none}
-use Prim.Native.Nat.{ℕ, _*_, _≤_, _<_}
+use Prim.Native.Nat.{ℕ}
 use lib.Dec.{eqb, leb}
-use lib.ListN.{length, take}
+use lib.ListN.{length}
 use Rattle.slices.specs.Words.{bytes}
 use Rattle.xml.specs.Tree.{Forest, none as noElement, node}
 use Rattle.texts.specs.Decoded.{decoded}

@@ -2,7 +2,6 @@
 use mathlib.Core.List.{List}
 use Prim.Native.Nat.{ℕ}
 use Prim.Native.String.{String}
-use lib.ListN.{drop}
 use Rattle.slices.specs.Words.{bytes}
 use Rattle.elements.specs.Tags.{Tags, tagsAt}
 use Rattle.elements.specs.declared.heads.Span.{Span}

@@ -1,4 +1,4 @@
--- What this crate's functions owe each other.
+-- What putting a label's text together owes.
 use mathlib.Core.List.{List}
 use Prim.Native.Nat.{ℕ}
 use Rattle.slices.specs.declared.Written.{Written}

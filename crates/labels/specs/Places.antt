@@ -1,4 +1,4 @@
--- What this crate's functions owe each other.
+-- Where the texts of a side's label stand in its store (01, LTFS label).
 use mathlib.Core.List.{[]}
 use Prim.Native.Nat.{ℕ, _+_}
 use lib.ListN.{length}

@@ -1,4 +1,4 @@
--- What this crate's functions owe each other.
+-- What the answers of this crate say, and what finding a block owes.
 use mathlib.Core.Path.{_≡_}
 use mathlib.Core.Bool.{true, false}
 use mathlib.Core.List.{List}

@@ -1,10 +1,9 @@
 -- A text as it is meant (01, The XML form: the five references; 01, Values: bytes and code points decoded).
-use mathlib.Core.Path.{_≡_}
 use mathlib.Core.Bool.{Bool, cond}
 use mathlib.Core.List.{List, [], _∷_}
-use Prim.Native.Nat.{ℕ, zero, suc, _+_, _<_, _≤_}
+use Prim.Native.Nat.{ℕ, zero, suc, _+_}
 use lib.Dec.{eqb}
-use lib.ListN.{length, take, drop}
+use lib.ListN.{length, take}
 use Rattle.slices.specs.Slices.{within, same}
 use Rattle.slices.specs.Words.{bytes}
 

@@ -1,4 +1,4 @@
--- What this crate's functions owe each other.
+-- The next byte that a text means, as a reader finds it.
 use mathlib.Core.Path.{_≡_}
 use mathlib.Core.List.{List, [], _∷_}
 use Prim.Native.Nat.{ℕ, _<_, _≤_}

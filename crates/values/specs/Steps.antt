@@ -1,4 +1,4 @@
--- What this crate's functions owe each other.
+-- What an answer of this crate says.
 use mathlib.Core.Bool.{Bool}
 use mathlib.Core.Option.{Option, some, none}
 use Prim.Native.Nat.{ℕ}

@@ -1,4 +1,4 @@
--- A table by element number: which construct of the data partition begins there.
+-- Which construct of the data partition begins at an element, in a table; and the first constructs of a list that has its last one first.
 use mathlib.Core.List.{List, [], _∷_}
 use Prim.Native.Nat.{ℕ, suc, _-_}
 use lib.ListN.{length, set, drop}

@@ -1,4 +1,4 @@
--- What this crate's functions owe each other.
+-- What an answer of the reader of VOL1 says, and what its writer owes.
 use mathlib.Core.List.{List}
 use Prim.Native.Nat.{ℕ}
 use lib.ListN.{replicate}

@@ -3,7 +3,7 @@ use mathlib.Core.Bool.{Bool, _&&_}
 use mathlib.Core.List.{List, _++_}
 use Prim.Native.Nat.{ℕ}
 use lib.Dec.{eqb}
-use lib.ListN.{length, take, drop, replicate}
+use lib.ListN.{length, take, drop}
 use Rattle.refusals.specs.Refusals.{Answer, answer, require}
 use Rattle.refusals.specs.declared.Refusal.the-variants as refusal
 use Rattle.slices.specs.Slices.{within, every, same}

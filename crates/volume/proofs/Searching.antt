@@ -17,7 +17,8 @@ use Rattle.verdict.specs.Verdict.{IndexLinks, Volume, readIndex, readData, foll
 use Rattle.verdict.specs.Rescue.{pointedBlock, target, generationOf, through, cutAt, attempt}
 use Rattle.verdict.specs.Steps.{beginnings, firsts}
 use Rattle.verdict.proofs.Chains.{through-suffix, good-suffix}
-use Rattle.volume.specs.Steps.{Link, linkOf, briefLink, briefBack, joined, Located, Listed, Generations, BeginsOf, cutIs}
+use Rattle.volume.specs.Steps.{Link, linkOf, briefLink, briefBack, joined, Located, Listed, Generations, BeginsOf}
+use Rattle.volume.specs.Answers.{cutIs}
 use Rattle.volume.specs.declared.sound.Brief.{Brief}
 use Rattle.volume.specs.declared.search.FoundCut.{FoundCut}
 use Rattle.volume.proofs.Briefs.{joined-follows}

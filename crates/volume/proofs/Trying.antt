@@ -21,7 +21,8 @@ use Rattle.verdict.specs.Rescue.{cutAmong}
 use Rattle.verdict.specs.Steps.{firsts}
 use Rattle.verdict.proofs.Orders.{firsts-all, search-on, search-found}
 use Rattle.volume.specs.Volume.{soundly, volumeWith}
-use Rattle.volume.specs.Steps.{linkOf, briefLink, joined, boundsText, Located, ReachTable, Ready, lostFile, Loses, FitsCut, apart, losing, fitting, cutIs, Tries, Searches}
+use Rattle.volume.specs.Steps.{linkOf, briefLink, joined, boundsText, Located, ReachTable, Ready, lostFile, Loses, FitsCut, apart, losing, fitting, Tries, Searches}
+use Rattle.volume.specs.Answers.{cutIs}
 use Rattle.volume.specs.declared.sound.Brief.{Brief}
 use Rattle.volume.specs.declared.lost.Lost.{Lost}
 use Rattle.volume.specs.declared.search.FoundCut.{FoundCut}

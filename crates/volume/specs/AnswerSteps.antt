@@ -1,4 +1,4 @@
--- What this crate's functions owe each other.
+-- What an answer of the verdict says, and what it owes.
 use mathlib.Core.Path.{_≡_}
 use mathlib.Core.List.{List}
 use mathlib.Core.Option.{Option, none, some}

@@ -10,10 +10,20 @@ use Rattle.verdict.specs.Verdict.{Volume}
 use Rattle.verdict.specs.Rescue.{Cut}
 use Rattle.verdict.specs.Demand.{Demand3, Verdict3}
 use Rattle.volume.specs.Volume.{volumeOf, rescueIn}
-use Rattle.volume.specs.Steps.{cutIs}
 use Rattle.volume.specs.declared.answers.Verdict.the-variants as verdictIs
 use Rattle.volume.specs.declared.answers.Rescue.{Rescue}
 use Rattle.volume.specs.declared.answers.Rescue.the-variants as rescueIs
+use Rattle.volume.specs.declared.search.FoundCut.{FoundCut}
+
+abbrev pub cutIs : FoundCut → Cut
+cutIs k =
+    record {
+      indexConstruct = k .«index_construct»;
+      dataConstruct = k .«data_construct»;
+      indexKept = k .«index_kept»;
+      dataKept = k .«data_kept»;
+      generation = k .generation .0;
+    }
 
 abbrev pub rescued : Rescue → Answer Cut
 rescued (rescueIs.Cut k) = answer (cutIs k)

@@ -1,4 +1,4 @@
--- What this crate's functions owe each other.
+-- What reading an index by its construct's number owes.
 use mathlib.Core.Path.{_≡_}
 use mathlib.Core.List.{List}
 use Prim.Native.Nat.{ℕ, _-_}

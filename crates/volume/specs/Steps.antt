@@ -35,6 +35,7 @@ use Rattle.volume.specs.declared.search.FoundCut.{FoundCut}
 use Rattle.volume.specs.declared.search.Tried.{Tried}
 use Rattle.volume.specs.declared.search.Tried.the-variants as triedIs
 use Rattle.volume.specs.declared.chains.Linked.{Linked}
+use Rattle.volume.specs.Answers.{cutIs}
 
 -- the bytes of a store that a spot names
 abbrev pub boundsText : List ℕ → Spot → List ℕ
@@ -152,16 +153,6 @@ pub record Ready (v : Volume) (is ti : List ℕ) (td gens begins ri rd : List �
   pub dataReach : ReachTable (v .size) ld rd
   pub indexFits : (c : Construct) (bs : List Construct) → Suffix (c ∷ bs) cs → c .upTo ≤ length li
   pub dataFits : (d : Construct) (bs : List Construct) → Suffix (d ∷ bs) ds → d .upTo ≤ length ld
-
-abbrev pub cutIs : FoundCut → Cut
-cutIs k =
-    record {
-      indexConstruct = k .«index_construct»;
-      dataConstruct = k .«data_construct»;
-      indexKept = k .«index_kept»;
-      dataKept = k .«data_kept»;
-      generation = k .generation .0;
-    }
 
 -- a cut that keeps construct k of the index partition and construct j of the data partition, which lie at here and there; b is what the
 -- index of the first says

@@ -1,4 +1,4 @@
--- What this crate's functions owe each other.
+-- Pieces put into a buffer one behind the other.
 use mathlib.Core.Path.{_≡_}
 use mathlib.Core.List.{List, _++_}
 use Prim.Native.Nat.{ℕ, _≤_}

@@ -1,9 +1,8 @@
--- What is put together piece by piece in a buffer.
+-- What a writer of given fields owes (01, Refusal numbers: 14, then 10).
 use mathlib.Core.Path.{_≡_}
 use mathlib.Core.Bool.{Bool, cond}
-use mathlib.Core.List.{List, _++_}
-use Prim.Native.Nat.{ℕ, _≤_}
-use lib.ListN.{length}
+use mathlib.Core.List.{List}
+use Prim.Native.Nat.{ℕ}
 use Rattle.refusals.specs.declared.Refusal.the-variants.{Caller}
 use Rattle.slices.specs.Writers.{putAnswer, heldAfter}
 use Rattle.slices.specs.declared.Written.{Written}

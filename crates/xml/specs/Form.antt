@@ -1,9 +1,7 @@
--- What the XML form promises to those who read a text in it; proofs/Form has the theorems.
-use mathlib.Core.Path.{_≡_}
-use mathlib.Core.List.{List, [], _∷_, _++_}
-use mathlib.Core.Logic.{_⊎_}
-use Prim.Native.Nat.{ℕ, suc, _<_, _≤_, max}
-use lib.ListN.{length, take, drop}
+-- How much of a text can begin a text in the XML form.
+use mathlib.Core.List.{List, _++_}
+use Prim.Native.Nat.{ℕ, _<_, _≤_}
+use lib.ListN.{length, take}
 use Rattle.xml.specs.Tree.{Forest}
 use Rattle.xml.specs.Grammar.{Document}
 

@@ -1,4 +1,4 @@
--- What this crate's functions owe each other.
+-- What the form check owes to those who read a text in the form; proofs/Form has the theorems.
 use mathlib.Core.Path.{_≡_}
 use mathlib.Core.List.{List, [], _∷_}
 use mathlib.Core.Logic.{_⊎_}
