@@ -38,7 +38,7 @@ SaysIndex s x out = SaysHeader s (summary x) out
 -- in the store s and its length; then the thirteen of its index, whose places are in that text
 pub record SaysConstruct (s : List ℕ) (c : Indexed) (out : List ℕ) : Type 0 where
   pub first : getD out 0 0 ≡ c .construct .first
-  pub end : getD out 1 0 ≡ c .construct .upTo
+  pub end : getD out 1 0 ≡ c .construct .end
   pub from : getD out 2 0 ≡ c .from
   pub length : getD out 3 0 ≡ lib.ListN.length (c .construct .text)
   pub text : TellsPart s out 2 (c .construct .text)

@@ -4,8 +4,7 @@ use mathlib.Core.List.{List, [], _∷_}
 use mathlib.Core.Option.{Option, none, some}
 use Prim.Native.Nat.{ℕ}
 use lib.ListN.{getD}
-use Rattle.verdict.specs.Verdict.{Break}
-use Rattle.verdict.specs.Rescue.{Cut}
+use Rattle.verdict.specs.Verdict.{Break, Cut}
 use Rattle.volume.specs.Volume.{verdictIn}
 use Rattle.volume.specs.Answers.{VerdictOwes, rescued, Rescues}
 use Rattle.volume.specs.declared.answers.Rescue.{Rescue}

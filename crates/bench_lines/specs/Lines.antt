@@ -10,8 +10,7 @@ use Rattle.refusals.specs.declared.Refusal.{Refusal}
 use Rattle.refusals.specs.declared.Refusal.the-variants.{TooMany}
 use Rattle.slices.specs.Words.{bytes}
 use Rattle.digits.specs.Decimal.{short}
-use Rattle.verdict.specs.Verdict.{Break}
-use Rattle.verdict.specs.Rescue.{Cut}
+use Rattle.verdict.specs.Verdict.{Break, Cut}
 use Rattle.volume.specs.Volume.{verdictIn, rescueIn}
 
 unfoldable pub refusedLine : Refusal → List ℕ

@@ -14,9 +14,9 @@ use Rattle.constructs.proofs.Suffixes.{suffix-trans, nil-suffix}
 
 -- an element closes nothing, or one construct that ends with it
 abbrev pub Closes : ℕ → List Construct → List Construct → Type 0
-Closes n cs cs′ = (cs′ ≡ cs) ⊎ ((c : Construct) × (cs′ ≡ c ∷ cs) × (c .upTo ≡ suc n))
+Closes n cs cs′ = (cs′ ≡ cs) ⊎ ((c : Construct) × (cs′ ≡ c ∷ cs) × (c .end ≡ suc n))
 
-closes-if : (n : ℕ) (b : Bool) (c : Construct) (cs : List Construct) → c .upTo ≡ suc n → Closes n cs (cond b cs (c ∷ cs))
+closes-if : (n : ℕ) (b : Bool) (c : Construct) (cs : List Construct) → c .end ≡ suc n → Closes n cs (cond b cs (c ∷ cs))
 closes-if n true c cs h = inl refl
 closes-if n false c cs h = inr (c, refl, h)
 
@@ -47,7 +47,7 @@ module _ (b : ℕ) where
 
   -- each construct that a scan has closed is the last one of the front through it
   abbrev Reached : Scan → List Element → Construct → List Construct → Type 0
-  Reached s t c cs = (k : ℕ) × (k ≤ length t) × (c .upTo ≡ s .at + k) × ((scan b s (take k t)) .done ≡ c ∷ cs)
+  Reached s t c cs = (k : ℕ) × (k ≤ length t) × (c .end ≡ s .at + k) × ((scan b s (take k t)) .done ≡ c ∷ cs)
 
   reached : (s : Scan) (t : List Element) (c : Construct) (cs : List Construct)
       → Suffix (c ∷ cs) ((scan b s t) .done)
@@ -56,9 +56,9 @@ module _ (b : ℕ) where
   reached s [] c cs h = inl h
   reached s (e ∷ es) c cs h = from (reached (scanStep b s e) es c cs h)
     where
-      new : (d : Construct) → (scanStep b s e) .done ≡ d ∷ s .done → d .upTo ≡ suc (s .at) → Suffix (c ∷ cs) (d ∷ s .done)
+      new : (d : Construct) → (scanStep b s e) .done ≡ d ∷ s .done → d .end ≡ suc (s .at) → Suffix (c ∷ cs) (d ∷ s .done)
           → Suffix (c ∷ cs) (s .done) ⊎ Reached s (e ∷ es) c cs
-      new d q u (here p) = let z : c ≡ d = cc in inr (1, omega arith, omega (arith, ap (λ (x : Construct). x .upTo) z), q ∙ sym p)
+      new d q u (here p) = let z : c ≡ d = cc in inr (1, omega arith, omega (arith, ap (λ (x : Construct). x .end) z), q ∙ sym p)
       new d q u (there p) = inl p
 
       split : Closes (s .at) (s .done) ((scanStep b s e) .done) → Suffix (c ∷ cs) ((scanStep b s e) .done)
@@ -78,13 +78,13 @@ module _ (b : ℕ) where
 
   -- the front through a standing construct has that construct and those before it
   pub standing-at : (t : List Element) (c : Construct) (cs : List Construct) → Suffix (c ∷ cs) (standing b t)
-      → (c .upTo ≤ length t) × (standing b (take (c .upTo) t) ≡ c ∷ cs)
+      → (c .end ≤ length t) × (standing b (take (c .end) t) ≡ c ∷ cs)
   unfolding standing
   standing-at t c cs h = from (reached scanStart t c cs h)
     where
-      from : Suffix (c ∷ cs) [] ⊎ Reached scanStart t c cs → (c .upTo ≤ length t) × ((scan b scanStart (take (c .upTo) t)) .done ≡ c ∷ cs)
+      from : Suffix (c ∷ cs) [] ⊎ Reached scanStart t c cs → (c .end ≤ length t) × ((scan b scanStart (take (c .end) t)) .done ≡ c ∷ cs)
       from (inl p) = absurd (nil-suffix p)
-      from (inr (k, l, u, q)) = let z : c .upTo ≡ k = omega arith in (omega arith, ap (λ (n : ℕ). (scan b scanStart (take n t)) .done) z ∙ q)
+      from (inr (k, l, u, q)) = let z : c .end ≡ k = omega arith in (omega arith, ap (λ (n : ℕ). (scan b scanStart (take n t)) .done) z ∙ q)
 
   -- under four elements nothing stands
   pub standing-short : (t : List Element) → length t < 4 → standing b t ≡ []
@@ -108,7 +108,7 @@ dataLengthsFrom-front (suc n) zero false (block x ∷ es) = ap {B = List ℕ} (�
 -- constructs, the last one first, that stand apart from each other and below n
 abbrev pub Below : ℕ → List Construct → Type 0
 Below n [] = Unit {0}
-Below n (c ∷ cs) = (c .upTo ≤ n) × (c .first < c .upTo) × Below (c .first) cs
+Below n (c ∷ cs) = (c .end ≤ n) × (c .first < c .end) × Below (c .first) cs
 
 below-le : (m n : ℕ) (cs : List Construct) → m ≤ n → Below m cs → Below n cs
 below-le m n [] h w = tt
@@ -131,7 +131,7 @@ sane-data n true cs w = w
 sane-data n false cs w = w
 
 sane-mark : (n f : ℕ) (b : Bool) (t : List ℕ) (cs : List Construct) → eqb f n ≡ b → f ≤ n → Below f cs
-    → Sane (suc n) (cond b defect dataRun) (cond b cs (record { first = f; upTo = suc n; text = t } ∷ cs))
+    → Sane (suc n) (cond b defect dataRun) (cond b cs (record { first = f; end = suc n; text = t } ∷ cs))
 sane-mark n f true t cs e h w = below-le f (suc n) cs (omega arith) w
 sane-mark n f false t cs e h w = (omega arith, omega arith, w)
 

@@ -80,7 +80,7 @@ unfolding closedBy
 count-mark t n (labels k) cs = refl
 count-mark t n dataRun cs = refl
 count-mark t n (indexRun f x short) cs =
-    split (λ b. cond b (length cs) (length cs + 1) ≡ length (cond b cs (record { first = f; upTo = suc n; text = x } ∷ cs))) (eqb f n)
+    split (λ b. cond b (length cs) (length cs + 1) ≡ length (cond b cs (record { first = f; end = suc n; text = x } ∷ cs))) (eqb f n)
     (λ e. refl) (λ e. add-one (length cs))
 count-mark t n defect cs = refl
 
@@ -113,11 +113,11 @@ table-mark T t n off dataRun cs h = refl
 table-mark T t n off (indexRun f x short) cs h =
     split
     (λ b. cond b (sets T 0 (constructEntries t cs)) (sets (sets T 0 (constructEntries t cs)) (length cs * 4) (f ∷ (n + 1) ∷ bytesBefore t f ∷ off ∷ []))
-    ≡ sets T 0 (constructEntries t (cond b cs (record { first = f; upTo = suc n; text = x } ∷ cs))))
+    ≡ sets T 0 (constructEntries t (cond b cs (record { first = f; end = suc n; text = x } ∷ cs))))
     (eqb f n) (λ e. refl)
     (λ e. let w : suc n - 1 ≡ n = omega arith in
     let q : off ≡ bytesBefore t (suc n - 1) = h ∙ ap (bytesBefore t) (sym w) in
-    rw (add-one n, q) (entered T t cs (record { first = f; upTo = suc n; text = x })))
+    rw (add-one n, q) (entered T t cs (record { first = f; end = suc n; text = x })))
 table-mark T t n off defect cs h = refl
 
 -- constructs take three elements each
@@ -138,7 +138,7 @@ room-step B n (labels k) cs e w = room-past n k cs (w .0) (w .1)
 room-step B n dataRun cs mark w = (omega arith, omega arith)
 room-step B n dataRun cs (block x) w = split (λ b. RoomIn (suc n) (cond b defect dataRun) cs) (ltb B (length x)) (λ e. omega arith) (λ e. omega arith)
 room-step B n (indexRun f x short) cs mark w =
-    split (λ b. eqb f n ≡ b → RoomIn (suc n) (cond b defect dataRun) (cond b cs (record { first = f; upTo = suc n; text = x } ∷ cs))) (eqb f n)
+    split (λ b. eqb f n ≡ b → RoomIn (suc n) (cond b defect dataRun) (cond b cs (record { first = f; end = suc n; text = x } ∷ cs))) (eqb f n)
     (λ e q. omega arith) (λ e q. let u : f ≡ n → ⊥ = eqb-false f n q in omega arith) refl
 room-step B n (indexRun f y short) cs (block x) w =
     split (λ b. RoomIn (suc n) (cond b defect (cond (ltb B (length x)) defect (indexRun f (y ++ x) (ltb (length x) B)))) cs) short (λ e. omega arith)

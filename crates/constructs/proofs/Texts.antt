@@ -56,7 +56,7 @@ TextIn t n defect = Unit {0}
 
 abbrev pub Texts : Tape → List Construct → Type 0
 Texts t [] = Unit {0}
-Texts t (c ∷ cs) = (c .text ≡ part t (c .first) (c .upTo - 1)) × Texts t cs
+Texts t (c ∷ cs) = (c .text ≡ part t (c .first) (c .end - 1)) × Texts t cs
 
 text-past : (t : Tape) (n k : ℕ) → TextIn t n (pastLabel k)
 unfolding pastLabel
@@ -82,7 +82,7 @@ module _ (B : ℕ) (t : Tape) (n : ℕ) where
   texts-step dataRun cs e w h = h
   texts-step (indexRun f x short) cs mark w h =
       let z : suc n - 1 ≡ n = omega arith in
-      split (λ b. Texts t (cond b cs (record { first = f; upTo = suc n; text = x } ∷ cs))) (eqb f n) (λ u. h) (λ u. (w .1 ∙ ap (part t f) (sym z), h))
+      split (λ b. Texts t (cond b cs (record { first = f; end = suc n; text = x } ∷ cs))) (eqb f n) (λ u. h) (λ u. (w .1 ∙ ap (part t f) (sym z), h))
   texts-step (indexRun f x short) cs (block y) w h = h
   texts-step defect cs e w h = h
 
@@ -106,7 +106,7 @@ pub texts-standing : (B : ℕ) (t : Tape) → Texts t (standing B t)
 unfolding standing
 texts-standing B t = rw (take-length t) at (texts-scanned B t (length t) (omega arith) .1)
 
-pub text-at : {c : Construct} {cs ds : List Construct} (t : Tape) → Suffix (c ∷ cs) ds → Texts t ds → c .text ≡ part t (c .first) (c .upTo - 1)
+pub text-at : {c : Construct} {cs ds : List Construct} (t : Tape) → Suffix (c ∷ cs) ds → Texts t ds → c .text ≡ part t (c .first) (c .end - 1)
 text-at {c} {ds = []} t s w = absurd (nil-suffix s)
 text-at {c} {ds = d ∷ ds} t (here q) w = let z : c ≡ d = cc in rw z (w .0)
 text-at {c} {ds = d ∷ ds} t (there s) w = text-at t s (w .1)

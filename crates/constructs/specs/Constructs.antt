@@ -10,7 +10,7 @@ use Rattle.tape.specs.Tape.{Element, mark, block, Tape, maxElements}
 -- an index construct that stands: the number of its first block, the number of elements through its closing mark, and its text
 pub record Construct : Type 0 where
   pub first : ℕ
-  pub upTo : ℕ
+  pub end : ℕ
   pub text : List ℕ
 
 -- the most constructs of a partition: each has a mark, a block and a mark
@@ -43,7 +43,7 @@ runAfter B n defect e = defect
 unfoldable pub closedBy : ℕ → Run → List Construct → Element → List Construct
 closedBy n (labels k) cs e = cs
 closedBy n dataRun cs e = cs
-closedBy n (indexRun f t short) cs mark = cond (eqb f n) cs (record { first = f; upTo = suc n; text = t } ∷ cs)
+closedBy n (indexRun f t short) cs mark = cond (eqb f n) cs (record { first = f; end = suc n; text = t } ∷ cs)
 closedBy n (indexRun f t short) cs (block x) = cs
 closedBy n defect cs e = cs
 

@@ -10,7 +10,7 @@ use Rattle.constructs.specs.Constructs.{Construct, standing}
 
 -- a construct: its first block's number, the number of elements through its closing mark, and where its text begins and ends in the store
 abbrev pub constructEntry : Tape → Construct → List ℕ
-constructEntry t c = c .first ∷ c .upTo ∷ bytesBefore t (c .first) ∷ bytesBefore t (c .upTo - 1) ∷ []
+constructEntry t c = c .first ∷ c .end ∷ bytesBefore t (c .first) ∷ bytesBefore t (c .end - 1) ∷ []
 
 -- constructs that are listed the last one first
 unfoldable pub constructEntries : Tape → List Construct → List ℕ

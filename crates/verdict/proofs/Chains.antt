@@ -11,8 +11,8 @@ use lib.Dec.{eqb}
 use borrow.Author.Tests.{eqb-true, eq-eqb, ne-eqb}
 use Rattle.quantities.specs.Addresses.{Address}
 use Rattle.constructs.specs.Constructs.{Construct}
-use Rattle.verdict.specs.Verdict.{IndexLinks, Volume, orElse, unless, isNone, isAt, readIndex, readData, follows, chainBreak}
-use Rattle.verdict.specs.Rescue.{Cut, pointedBlock, target, through, chain, cutAt, fitsCut, attempt, cutAmong}
+use Rattle.verdict.specs.Verdict.{IndexLinks, Volume, orElse, unless, isNone, isAt, readIndex, readData, follows, chainBreak, Cut}
+use Rattle.verdict.specs.Rescue.{pointedBlock, target, through, chain, cutAt, fitsCut, attempt, cutAmong}
 use Rattle.constructs.specs.Steps.{Suffix, here, there}
 use Rattle.constructs.proofs.Suffixes.{suffix-length, nil-suffix}
 use Rattle.constructs.proofs.Fronts.{Below, below-first}

@@ -11,8 +11,8 @@ use lib.Seq.{length-take-le}
 use borrow.Author.Tests.{eqb-true, eq-eqb}
 use Rattle.tape.specs.Tape.{Element}
 use Rattle.constructs.specs.Constructs.{Construct, scan, scanStart, standing, dataLengths}
-use Rattle.verdict.specs.Verdict.{Volume, numbered, isNone, endsWith, readIndex, readData, follows, chainBreak, tied, badFileIn, badFile, verdict}
-use Rattle.verdict.specs.Rescue.{Cut, chain, cutAt, fitsCut, rescue}
+use Rattle.verdict.specs.Verdict.{Volume, numbered, isNone, endsWith, readIndex, readData, follows, chainBreak, tied, badFileIn, badFile, verdict, Cut}
+use Rattle.verdict.specs.Rescue.{chain, cutAt, fitsCut, rescue}
 use Rattle.constructs.specs.Steps.{Suffix}
 use Rattle.constructs.proofs.Suffixes.{suffix-trans}
 use Rattle.constructs.proofs.Fronts.{standing-front, standing-at, dataLengthsFrom-front, Below, standing-below, below-suffix}
@@ -23,9 +23,9 @@ numbered-none w none e = refl
 numbered-none w (some n) e = let z : _≡_ {A = ℕ} 0 1 = cc in absurd (omega arith)
 
 -- a tape endsWith with a standing construct: which, and where
-endsWith-at : (t : List Element) (cs : List Construct) → endsWith t cs ≡ true → (c : Construct) × (cs′ : List Construct) × (cs ≡ c ∷ cs′) × (c .upTo ≡ length t)
+endsWith-at : (t : List Element) (cs : List Construct) → endsWith t cs ≡ true → (c : Construct) × (cs′ : List Construct) × (cs ≡ c ∷ cs′) × (c .end ≡ length t)
 endsWith-at t [] e = let z : _≡_ {A = ℕ} 0 1 = cc in absurd (omega arith)
-endsWith-at t (c ∷ cs′) e = (c, cs′, refl, eqb-true (c .upTo) (length t) e)
+endsWith-at t (c ∷ cs′) e = (c, cs′, refl, eqb-true (c .end) (length t) e)
 
 module _ (v : Volume) where
   -- a verdict with no break, by its parts
@@ -36,14 +36,14 @@ module _ (v : Volume) where
     pub es : List Construct
     pub isI : standing (v .size) i ≡ c ∷ cs
     pub isD : standing (v .size) d ≡ e ∷ es
-    pub upI : c .upTo ≡ length i
-    pub upD : e .upTo ≡ length d
+    pub upI : c .end ≡ length i
+    pub upD : e .end ≡ length d
     pub good : chainBreak v (e ∷ es) ≡ none
     pub tie : follows v (readIndex v c) e (readData v e) ≡ true
     pub files : badFileIn v (readIndex v c) (dataLengths i) (dataLengths d) ≡ none
 
   abbrev Last : List Element → Type 0
-  Last t = (c : Construct) × (cs : List Construct) × (standing (v .size) t ≡ c ∷ cs) × (c .upTo ≡ length t)
+  Last t = (c : Construct) × (cs : List Construct) × (standing (v .size) t ≡ c ∷ cs) × (c .end ≡ length t)
 
   from-parts : (i d : List Element) → Last i → Last d → chainBreak v (standing (v .size) d) ≡ none
       → tied v (standing (v .size) i) (standing (v .size) d) ≡ true
@@ -91,19 +91,19 @@ module _ (v : Volume) where
       pub es : List Construct
       pub inI : Suffix (c ∷ cs) (standing (v .size) i)
       pub inD : Suffix (e ∷ es) (standing (v .size) d)
-      pub atI : c .upTo ≡ n
-      pub atD : e .upTo ≡ m
+      pub atI : c .end ≡ n
+      pub atD : e .end ≡ m
       pub good : chainBreak v (e ∷ es) ≡ none
       pub fit : fitsCut v (dataLengths i) (dataLengths d) c e ≡ true
 
-    size-front : (t : List Element) (c : Construct) (n : ℕ) → c .upTo ≡ n → dataLengths (take n t) ≡ take (c .upTo) (dataLengths t)
+    size-front : (t : List Element) (c : Construct) (n : ℕ) → c .end ≡ n → dataLengths (take n t) ≡ take (c .end) (dataLengths t)
     size-front t c n h = dataLengthsFrom-front n 4 true t ∙ ap (λ (k : ℕ). take k (dataLengths t)) (sym h)
 
     pub kept : (n m : ℕ) → n ≤ length i → m ≤ length d → verdict v (take n i) (take m d) ≡ none → Kept n m
     kept n m hn hm h =
         let s = none-sound (take n i) (take m d) h in
-        let un : s .c .upTo ≡ n = s .upI ∙ length-take-le n i hn in
-        let um : s .e .upTo ≡ m = s .upD ∙ length-take-le m d hm in
+        let un : s .c .end ≡ n = s .upI ∙ length-take-le n i hn in
+        let um : s .e .end ≡ m = s .upD ∙ length-take-le m d hm in
         record {
           c = s .c;
           cs = s .cs;

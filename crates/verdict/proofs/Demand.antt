@@ -11,8 +11,8 @@ use lib.ListN.{length, take}
 use lib.Seq.{length-take-le, take-length, take-take}
 use Rattle.tape.specs.Tape.{Element}
 use Rattle.constructs.specs.Constructs.{Construct, standing}
-use Rattle.verdict.specs.Verdict.{IndexLinks, Volume, readIndex, readData, follows, verdict, Consistent}
-use Rattle.verdict.specs.Rescue.{Cut, generationOf, cutAt, rescue}
+use Rattle.verdict.specs.Verdict.{IndexLinks, Volume, readIndex, readData, follows, verdict, Consistent, Cut}
+use Rattle.verdict.specs.Rescue.{generationOf, cutAt, rescue}
 use Rattle.verdict.specs.Demand.{Demand3, Leaves, LastGeneration, keeps}
 use Rattle.constructs.proofs.Suffixes.{suffix-length}
 use Rattle.constructs.proofs.Fronts.{standing-at, standing-front, standing-short}

@@ -8,8 +8,8 @@ use native.Mathlib.Omega.{arith}
 use lib.ListN.{length, drop}
 use Rattle.constructs.specs.Constructs.{Construct}
 use Rattle.constructs.specs.Steps.{Suffix, here, there}
-use Rattle.verdict.specs.Verdict.{Volume, chained, chainBreak}
-use Rattle.verdict.specs.Rescue.{Cut, target, through, chain, attempt, cutAmong}
+use Rattle.verdict.specs.Verdict.{Volume, chained, chainBreak, Cut}
+use Rattle.verdict.specs.Rescue.{target, through, chain, attempt, cutAmong}
 use Rattle.verdict.specs.Steps.{firsts}
 
 module _ {A : Type 0} where

@@ -7,8 +7,7 @@ use Prim.Native.Nat.{ℕ, suc, _≤_, _<_}
 use lib.ListN.{length, take}
 use Rattle.tape.specs.Tape.{Tape}
 use Rattle.constructs.specs.Constructs.{Construct, standing}
-use Rattle.verdict.specs.Verdict.{IndexLinks, Volume, Consistent, readIndex}
-use Rattle.verdict.specs.Rescue.{Cut}
+use Rattle.verdict.specs.Verdict.{IndexLinks, Volume, Consistent, readIndex, Cut}
 
 module _ (labels : Tape → Tape → Option Volume) (v : Volume) (i d : Tape) where
   -- the index constructs that a place to stop keeps in the index partition

@@ -9,15 +9,7 @@ use lib.Dec.{eqb}
 use Rattle.quantities.specs.Addresses.{Address}
 use Rattle.tape.specs.Tape.{Tape}
 use Rattle.constructs.specs.Constructs.{Construct, standing, dataLengths}
-use Rattle.verdict.specs.Verdict.{IndexLinks, Volume, orElse, isNone, readIndex, readData, follows, chainBreak, badFileIn}
-
--- both construct numbers, both counts of kept elements, and the generation of the last index kept in the index partition
-pub record Cut : Type 0 where
-  pub indexConstruct : ℕ
-  pub dataConstruct : ℕ
-  pub indexKept : ℕ
-  pub dataKept : ℕ
-  pub generation : ℕ
+use Rattle.verdict.specs.Verdict.{Cut, IndexLinks, Volume, orElse, isNone, readIndex, readData, follows, chainBreak, badFileIn}
 
 abbrev pub pointedBlock : Option Address → ℕ
 pointedBlock none = 0
@@ -49,14 +41,14 @@ module _ (v : Volume) where
       record {
         indexConstruct = length cs;
         dataConstruct = length ds;
-        indexKept = c .upTo;
-        dataKept = d .upTo;
+        indexKept = c .end;
+        dataKept = d .end;
         generation = generationOf (readIndex v c);
       }
 
   -- cut there, the index partition's last index follows the data partition's last, and its extents lie on what is kept
   abbrev pub fitsCut : List ℕ → List ℕ → Construct → Construct → Bool
-  fitsCut li ld c d = follows v (readIndex v c) d (readData v d) && isNone (badFileIn v (readIndex v c) (take (c .upTo) li) (take (d .upTo) ld))
+  fitsCut li ld c d = follows v (readIndex v c) d (readData v d) && isNone (badFileIn v (readIndex v c) (take (c .end) li) (take (d .end) ld))
 
   abbrev pub attempt : List ℕ → List ℕ → Construct → List Construct → List Construct → Option Cut
   attempt li ld c cs [] = none

@@ -63,7 +63,7 @@ isAt (some p) letter block = eqb (p .letter) letter && eqb (p .block) block
 -- a tape ends with the last of its standing constructs
 abbrev pub endsWith : Tape → List Construct → Bool
 endsWith t [] = false
-endsWith t (c ∷ cs) = eqb (c .upTo) (length t)
+endsWith t (c ∷ cs) = eqb (c .end) (length t)
 
 module _ (v : Volume) where
   abbrev pub readIndex : Construct → Option IndexLinks
@@ -129,3 +129,11 @@ module _ (v : Volume) where
 module _ (labels : Tape → Tape → Option Volume) where
   abbrev pub Consistent : Tape → Tape → Type 0
   Consistent i d = (v : Volume) × (labels (take 4 i) (take 4 d) ≡ some v) × (verdict v i d ≡ none)
+
+-- both construct numbers, both counts of kept elements, and the generation of the last index kept in the index partition
+pub record Cut : Type 0 where
+  pub indexConstruct : ℕ
+  pub dataConstruct : ℕ
+  pub indexKept : ℕ
+  pub dataKept : ℕ
+  pub generation : ℕ

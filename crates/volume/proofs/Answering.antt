@@ -24,8 +24,8 @@ use Rattle.label.specs.Label.{Label}
 use Rattle.labels.specs.Labels.{labelsOf, labelsIn}
 use Rattle.index_values.specs.Tests.{Given}
 use Rattle.index_values.specs.declared.tests.Partitions.{Partitions as Letters}
-use Rattle.verdict.specs.Verdict.{Volume, endsWith, chainBreak, verdict}
-use Rattle.verdict.specs.Rescue.{Cut, generationOf, through, chain, cutAmong, rescue}
+use Rattle.verdict.specs.Verdict.{Volume, endsWith, chainBreak, verdict, Cut}
+use Rattle.verdict.specs.Rescue.{generationOf, through, chain, cutAmong, rescue}
 use Rattle.verdict.specs.Steps.{beginnings, firsts}
 use Rattle.verdict.specs.Demand.{Demand3}
 use Rattle.verdict.proofs.Orders.{firsts-suffix, firsts-all}
@@ -82,7 +82,7 @@ module _ (g : Given) (is dl ds : List ℕ) (i d : Tape) (ed : Encodes dl ds d) (
             ∙ sym (ap length (through-past (length d) q (firsts k (standing (g .blockSize) d)) (below-suffix (length d) front (scan-length (g .blockSize) d)) (omega (arith, ed .elements))))
         go (no h) = begins-at (firsts k (standing (g .blockSize) d)) 65536 q (omega arith)
 
-    fits : (t : Tape) (c : Construct) (bs : List Construct) → Suffix (c ∷ bs) (standing (g .blockSize) t) → c .upTo ≤ length (dataLengths t)
+    fits : (t : Tape) (c : Construct) (bs : List Construct) → Suffix (c ∷ bs) (standing (g .blockSize) t) → c .end ≤ length (dataLengths t)
     fits t c bs suf = omega (arith, standing-at (g .blockSize) t c bs suf .0, length-lengths 4 true t)
 
     ready : Ready v is ti td gens begins ri rd (standing (g .blockSize) i) (firsts k (standing (g .blockSize) d)) (dataLengths i) (dataLengths d)

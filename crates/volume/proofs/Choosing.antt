@@ -58,21 +58,21 @@ module _ (g : Given) (letter : ℕ) (s : List ℕ) (p : Spot) (x : List ℕ) (is
       let q : answer (summaryIn (boundsText s p) h) ≡ summaryOf (indexOf g letter (c .first) (c .text))
       = ap (λ (y : List ℕ). answer (summaryIn y h)) (sym is-text) ∙ w .answers ∙ ap summaryOf (index-at t c at (lies .part)) in
       let at-first : p .first .0 ≡ c .first = ap (λ (q : Spot). q .first .0) at in
-      let at-end : p .end ≡ c .upTo = ap (λ (q : Spot). q .end) at in
+      let at-end : p .end ≡ c .end = ap (λ (q : Spot). q .end) at in
       let at-from : p .from ≡ bytesBefore t (c .first) = ap (λ (q : Spot). q .from) at in
       record {
         answers =
             ap
             (λ (a : Answer Summary).
-            andThen a (λ y. answer (record { construct = record { first = p .first .0; upTo = p .end; text = boundsText s p }; from = p .from; summary = y })))
+            andThen a (λ y. answer (record { construct = record { first = p .first .0; end = p .end; text = boundsText s p }; from = p .from; summary = y })))
             q
             ∙ same at-first at-end (lies .part) at-from;
         inside = record { text = lies .inside; header = subst (λ (y : List ℕ). Definite y h) is-text (w .header) };
       }
     where
-      same : {first end from : ℕ} {text : List ℕ} → first ≡ c .first → end ≡ c .upTo → text ≡ c .text → from ≡ bytesBefore t (c .first)
+      same : {first end from : ℕ} {text : List ℕ} → first ≡ c .first → end ≡ c .end → text ≡ c .text → from ≡ bytesBefore t (c .first)
           → andThen (summaryOf (indexOf g letter (c .first) (c .text)))
-          (λ y. answer (record { construct = record { first = first; upTo = end; text = text }; from = from; summary = y }))
+          (λ y. answer (record { construct = record { first = first; end = end; text = text }; from = from; summary = y }))
           ≡ readAt g letter t c
       same a b d e = rw (a, b, d, e)
 

@@ -11,8 +11,8 @@ use Rattle.tape.specs.Answers.{tapeIn}
 use Rattle.label.specs.Label.{Label}
 use Rattle.labels.specs.Labels.{labelsOf}
 use Rattle.labels.proofs.Fronts.{labels-front}
-use Rattle.verdict.specs.Verdict.{Volume, Break, Consistent, verdict}
-use Rattle.verdict.specs.Rescue.{Cut, rescue}
+use Rattle.verdict.specs.Verdict.{Volume, Break, Consistent, verdict, Cut}
+use Rattle.verdict.specs.Rescue.{rescue}
 use Rattle.verdict.specs.Demand.{Demand3, Verdict3}
 use Rattle.verdict.proofs.Demand.{demand3}
 use Rattle.verdict.proofs.Judged.{judged as judged-sound, named}

@@ -56,12 +56,12 @@ module _ (B : ℕ) (l s : List ℕ) (t : Tape) (e : Encodes l s t) where
 
   -- its text lies there in the store
   pub spot-spans : (c : Construct) (cs : List Construct) → Suffix (c ∷ cs) (standing B t)
-      → Spans s (bytesBefore t (c .first)) (bytesBefore t (c .upTo - 1) - bytesBefore t (c .first)) (c .text)
+      → Spans s (bytesBefore t (c .first)) (bytesBefore t (c .end - 1) - bytesBefore t (c .first)) (c .text)
   spot-spans c cs suf =
-      let x : c .text ≡ take (bytesBefore t (c .upTo - 1) - bytesBefore t (c .first)) (drop (bytesBefore t (c .first)) (store t)) = text-at t suf (texts-standing B t) in
+      let x : c .text ≡ take (bytesBefore t (c .end - 1) - bytesBefore t (c .first)) (drop (bytesBefore t (c .first)) (store t)) = text-at t suf (texts-standing B t) in
       record {
-        part = ap (λ (y : List ℕ). take (bytesBefore t (c .upTo - 1) - bytesBefore t (c .first)) (drop (bytesBefore t (c .first)) y)) (e .stores) ∙ sym x;
-        inside = omega (arith, bytes-within t (c .first), bytes-within t (c .upTo - 1), ap length (e .stores));
+        part = ap (λ (y : List ℕ). take (bytesBefore t (c .end - 1) - bytesBefore t (c .first)) (drop (bytesBefore t (c .first)) y)) (e .stores) ∙ sym x;
+        inside = omega (arith, bytes-within t (c .first), bytes-within t (c .end - 1), ap length (e .stores));
       }
 
   listed : (T : List ℕ) → length T ≡ 87380 → Listed s (tableAfter B T (answer t)) (standing B t)
@@ -123,8 +123,8 @@ ends-last table n count p b z at q = record { ends = go }
     go s t (c ∷ cs) l e f =
         let m : n - 1 ≡ length cs = omega arith in
         let w = l c cs (here refl) in
-        let h : p .end ≡ c .upTo = ap (λ (x : Spot). x .end) (at ∙ ap (boundsIn table) m) ∙ w .end in
-        q ∙ ap (λ (x : ℕ). eqb x count) h ∙ ap (eqb (c .upTo)) f
+        let h : p .end ≡ c .end = ap (λ (x : Spot). x .end) (at ∙ ap (boundsIn table) m) ∙ w .end in
+        q ∙ ap (λ (x : ℕ). eqb x count) h ∙ ap (eqb (c .end)) f
 
 -- both tables filled
 pub fills-of : (B : ℕ) (l s before table empty reach : List ℕ) (n count : ℕ) (b : Bool) → ListsOf B l s before table n → ReachesOf B l s empty reach count

@@ -155,16 +155,16 @@ module _ (v : Volume) (li ld : List ℕ) (c : Construct) (bs : List Construct) w
             go (inr q) = through-target q
 
         -- it does, and an extent lies past what is kept
-        pub try-lost : (k : ℕ) → badFileIn v (readIndex v c) (take (c .upTo) li) (take (p .one .upTo) ld) ≡ some k
+        pub try-lost : (k : ℕ) → badFileIn v (readIndex v c) (take (c .end) li) (take (p .one .end) ld) ≡ some k
             → attempt v li ld c bs (through (target (readIndex v c)) ds) ≡ none
         try-lost k h = ap (attempt v li ld c bs) found-there ∙ rw (sym follows-by ∙ n, h)
 
         -- and all extents lie on it
-        pub try-fits : badFileIn v (readIndex v c) (take (c .upTo) li) (take (p .one .upTo) ld) ≡ none
+        pub try-fits : badFileIn v (readIndex v c) (take (c .end) li) (take (p .one .end) ld) ≡ none
             → attempt v li ld c bs (through (target (readIndex v c)) ds) ≡ some (cutAt v c bs (p .one) (p .before))
         try-fits h = ap (attempt v li ld c bs) found-there ∙ rw (sym follows-by ∙ n, h)
 
-        pub try-cut : (k : FoundCut) → k .«index_construct» ≡ length bs → k .«data_construct» ≡ j - 1 → k .«index_kept» ≡ c .upTo → k .«data_kept» ≡ p .one .upTo
+        pub try-cut : (k : FoundCut) → k .«index_construct» ≡ length bs → k .«data_construct» ≡ j - 1 → k .«index_kept» ≡ c .end → k .«data_kept» ≡ p .one .end
             → k .generation .0 ≡ b .generation .0 → cutIs k ≡ cutAt v c bs (p .one) (p .before)
         try-cut k a₁ a₂ a₃ a₄ a₅ =
             let x : b .generation .0 ≡ generationOf (readIndex v c) = link-generation (readIndex v c) b e (joined-sound b (v .dataLetter) at generation n) in

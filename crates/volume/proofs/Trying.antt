@@ -39,9 +39,9 @@ sound-answer (answer x) b e f = (x, refl)
 -- of an index that reads: by the tables and by the definition the same file is lost
 pub lost-located : (u : List ℕ) (w : Letters) (is ds : List ℕ) (li ld ri rd : List ℕ) (here there : Spot) (t : List ℕ) (b : Brief) (c d : Construct)
     → t ≡ boundsText is here → briefLink b ≡ linkOf (soundly (indexOf (given u w) (w .«index_letter») (here .first .0) t)) → Located is here c → Located ds there d
-    → ReachTable (w .«block_size») li ri → ReachTable (w .«block_size») ld rd → c .upTo ≤ length li → d .upTo ≤ length ld
+    → ReachTable (w .«block_size») li ri → ReachTable (w .«block_size») ld rd → c .end ≤ length li → d .end ≤ length ld
     → (lost : Lost) → Loses t w ri (here .end) rd (there .end) lost → b .sound ≡ true
-    → badFileIn (volumeWith (given u w)) (readIndex (volumeWith (given u w)) c) (take (c .upTo) li) (take (d .upTo) ld) ≡ lostFile lost
+    → badFileIn (volumeWith (given u w)) (readIndex (volumeWith (given u w)) c) (take (c .end) li) (take (d .end) ld) ≡ lostFile lost
 lost-located u w is ds li ld ri rd here there t b c d is-text reads p q hi hd fi fd lost l s =
     let x = sound-answer (indexOf (given u w) (w .«index_letter») (here .first .0) t) b reads s in
     let o : soundly (indexOf (given u w) (w .«index_letter») (here .first .0) t) ≡ readIndex (volumeWith (given u w)) c
@@ -51,7 +51,7 @@ lost-located u w is ds li ld ri rd here there t b c d is-text reads p q hi hd fi
     sym (l (given u w) (w .«index_letter») (here .first .0) (x .0) (x .1) ∙ z
     ∙ ap (λ (y : Option IndexLinks). badFileIn (volumeWith (given u w)) y (take (here .end) li) (take (there .end) ld)) o
     ∙ ap (λ (y : ℕ). badFileIn (volumeWith (given u w)) (readIndex (volumeWith (given u w)) c) (take y li) (take (there .end) ld)) (p .end)
-    ∙ ap (λ (y : ℕ). badFileIn (volumeWith (given u w)) (readIndex (volumeWith (given u w)) c) (take (c .upTo) li) (take y ld)) (q .end))
+    ∙ ap (λ (y : ℕ). badFileIn (volumeWith (given u w)) (readIndex (volumeWith (given u w)) c) (take (c .end) li) (take y ld)) (q .end))
 
 module _ (u : List ℕ) (w : Letters) (is ti : List ℕ) (k : ℕ) (td gens begins ri rd : List ℕ) (here : Spot) (t : List ℕ) (b : Brief)
     (at-here : here ≡ boundsIn ti k) (is-text : t ≡ boundsText is here) (reads : briefLink b ≡ linkOf (soundly (indexOf (given u w) (w .«index_letter») (here .first .0) t))) where
@@ -76,7 +76,7 @@ module _ (u : List ℕ) (w : Letters) (is ti : List ℕ) (k : ℕ) (td gens begi
         located-there = subst (λ (x : Spot). Located (r .ds-store) x (there-is .one)) (sym at-there) (there-is .placed)
 
         lost-here : (lost : Lost) → Loses t w ri (here .end) rd (there .end) lost → b .sound ≡ true
-            → badFileIn v (readIndex v c) (take (c .upTo) li) (take (there-is .one .upTo) ld) ≡ lostFile lost
+            → badFileIn v (readIndex v c) (take (c .end) li) (take (there-is .one .end) ld) ≡ lostFile lost
         unfolding v
         lost-here =
             lost-located u w is (r .ds-store) li ld ri rd here there t b c (there-is .one) is-text reads located-here located-there (r .indexReach) (r .dataReach)

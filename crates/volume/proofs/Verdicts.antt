@@ -57,8 +57,8 @@ module _ (u : List ℕ) (w : Letters) (is ti : List ℕ) (k : ℕ) (td : List �
         let s = joined-sound b (w .«data_letter») (there .first .0) generation f in
         let x = lost-located u w is ds li ld ri rd here there t b c d is-text reads (located-here ds c d lc lcd y r g) (located-there ds c d lc lcd y r g) hi hd
         (omega arith) (omega arith) lost l s in
-        let p : take (c .upTo) li ≡ li = ap (λ (n : ℕ). take n li) ei ∙ take-length li in
-        let q : take (d .upTo) ld ≡ ld = ap (λ (n : ℕ). take n ld) ed ∙ take-length ld in
+        let p : take (c .end) li ≡ li = ap (λ (n : ℕ). take n li) ei ∙ take-length li in
+        let q : take (d .end) ld ≡ ld = ap (λ (n : ℕ). take n ld) ed ∙ take-length ld in
         e ∙ ap (numbered 5) (sym x) ∙ rw (p, q, sym (follows-by ds c d lc lcd y r g) ∙ f)
 
 module _ (v : Volume) (i d : Tape) where
@@ -84,6 +84,6 @@ module _ (v : Volume) (i d : Tape) where
       rw (a, b, n, p, q, m)
 
   -- both partitions end with a standing construct
-  pub ends-some : (t : Tape) (ds : List Construct) → endsWith t ds ≡ true → (c : Construct) × (bs : List Construct) × (ds ≡ c ∷ bs) × (c .upTo ≡ length t)
+  pub ends-some : (t : Tape) (ds : List Construct) → endsWith t ds ≡ true → (c : Construct) × (bs : List Construct) × (ds ≡ c ∷ bs) × (c .end ≡ length t)
   ends-some t [] e = let z : _≡_ {A = ℕ} 0 1 = cc in absurd (omega arith)
-  ends-some t (c ∷ bs) e = (c, bs, refl, eqb-true (c .upTo) (length t) e)
+  ends-some t (c ∷ bs) e = (c, bs, refl, eqb-true (c .end) (length t) e)

@@ -6,11 +6,9 @@ use Prim.Native.Nat.{ℕ}
 use Rattle.refusals.specs.Refusals.{Answer, refused, answer}
 use Rattle.tape.specs.Tape.{Tape}
 use Rattle.tape.specs.Answers.{tapeIn}
-use Rattle.verdict.specs.Verdict.{Volume}
-use Rattle.verdict.specs.Rescue.{Cut}
+use Rattle.verdict.specs.Verdict.{Volume, Cut}
 use Rattle.verdict.specs.Demand.{Demand3, Verdict3}
 use Rattle.volume.specs.Volume.{volumeOf, rescueIn}
-use Rattle.volume.specs.declared.answers.Verdict.the-variants as verdictIs
 use Rattle.volume.specs.declared.answers.Rescue.{Rescue}
 use Rattle.volume.specs.declared.answers.Rescue.the-variants as rescueIs
 use Rattle.volume.specs.declared.search.FoundCut.{FoundCut}

@@ -18,7 +18,7 @@ use Rattle.volume.specs.Chosen.{Indexed, readAt}
 -- a construct that was found at a spot of a store, and its header
 abbrev pub indexedIn : List ℕ → Spot → Header → Indexed
 indexedIn s p h =
-    record { construct = record { first = p .first .0; upTo = p .end; text = boundsText s p }; from = p .from; summary = summaryIn (boundsText s p) h }
+    record { construct = record { first = p .first .0; end = p .end; text = boundsText s p }; from = p .from; summary = summaryIn (boundsText s p) h }
 
 abbrev pub chosenBy : List ℕ → Chosen → Answer Indexed
 chosenBy s (chosenIs.Found p h) = answer (indexedIn s p h)

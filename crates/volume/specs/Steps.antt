@@ -21,8 +21,8 @@ use Rattle.constructs.specs.TableSteps.{boundsIn, tableLength}
 use Rattle.constructs.specs.ReachSteps.{reaches, liesBy}
 use Rattle.constructs.specs.declared.Bounds.{Bounds as Spot}
 use Rattle.constructs.specs.Steps.{Suffix}
-use Rattle.verdict.specs.Verdict.{IndexLinks, Volume, Break, orElse, unless, numbered, follows, badFileIn, verdict, isAt, endsWith, firstFailing, readIndex, readData, chained, chainBreak}
-use Rattle.verdict.specs.Rescue.{Cut, generationOf, target, through, chain, attempt, cutAmong, rescue}
+use Rattle.verdict.specs.Verdict.{IndexLinks, Volume, Break, orElse, unless, numbered, follows, badFileIn, verdict, isAt, endsWith, firstFailing, readIndex, readData, chained, chainBreak, Cut}
+use Rattle.verdict.specs.Rescue.{generationOf, target, through, chain, attempt, cutAmong, rescue}
 use Rattle.verdict.specs.Steps.{beginnings, firsts}
 use Rattle.volume.specs.Volume.{volumeWith, rowsOfEach}
 use Rattle.volume.specs.declared.sound.Brief.{Brief}
@@ -43,12 +43,12 @@ boundsText s p = take (p .to - p .from) (drop (p .from) s)
 
 -- the spot of a construct of a tape: its text begins behind the bytes of the blocks before it, and ends before its closing mark
 abbrev pub boundsOf : Tape → Construct → Spot
-boundsOf t c = record { first = record { 0 = c .first }; end = c .upTo; from = bytesBefore t (c .first); to = bytesBefore t (c .upTo - 1) }
+boundsOf t c = record { first = record { 0 = c .first }; end = c .end; from = bytesBefore t (c .first); to = bytesBefore t (c .end - 1) }
 
 -- a construct lies at a spot of the store
 pub record Located (s : List ℕ) (p : Spot) (c : Construct) : Type 0 where
   pub first : p .first .0 ≡ c .first
-  pub end : p .end ≡ c .upTo
+  pub end : p .end ≡ c .end
   pub text : boundsText s p ≡ c .text
 
 -- a table tells where each construct of a list, the last one first, lies
@@ -151,8 +151,8 @@ pub record Ready (v : Volume) (is ti : List ℕ) (td gens begins ri rd : List �
   pub partners : (k : ℕ) → getD begins k 0 ≡ length (through k ds)
   pub indexReach : ReachTable (v .size) li ri
   pub dataReach : ReachTable (v .size) ld rd
-  pub indexFits : (c : Construct) (bs : List Construct) → Suffix (c ∷ bs) cs → c .upTo ≤ length li
-  pub dataFits : (d : Construct) (bs : List Construct) → Suffix (d ∷ bs) ds → d .upTo ≤ length ld
+  pub indexFits : (c : Construct) (bs : List Construct) → Suffix (c ∷ bs) cs → c .end ≤ length li
+  pub dataFits : (d : Construct) (bs : List Construct) → Suffix (d ∷ bs) ds → d .end ≤ length ld
 
 -- a cut that keeps construct k of the index partition and construct j of the data partition, which lie at here and there; b is what the
 -- index of the first says
@@ -232,7 +232,7 @@ abbrev pub JudgesLast : Given → List ℕ → List ℕ → ℕ → List ℕ →
 JudgesLast g is ti k td j generation ri rd r =
     (ds : List ℕ) (c d : Construct) (li ld : List ℕ) → Located is (boundsIn ti k) c → Located ds (boundsIn td j) d
     → (y : IndexLinks) → readData (volumeWith g) d ≡ some y → generation ≡ y .generation
-    → ReachTable (g .blockSize) li ri → ReachTable (g .blockSize) ld rd → c .upTo ≡ length li → d .upTo ≡ length ld
+    → ReachTable (g .blockSize) li ri → ReachTable (g .blockSize) ld rd → c .end ≡ length li → d .end ≡ length ld
     → breakOf r ≡ lastBreak (volumeWith g) k c d li ld
 
 -- whether the breaks from 3 on hold, by the tables of partitions that both end with a construct

@@ -13,8 +13,8 @@ use Rattle.index.specs.Index.{File, indexOf}
 use Rattle.index_values.specs.Tests.{Given}
 use Rattle.label.specs.Label.{Label}
 use Rattle.labels.specs.Labels.{labelsOf}
-use Rattle.verdict.specs.Verdict.{IndexLinks, Volume, Break, verdict}
-use Rattle.verdict.specs.Rescue.{Cut, rescue}
+use Rattle.verdict.specs.Verdict.{IndexLinks, Volume, Break, verdict, Cut}
+use Rattle.verdict.specs.Rescue.{rescue}
 
 unfoldable pub rowsOfEach : List File → List (List Row)
 rowsOfEach [] = []
