@@ -3,7 +3,7 @@ use refusals::Refusal;
 ghost use mathlib.Core.Path.{_≡_};
 ghost use Prim.Native.Nat.{_+_, _<_};
 ghost use lib.ListN.{take, drop};
-ghost use Rattle.ansi.specs.declared.phases.Phase.the-variants as refusal;
+ghost use Rattle.ansi.specs.declared.phases.Phase.the-variants as phase;
 ghost use Rattle.ansi.specs.ReadingSteps.{opening};
 ghost use Rattle.ansi.specs.PhaseSteps.{stepOf, blockStep, markStep, passedTo, Small};
 
@@ -60,7 +60,7 @@ fn passed(x: &[u8], w: &[u8], u: &[u8], k: usize) -> usize
 
 // A block at the tape's start.
 fn in_start(store: &[u8], from: usize, len: usize) -> PhaseNext
-    ensures { λ r. ⌜ stepOf (now (store .entry)) r ≡ blockStep (now (store .entry)) refusal.Start from len ⌝ }
+    ensures { λ r. ⌜ stepOf (now (store .entry)) r ≡ blockStep (now (store .entry)) phase.Start from len ⌝ }
 {
     let x = slices::part(store, from, len);
     if !ansi_labels::is_volume(x) {
@@ -82,7 +82,7 @@ fn begin_file(store: &[u8], from: usize, len: usize) -> PhaseNext
 
 // A block among the volume's labels.
 fn in_volume(store: &[u8], from: usize, len: usize, k: usize) -> PhaseNext
-    ensures { λ r. ⌜ stepOf (now (store .entry)) r ≡ blockStep (now (store .entry)) (refusal.Volume k) from len ⌝ }
+    ensures { λ r. ⌜ stepOf (now (store .entry)) r ≡ blockStep (now (store .entry)) (phase.Volume k) from len ⌝ }
 {
     let x = slices::part(store, from, len);
     let next = passed(x, b"VOL", b"UVL", k);
@@ -94,7 +94,7 @@ fn in_volume(store: &[u8], from: usize, len: usize, k: usize) -> PhaseNext
 
 // A block behind HDR1.
 fn in_header(store: &[u8], from: usize, len: usize, h: usize) -> PhaseNext
-    ensures { λ r. ⌜ stepOf (now (store .entry)) r ≡ blockStep (now (store .entry)) (refusal.Header h) from len ⌝ }
+    ensures { λ r. ⌜ stepOf (now (store .entry)) r ≡ blockStep (now (store .entry)) (phase.Header h) from len ⌝ }
 {
     let x = slices::part(store, from, len);
     if !ansi_labels::is_header2(x) {
@@ -105,7 +105,7 @@ fn in_header(store: &[u8], from: usize, len: usize, h: usize) -> PhaseNext
 
 // A block among the header labels.
 fn in_headers(store: &[u8], from: usize, len: usize, h: usize, g: usize, k: usize) -> PhaseNext
-    ensures { λ r. ⌜ stepOf (now (store .entry)) r ≡ blockStep (now (store .entry)) (refusal.Headers h g k) from len ⌝ }
+    ensures { λ r. ⌜ stepOf (now (store .entry)) r ≡ blockStep (now (store .entry)) (phase.Headers h g k) from len ⌝ }
 {
     let x = slices::part(store, from, len);
     let next = passed(x, b"HDR", b"UHL", k);
@@ -118,7 +118,7 @@ fn in_headers(store: &[u8], from: usize, len: usize, h: usize, g: usize, k: usiz
 // A block among the data blocks.
 fn in_blocks(store: &[u8], from: usize, len: usize, h: usize, m: usize) -> PhaseNext
     requires { ⌜ m < 65536 ⌝ }
-    ensures { λ r. ⌜ stepOf (now (store .entry)) r ≡ blockStep (now (store .entry)) (refusal.Blocks h m) from len ⌝ }
+    ensures { λ r. ⌜ stepOf (now (store .entry)) r ≡ blockStep (now (store .entry)) (phase.Blocks h m) from len ⌝ }
 {
     let x = slices::part(store, from, len);
     if !ansi_labels::is_data(x) {
@@ -129,7 +129,7 @@ fn in_blocks(store: &[u8], from: usize, len: usize, h: usize, m: usize) -> Phase
 
 // A block behind the data blocks.
 fn in_trailer(store: &[u8], from: usize, len: usize, h: usize, m: usize) -> PhaseNext
-    ensures { λ r. ⌜ stepOf (now (store .entry)) r ≡ blockStep (now (store .entry)) (refusal.Trailer h m) from len ⌝ }
+    ensures { λ r. ⌜ stepOf (now (store .entry)) r ≡ blockStep (now (store .entry)) (phase.Trailer h m) from len ⌝ }
 {
     let x = slices::part(store, from, len);
     if ansi_labels::is_trailer(x, slices::part(store, h, 80)) {
@@ -146,7 +146,7 @@ fn in_trailer(store: &[u8], from: usize, len: usize, h: usize, m: usize) -> Phas
 
 // A block behind EOF1.
 fn in_second(store: &[u8], from: usize, len: usize) -> PhaseNext
-    ensures { λ r. ⌜ stepOf (now (store .entry)) r ≡ blockStep (now (store .entry)) refusal.Second from len ⌝ }
+    ensures { λ r. ⌜ stepOf (now (store .entry)) r ≡ blockStep (now (store .entry)) phase.Second from len ⌝ }
 {
     let x = slices::part(store, from, len);
     if !ansi_labels::is_label(x, b"EOF2") {
@@ -157,7 +157,7 @@ fn in_second(store: &[u8], from: usize, len: usize) -> PhaseNext
 
 // A block among the trailer labels.
 fn in_trailers(store: &[u8], from: usize, len: usize, k: usize) -> PhaseNext
-    ensures { λ r. ⌜ stepOf (now (store .entry)) r ≡ blockStep (now (store .entry)) (refusal.Trailers k) from len ⌝ }
+    ensures { λ r. ⌜ stepOf (now (store .entry)) r ≡ blockStep (now (store .entry)) (phase.Trailers k) from len ⌝ }
 {
     let x = slices::part(store, from, len);
     let next = passed(x, b"EOF", b"UTL", k);

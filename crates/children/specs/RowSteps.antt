@@ -8,9 +8,10 @@ use lib.ListN.{drop, getD, take}
 use Rattle.xml.specs.Tree.{Forest, none, node}
 use Rattle.elements.specs.Tags.{Tags, tagsAt, tagsIn}
 use Rattle.elements.specs.Reading.{forestAt, headAt, childrenAt}
-use Rattle.children.specs.Rules.{Rule}
+use Rattle.children.specs.Rules.{Rule, ruleNumber, markOf}
 use Rattle.children.specs.Children.{pick, lawfulChildren}
 use Rattle.children.specs.Places.{tagsFor, firstPlace}
+use Rattle.children.specs.declared.RuleFound.{RuleFound}
 
 -- the element whose tag is at n, alone; none for the place 0, where no tag is
 unfoldable pub seat : List ℕ → ℕ → Forest
@@ -54,3 +55,7 @@ rules (b ∷ s) = cond (isRuleMark b) (record { name = []; mark = b } ∷ rules 
 -- of a table that a row is read by, the first 16 rules count
 abbrev pub tableOf : List ℕ → List Rule
 tableOf t = take 16 (rules t)
+
+-- the number and the mark of the rule for a name
+abbrev pub FindsRule : List Rule → List ℕ → RuleFound → Type 0
+FindsRule rs name r = (r .number ≡ ruleNumber rs name) × (r .mark ≡ markOf rs name)

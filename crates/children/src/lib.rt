@@ -7,8 +7,7 @@ ghost use lib.Dec.{eqb};
 ghost use lib.ListN.{length, getD};
 ghost use Rattle.xml.specs.ScanSteps.{Past};
 ghost use Rattle.elements.specs.Reading.{headAt, childrenAt};
-ghost use Rattle.children.specs.Rules.{ruleNumber, markOf};
-ghost use Rattle.children.specs.RowSteps.{isRuleMark, notRuleMark, rules, tableOf, ReadsRow};
+ghost use Rattle.children.specs.RowSteps.{isRuleMark, notRuleMark, rules, tableOf, FindsRule, ReadsRow};
 ghost use Rattle.children.specs.Children.{noAttribute, mayHold, below};
 
 // A rule's number in its table, and its mark.
@@ -53,7 +52,7 @@ fn rule_end(table: &[u8], at: usize) -> usize
 
 // The rule for a name.
 pub fn place_of(table: &[u8], name: &[u8]) -> RuleFound
-    ensures { λ r. ⌜ (r .number ≡ ruleNumber (rules (now (table .entry))) (now (name .entry))) × (r .mark ≡ markOf (rules (now (table .entry))) (now (name .entry))) ⌝ }
+    ensures { λ r. ⌜ FindsRule (rules (now (table .entry))) (now (name .entry)) r ⌝ }
 {
     let mut i: usize = 0;
     let mut k: usize = 0;

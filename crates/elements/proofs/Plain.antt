@@ -18,7 +18,7 @@ use Rattle.elements.specs.declared.heads.Span.{Span}
 use Rattle.elements.specs.declared.tags.Tag.the-variants.{End, Close, Open, Empty}
 use Rattle.elements.specs.Reading.{forestAt, headAt, emptyAt, childrenAt, hasElement}
 use Rattle.elements.specs.TagSteps.{TextAt, NextTag, Behind, FirstOf}
-use Rattle.elements.specs.StartSteps.{Shape, Opening, StartsElement}
+use Rattle.elements.specs.StartSteps.{Shape, GoesOnAt, Opening, StartsElement}
 use Rattle.elements.proofs.Left.{none-next, close-next, empty-next, open-next}
 use Rattle.elements.proofs.Parts.{no-part, name-part, key-part, text-found, empty-told, children-some}
 use Rattle.elements.proofs.Rows.{row-end, row-close, behind-close, behind-end, first-open, first-empty}
@@ -222,32 +222,8 @@ module _ (s : List ℕ) (n e : ℕ) (named : Past isNameByte s n e) (b : Bool) (
         leaf = el;
       }
 
-  pub start-alone : b ≡ true → Opening s n (other true leaf n)
-  start-alone q =
-      record {
-        here = refl;
-        shape = subst (λ (b : Bool). Shape s (other b leaf n)) q (shaped n);
-        alone = λ w. refl;
-        left = λ w v. let y : _≡_ {A = ℕ} 0 1 = cc in absurd (omega arith);
-      }
-
-  pub start-leaf : b ≡ false → leaf ≡ true → (j : ℕ) → Behind s n j → Opening s n (other false true j)
-  start-leaf q l j d =
-      record {
-        here = refl;
-        shape = subst (λ (b : Bool). Shape s (other b true j)) q (subst (λ (l : Bool). Shape s (other b l j)) l (shaped j));
-        alone = λ w. let y : _≡_ {A = ℕ} 0 1 = cc in absurd (omega arith);
-        left = λ w v. d;
-      }
-
-  pub start-inner : b ≡ false → leaf ≡ false → Opening s n (other false false n)
-  start-inner q l =
-      record {
-        here = refl;
-        shape = subst (λ (b : Bool). Shape s (other b false n)) q (subst (λ (l : Bool). Shape s (other b l n)) l (shaped n));
-        alone = λ w. let y : _≡_ {A = ℕ} 0 1 = cc in absurd (omega arith);
-        left = λ w v. let y : _≡_ {A = ℕ} 0 1 = cc in absurd (omega arith);
-      }
+  pub start-told : {j : ℕ} → GoesOnAt s n b leaf j → Opening s n (other b leaf j)
+  start-told {j} g = record { here = refl; shape = shaped j; alone = g .alone; left = g .left }
 
 -- the element at the tag behind the next `<`, at j, comes next
 module _ (s : List ℕ) (i j : ℕ) (found : Past notOpen s i j) (h : j < length s) (no : getD s (j + 1) 0 ≡ 47 → ⊥) (x : Start) (o : Opening s (j + 1) x) where

@@ -1,6 +1,6 @@
 -- What a look at a start tag tells: the element there, and where reading goes on.
 use mathlib.Core.Path.{_≡_}
-use mathlib.Core.Bool.{true, false, not, cond}
+use mathlib.Core.Bool.{Bool, true, false, not, cond}
 use mathlib.Core.List.{List}
 use Prim.Native.Nat.{ℕ}
 use lib.Dec.{eqb}
@@ -25,6 +25,11 @@ pub record Shape (s : List ℕ) (h : Start) : Type 0 where
   pub text : Spans s (h .text .from) (h .text .len) (headAt s (h .at) .text)
   pub place : h .text ≡ textPlace s (drop (h .at) s)
   pub leaf : h .leaf ≡ not (hasElement (childrenAt s (h .at)))
+
+-- where reading goes on at the element whose tag is at n, an empty-element tag or not, with children or without
+pub record GoesOnAt (s : List ℕ) (n : ℕ) (empty leaf : Bool) (j : ℕ) : Type 0 where
+  pub alone : empty ≡ true → j ≡ n
+  pub left : empty ≡ false → leaf ≡ true → Behind s n j
 
 -- the element whose tag is at n; one without children is left at the place told
 pub record Opening (s : List ℕ) (n : ℕ) (h : Start) : Type 0 where

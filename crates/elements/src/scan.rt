@@ -151,7 +151,8 @@ pub struct TagEnd {
 // The end of the tag at n; most have a name alone.
 pub fn tag_end(text: &[u8], n: usize) -> TagEnd
     requires { ⌜ n ≤ length (now text) ⌝ }
-    ensures { λ r. ⌜ (past 0 0 (drop n (now (text .entry))) ≡ record { empty = r .empty; rest = drop (r .at) (now (text .entry)) }) × (n ≤ r .at) × (r .at ≤ length (now (text .entry))) ⌝ }
+    ensures { λ r. ⌜ (past 0 0 (drop n (now (text .entry))) ≡ record { empty = r .empty; rest = drop (r .at) (now (text .entry)) })
+        × (n ≤ r .at) × (r .at ≤ length (now (text .entry))) ⌝ }
 {
     let e = name_end(text, n);
     if e < text.len() {

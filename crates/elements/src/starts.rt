@@ -9,7 +9,7 @@ ghost use lib.ListN.{length, getD};
 ghost use Rattle.xml.specs.Bytes.{isNameByte};
 ghost use Rattle.xml.specs.ScanSteps.{Past};
 ghost use Rattle.elements.specs.Reading.{partAt};
-ghost use Rattle.elements.specs.StartSteps.{Opening, NextStart, NextItem};
+ghost use Rattle.elements.specs.StartSteps.{GoesOnAt, Opening, NextStart, NextItem};
 
 // An element as its start tag shows it: the tag's place; its name; whether it has no attribute; whether its tag is an empty-element tag; its
 // text; whether it has no children, and if so where its row goes on.
@@ -95,6 +95,19 @@ fn plain_start(text: &[u8], n: usize, e: usize) -> Start
     }
 }
 
+// Where the row of the element whose tag is at n goes on, if it has no children; else its own place.
+fn next_of(text: &[u8], n: usize, empty: bool, leaf: bool) -> usize
+    ensures { λ r. ⌜ GoesOnAt (now (text .entry)) n empty leaf r ⌝ }
+{
+    if empty {
+        return n;
+    }
+    if leaf {
+        return tags::leave(text, n);
+    }
+    n
+}
+
 // The element whose tag is at n, of any form; its name ends at e.
 fn other_start(text: &[u8], n: usize, e: usize) -> Start
     requires { ⌜ Past isNameByte (now text) n e ⌝ }
@@ -104,34 +117,7 @@ fn other_start(text: &[u8], n: usize, e: usize) -> Start
     let plain = heads::key_of(text, n).len() == 0;
     let said = heads::text_at(text, n);
     let leaf = !heads::has_children(text, n);
-    if tag.empty {
-        return Start {
-            at: n,
-            name: Span {
-                from: n,
-                len: e - n,
-            },
-            plain,
-            empty: true,
-            text: said,
-            leaf,
-            next: n,
-        };
-    }
-    if leaf {
-        return Start {
-            at: n,
-            name: Span {
-                from: n,
-                len: e - n,
-            },
-            plain,
-            empty: false,
-            text: said,
-            leaf: true,
-            next: tags::leave(text, n),
-        };
-    }
+    let next = next_of(text, n, tag.empty, leaf);
     Start {
         at: n,
         name: Span {
@@ -139,10 +125,10 @@ fn other_start(text: &[u8], n: usize, e: usize) -> Start
             len: e - n,
         },
         plain,
-        empty: false,
+        empty: tag.empty,
         text: said,
-        leaf: false,
-        next: n,
+        leaf,
+        next,
     }
 }
 

@@ -12,7 +12,7 @@ ghost use Rattle.refusals.specs.declared.Refusal.the-variants.{Missing};
 ghost use Rattle.slices.specs.Slices.{every};
 ghost use Rattle.extents.specs.Rows.{rowsOf};
 ghost use Rattle.extents.specs.Steps.{rowFrom, byteAnswered};
-ghost use Rattle.extents.specs.Lawful as refusal;
+ghost use Rattle.extents.specs.Lawful as lawfulness;
 ghost use Rattle.extents.specs.Map.{lettered, byteAt, byteMap};
 
 // Where the byte at a file position is.
@@ -65,7 +65,7 @@ fn ends_by(start: u64, count: u64, limit: u64) -> bool
 // Whether the row at a place is lawful by itself.
 fn row_lawful(rows: &[u64], at: usize, length: ByteCount, block_size: u64) -> bool
     requires { ⌜ at + 5 ≤ lib.ListN.length (now rows) ⌝ }
-    ensures { λ r. ⌜ r ≡ refusal.rowLawful (length .0) «block_size» (rowFrom (now (rows .entry)) at) ⌝ }
+    ensures { λ r. ⌜ r ≡ lawfulness.rowLawful (length .0) «block_size» (rowFrom (now (rows .entry)) at) ⌝ }
 {
     let offset = rows[at + 2];
     let count = rows[at + 3];
@@ -84,7 +84,7 @@ fn row_lawful(rows: &[u64], at: usize, length: ByteCount, block_size: u64) -> bo
 
 // Whether each row is lawful by itself.
 fn each_lawful(rows: &[u64], length: ByteCount, block_size: u64) -> bool
-    ensures { λ r. ⌜ r ≡ refusal.eachLawful (length .0) «block_size» (rowsOf (now (rows .entry))) ⌝ }
+    ensures { λ r. ⌜ r ≡ lawfulness.eachLawful (length .0) «block_size» (rowsOf (now (rows .entry))) ⌝ }
 {
     let mut i: usize = 0;
     while i < rows.len() / 5 {
@@ -99,7 +99,7 @@ fn each_lawful(rows: &[u64], length: ByteCount, block_size: u64) -> bool
 // Whether two rows, at places, share no file position.
 fn clear(rows: &[u64], one: usize, other: usize) -> bool
     requires { ⌜ (one + 5 ≤ length (now rows)) × (other + 5 ≤ length (now rows)) ⌝ }
-    ensures { λ r. ⌜ r ≡ refusal.clear (rowFrom (now (rows .entry)) one) (rowFrom (now (rows .entry)) other) ⌝ }
+    ensures { λ r. ⌜ r ≡ lawfulness.clear (rowFrom (now (rows .entry)) one) (rowFrom (now (rows .entry)) other) ⌝ }
 {
     if ends_by(rows[one + 4], rows[one + 3], rows[other + 4]) {
         return true;
@@ -110,7 +110,7 @@ fn clear(rows: &[u64], one: usize, other: usize) -> bool
 // Whether row k shares no file position with a later row.
 fn clear_of(rows: &[u64], k: usize) -> bool
     requires { ⌜ (k + 1) * 5 ≤ length (now rows) ⌝ }
-    ensures { λ r. ⌜ r ≡ every (refusal.clear (rowFrom (now (rows .entry)) (k * 5))) (drop (k + 1) (rowsOf (now (rows .entry)))) ⌝ }
+    ensures { λ r. ⌜ r ≡ every (lawfulness.clear (rowFrom (now (rows .entry)) (k * 5))) (drop (k + 1) (rowsOf (now (rows .entry)))) ⌝ }
 {
     let mut i = k + 1;
     while i < rows.len() / 5 {
@@ -135,7 +135,7 @@ fn lower(a: u64, b: u64) -> u64
 // Whether no two rows share a file position. From the last row on, low is at most the first position of each row passed: a row that ends
 // by it is clear of them all, so rows in rising order take one walk.
 fn apart(rows: &[u64]) -> bool
-    ensures { λ r. ⌜ r ≡ refusal.apart (rowsOf (now (rows .entry))) ⌝ }
+    ensures { λ r. ⌜ r ≡ lawfulness.apart (rowsOf (now (rows .entry))) ⌝ }
 {
     let mut low: u64 = 18446744073709551615;
     let mut i = rows.len() / 5;
@@ -156,7 +156,7 @@ fn apart(rows: &[u64]) -> bool
 
 // Whether the rows of a file are lawful for its length and a block size.
 pub fn lawful(rows: &[u64], length: ByteCount, block_size: u64) -> bool
-    ensures { λ r. ⌜ r ≡ refusal.lawful (length .0) «block_size» (rowsOf (now (rows .entry))) ⌝ }
+    ensures { λ r. ⌜ r ≡ lawfulness.lawful (length .0) «block_size» (rowsOf (now (rows .entry))) ⌝ }
 {
     if !each_lawful(rows, length, block_size) {
         return false;
@@ -181,7 +181,7 @@ fn each_lettered(rows: &[u64]) -> bool
 // Whether the row at a place has a file position.
 fn holds(rows: &[u64], at: usize, position: ByteCount) -> bool
     requires { ⌜ at + 5 ≤ length (now rows) ⌝ }
-    ensures { λ r. ⌜ r ≡ refusal.inRow (position .0) (rowFrom (now (rows .entry)) at) ⌝ }
+    ensures { λ r. ⌜ r ≡ lawfulness.inRow (position .0) (rowFrom (now (rows .entry)) at) ⌝ }
 {
     let start = rows[at + 4];
     if position.0 < start {
@@ -199,8 +199,9 @@ fn narrow(letter: u64) -> u8
 
 // Where the byte at a position is, by lawful rows.
 fn find(rows: &[u64], length: ByteCount, block_size: u64, position: ByteCount) -> ByteAt
-    requires { ⌜ (lettered (rowsOf (now rows)) ≡ true) × (refusal.eachLawful (length .0) «block_size» (rowsOf (now rows)) ≡ true) ⌝ }
-    ensures { λ r. ⌜ byteAnswered r ≡ require (ltb (position .0) (length .0)) Missing (answer (byteAt «block_size» (position .0) (rowsOf (now (rows .entry))))) ⌝ }
+    requires { ⌜ (lettered (rowsOf (now rows)) ≡ true) × (lawfulness.eachLawful (length .0) «block_size» (rowsOf (now rows)) ≡ true) ⌝ }
+    ensures { λ r. ⌜ byteAnswered r ≡ require (ltb (position .0) (length .0)) Missing
+        (answer (byteAt «block_size» (position .0) (rowsOf (now (rows .entry))))) ⌝ }
 {
     if length.0 <= position.0 {
         return ByteAt::Refused(Refusal::Missing);

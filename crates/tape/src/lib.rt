@@ -296,7 +296,8 @@ pub fn find_block(
     letter: u8,
     number: BlockNumber,
 ) -> Located
-    ensures { λ r. ⌜ FindsBlock «index_letter» «data_letter» letter (number .0) (now («index_list» .entry)) (now («index_store» .entry)) (now («data_list» .entry)) (now («data_store» .entry)) (located r) ⌝ }
+    ensures { λ r. ⌜ FindsBlock «index_letter» «data_letter» letter (number .0) (now («index_list» .entry)) (now («index_store» .entry))
+        (now («data_list» .entry)) (now («data_store» .entry)) (located r) ⌝ }
 {
     if !are_letters(index_letter, data_letter, letter) {
         return Located::Refused(Refusal::Caller);
@@ -333,7 +334,8 @@ pub fn block<'a>(
     number: BlockNumber,
     refusal: &mut u64,
 ) -> &'a [u8]
-    ensures { λ r. ⌜ Shows (blockOf «index_letter» «data_letter» letter (number .0) (now («index_list» .entry)) (now («index_store» .entry)) (now («data_list» .entry)) (now («data_store» .entry))) (now r) (now (refusal .exit)) ⌝ }
+    ensures { λ r. ⌜ Shows (blockOf «index_letter» «data_letter» letter (number .0) (now («index_list» .entry)) (now («index_store» .entry))
+        (now («data_list» .entry)) (now («data_store» .entry))) (now r) (now (refusal .exit)) ⌝ }
 {
     match find_block(
         index_list,

@@ -90,7 +90,8 @@ pub fn text_at(store: &[u8], place: Bounds) -> &[u8]
 
 // The index of the construct at a place of the store, in the partition with that letter.
 pub fn brief_at(store: &[u8], uuid: &[u8], volume: Partitions, letter: u8, place: Bounds) -> Brief
-    ensures { λ r. ⌜ briefLink r ≡ linkOf (soundly (indexOf (given (now (uuid .entry)) volume) letter (place .first .0) (boundsText (now (store .entry)) place))) ⌝ }
+    ensures { λ r. ⌜ briefLink r ≡ linkOf (soundly (indexOf (given (now (uuid .entry)) volume) letter (place .first .0)
+        (boundsText (now (store .entry)) place))) ⌝ }
 {
     read_brief(text_at(store, place), uuid, volume, letter, place.first)
 }

@@ -2,13 +2,13 @@
 use mathlib.Core.Path.{_≡_}
 use mathlib.Core.Bool.{Bool, true, false, cond, not, _&&_, _||_}
 use mathlib.Core.List.{List, [], _∷_}
-use Prim.Native.Nat.{ℕ, _+_, _-_, _≤_, _<_}
+use Prim.Native.Nat.{ℕ, suc, _+_, _-_, _≤_, _<_}
 use lib.ListN.{length, take, drop, getD}
-use lib.Dec.{eqb}
+use lib.Dec.{ltb, eqb}
 use Rattle.slices.specs.Slices.{within}
 use Rattle.xml.specs.Bytes.{isSpace, isAsciiLetter, isNameByte}
 use Rattle.xml.specs.Tree.{front}
-use Rattle.xml.specs.CheckSteps.{Held, blank, children, Mode, name, content, State, stop, at, char, outside, leave, formStep, Outcome, broken, ended, formRun}
+use Rattle.xml.specs.CheckSteps.{Held, blank, children, Mode, name, content, opens, State, stop, at, char, tagEnd, outside, leave, formStep, Outcome, broken, ended, formRun}
 use Rattle.xml.specs.declared.bytes.Scan.{Scan}
 use Rattle.xml.specs.declared.bytes.Scan.the-variants.{At, Broken}
 use Rattle.xml.specs.declared.tags.TagEnd.{TagEnd}
@@ -74,6 +74,11 @@ pub record ScansTag (t : List ℕ) (i : ℕ) (from : List (List ℕ) → State) 
   pub runs : (ns : List (List ℕ)) → formRun (from ns) (drop i t) ≡ tagged t ns r
   pub ends : TagBetween i (length t) r
 
+-- the `>` or `/>` of a start tag at i, wherever only one of them may be
+abbrev pub ShutsTag : List ℕ → ℕ → TagEnd → Type 0
+ShutsTag t i r =
+    (p : Mode) → ended p ≡ broken 0 → ((ns : List (List ℕ)) → formStep p ns (getD t i 0) ≡ tagEnd ns (getD t i 0)) → ScansTag t i (at p) r
+
 -- the outcome where a start tag from i on, inside the elements ns, ended so
 abbrev pub started : List ℕ → ℕ → List (List ℕ) → Start → Outcome
 started t i ns (Start.Open e j) = formRun (at (content blank) (part t i e ∷ ns)) (drop j t)
@@ -110,7 +115,15 @@ pub record Turns (t : List ℕ) (i : ℕ) (n : List ℕ) (begins : Bool) (from :
   pub runs : (ns : List (List ℕ)) → around ns → formRun (from (n ∷ ns)) (drop i t) ≡ turned t n ns r
   pub ends : TurnBetween i (length t) begins r
 
+-- a tag of the element n from behind its `<` on, where an element may begin or not
+abbrev pub OpensTurn : List ℕ → ℕ → List ℕ → Bool → Turn → Type 0
+OpensTurn t i n begins r = (o : Bool) → Turns t i n begins (at (opens o)) (λ ns. (o && ltb (suc (length ns)) 64) ≡ begins) r
+
 -- an element with children so far, or with white space alone
 abbrev pub held : Bool → Held
 held true = children
 held false = blank
+
+-- what follows in the element n at that depth, up to the end of its next tag
+abbrev pub NextTurn : List ℕ → ℕ → List ℕ → Bool → ℕ → Turn → Type 0
+NextTurn t i n some depth r = Turns t i n (ltb depth 64) (at (content (held some))) (λ ns. suc (length ns) ≡ depth) r

@@ -1,12 +1,10 @@
 // The XML form (01, The XML form): whether a text is in it, and if not, how many of its bytes are unread where it leaves the form.
 ghost use mathlib.Core.Path.{_≡_};
-ghost use mathlib.Core.Bool.{Bool, _&&_};
 ghost use mathlib.Core.List.{[], _∷_};
-ghost use Prim.Native.Nat.{suc, _≤_};
-ghost use lib.Dec.{ltb};
+ghost use Prim.Native.Nat.{_≤_};
 ghost use lib.ListN.{length, drop};
-ghost use Rattle.xml.specs.CheckSteps.{at, before, after, content, blank, opens, formRun, form, outcomeOf};
-ghost use Rattle.xml.specs.ScanSteps.{Kinds, Turns, part, held};
+ghost use Rattle.xml.specs.CheckSteps.{at, before, after, content, blank, formRun, form, outcomeOf};
+ghost use Rattle.xml.specs.ScanSteps.{Kinds, OpensTurn, NextTurn, part};
 
 mod bytes;
 mod characters;
@@ -47,7 +45,7 @@ fn read_tag(
     kinds: &[u8; 256],
 ) -> Turn
     requires { ⌜ (from ≤ length (now text)) × (start ≤ end) × (end ≤ length (now text)) × Kinds (now kinds) ⌝ }
-    ensures { λ r. ⌜ ((o : Bool) → Turns (now (text .entry)) from (part (now (text .entry)) start end) begins (at (opens o)) (λ ns. (o && ltb (suc (length ns)) 64) ≡ begins) r) ⌝ }
+    ensures { λ r. ⌜ OpensTurn (now (text .entry)) from (part (now (text .entry)) start end) begins r ⌝ }
 {
     if byte(text, from) == b'/' {
         return match end_tag(text, from + 1, &text[start..end], kinds) {
@@ -76,7 +74,7 @@ fn next_tag(
     kinds: &[u8; 256],
 ) -> Turn
     requires { ⌜ (from ≤ length (now text)) × (start ≤ end) × (end ≤ length (now text)) × Kinds (now kinds) ⌝ }
-    ensures { λ r. ⌜ Turns (now (text .entry)) from (part (now (text .entry)) start end) (ltb depth 64) (at (content (held children))) (λ ns. suc (length ns) ≡ depth) r ⌝ }
+    ensures { λ r. ⌜ NextTurn (now (text .entry)) from (part (now (text .entry)) start end) children depth r ⌝ }
 {
     let i = past_spaces(text, from, kinds);
     if byte(text, i) == b'<' {
@@ -116,15 +114,8 @@ fn elements(text: &[u8], from: usize, start: usize, end: usize, kinds: &[u8; 256
     let mut i = from;
     let mut children = false;
     while i < text.len() {
-        match next_tag(
-            text,
-            i,
-            children,
-            depth,
-            starts[depth - 1],
-            ends[depth - 1],
-            kinds,
-        ) {
+        let n = depth - 1;
+        match next_tag(text, i, children, depth, starts[n], ends[n], kinds) {
             Turn::Opened(s, e, j) => {
                 starts[depth] = s;
                 ends[depth] = e;
@@ -144,9 +135,7 @@ fn elements(text: &[u8], from: usize, start: usize, end: usize, kinds: &[u8; 256
                 children = true;
                 i = j;
             }
-            Turn::Broken(u) => {
-                return FormChecked::Broken(u);
-            }
+            Turn::Broken(u) => return FormChecked::Broken(u),
         }
     }
     FormChecked::Broken(text.len() - i)

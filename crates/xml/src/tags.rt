@@ -3,8 +3,8 @@ ghost use mathlib.Core.Path.{_≡_};
 ghost use mathlib.Core.List.{List};
 ghost use Prim.Native.Nat.{ℕ, _≤_};
 ghost use lib.ListN.{length, getD};
-ghost use Rattle.xml.specs.CheckSteps.{Mode, at, key, keyed, equals, valued, tag, tagEnd, closed, reads, leave, formStep, ended, broken};
-ghost use Rattle.xml.specs.ScanSteps.{Kinds, Scans, ScansTag, Starts};
+ghost use Rattle.xml.specs.CheckSteps.{at, key, keyed, equals, valued, tag, closed, reads, leave};
+ghost use Rattle.xml.specs.ScanSteps.{Kinds, Scans, ScansTag, ShutsTag, Starts};
 use super::bytes::Scan;
 use super::bytes::byte;
 use super::bytes::kind;
@@ -63,7 +63,7 @@ enum TagEnd {
 // The `>` or `/>` of a start tag.
 fn close(text: &[u8], from: usize) -> TagEnd
     requires { ⌜ from ≤ length (now text) ⌝ }
-    ensures { λ r. ⌜ ((p : Mode) → ended p ≡ broken 0 → ((ns : List (List ℕ)) → formStep p ns (getD (now (text .entry)) from 0) ≡ tagEnd ns (getD (now (text .entry)) from 0)) → ScansTag (now (text .entry)) from (at p) r) ⌝ }
+    ensures { λ r. ⌜ ShutsTag (now (text .entry)) from r ⌝ }
 {
     let b = byte(text, from);
     if b == b'>' {

@@ -11,6 +11,10 @@ use Rattle.xml.proofs.Scanning.{run-out}
 use Rattle.xml.proofs.OpenElements.{Stands, first, opened-below, opened, inside-ahead, inside, outside-ahead, left, root-ended, stopped}
 use Rattle.xml.proofs.elements.Statement.{statement}
 use Rattle.xml.proofs.elements.Tie as tie
+use Rattle.xml.proofs.elements.Reads as reads
+use Rattle.xml.proofs.elements.Lts as lts
+use Rattle.xml.proofs.finish.Reads as finish-reads
+use Rattle.xml.proofs.next_tag.Reads as next-tag-reads
 
 abbrev Inv-loop : tie.InvT-loop
 Inv-loop text from start end kinds starts₀ ends₀ depth₀ i₀ children₀ starts ends depth i children = Stands text (formRun (at (content blank) (part text start end ∷ [])) (drop from text)) starts ends depth i children
@@ -27,17 +31,14 @@ array-write-ends c = search needs
 loop-holds : tie.Need-loop-holds Inv-loop μ-loop
 loop-holds c = first _ (replicate 63 0) (replicate 63 0) _ _ _ (search needs) (search needs) (search needs) refl refl
 
-sub-next-tag : tie.Need-sub-next-tag Inv-loop μ-loop
-sub-next-tag c = let l = c .before .loop .inv in search needs
+sub-n : tie.Need-sub-n Inv-loop μ-loop
+sub-n c = let l = c .before .loop .inv in search needs
 
 mul-next-tag : tie.Need-mul-next-tag Inv-loop μ-loop
 mul-next-tag c = let l = c .before .loop .inv in search needs
 
 array-read-next-tag : tie.Need-array-read-next-tag Inv-loop μ-loop
 array-read-next-tag c = let l = c .before .loop .inv in search needs
-
-sub-next-tag-2 : tie.Need-sub-next-tag-2 Inv-loop μ-loop
-sub-next-tag-2 c = let l = c .before .loop .inv in search needs
 
 mul-next-tag-2 : tie.Need-mul-next-tag-2 Inv-loop μ-loop
 mul-next-tag-2 c = let l = c .before .loop .inv in search needs
@@ -132,8 +133,8 @@ enum-known-u c = search needs
 returns-2 : tie.Need-returns-2 Inv-loop μ-loop
 returns-2 c = sym (stopped (c .before .before .before .before .before .loop .inv) (c .before .before .before .next-tag .ensures) (c .before .u .given .0 .0) (c .before .u .given .1))
 
-sub-t40 : tie.Need-sub-t40 Inv-loop μ-loop
-sub-t40 c = let l = c .before .loop .inv in search needs
+sub-t39 : tie.Need-sub-t39 Inv-loop μ-loop
+sub-t39 c = let l = c .before .loop .inv in search needs
 
 returns-3 : tie.Need-returns-3 Inv-loop μ-loop
 unfolding ended
@@ -150,10 +151,9 @@ elements-spec =
     array-write-starts
     array-write-ends
     loop-holds
-    sub-next-tag
+    sub-n
     mul-next-tag
     array-read-next-tag
-    sub-next-tag-2
     mul-next-tag-2
     array-read-next-tag-2
     next-tag-requires
@@ -176,5 +176,7 @@ elements-spec =
     loop-again-3
     enum-known-u
     returns-2
-    sub-t40
+    sub-t39
     returns-3)
+
+-- unused:

@@ -7,10 +7,11 @@ use native.Mathlib.Omega.{arith}
 use lib.Dec.{eqb}
 use lib.ListN.{length}
 use Rattle.xml.proofs.Past.{past-ahead}
-use Rattle.elements.proofs.Plain.{start-alone, start-leaf, start-inner}
+use Rattle.elements.proofs.Plain.{start-told}
 use borrow.Author.Needs.{needs}
 use Rattle.elements.proofs.starts.other_start.Statement.{statement}
 use Rattle.elements.proofs.starts.other_start.Tie as tie
+use Rattle.elements.proofs.starts.other_start.Reads as reads
 
 tag-end-requires : tie.Need-tag-end-requires
 tag-end-requires c κs = omega (arith, past-ahead (c .before .pre), c .before .pre .inside)
@@ -24,26 +25,14 @@ text-at-requires c κs = search needs
 has-children-requires : tie.Need-has-children-requires
 has-children-requires c κs = search needs
 
-sub-t11 : tie.Need-sub-t11
-sub-t11 c = omega (arith, past-ahead (c .before .before .before .before .before .before .pre))
+next-of-requires : tie.Need-next-of-requires
+next-of-requires c κs = search needs
+
+sub-t10 : tie.Need-sub-t10
+sub-t10 c = omega (arith, past-ahead (c .before .before .before .before .before .before .pre))
 
 returns : tie.Need-returns
-returns c = start-alone (c .before .before .before .before .before .before .args .text .now) (c .before .before .before .before .before .before .args .n) (c .before .before .before .before .before .before .args .e) (c .before .before .before .before .before .before .pre) (c .before .before .before .before .tag-end .result .empty) (c .before .before .before .before .tag-end .result .at) (c .before .before .before .before .tag-end .ensures .0) _ (ap (λ (k : List ℕ). eqb (length k) 0) (c .before .before .before .key-of .ensures)) (c .before .before .text-at .result) (c .before .before .text-at .ensures) _ (ap not (c .before .has-children .ensures)) (c .if1 .taken)
-
-sub-t13 : tie.Need-sub-t13
-sub-t13 c = omega (arith, past-ahead (c .before .before .before .before .before .before .before .pre))
-
-leave-requires : tie.Need-leave-requires
-leave-requires c κs = search needs
-
-returns-2 : tie.Need-returns-2
-returns-2 c = start-leaf (c .before .before .before .before .before .before .before .before .args .text .now) (c .before .before .before .before .before .before .before .before .args .n) (c .before .before .before .before .before .before .before .before .args .e) (c .before .before .before .before .before .before .before .before .pre) (c .before .before .before .before .before .before .tag-end .result .empty) (c .before .before .before .before .before .before .tag-end .result .at) (c .before .before .before .before .before .before .tag-end .ensures .0) _ (ap (λ (k : List ℕ). eqb (length k) 0) (c .before .before .before .before .before .key-of .ensures)) (c .before .before .before .before .text-at .result) (c .before .before .before .before .text-at .ensures) _ (ap not (c .before .before .before .has-children .ensures)) (c .before .before .if1 .left) (c .before .if2 .taken) (c .leave .result) (c .leave .ensures)
-
-sub-t9 : tie.Need-sub-t9
-sub-t9 c = omega (arith, past-ahead (c .before .before .before .before .before .before .before .pre))
-
-returns-3 : tie.Need-returns-3
-returns-3 c = start-inner (c .before .before .before .before .before .before .before .args .text .now) (c .before .before .before .before .before .before .before .args .n) (c .before .before .before .before .before .before .before .args .e) (c .before .before .before .before .before .before .before .pre) (c .before .before .before .before .before .tag-end .result .empty) (c .before .before .before .before .before .tag-end .result .at) (c .before .before .before .before .before .tag-end .ensures .0) _ (ap (λ (k : List ℕ). eqb (length k) 0) (c .before .before .before .before .key-of .ensures)) (c .before .before .before .text-at .result) (c .before .before .before .text-at .ensures) _ (ap not (c .before .before .has-children .ensures)) (c .before .if1 .left) (c .if2 .left)
+returns c = start-told (c .before .before .before .before .before .before .args .text .now) (c .before .before .before .before .before .before .args .n) (c .before .before .before .before .before .before .args .e) (c .before .before .before .before .before .before .pre) (c .before .before .before .before .tag-end .result .empty) (c .before .before .before .before .tag-end .result .at) (c .before .before .before .before .tag-end .ensures .0) _ (ap (λ (k : List ℕ). eqb (length k) 0) (c .before .before .before .key-of .ensures)) (c .before .before .text-at .result) (c .before .before .text-at .ensures) _ (ap not (c .before .has-children .ensures)) (c .next-of .ensures)
 
 pub other-start-spec : {M : Type 1} → statement M
 other-start-spec =
@@ -53,10 +42,6 @@ other-start-spec =
     key-of-requires
     text-at-requires
     has-children-requires
-    sub-t11
-    returns
-    sub-t13
-    leave-requires
-    returns-2
-    sub-t9
-    returns-3)
+    next-of-requires
+    sub-t10
+    returns)
