@@ -63,9 +63,9 @@ fn ends_by(start: u64, count: u64, limit: u64) -> bool
 }
 
 // Whether the row at a place is lawful by itself.
-fn row_lawful(rows: &[u64], at: usize, length: ByteCount, block_size: u64) -> bool
-    requires { ⌜ at + 5 ≤ lib.ListN.length (now rows) ⌝ }
-    ensures { λ r. ⌜ r ≡ lawfulness.rowLawful (length .0) «block_size» (rowFrom (now (rows .entry)) at) ⌝ }
+fn row_lawful(rows: &[u64], at: usize, file_length: ByteCount, block_size: u64) -> bool
+    requires { ⌜ at + 5 ≤ length (now rows) ⌝ }
+    ensures { λ r. ⌜ r ≡ lawfulness.rowLawful («file_length» .0) «block_size» (rowFrom (now (rows .entry)) at) ⌝ }
 {
     let offset = rows[at + 2];
     let count = rows[at + 3];
@@ -75,7 +75,7 @@ fn row_lawful(rows: &[u64], at: usize, length: ByteCount, block_size: u64) -> bo
     if block_size <= offset {
         return false;
     }
-    if !ends_by(rows[at + 4], count, length.0) {
+    if !ends_by(rows[at + 4], count, file_length.0) {
         return false;
     }
     let last = spot(offset, count - 1, block_size);
@@ -83,12 +83,12 @@ fn row_lawful(rows: &[u64], at: usize, length: ByteCount, block_size: u64) -> bo
 }
 
 // Whether each row is lawful by itself.
-fn each_lawful(rows: &[u64], length: ByteCount, block_size: u64) -> bool
-    ensures { λ r. ⌜ r ≡ lawfulness.eachLawful (length .0) «block_size» (rowsOf (now (rows .entry))) ⌝ }
+fn each_lawful(rows: &[u64], file_length: ByteCount, block_size: u64) -> bool
+    ensures { λ r. ⌜ r ≡ lawfulness.eachLawful («file_length» .0) «block_size» (rowsOf (now (rows .entry))) ⌝ }
 {
     let mut i: usize = 0;
     while i < rows.len() / 5 {
-        if !row_lawful(rows, i * 5, length, block_size) {
+        if !row_lawful(rows, i * 5, file_length, block_size) {
             return false;
         }
         i += 1;
@@ -155,10 +155,10 @@ fn apart(rows: &[u64]) -> bool
 }
 
 // Whether the rows of a file are lawful for its length and a block size.
-pub fn lawful(rows: &[u64], length: ByteCount, block_size: u64) -> bool
-    ensures { λ r. ⌜ r ≡ lawfulness.lawful (length .0) «block_size» (rowsOf (now (rows .entry))) ⌝ }
+pub fn lawful(rows: &[u64], file_length: ByteCount, block_size: u64) -> bool
+    ensures { λ r. ⌜ r ≡ lawfulness.lawful («file_length» .0) «block_size» (rowsOf (now (rows .entry))) ⌝ }
 {
-    if !each_lawful(rows, length, block_size) {
+    if !each_lawful(rows, file_length, block_size) {
         return false;
     }
     apart(rows)
@@ -198,12 +198,12 @@ fn narrow(letter: u64) -> u8
 }
 
 // Where the byte at a position is, by lawful rows.
-fn find(rows: &[u64], length: ByteCount, block_size: u64, position: ByteCount) -> ByteAt
-    requires { ⌜ (lettered (rowsOf (now rows)) ≡ true) × (lawfulness.eachLawful (length .0) «block_size» (rowsOf (now rows)) ≡ true) ⌝ }
-    ensures { λ r. ⌜ byteAnswered r ≡ require (ltb (position .0) (length .0)) Missing
+fn find(rows: &[u64], file_length: ByteCount, block_size: u64, position: ByteCount) -> ByteAt
+    requires { ⌜ (lettered (rowsOf (now rows)) ≡ true) × (lawfulness.eachLawful («file_length» .0) «block_size» (rowsOf (now rows)) ≡ true) ⌝ }
+    ensures { λ r. ⌜ byteAnswered r ≡ require (ltb (position .0) («file_length» .0)) Missing
         (answer (byteAt «block_size» (position .0) (rowsOf (now (rows .entry))))) ⌝ }
 {
-    if length.0 <= position.0 {
+    if file_length.0 <= position.0 {
         return ByteAt::Refused(Refusal::Missing);
     }
     let mut i: usize = 0;
@@ -223,8 +223,8 @@ fn find(rows: &[u64], length: ByteCount, block_size: u64, position: ByteCount) -
 }
 
 // Where the byte at a position of a file is, by its rows, its length and the block size.
-pub fn byte_at(rows: &[u64], length: ByteCount, block_size: u64, position: ByteCount) -> ByteAt
-    ensures { λ r. ⌜ byteAnswered r ≡ byteMap (now (rows .entry)) (length .0) «block_size» (position .0) ⌝ }
+pub fn byte_at(rows: &[u64], file_length: ByteCount, block_size: u64, position: ByteCount) -> ByteAt
+    ensures { λ r. ⌜ byteAnswered r ≡ byteMap (now (rows .entry)) («file_length» .0) «block_size» (position .0) ⌝ }
 {
     if !quantities::is_block_size(block_size) {
         return ByteAt::Refused(Refusal::Caller);
@@ -238,8 +238,8 @@ pub fn byte_at(rows: &[u64], length: ByteCount, block_size: u64, position: ByteC
     if 1024 < rows.len() / 5 {
         return ByteAt::Refused(Refusal::TooMany);
     }
-    if !lawful(rows, length, block_size) {
+    if !lawful(rows, file_length, block_size) {
         return ByteAt::Refused(Refusal::Extents);
     }
-    find(rows, length, block_size, position)
+    find(rows, file_length, block_size, position)
 }

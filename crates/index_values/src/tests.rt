@@ -213,12 +213,12 @@ pub struct Judged {
 }
 
 // Whether the first rows of a table, so many, are lawful.
-fn are_lawful(table: &[u64], count: usize, length: ByteCount, size: u64) -> bool
-    requires { ⌜ count * 5 ≤ lib.ListN.length (now table) ⌝ }
-    ensures { λ r. ⌜ r ≡ extents.lawful (length .0) size (numbers.rowsOf (take (count * 5) (now (table .entry)))) ⌝ }
+fn are_lawful(table: &[u64], count: usize, file_length: ByteCount, size: u64) -> bool
+    requires { ⌜ count * 5 ≤ length (now table) ⌝ }
+    ensures { λ r. ⌜ r ≡ extents.lawful («file_length» .0) size (numbers.rowsOf (take (count * 5) (now (table .entry)))) ⌝ }
 {
     let e = count * 5;
-    extents::lawful(&table[0..e], length, size)
+    extents::lawful(&table[0..e], file_length, size)
 }
 
 // The extents of an element of a sort whose children have those places, if it is a file; with out to read them into.

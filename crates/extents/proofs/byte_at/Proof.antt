@@ -17,7 +17,7 @@ is-block-size-requires c κs = search needs
 returns : tie.Need-returns
 returns c =
     let a = c .before .before .before .args in
-    sym (size-wrong (a .rows .now) (a .length .0) (a .block-size) (a .position .0) (sym (c .before .is-block-size .ensures) ∙ not-true _ (c .if1 .taken)))
+    sym (size-wrong (a .rows .now) (a .file-length .0) (a .block-size) (a .position .0) (sym (c .before .is-block-size .ensures) ∙ not-true _ (c .if1 .taken)))
 
 each-lettered-requires : tie.Need-each-lettered-requires
 each-lettered-requires c κs = search needs
@@ -25,12 +25,12 @@ each-lettered-requires c κs = search needs
 returns-2 : tie.Need-returns-2
 returns-2 c =
     let a = c .before .before .before .before .before .args in
-    sym (unlettered (a .rows .now) (a .length .0) (a .block-size) (a .position .0) (sym (c .before .each-lettered .ensures) ∙ not-true _ (c .if2 .taken)))
+    sym (unlettered (a .rows .now) (a .file-length .0) (a .block-size) (a .position .0) (sym (c .before .each-lettered .ensures) ∙ not-true _ (c .if2 .taken)))
 
 returns-3 : tie.Need-returns-3
 returns-3 c =
     let a = c .before .before .before .before .before .before .args in
-    sym (not-fives (a .rows .now) (a .length .0) (a .block-size) (a .position .0) (c .if3 .taken))
+    sym (not-fives (a .rows .now) (a .file-length .0) (a .block-size) (a .position .0) (c .if3 .taken))
 
 returns-4 : tie.Need-returns-4
 returns-4 c =
@@ -38,7 +38,7 @@ returns-4 c =
     let z = sym (c .before .before .before .before .before .is-block-size .ensures) ∙ not-false _ (c .before .before .before .before .if1 .left) in
     let t = sym (c .before .before .before .each-lettered .ensures) ∙ not-false _ (c .before .before .if2 .left) in
     let f : length (a .rows .now) % 5 ≡ 0 = omega arith in
-    sym (too-many (a .rows .now) (a .length .0) (a .block-size) (a .position .0) z t f (c .if4 .taken))
+    sym (too-many (a .rows .now) (a .file-length .0) (a .block-size) (a .position .0) z t f (c .if4 .taken))
 
 lawful-requires : tie.Need-lawful-requires
 lawful-requires c κs = search needs
@@ -49,14 +49,14 @@ returns-5 c =
     let z = sym (c .before .before .before .before .before .before .before .is-block-size .ensures) ∙ not-false _ (c .before .before .before .before .before .before .if1 .left) in
     let t = sym (c .before .before .before .before .before .each-lettered .ensures) ∙ not-false _ (c .before .before .before .before .if2 .left) in
     let f : length (a .rows .now) % 5 ≡ 0 = omega arith in
-    sym (unlawful (a .rows .now) (a .length .0) (a .block-size) (a .position .0) z t f (omega arith) (sym (c .before .lawful .ensures) ∙ not-true _ (c .if5 .taken)))
+    sym (unlawful (a .rows .now) (a .file-length .0) (a .block-size) (a .position .0) z t f (omega arith) (sym (c .before .lawful .ensures) ∙ not-true _ (c .if5 .taken)))
 
 find-requires : tie.Need-find-requires
 find-requires c κs =
     let a = c .before .before .before .before .before .before .before .before .before .args in
     let t = sym (c .before .before .before .before .before .each-lettered .ensures) ∙ not-false _ (c .before .before .before .before .if2 .left) in
     let e = sym (c .before .lawful .ensures) ∙ not-false _ (c .if5 .left) in
-    (t, lawful-each (a .length .0) (a .block-size) (rowsOf (a .rows .now)) e)
+    (t, lawful-each (a .file-length .0) (a .block-size) (rowsOf (a .rows .now)) e)
 
 returns-6 : tie.Need-returns-6
 returns-6 c =
@@ -65,7 +65,7 @@ returns-6 c =
     let t = sym (c .before .before .before .before .before .before .each-lettered .ensures) ∙ not-false _ (c .before .before .before .before .before .if2 .left) in
     let f : length (a .rows .now) % 5 ≡ 0 = omega arith in
     let e = sym (c .before .before .lawful .ensures) ∙ not-false _ (c .before .if5 .left) in
-    c .find .ensures ∙ sym (mapped (a .rows .now) (a .length .0) (a .block-size) (a .position .0) z t f (omega arith) e)
+    c .find .ensures ∙ sym (mapped (a .rows .now) (a .file-length .0) (a .block-size) (a .position .0) z t f (omega arith) e)
 
 pub byte-at-spec : {M : Type 1} → statement M
 byte-at-spec =

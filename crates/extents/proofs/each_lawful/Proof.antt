@@ -31,7 +31,7 @@ returns : tie.Need-returns Inv-loop μ-loop
 returns c =
     let a = c .before .before .before .before .before .args in
     let l = c .before .before .before .loop in
-    let test = rowLawful (a .length .0) (a .block-size) in
+    let test = rowLawful (a .file-length .0) (a .block-size) in
     sym (l .inv .1 ∙ each-off (a .rows .now) (l .i) test (omega arith) (sym (c .before .row-lawful .ensures) ∙ not-true _ (c .if1 .taken)))
 
 add-i : tie.Need-add-i Inv-loop μ-loop
@@ -44,14 +44,14 @@ loop-again : tie.Need-loop-again Inv-loop μ-loop
 loop-again c =
     let a = c .before .before .before .before .before .args in
     let l = c .before .before .before .loop in
-    let test = rowLawful (a .length .0) (a .block-size) in
+    let test = rowLawful (a .file-length .0) (a .block-size) in
     (omega arith, l .inv .1 ∙ each-on (a .rows .now) (l .i) test (omega arith) (sym (c .before .row-lawful .ensures) ∙ not-false _ (c .if1 .left)))
 
 returns-2 : tie.Need-returns-2 Inv-loop μ-loop
 returns-2 c =
     let a = c .before .before .before .args in
     let l = c .before .loop in
-    let test = rowLawful (a .length .0) (a .block-size) in
+    let test = rowLawful (a .file-length .0) (a .block-size) in
     sym (l .inv .1 ∙ each-end (a .rows .now) (l .i) test (omega arith))
 
 pub each-lawful-spec : {M : Type 1} → statement M

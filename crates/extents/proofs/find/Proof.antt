@@ -25,7 +25,7 @@ abbrev μ-loop : tie.MeasureT-loop
 μ-loop rows block-size position i₀ i = lib.ListN.length rows / 5 - i
 
 returns : tie.Need-returns Inv-loop μ-loop
-returns c = rw (le-ltb (c .before .before .before .before .args .position .0) (c .before .before .before .before .args .length .0) (c .if1 .taken))
+returns c = rw (le-ltb (c .before .before .before .before .args .position .0) (c .before .before .before .before .args .file-length .0) (c .if1 .taken))
 
 loop-holds : tie.Need-loop-holds Inv-loop μ-loop
 loop-holds c = (omega arith, refl)
@@ -70,7 +70,7 @@ spot-requires c κs =
     let s = a .rows .now in
     let r = rowFrom s (l .i * 5) in
     let here : l .i < length s / 5 = c .before .before .before .before .before .loop-test .taken in
-    inside-block (a .length .0) (a .block-size) r (each-at (rowLawful (a .length .0) (a .block-size)) s (l .i) here (c .before .before .before .before .before .before .before .before .before .before .before .pre .1))
+    inside-block (a .file-length .0) (a .block-size) r (each-at (rowLawful (a .file-length .0) (a .block-size)) s (l .i) here (c .before .before .before .before .before .before .before .before .before .before .before .pre .1))
 
 mul-narrow : tie.Need-mul-narrow Inv-loop μ-loop
 mul-narrow c = search needs
@@ -103,8 +103,8 @@ add-t17 c =
     let s = a .rows .now in
     let r = rowFrom s (l .i * 5) in
     let here : l .i < length s / 5 = c .before .before .before .before .before .before .before .before .before .before .loop-test .taken in
-    let e = each-at (rowLawful (a .length .0) (a .block-size)) s (l .i) here (c .before .before .before .before .before .before .before .before .before .before .before .before .before .before .before .before .pre .1) in
-    let b = block-of-position (a .length .0) (a .block-size) r e (a .position .0) (sym (c .before .before .before .before .before .before .before .before .before .holds .ensures) ∙ c .before .before .before .before .before .before .before .before .if2 .taken) in
+    let e = each-at (rowLawful (a .file-length .0) (a .block-size)) s (l .i) here (c .before .before .before .before .before .before .before .before .before .before .before .before .before .before .before .before .pre .1) in
+    let b = block-of-position (a .file-length .0) (a .block-size) r e (a .position .0) (sym (c .before .before .before .before .before .before .before .before .before .holds .ensures) ∙ c .before .before .before .before .before .before .before .before .if2 .taken) in
     omega (arith, c .before .before .before .before .spot .ensures .0)
 
 returns-2 : tie.Need-returns-2 Inv-loop μ-loop
@@ -115,7 +115,7 @@ returns-2 c =
     let r = rowFrom s (l .i * 5) in
     let here : l .i < length s / 5 = c .before .before .before .before .before .before .before .before .before .before .loop-test .taken in
     let e = placed (a .block-size) (a .position .0) r _ _ _ (c .before .before .narrow .ensures) (c .before .before .before .before .spot .ensures .0) (c .before .before .before .before .spot .ensures .1) in
-    rw (lt-ltb (a .position .0) (a .length .0) (c .before .before .before .before .before .before .before .before .before .before .before .before .if1 .left))
+    rw (lt-ltb (a .position .0) (a .file-length .0) (c .before .before .before .before .before .before .before .before .before .before .before .before .if1 .left))
     (ap answer (e ∙ sym (l .inv .1 ∙ place-here s (a .block-size) (a .position .0) (l .i) here (sym (c .before .before .before .before .before .before .before .before .before .holds .ensures) ∙ c .before .before .before .before .before .before .before .before .if2 .taken))))
 
 add-i : tie.Need-add-i Inv-loop μ-loop
@@ -139,7 +139,7 @@ returns-3 c =
     let l = c .before .loop in
     let s = a .rows .now in
     let r = rowFrom s (l .i * 5) in
-    rw (lt-ltb (a .position .0) (a .length .0) (c .before .before .if1 .left))
+    rw (lt-ltb (a .position .0) (a .file-length .0) (c .before .before .if1 .left))
     (ap answer (sym (l .inv .1 ∙ place-end s (a .block-size) (a .position .0) (l .i) (omega arith))))
 
 pub find-spec : {M : Type 1} → statement M

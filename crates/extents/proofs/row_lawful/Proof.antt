@@ -34,13 +34,13 @@ returns : tie.Need-returns
 returns c =
     let a = c .before .before .before .before .args in
     let r = rowFrom (a .rows .now) (a .at) in
-    sym (no-byte (a .length .0) (a .block-size) r (c .if1 .taken))
+    sym (no-byte (a .file-length .0) (a .block-size) r (c .if1 .taken))
 
 returns-2 : tie.Need-returns-2
 returns-2 c =
     let a = c .before .before .before .before .before .args in
     let r = rowFrom (a .rows .now) (a .at) in
-    sym (outside-block (a .length .0) (a .block-size) r (c .if2 .taken))
+    sym (outside-block (a .file-length .0) (a .block-size) r (c .if2 .taken))
 
 add-ends-by : tie.Need-add-ends-by
 add-ends-by c = search needs
@@ -58,7 +58,7 @@ returns-3 : tie.Need-returns-3
 returns-3 c =
     let a = c .before .before .before .before .before .before .before .before .args in
     let r = rowFrom (a .rows .now) (a .at) in
-    sym (past-length (a .length .0) (a .block-size) r (sym (c .before .ends-by .ensures) ∙ not-true _ (c .if3 .taken)))
+    sym (past-length (a .file-length .0) (a .block-size) r (sym (c .before .ends-by .ensures) ∙ not-true _ (c .if3 .taken)))
 
 sub-spot : tie.Need-sub-spot
 sub-spot c = search needs
@@ -82,10 +82,10 @@ returns-4 : tie.Need-returns-4
 returns-4 c =
     let a = c .before .before .before .before .before .before .before .before .before .before .before .args in
     let r = rowFrom (a .rows .now) (a .at) in
-    let e : leb (rowEnd r) (a .length .0) ≡ true = sym (c .before .before .before .before .ends-by .ensures) ∙ not-false _ (c .before .before .before .if3 .left) in
+    let e : leb (rowEnd r) (a .file-length .0) ≡ true = sym (c .before .before .before .before .ends-by .ensures) ∙ not-false _ (c .before .before .before .if3 .left) in
     c .ends-by2 .ensures
     ∙ ap (λ (n : ℕ). leb (r .startblock + n) 18446744073709551615) (c .before .before .spot .ensures .0)
-    ∙ sym (block-fits (a .length .0) (a .block-size) r (omega arith) (omega arith) e)
+    ∙ sym (block-fits (a .file-length .0) (a .block-size) r (omega arith) (omega arith) e)
 
 pub row-lawful-spec : {M : Type 1} → statement M
 row-lawful-spec =

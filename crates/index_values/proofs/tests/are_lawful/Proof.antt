@@ -28,7 +28,7 @@ returns : tie.Need-returns
 returns c =
     let a = c .before .before .before .args in
     let z : a .count * 5 - 0 ≡ a .count * 5 = omega arith in
-    c .lawful .ensures ∙ ap (λ (k : ℕ). extents.lawful (a .length .0) (a .size) (rowsOf (take k (a .table .now)))) z
+    c .lawful .ensures ∙ ap (λ (k : ℕ). extents.lawful (a .file-length .0) (a .size) (rowsOf (take k (a .table .now)))) z
 
 pub are-lawful-spec : {M : Type 1} → statement M
 are-lawful-spec =
