@@ -12,7 +12,7 @@ use Rattle.slices.specs.Slices.{every, same}
 use Rattle.slices.specs.Words.{bytes}
 use Rattle.quantities.specs.Letters.{areLetters}
 use Rattle.quantities.specs.Sizes.{isBlockSize}
-use Rattle.quantities.specs.Locations.{Location}
+use Rattle.quantities.specs.Addresses.{Address}
 use Rattle.xml.specs.Tree.{Head, Forest, none as noElement, node}
 use Rattle.xml.specs.CheckSteps.{requireForm}
 use Rattle.elements.specs.Reading.{forestAt, hasElement}
@@ -36,8 +36,8 @@ pub record Heading : Type 0 where
   pub release : ℕ
   pub generation : ℕ
   pub updatetime : List ℕ
-  pub location : Location
-  pub back : Option Location
+  pub location : Address
+  pub back : Option Address
   pub allowpolicyupdate : Bool
   pub highestfileuid : ℕ
   pub directories : ℕ
@@ -47,14 +47,14 @@ pub record Index : Type 0 where
   pub files : List File
 
 -- what a location says
-abbrev pub locationOf : Forest → Location
+abbrev pub locationOf : Forest → Address
 locationOf f = record { letter = letterOrZero (textIn (bytes "partition") f); block = numberOrZero (textIn (bytes "startblock") f) }
 
-abbrev pub locationIn : Forest → Location
+abbrev pub locationIn : Forest → Address
 locationIn k = locationOf (childrenIn (bytes "location") k)
 
 -- the back pointer, if there is one
-abbrev pub backIn : Forest → Option Location
+abbrev pub backIn : Forest → Option Address
 backIn k = cond (hasElement (childrenIn (bytes "previousgenerationlocation") k)) (some (locationOf (childrenIn (bytes "previousgenerationlocation") k))) none
 
 abbrev pub fileOf : Forest → File
@@ -110,7 +110,7 @@ abbrev pub allLawful : Given → List IndexElement → Bool
 allLawful g l = every (λ e. lawfulFile g (e .sort) (e .kids)) l
 
 -- 12: the index stands where it says
-abbrev pub standsAt : ℕ → ℕ → Location → Bool
+abbrev pub standsAt : ℕ → ℕ → Address → Bool
 standsAt letter block p = eqb (p .letter) letter && eqb (p .block) block
 
 -- the classes behind the version, in their order

@@ -84,7 +84,7 @@ module _ {s : List ℕ} {f X Y : Forest} {okA okP okQ : Bool} {a p q : List ℕ}
         → _≡_ {A = TextPlaces}
         (record { creator = textPlace s (drop (getD a 0 0) s); time = textPlace s (drop (getD a 1 0) s); uuid = textPlace s (drop (getD a 2 0) s) })
         (placesIn s g)
-    unfolding rules longer bytes isMark same
+    unfolding bytes same
     standing w =
         same-places
         (sym (found-place A all 0 (omega arith) refl w))

@@ -1,3 +1,3 @@
 pub mod Letters
-pub mod Locations
+pub mod Addresses
 pub mod Sizes

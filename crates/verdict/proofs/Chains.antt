@@ -9,7 +9,7 @@ use native.Mathlib.Omega.{arith}
 use lib.ListN.{length}
 use lib.Dec.{eqb}
 use borrow.Author.Tests.{eqb-true, eq-eqb, ne-eqb}
-use Rattle.quantities.specs.Locations.{Location}
+use Rattle.quantities.specs.Addresses.{Address}
 use Rattle.constructs.specs.Constructs.{Construct}
 use Rattle.verdict.specs.Verdict.{IndexLinks, Volume, orElse, unless, isNone, isAt, readIndex, readData, follows, chainBreak}
 use Rattle.verdict.specs.Rescue.{Cut, pointedBlock, target, through, chain, cutAt, fitsCut, attempt, cutAmong}
@@ -95,7 +95,7 @@ module _ (v : Volume) where
   follows-target (some x) d none h = let z : _≡_ {A = ℕ} 0 1 = cc in absurd (omega arith)
   follows-target (some x) d (some y) h = at (x .back) (and-true _ _ h .0)
     where
-      at : (p : Option Location) → isAt p (v .dataLetter) (d .first) ≡ true → pointedBlock p ≡ d .first
+      at : (p : Option Address) → isAt p (v .dataLetter) (d .first) ≡ true → pointedBlock p ≡ d .first
       at none e = let z : _≡_ {A = ℕ} 0 1 = cc in absurd (omega arith)
       at (some p) e = eqb-true (p .block) (d .first) (and-true (eqb (p .letter) (v .dataLetter)) (eqb (p .block) (d .first)) e .1)
 

@@ -6,7 +6,7 @@ use mathlib.Core.List.{List, [], _∷_}
 use Prim.Native.Nat.{ℕ}
 use lib.ListN.{length, take}
 use lib.Dec.{eqb}
-use Rattle.quantities.specs.Locations.{Location}
+use Rattle.quantities.specs.Addresses.{Address}
 use Rattle.tape.specs.Tape.{Tape}
 use Rattle.constructs.specs.Constructs.{Construct, standing, dataLengths}
 use Rattle.verdict.specs.Verdict.{IndexLinks, Volume, orElse, isNone, readIndex, readData, follows, chainBreak, badFileIn}
@@ -19,7 +19,7 @@ pub record Cut : Type 0 where
   pub dataKept : ℕ
   pub generation : ℕ
 
-abbrev pub pointedBlock : Option Location → ℕ
+abbrev pub pointedBlock : Option Address → ℕ
 pointedBlock none = 0
 pointedBlock (some p) = p .block
 

@@ -8,7 +8,7 @@ use Prim.Native.Nat.{ℕ, suc, _-_}
 use lib.ListN.{length, take}
 use lib.Dec.{leb, eqb}
 use Rattle.slices.specs.Slices.{every}
-use Rattle.quantities.specs.Locations.{Location}
+use Rattle.quantities.specs.Addresses.{Address}
 use Rattle.tape.specs.Tape.{Tape}
 use Rattle.extents.specs.Rows.{Row}
 use Rattle.extents.specs.Tape.{liesOnTape}
@@ -17,7 +17,7 @@ use Rattle.constructs.specs.Constructs.{Construct, standing, dataLengths}
 -- what the verdict asks of a sound index: its generation, its back pointer if it has one, and the extents of its files in text order
 pub record IndexLinks : Type 0 where
   pub generation : ℕ
-  pub back : Option Location
+  pub back : Option Address
   pub files : List (List Row)
 
 -- what agreeing labels give, and the reading of an index from the letter of its partition, the number of its first block and its text;
@@ -56,7 +56,7 @@ abbrev pub numbered : ℕ → Option ℕ → Option Break
 numbered w none = none
 numbered w (some n) = some (record { which = w; number = n })
 
-abbrev pub isAt : Option Location → ℕ → ℕ → Bool
+abbrev pub isAt : Option Address → ℕ → ℕ → Bool
 isAt none letter block = false
 isAt (some p) letter block = eqb (p .letter) letter && eqb (p .block) block
 
