@@ -8,7 +8,7 @@ use native.Mathlib.Omega.{arith}
 use lib.Dec.{leb, eqb}
 use Rattle.refusals.specs.declared.Refusal.{Refusal}
 use Rattle.refusals.specs.Refusals.{Answer, refused, answer}
-use Rattle.quantities.specs.Locations.{Location}
+use Rattle.quantities.specs.Addresses.{Address}
 use Rattle.constructs.specs.Constructs.{Construct}
 use Rattle.index.specs.Index as text
 use Rattle.index.specs.Steps.{means, backOf}
@@ -23,7 +23,7 @@ abbrev summaryGeneration : Answer text.Summary → ℕ
 summaryGeneration (refused r) = 0
 summaryGeneration (answer t) = t .heading .generation
 
-abbrev summaryBack : Answer text.Summary → Option Location
+abbrev summaryBack : Answer text.Summary → Option Address
 summaryBack (refused r) = none
 summaryBack (answer t) = t .heading .back
 

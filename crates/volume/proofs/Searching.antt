@@ -8,7 +8,7 @@ use Prim.Native.Nat.{ℕ, suc, _+_, _-_, _≤_, _<_}
 use native.Mathlib.Omega.{arith}
 use lib.ListN.{length, getD, set, take}
 use Rattle.slices.proofs.Booleans.{split}
-use Rattle.quantities.specs.Locations.{Location}
+use Rattle.quantities.specs.Addresses.{Address}
 use Rattle.constructs.specs.Constructs.{Construct}
 use Rattle.constructs.specs.TableSteps.{boundsIn}
 use Rattle.constructs.specs.declared.Bounds.{Bounds as Spot}
@@ -53,7 +53,7 @@ unfolding follows
 alone-follows v x d none e = refl
 alone-follows v x d (some y) e = rw e
 
-abbrev backIn : Option Link → Option Location
+abbrev backIn : Option Link → Option Address
 backIn none = none
 backIn (some t) = t .back
 

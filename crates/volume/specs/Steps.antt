@@ -8,7 +8,7 @@ use lib.Dec.{leb, eqb}
 use lib.ListN.{length, getD, take, drop}
 use Rattle.refusals.specs.Refusals.{answer}
 use Rattle.slices.specs.Slices.{every}
-use Rattle.quantities.specs.Locations.{Location}
+use Rattle.quantities.specs.Addresses.{Address}
 use Rattle.extents.specs.Rows.{Row}
 use Rattle.index.specs.Index as text
 use Rattle.index.specs.Index.{indexOf}
@@ -57,13 +57,13 @@ Listed s table ds = (c : Construct) (cs : List Construct) → Suffix (c ∷ cs) 
 -- how an index stands in the chain: its generation and its back pointer; none of an index that is not sound
 pub record Link : Type 0 where
   pub generation : ℕ
-  pub back : Option Location
+  pub back : Option Address
 
 abbrev pub linkOf : Option IndexLinks → Option Link
 linkOf none = none
 linkOf (some x) = some (record { generation = x .generation; back = x .back })
 
-abbrev pub briefBack : Brief → Option Location
+abbrev pub briefBack : Brief → Option Address
 briefBack b = cond (b .back) (some (record { letter = b .letter; block = b .block .0 })) none
 
 abbrev pub briefLink : Brief → Option Link
