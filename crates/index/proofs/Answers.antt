@@ -5,7 +5,7 @@ use mathlib.Core.List.{List, [], _∷_}
 use mathlib.Core.Option.{some, none}
 use Prim.Native.Nat.{ℕ, suc, _-_}
 use lib.Dec.{eqb, leb}
-use lib.ListN.{length}
+use lib.ListN.{length, drop}
 use native.Mathlib.Omega.{arith}
 use Rattle.refusals.specs.declared.Refusal.{Refusal}
 use Rattle.refusals.specs.Refusals.{Answer, refused, answer}
@@ -15,8 +15,14 @@ use Rattle.slices.specs.Words.{bytes}
 use Rattle.quantities.specs.Letters.{isLetter}
 use Rattle.quantities.specs.Sizes.{isBlockSize}
 use Rattle.quantities.specs.Addresses.{Address}
-use Rattle.xml.specs.Tree.{Head, Forest, none as noElement, node}
+use Rattle.xml.specs.Tree.{Head, Forest, none as noElement, node, top, opened}
 use Rattle.xml.specs.CheckSteps.{inForm}
+use Rattle.elements.specs.Tags.{Tags, tagsAt, tagsIn}
+use Rattle.elements.specs.TagSteps.{NextTag}
+use Rattle.elements.specs.declared.tags.Tag.the-variants.{Open, Empty}
+use Rattle.elements.proofs.Rows.{first-empty}
+use Rattle.children.specs.Children.{childrenOfFirst}
+use Rattle.elements.specs.declared.heads.Span.{Span}
 use Rattle.elements.specs.Reading.{forestAt, hasElement}
 use Rattle.values.specs.Values as values
 use Rattle.index_names.specs.Sorts.{index, file}
@@ -29,7 +35,8 @@ use Rattle.index.specs.declared.read.Header.{Header}
 use Rattle.index.specs.declared.read.Read.{Read}
 use Rattle.index.specs.declared.read.Read.the-variants.{Found, Refused}
 use Rattle.index.specs.Index.{Index, Summary, headingOf, indexWith, summaryOf, isTrue, structured, bounded, allValued, allOwn, allLawful, standsAt, locationOf, locationIn, filesOf, fileOf, fileCount, childrenRead, tagRead, rootRead, callerRight, indexOf}
-use Rattle.index.specs.Steps.{ReadsIndex, HeaderOf}
+use Rattle.index.specs.Places.{updateTimeIn}
+use Rattle.index.specs.Steps.{ReadsAs, HeaderOf}
 
 pub caller-last : (g : Given) (letter : ℕ) → isLetter (g .indexLetter) ≡ true → isLetter (g .dataLetter) ≡ true → eqb (g .indexLetter) (g .dataLetter) ≡ false
     → isBlockSize (g .blockSize) ≡ true → values.isUuid (g .uuid) ≡ true
@@ -81,24 +88,29 @@ files-length (e ∷ l) = go (eqb (e .sort) file) (files-length l)
     go true i = ap suc i
     go false i = i
 
-module _ {s : List ℕ} {a : Answer Index} where
-  pub reads-refused : {r : Refusal} → a ≡ refused r → ReadsIndex s a (Refused r)
+module _ {s : List ℕ} {w : Span} {a : Answer Index} where
+  pub reads-refused : {r : Refusal} → a ≡ refused r → ReadsAs s w a (Refused r)
   reads-refused {r} e = record { answers = ap summaryOf (sym e); header = tt }
 
-  pub same-read : {b : Answer Index} {r : Read} → ReadsIndex s a r → a ≡ b → ReadsIndex s b r
-  same-read {r = r} w e = subst (λ (x : Answer Index). ReadsIndex s x r) e w
+  pub same-read : {b : Answer Index} {r : Read} → ReadsAs s w a r → a ≡ b → ReadsAs s w b r
+  same-read {r = r} p e = subst (λ (x : Answer Index). ReadsAs s w x r) e p
 
-  -- an index whose children are those of the header
-  pub reads-children : {t : List ℕ} {h : Header} (release entries files : ℕ) (k : Forest) → HeaderOf s t release entries files h → Placed s index k t
-      → entries ≡ entriesOf (elements index k) → files ≡ fileCount (elements index k)
-      → a ≡ answer (indexWith release k) → ReadsIndex s a (Found h)
-  reads-children release entries files k w p e f q =
-      record {
-        answers =
-            ap answer (w .heading k p e f ∙ ap (λ (n : ℕ). record { heading = headingOf release k; files = n }) (sym (files-length (elements index k))))
-            ∙ ap summaryOf (sym q);
-        header = w .definite;
-      }
+-- the children by which the update time's place is told are those
+pub same-place : {s : List ℕ} {a : Answer Index} {r : Read} {t u : Tags} (place : Tags → Span) → t ≡ u → ReadsAs s (place t) a r → ReadsAs s (place u) a r
+same-place {s} {a} {r} place e p = subst (λ (x : Tags). ReadsAs s (place x) a r) e p
+
+-- an index whose children are those of the header
+pub reads-children : {s t : List ℕ} {at : ℕ} {a : Answer Index} {h : Header} (release entries files : ℕ) → HeaderOf s at t release entries files h
+    → Placed s index (forestAt s at) t → entries ≡ entriesOf (elements index (forestAt s at)) → files ≡ fileCount (elements index (forestAt s at))
+    → a ≡ answer (indexWith release (forestAt s at)) → ReadsAs s (updateTimeIn s (tagsAt s at)) a (Found h)
+reads-children {s} {at = at} release entries files w p e f q =
+    let k = forestAt s at in
+    record {
+      answers =
+          ap answer (w .heading p e f ∙ ap (λ (n : ℕ). record { heading = headingOf release k; files = n }) (sym (files-length (elements index k))))
+          ∙ ap summaryOf (sym q);
+      header = w .definite;
+    }
 
 module _ (g : Given) (letter block : ℕ) (f : Forest) where
   pub root-none : f ≡ noElement → rootRead g letter block f ≡ refused Structure
@@ -108,6 +120,16 @@ module _ (g : Given) (letter block : ℕ) (f : Forest) where
   pub root-tag : (h : Head) (k r : Forest) → f ≡ node h k r → tagRead g letter block h k ≡ rootRead g letter block f
   unfolding rootRead
   root-tag h k r e = sym (ap (rootRead g letter block) e)
+
+-- the root's children, by its tag
+module _ {s : List ℕ} {i n : ℕ} where
+  pub tags-open : NextTag s i (Open n) → tagsIn (drop n s) ≡ childrenOfFirst (tagsAt s i)
+  unfolding top opened tagsIn childrenOfFirst
+  tags-open t = sym (ap (λ (f : List Tags). childrenOfFirst (top f)) (t .tags) ∙ rw (t .kind))
+
+  pub tags-empty : NextTag s i (Empty n) → tagsIn (drop n s) ≡ childrenOfFirst (tagsAt s i)
+  unfolding childrenOfFirst
+  tags-empty t = sym (ap childrenOfFirst (first-empty t .tags))
 
 module _ (g : Given) (letter block : ℕ) (h : Head) (k : Forest) where
   pub root-name : same (h .name) (bytes "ltfsindex") ≡ false → tagRead g letter block h k ≡ refused Structure

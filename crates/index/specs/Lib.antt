@@ -1,4 +1,5 @@
 pub mod Structure
 pub mod SweepSteps
 pub mod Index
+pub mod Places
 pub mod Steps

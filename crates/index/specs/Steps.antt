@@ -3,8 +3,11 @@ use mathlib.Core.Path.{_≡_}
 use mathlib.Core.Bool.{true, false, cond}
 use mathlib.Core.List.{List}
 use Prim.Native.Nat.{ℕ}
+use lib.ListN.{drop}
 use Rattle.quantities.specs.declared.BlockNumber.{BlockNumber}
 use Rattle.xml.specs.Tree.{Forest, none}
+use Rattle.elements.specs.Tags.{tagsAt, tagsIn}
+use Rattle.elements.specs.declared.heads.Span.{Span}
 use Rattle.elements.specs.Reading.{forestAt, headAt, childrenAt, partAt, Inside}
 use Rattle.elements.specs.TagSteps.{Behind, FirstOf}
 use Rattle.elements.specs.StartSteps.{StartsElement}
@@ -17,6 +20,7 @@ use Rattle.index_values.specs.Tests.{Given, own, few}
 use Rattle.index_values.specs.Steps.{given}
 use Rattle.index_values.specs.declared.tests.Partitions.{Partitions}
 use Rattle.index.specs.Index.{childrenRead, tagRead, rootRead, Index, Summary, allLawful, allOwn, allValued, bounded, fileCount, headingOf, structured, summaryOf}
+use Rattle.index.specs.Places.{updateTimeIn, updateTimePlace}
 use Rattle.index.specs.SweepSteps.{All, gathered, noneSeen, marked, afterRow, endedSums, afterElement, sweep}
 use Rattle.index.specs.declared.read.Read.{Read}
 use Rattle.index.specs.declared.survey.Gathered.{Gathered}
@@ -66,25 +70,29 @@ abbrev pub means : List ℕ → Read → Answer Summary
 means s (Found h) = answer (summaryIn s h)
 means s (Refused r) = refused r
 
--- what that leaves open: the update time lies in the text, and without a back pointer its letter and its block are 0
-pub record Definite (s : List ℕ) (h : Header) : Type 0 where
-  pub time : Inside s (h .time .from) (h .time .len)
+-- what that leaves open: the update time stands at w, which lies in the text, and without a back pointer its letter and its block are 0
+pub record Definite (s : List ℕ) (w : Span) (h : Header) : Type 0 where
+  pub time : h .time ≡ w
+  pub inside : Inside s (h .time .from) (h .time .len)
   pub noBack : h .back ≡ false → locationFrom (h .«back_letter») (h .«back_block») ≡ record { letter = 0; block = 0 }
 
-abbrev pub definite : List ℕ → Read → Type 0
-definite s (Found h) = Definite s h
-definite s (Refused r) = Unit {0}
+abbrev pub definite : List ℕ → Span → Read → Type 0
+definite s w (Found h) = Definite s w h
+definite s w (Refused r) = Unit {0}
 
--- what is read of a text s that is that index, or is refused
-pub record ReadsIndex (s : List ℕ) (a : Answer Index) (r : Read) : Type 0 where
+-- what is read of a text s that is that index, its update time at w, or is refused
+pub record ReadsAs (s : List ℕ) (w : Span) (a : Answer Index) (r : Read) : Type 0 where
   pub answers : means s r ≡ summaryOf a
-  pub header : definite s r
+  pub header : definite s w r
 
--- the header of any index whose children stand at places t of the text s, with so many entries, so many of them files
-pub record HeaderOf (s t : List ℕ) (release entries files : ℕ) (h : Header) : Type 0 where
-  pub heading : (k : Forest) → Placed s index k t → entries ≡ entriesOf (elements index k) → files ≡ fileCount (elements index k)
-      → summaryIn s h ≡ record { heading = headingOf release k; files = fileCount (elements index k) }
-  pub definite : Definite s h
+abbrev pub ReadsIndex : List ℕ → Answer Index → Read → Type 0
+ReadsIndex s = ReadsAs s (updateTimePlace s)
+
+-- the header of an index whose children are the row at a place of the text s, and stand at places t, with so many entries, so many of them files
+pub record HeaderOf (s : List ℕ) (at : ℕ) (t : List ℕ) (release entries files : ℕ) (h : Header) : Type 0 where
+  pub heading : Placed s index (forestAt s at) t → entries ≡ entriesOf (elements index (forestAt s at)) → files ≡ fileCount (elements index (forestAt s at))
+      → summaryIn s h ≡ record { heading = headingOf release (forestAt s at); files = fileCount (elements index (forestAt s at)) }
+  pub definite : Definite s (updateTimeIn s (tagsAt s at)) h
 
 -- a row in an element of that kind is over, of which m is seen and the places t are noted; reading goes on at n
 pub record Ends (n kind : ℕ) (m : List ℕ) (a : Sums) (t : List ℕ) (r : Left) : Type 0 where
@@ -133,11 +141,11 @@ pub record Surveys (g : Given) (s : List ℕ) (at : ℕ) (r : Gathered) : Type 0
 module _ (s : List ℕ) (g : Given) (letter : ℕ) (block : BlockNumber) where
   -- what is read of an index at that partition letter and block: by its release and the row of its children
   abbrev pub ReadsChildren : ℕ → ℕ → Read → Type 0
-  ReadsChildren release at r = ReadsIndex s (childrenRead g letter (block .0) release (forestAt s at)) r
+  ReadsChildren release at r = ReadsAs s (updateTimeIn s (tagsAt s at)) (childrenRead g letter (block .0) release (forestAt s at)) r
 
   -- by its root's tag
   abbrev pub ReadsTag : ℕ → Read → Type 0
-  ReadsTag n r = ReadsIndex s (tagRead g letter (block .0) (headAt s n) (childrenAt s n)) r
+  ReadsTag n r = ReadsAs s (updateTimeIn s (tagsIn (drop n s))) (tagRead g letter (block .0) (headAt s n) (childrenAt s n)) r
 
   -- by its text in the XML form
   abbrev pub ReadsRoot : Read → Type 0

@@ -1,10 +1,9 @@
 // A row of an index's elements read once: where the first element of each name stands.
 use elements::Next;
-use elements::Span;
 ghost use mathlib.Core.Path.{_≡_};
 ghost use Prim.Native.Nat.{_≤_};
 ghost use lib.ListN.{length};
-ghost use Rattle.elements.specs.Reading.{forestAt, Spans};
+ghost use Rattle.elements.specs.Reading.{forestAt};
 ghost use Rattle.elements.specs.TagSteps.{Behind};
 ghost use Rattle.children.specs.Children.{textOfFirst, childrenOfFirst};
 ghost use Rattle.children.specs.RowSteps.{seat};
@@ -55,16 +54,6 @@ pub fn read_row(text: &[u8], at: usize, kind: usize) -> RowPlaces
             }
         }
     }
-}
-
-// Where the text of the element at a place stands.
-pub fn span_at(text: &[u8], n: usize) -> Span
-    ensures { λ r. ⌜ Spans (now (text .entry)) (r .from) (r .len) (textOfFirst (seat (now (text .entry)) n)) ⌝ }
-{
-    if n == 0 {
-        return Span { from: 0, len: 0 };
-    }
-    elements::text_at(text, n)
 }
 
 // The text of the element at a place, empty for the place 0.

@@ -103,10 +103,6 @@ module _ (s : List ℕ) (f : Forest) (t : List ℕ) (placed : Placed s index f t
   unfolding names table indexTable bytes ruled same
   generation-placed = text-placed index 2 (bytes "generationnumber") (λ n. number-own (names index) 2 n refl) s f t placed (omega arith)
 
-  pub updatetime-placed : textIn (bytes "updatetime") f ≡ textOfFirst (seat s (getD t 3 0))
-  unfolding names table indexTable bytes ruled same
-  updatetime-placed = text-placed index 3 (bytes "updatetime") (λ n. number-own (names index) 3 n refl) s f t placed (omega arith)
-
   pub location-placed : childrenIn (bytes "location") f ≡ childrenOfFirst (seat s (getD t 4 0))
   unfolding names table indexTable bytes ruled same
   location-placed = row-placed index 4 (bytes "location") (λ n. number-own (names index) 4 n refl) s f t placed (omega arith)

@@ -21,6 +21,7 @@ use Rattle.constructs.specs.Steps.{Suffix, here, there}
 use Rattle.constructs.proofs.Suffixes.{suffix-length, nil-suffix}
 use Rattle.elements.specs.Reading.{Spans}
 use Rattle.index.specs.Index.{Summary, summaryOf, callerRight, indexOf}
+use Rattle.index.specs.Places.{updateTimePlace}
 use Rattle.index.specs.Steps.{summaryIn, Definite, ReadsIndex}
 use Rattle.index_values.specs.Tests.{Given}
 use Rattle.index.specs.declared.read.Header.{Header}
@@ -67,7 +68,7 @@ module _ (g : Given) (letter : ℕ) (s : List ℕ) (p : Spot) (x : List ℕ) (is
             andThen a (λ y. answer (record { construct = record { first = p .first .0; end = p .end; text = boundsText s p }; from = p .from; summary = y })))
             q
             ∙ same at-first at-end (lies .part) at-from;
-        inside = record { text = lies .inside; header = subst (λ (y : List ℕ). Definite y h) is-text (w .header) };
+        inside = record { text = lies .inside; header = subst (λ (y : List ℕ). Definite y (updateTimePlace y) h) is-text (w .header) };
       }
     where
       same : {first end from : ℕ} {text : List ℕ} → first ≡ c .first → end ≡ c .end → text ≡ c .text → from ≡ bytesBefore t (c .first)

@@ -6,6 +6,7 @@ use Rattle.refusals.specs.Refusals.{Answer, refused, answer}
 use Rattle.tape.specs.Tape.{Tape}
 use Rattle.elements.specs.Reading.{Inside, Spans}
 use Rattle.constructs.specs.Constructs.{Construct}
+use Rattle.index.specs.Places.{updateTimePlace}
 use Rattle.index.specs.Steps.{summaryIn, Definite}
 use Rattle.index_values.specs.Tests.{Given}
 use Rattle.index.specs.declared.read.Header.{Header}
@@ -27,7 +28,7 @@ chosenBy s (chosenIs.Refused r) = refused r
 -- its text lies in the store, and its header leaves nothing open
 pub record LiesInStore (s : List ℕ) (p : Spot) (h : Header) : Type 0 where
   pub text : Inside s (p .from) (p .to - p .from)
-  pub header : Definite (boundsText s p) h
+  pub header : Definite (boundsText s p) (updateTimePlace (boundsText s p)) h
 
 abbrev pub liesInStore : List ℕ → Chosen → Type 0
 liesInStore s (chosenIs.Found p h) = LiesInStore s p h

@@ -10,7 +10,8 @@ use Rattle.elements.specs.declared.tags.Tag.the-variants.{End, Close, Open, Emp
 use Rattle.elements.proofs.Roots.{root-height, height-children}
 use Rattle.elements.proofs.Rows.{row-end, row-close, node-open, node-empty}
 use Rattle.index_values.specs.Steps.{given}
-use Rattle.index.proofs.Answers.{reads-refused, same-read, root-none, root-tag}
+use Rattle.index.specs.Places.{updateTimeIn}
+use Rattle.index.proofs.Answers.{reads-refused, same-read, same-place, root-none, root-tag, tags-open, tags-empty}
 use borrow.Author.Needs.{needs}
 use Rattle.index.proofs.read.read_root.Statement.{statement}
 use Rattle.index.proofs.read.read_root.Tie as tie
@@ -65,14 +66,14 @@ returns-3 c =
     let s = c .before .before .before .before .before .before .before .args .text .now in
     let n = c .before .before .n .given .0 .0 in
     let t : NextTag s 38 (Empty n) = subst (NextTag s 38) (c .before .before .n .given .1) (c .before .before .before .before .next-tag .ensures) in
-    same-read (c .read-tag .ensures) (root-tag (given (c .before .before .before .before .before .before .before .args .uuid .now) (c .before .before .before .before .before .before .before .args .volume)) (c .before .before .before .before .before .before .before .args .letter) (c .before .before .before .before .before .before .before .args .block .0) (forestAt s 38) (headAt s n) (childrenAt s n) _ (node-empty t))
+    same-place (updateTimeIn s) (tags-empty t) (same-read (c .read-tag .ensures) (root-tag (given (c .before .before .before .before .before .before .before .args .uuid .now) (c .before .before .before .before .before .before .before .args .volume)) (c .before .before .before .before .before .before .before .args .letter) (c .before .before .before .before .before .before .before .args .block .0) (forestAt s 38) (headAt s n) (childrenAt s n) _ (node-empty t)))
 
 returns-4 : tie.Need-returns-4
 returns-4 c =
     let s = c .before .before .before .before .before .before .before .args .text .now in
     let n = c .before .before .n2 .given .0 .0 in
     let t : NextTag s 38 (Open n) = subst (NextTag s 38) (c .before .before .n2 .given .1) (c .before .before .before .before .next-tag .ensures) in
-    same-read (c .read-tag2 .ensures) (root-tag (given (c .before .before .before .before .before .before .before .args .uuid .now) (c .before .before .before .before .before .before .before .args .volume)) (c .before .before .before .before .before .before .before .args .letter) (c .before .before .before .before .before .before .before .args .block .0) (forestAt s 38) (headAt s n) (childrenAt s n) _ (node-open t))
+    same-place (updateTimeIn s) (tags-open t) (same-read (c .read-tag2 .ensures) (root-tag (given (c .before .before .before .before .before .before .before .args .uuid .now) (c .before .before .before .before .before .before .before .args .volume)) (c .before .before .before .before .before .before .before .args .letter) (c .before .before .before .before .before .before .before .args .block .0) (forestAt s 38) (headAt s n) (childrenAt s n) _ (node-open t)))
 
 pub read-root-spec : {M : Type 1} → statement M
 read-root-spec =

@@ -12,7 +12,8 @@ use Rattle.values.specs.Values as values
 use Rattle.values.specs.Steps.{versionOf}
 use Rattle.index_values.specs.Steps.{given}
 use Rattle.index.specs.Index.{childrenRead}
-use Rattle.index.proofs.Answers.{reads-refused, same-read, root-name, root-key, root-version, root-read}
+use Rattle.index.specs.Places.{updateTimeIn}
+use Rattle.index.proofs.Answers.{reads-refused, same-read, same-place, root-name, root-key, root-version, root-read}
 use borrow.Author.Needs.{needs}
 use Rattle.index.proofs.read.read_tag.Statement.{statement}
 use Rattle.index.proofs.read.read_tag.Tie as tie
@@ -80,9 +81,9 @@ returns-4 c =
     let s = c .before .before .before .before .before .before .before .before .before .before .before .before .before .before .before .before .args .text .now in
     let g = given (c .before .before .before .before .before .before .before .before .before .before .before .before .before .before .before .before .args .uuid .now) (c .before .before .before .before .before .before .before .before .before .before .before .before .before .before .before .before .args .volume) in
     let n = c .before .before .before .before .before .before .before .before .before .before .before .before .before .before .before .before .args .n in
-    same-read (c .read-children .ensures)
+    same-place (updateTimeIn s) (c .before .first-child .ensures .tags) (same-read (c .read-children .ensures)
     (ap (λ (k : Forest). childrenRead g (c .before .before .before .before .before .before .before .before .before .before .before .before .before .before .before .before .args .letter) (c .before .before .before .before .before .before .before .before .before .before .before .before .before .before .before .before .args .block .0) (c .before .before .before .release .given .0 .0) k) (c .before .first-child .ensures .row)
-    ∙ root-read g (c .before .before .before .before .before .before .before .before .before .before .before .before .before .before .before .before .args .letter) (c .before .before .before .before .before .before .before .before .before .before .before .before .before .before .before .before .args .block .0) (headAt s n) (childrenAt s n) (sym (c .before .before .before .before .before .before .before .before .before .before .before .before .name-is .ensures) ∙ not-false _ (c .before .before .before .before .before .before .before .before .before .before .before .if1 .left)) (ap (λ (k : List ℕ). same k (bytes "version")) (sym (c .before .before .before .before .before .before .before .before .before .before .key-of .ensures)) ∙ sym (c .before .before .before .before .before .before .before .before .same .ensures) ∙ not-false _ (c .before .before .before .before .before .before .before .if2 .left)) (c .before .before .before .release .given .0 .0) (ap values.version (sym (c .before .before .before .before .before .before .value-of .ensures)) ∙ sym (c .before .before .before .before .before .read-version .ensures) ∙ ap versionOf (c .before .before .before .release .given .1)))
+    ∙ root-read g (c .before .before .before .before .before .before .before .before .before .before .before .before .before .before .before .before .args .letter) (c .before .before .before .before .before .before .before .before .before .before .before .before .before .before .before .before .args .block .0) (headAt s n) (childrenAt s n) (sym (c .before .before .before .before .before .before .before .before .before .before .before .before .name-is .ensures) ∙ not-false _ (c .before .before .before .before .before .before .before .before .before .before .before .if1 .left)) (ap (λ (k : List ℕ). same k (bytes "version")) (sym (c .before .before .before .before .before .before .before .before .before .before .key-of .ensures)) ∙ sym (c .before .before .before .before .before .before .before .before .same .ensures) ∙ not-false _ (c .before .before .before .before .before .before .before .if2 .left)) (c .before .before .before .release .given .0 .0) (ap values.version (sym (c .before .before .before .before .before .before .value-of .ensures)) ∙ sym (c .before .before .before .before .before .read-version .ensures) ∙ ap versionOf (c .before .before .before .release .given .1))))
 
 pub read-tag-spec : {M : Type 1} → statement M
 read-tag-spec =

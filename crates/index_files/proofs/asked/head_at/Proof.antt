@@ -39,7 +39,7 @@ unfolding bytes
 returns c =
     record {
       length = c .before .before .before .before .number-said .ensures ∙ ap numberOrZero (c .before .before .before .before .before .text-in .ensures ∙ ap (textIn (bytes "length")) (c .before .before .before .before .before .before .before .first-child .ensures .row));
-      name = record { part = c .before .before .span-in .ensures .part ∙ ap (textIn (bytes "name")) (c .before .before .before .before .before .before .before .first-child .ensures .row); inside = c .before .before .span-in .ensures .inside };
+      name = record { part = c .before .before .span-in .ensures .spans .part ∙ ap (textIn (bytes "name")) (c .before .before .before .before .before .before .before .first-child .ensures .row); inside = c .before .before .span-in .ensures .spans .inside };
       rows = c .count-rows .ensures ∙ ap (λ (f : Forest). length (rowsIn f)) (c .before .first-row .ensures .row);
     }
 
