@@ -5,12 +5,22 @@ use mathlib.Core.List.{List}
 use Prim.Native.Nat.{ℕ, _*_, _≤_, _<_}
 use lib.ListN.{length, take}
 use Rattle.xml.specs.Tree.{Forest}
+use Rattle.elements.specs.Tags.{tagsAt}
+use Rattle.elements.specs.Reading.{forestAt, Spans}
+use Rattle.elements.specs.declared.heads.Span.{Span}
+use Rattle.children.specs.Places.{tagsNamed, firstText}
 use Rattle.extents.specs.Rows as numbers
 use Rattle.extents.specs.Rows.{Row}
 use Rattle.index_rows.specs.Steps.{Placed}
 use Rattle.index_names.specs.Sorts.{file, uuid}
 use Rattle.index_values.specs.declared.tests.Partitions.{Partitions}
+use Rattle.index_values.specs.Elements.{textIn}
 use Rattle.index_values.specs.Tests.{Given, few, lawfulFile, most}
+
+-- w is where the text of the first element of a name stands, in the row at i
+pub record TextFound (s : List ℕ) (i : ℕ) (name : List ℕ) (w : Span) : Type 0 where
+  pub place : w ≡ firstText s (tagsNamed name (tagsAt s i))
+  pub spans : Spans s (w .from) (w .len) (textIn name (forestAt s i))
 
 abbrev pub given : List ℕ → Partitions → Given
 given u v = record { uuid = u; indexLetter = v .«index_letter»; dataLetter = v .«data_letter»; blockSize = v .«block_size» }

@@ -4,14 +4,15 @@ use elements::Item;
 use elements::Span;
 use elements::Start;
 ghost use mathlib.Core.Path.{_≡_};
-ghost use Rattle.elements.specs.Reading.{forestAt, childrenAt, Spans};
+ghost use Rattle.elements.specs.Reading.{forestAt, childrenAt};
 ghost use Rattle.elements.specs.StartSteps.{Shape};
 ghost use Rattle.index_values.specs.Elements.{textIn, childrenIn};
 ghost use Rattle.index_values.specs.Entries.{numberOrZero};
+ghost use Rattle.index_values.specs.Steps.{TextFound};
 
 // Where the text of the first element of a name in the row at at stands.
 pub fn span_in(text: &[u8], at: usize, name: &[u8]) -> Span
-    ensures { λ r. ⌜ Spans (now (text .entry)) (r .from) (r .len) (textIn (now (name .entry)) (forestAt (now (text .entry)) at)) ⌝ }
+    ensures { λ r. ⌜ TextFound (now (text .entry)) at (now (name .entry)) r ⌝ }
 {
     let mut i = at;
     loop {

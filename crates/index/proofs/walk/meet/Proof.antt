@@ -1,7 +1,7 @@
 -- `meet` meets its contract: each part by the element's number.
 use mathlib.Core.Path.{ap, _∙_}
 use Prim.Native.Nat.{ℕ}
-use Rattle.index_names.specs.Sorts.{sort}
+use Rattle.index_names.specs.Tables.{sort}
 use Rattle.index_rows.specs.Steps.{noted}
 use Rattle.index.specs.SweepSteps.{marked}
 use borrow.Author.Needs.{needs}

@@ -11,7 +11,7 @@ part-requires : tie.Need-part-requires
 part-requires c κs = search needs
 
 returns : tie.Need-returns
-returns c = c .part .ensures ∙ c .before .span-in .ensures .part
+returns c = c .part .ensures ∙ c .before .span-in .ensures .spans .part
 
 pub text-in-spec : {M : Type 1} → statement M
 text-in-spec = tie.close (tie.spec span-in-requires part-requires returns)
