@@ -208,7 +208,7 @@ module _ {A : Type 0} (ask : Volume → Tape → Tape → Answer A) (il is dl ds
       go (answer i) (refused q) x y e = let z : _≡_ {A = ℕ} 0 1 = cc in absurd (omega arith)
       go (answer i) (answer d) x y e = record { index = i; other = d; indexRead = x; otherRead = y; says = sym e }
 
-  pub ask-labelled : (f : Label) (l : Labelled f) → onVolume ask il is dl ds ≡ ask (volumeWith (givenBy f)) (l .index) (l .«data_letter»)
+  pub ask-labelled : (f : Label) (l : Labelled f) → onVolume ask il is dl ds ≡ ask (volumeWith (givenBy f)) (l .index) (l .other)
   ask-labelled f l = rw (l .indexRead, l .otherRead, l .says)
 
 -- an answer that is the definition's keeps demand 3
@@ -236,14 +236,14 @@ module _ (il is dl ds : List ℕ) (bi : Bytes il) (bd : Bytes dl) (f : Label) (e
   cut-found r c a h =
       let l = labelled (λ v i d. orNoCut (rescue v i d)) il is dl ds f e in
       rescues il is dl ds a
-      (h ∙ ap orNoCut (c (l .index) (l .«data_letter») (read-tape il is (l .index) bi (l .indexRead)) (read-tape dl ds (l .«data_letter») bd (l .otherRead)))
-      ∙ ap (λ (x : Given). orNoCut (rescue (volumeWith x) (l .index) (l .«data_letter»))) same
+      (h ∙ ap orNoCut (c (l .index) (l .other) (read-tape il is (l .index) bi (l .indexRead)) (read-tape dl ds (l .other) bd (l .otherRead)))
+      ∙ ap (λ (x : Given). orNoCut (rescue (volumeWith x) (l .index) (l .other))) same
       ∙ sym (ask-labelled (λ v i d. orNoCut (rescue v i d)) il is dl ds f l))
 
   pub verdict-found : (r : Judgement) → Breaks g il is dl ds r → (a : Verdict) → judged a ≡ answer (breakOf r) → Judges il is dl ds a
   verdict-found r c a h =
       let l = labelled (λ v i d. answer (verdict v i d)) il is dl ds f e in
       judges il is dl ds a
-      (h ∙ ap answer (c (l .index) (l .«data_letter») (read-tape il is (l .index) bi (l .indexRead)) (read-tape dl ds (l .«data_letter») bd (l .otherRead)))
-      ∙ ap (λ (x : Given). answer (verdict (volumeWith x) (l .index) (l .«data_letter»))) same
+      (h ∙ ap answer (c (l .index) (l .other) (read-tape il is (l .index) bi (l .indexRead)) (read-tape dl ds (l .other) bd (l .otherRead)))
+      ∙ ap (λ (x : Given). answer (verdict (volumeWith x) (l .index) (l .other))) same
       ∙ sym (ask-labelled (λ v i d. answer (verdict v i d)) il is dl ds f l))

@@ -107,7 +107,7 @@ module _ (v : Volume) where
 pub link-located : (g : Given) (s : List ℕ) (letter : ℕ) (p : Spot) (t : List ℕ) (b : Brief) → t ≡ boundsText s p → briefLink b ≡ linkOf (soundly (indexOf g letter (p .first .0) t))
     → (c : Construct) → Located s p c → briefLink b ≡ linkOf (volumeWith g .read letter (c .first) (c .text))
 link-located g s letter p t b f r c w =
-    r ∙ ap (λ (x : ℕ). linkOf (soundly (indexOf g letter x t))) (w .«index_letter») ∙ ap (λ (x : List ℕ). linkOf (soundly (indexOf g letter (c .first) x))) (f ∙ w .text)
+    r ∙ ap (λ (x : ℕ). linkOf (soundly (indexOf g letter x t))) (w .first) ∙ ap (λ (x : List ℕ). linkOf (soundly (indexOf g letter (c .first) x))) (f ∙ w .text)
 
 -- construct k lies at the place that the table has for it
 pub located-at : (s table : List ℕ) (k : ℕ) (p : Spot) (c : Construct) (cs : List Construct) → p ≡ boundsIn table k → Located s (boundsIn table (length cs)) c → length cs ≡ k → Located s p c
@@ -135,7 +135,7 @@ module _ (v : Volume) (s table : List ℕ) (k before : ℕ) (b : Brief)
   at-behind z q ok e j ds l c (p ∷ ps) suf n whole gen =
       let m : k - 1 ≡ length ps = omega arith in
       let w : Located s q p = subst (λ (x : Spot). Located s x p) (sym (e ∙ ap (boundsIn table) m)) (l p ps (suffix-trans (there (here refl)) suf)) in
-      links-behind v c b (link-of c (p ∷ ps) (l c (p ∷ ps) suf) n) p ps (q .first .0) before ok whole (w .«index_letter») gen j
+      links-behind v c b (link-of c (p ∷ ps) (l c (p ∷ ps) suf) n) p ps (q .first .0) before ok whole (w .first) gen j
 
 -- the chain so far: the first k constructs have no break, the table has their generations, and the last one's is at hand
 pub record ChainAt (v : Volume) (ds : List Construct) (table : List ℕ) (k before : ℕ) : Type 0 where

@@ -93,7 +93,7 @@ module _ (u : List ℕ) (w : Letters) (is ti : List ℕ) (k : ℕ) (td gens begi
     tries-apart f cs ds li ld r c bs suf n =
         let p = there-is cs ds li ld r c bs suf n j at-begin some-one in
         sym (try-apart (volumeWith (given u w)) li ld c bs ds b (link-here cs ds li ld r c bs suf n) gens (r .ds-store) td j p (there .first .0) generation
-        (located-there cs ds li ld r c bs suf n j at-begin some-one there at-there .first .0) (is-generation ∙ p .generation) f)
+        (located-there cs ds li ld r c bs suf n j at-begin some-one there at-there .first) (is-generation ∙ p .generation) f)
 
     module _ (f : joined (briefLink b) (w .«data_letter») (there .first .0) generation ≡ true) (lost : Lost) (l : Loses t w ri (here .end) rd (there .end) lost) where
       tries-lost : (m : ℕ) → lostFile lost ≡ some m → Tries (given u w) w is ti k td gens begins ri rd Fails

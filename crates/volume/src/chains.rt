@@ -5,7 +5,7 @@ use index_values::Partitions;
 use quantities::Generation;
 ghost use lib.ListN.{length};
 ghost use Rattle.index_values.specs.Steps.{given};
-ghost use Rattle.volume.specs.Partitions.{volumeWith};
+ghost use Rattle.volume.specs.Volume.{volumeWith};
 ghost use Rattle.volume.specs.Steps.{LinksAt, ChainsOf};
 
 // Whether a construct is sound and follows the one before it, or begins the chain; and its generation.

@@ -8,7 +8,7 @@ ghost use mathlib.Core.Path.{_≡_};
 ghost use Prim.Native.Nat.{_-_};
 ghost use Rattle.index_values.specs.Steps.{given};
 ghost use Rattle.index.specs.Index.{indexOf};
-ghost use Rattle.volume.specs.Partitions.{soundly};
+ghost use Rattle.volume.specs.Volume.{soundly};
 ghost use Rattle.volume.specs.Steps.{linkOf, briefLink, joined, boundsText};
 
 // Whether an index is sound; if so, its generation, and its back pointer if it has one.
