@@ -13,7 +13,7 @@ use Rattle.index.specs.Index.{Index, File, Summary, summary}
 use Rattle.index.specs.Steps.{summaryIn, Definite, ReadsIndex}
 use Rattle.index.specs.declared.read.Header.{Header}
 use Rattle.index.specs.declared.read.Read.the-variants.{Found}
-use Rattle.index_files.specs.AskedSteps.{FileShown as Head, shown as headOf, fileAnswered, nameInside}
+use Rattle.index_files.specs.AskedSteps.{FileShown as Head, shown as headOf, ReadsFile}
 use Rattle.index_files.specs.Filling.{SaysFile}
 use Rattle.index_files.specs.FillingSteps.{countAnswered, countOf, FillsBuffer}
 use Rattle.index_files.specs.declared.asked.FileHead.{FileHead}
@@ -73,14 +73,15 @@ pub says-construct : (s : List ℕ) (a : Answer Indexed) (p : Spot) (h : Header)
 says-construct s a p h w q =
     tells (indexedIn s p h) (w .answers) (subst (λ (o : List ℕ). SaysConstruct s (indexedIn s p h) o) (sym q) (says-place s p h (w .inside)))
 
-pub says-file : (s : List ℕ) (a : Answer File) (h : FileHead) → fileAnswered s (file.Found h) ≡ andThen a (λ f. answer (headOf f)) → nameInside s (file.Found h)
-    → ShownAs 4 (SaysFile s) a 0 (h .length .0 ∷ h .name .from ∷ h .name .len ∷ h .rows ∷ [])
-says-file s a h e i =
-    let (f, g, p) = mapped headOf a _ e in
+pub says-file : (s t : List ℕ) (a : Answer File) (h : FileHead) → ReadsFile s t a (file.Found h)
+    → ShownAs 4 (SaysFile s t) a 0 (h .length .0 ∷ h .name .from ∷ h .name .len ∷ h .rows ∷ [])
+says-file s t a h r =
+    let (f, g, p) = mapped headOf a _ (r .says) in
     tells f g
     record {
       length = ap (λ (t : Head). t .length) p;
-      name = record { part = ap (λ (t : Head). t .name) p; inside = i };
+      name = record { part = ap (λ (t : Head). t .name) p; inside = r .inside };
+      place = r .stands;
       rows = ap (λ (t : Head). t .rows) p;
     }
 

@@ -7,6 +7,7 @@ use lib.ListN.{length, take, drop, getD}
 use Rattle.refusals.specs.Refusals.{Answer}
 use Rattle.quantities.specs.Addresses.{Address}
 use Rattle.index.specs.Index.{Index, Summary, summary, indexOf}
+use Rattle.index_files.specs.Names.{allFileTags, fileTag}
 use Rattle.index_files.specs.Asked.{fileIn}
 use Rattle.index_files.specs.Filling.{TellsPart, Stored, SaysFile, rowsFor, filesFor, allRowsFor, HoldsRows, HoldsFiles}
 use Rattle.volume.specs.Chosen.{Indexed, chosenIn}
@@ -65,13 +66,13 @@ module _ (uuid : List ℕ) (index other size : ℕ) where
     ReadsIndexOut = ShownAs 13 (SaysIndex s) indexIn
 
     abbrev pub ReadsFileOut : ℕ → ℕ → List ℕ → Type 0
-    ReadsFileOut file = ShownAs 4 (SaysFile s) (fileIn file indexIn)
+    ReadsFileOut file = ShownAs 4 (SaysFile s (fileTag s file)) (fileIn file indexIn)
 
     abbrev pub FillsRows : ℕ → List ℕ → List ℕ → ℕ → ℕ → Type 0
     FillsRows file rows = FillsOut HoldsRows (rowsFor (length rows) (fileIn file indexIn)) rows
 
     abbrev pub FillsFiles : List ℕ → List ℕ → ℕ → ℕ → Type 0
-    FillsFiles files = FillsOut (HoldsFiles s) (filesFor (length files) indexIn) files
+    FillsFiles files = FillsOut (HoldsFiles s (allFileTags s)) (filesFor (length files) indexIn) files
 
     abbrev pub FillsAllRows : List ℕ → List ℕ → ℕ → ℕ → Type 0
     FillsAllRows rows = FillsOut HoldsRows (allRowsFor (length rows) indexIn) rows

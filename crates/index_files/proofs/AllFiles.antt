@@ -3,6 +3,7 @@ use mathlib.Core.Path.{_≡_, refl, ap, sym, _∙_}
 use mathlib.Core.Bool.{Bool, true, false, cond, not, _&&_, _||_, false≢true}
 use mathlib.Core.List.{List, [], _∷_, _++_, map, append-nil}
 use Prim.Native.Nat.{ℕ}
+use native.Mathlib.Omega.{arith}
 use borrow.Author.Tests.{eqb-true}
 use lib.Dec.{eqb}
 use lib.ListN.{length}
@@ -13,15 +14,18 @@ use Rattle.slices.proofs.Booleans.{and-left, and-right}
 use Rattle.slices.proofs.Every.{every-append}
 use Rattle.slices.proofs.Equal.{same-eq}
 use Rattle.xml.specs.Bytes.{isSpace}
-use Rattle.xml.specs.Tree.{Head, Forest, none, node}
+use Rattle.xml.specs.Tree.{Head, Forest, none, node, tagHead, top}
+use Rattle.elements.specs.Tags.{Tags, tagsLeft}
 use Rattle.elements.specs.Reading.{leftAt, hasElement}
+use Rattle.elements.proofs.ByTag.{each, left-told}
 use Rattle.index_names.specs.Sorts.{index, file, skipped, unknown, holdsElements}
 use Rattle.index_values.specs.Elements.{IndexElement, element, elements, sortOf}
 use Rattle.index.specs.Structure.{mayStand, complete, rightly}
 use Rattle.index.specs.Index.{File, fileOf, filesOf}
 use Rattle.index_values.specs.Tests.{Given}
 use Rattle.index.specs.Index.{Index, indexOf}
-use Rattle.index_files.specs.FileSteps.{namesFile, namesSkipped, filesIn, filesLeft}
+use Rattle.index_files.specs.Names.{namesFile, namesSkipped, eachFile, fileTags, allFileTags}
+use Rattle.index_files.specs.FileSteps.{filesIn, eachLeft, filesLeft, fileTagsLeft, fileTagsFrom}
 use Rattle.index_files.proofs.Accepted.{accepted}
 use Rattle.index_files.proofs.Names.{file-named, skipped-named, inFile, keeps, inside-file}
 
@@ -107,7 +111,7 @@ module _ (kind : ℕ) (h : Head) (c : Forest) where
         rw (n, k) (sym (rw (f, o)))
 
     into : eqb s file ≡ false → eqb s skipped ≡ false → map fileOf shown ≡ said
-    unfolding s shown said filesOf filesIn
+    unfolding s shown said filesOf eachFile
     into f q =
         let n : namesFile (h .name) ≡ false = file-named kind (h .name) e ∙ f in
         let k : namesSkipped (h .name) ≡ false = skipped-named kind (h .name) e ∙ q in
@@ -130,7 +134,7 @@ module _ (kind : ℕ) (h : Head) (c : Forest) where
 
 -- rows of elements whose structure is right
 pub files-row : (kind : ℕ) (f : Forest) → every rightly (elements kind f) ≡ true → map fileOf (filesIn f) ≡ filesOf (elements kind f)
-unfolding elements filesOf filesIn every rightly mayStand s shown said
+unfolding elements filesOf eachFile every rightly mayStand s shown said
 files-row kind none e = refl
 files-row kind (node h c r) e = go (files-row (sortOf kind h) c) (files-row kind r)
   where
@@ -173,13 +177,25 @@ files-row kind (node h c r) e = go (files-row (sortOf kind h) c) (files-row kind
 
 -- the root's own element is gone into
 root-left : (h : Head) (k : Forest) → same (h .name) (bytes "ltfsindex") ≡ true → filesLeft (node h k none ∷ []) ≡ filesIn k
-unfolding filesLeft filesIn namesFile namesSkipped same bytes
+unfolding eachLeft eachFile namesFile namesSkipped same bytes
 root-left h k e =
     let n : h .name ≡ bytes "ltfsindex" = same-eq (h .name) (bytes "ltfsindex") e in
     ap (λ (w : List ℕ). cond (namesFile w) (k ∷ []) (cond (namesSkipped w) [] (filesIn k)) ++ [] ++ []) n
     ∙ append-nil (filesIn k ++ []) ∙ append-nil (filesIn k)
 
+-- where one row is left, its files are all that are left
+row-tags : (fs : List Tags) (f : Forest) → each tagHead fs ≡ f ∷ [] → fileTagsLeft fs ≡ fileTags (top fs)
+unfolding each eachLeft top
+row-tags [] f e = let z : _≡_ {A = ℕ} 0 1 = cc in absurd (omega arith)
+row-tags (t ∷ []) f e = append-nil (fileTags t)
+row-tags (t ∷ u ∷ fs) f e = let z : _≡_ {A = ℕ} 0 1 = cc in absurd (omega arith)
+
 module _ (g : Given) (letter block : ℕ) (text : List ℕ) (x : Index) (e : indexOf g letter block text ≡ answer x) where
+  pub tags-left : fileTagsFrom text 38 ≡ allFileTags text
+  tags-left =
+      let a = accepted g letter block text x e in
+      row-tags (tagsLeft text 38) (node (a .head) (a .kids) none) (sym (left-told text 38) ∙ a .reads .tree)
+
   -- the files that are read from behind the declaration on are the index's files
   pub files-left : map fileOf (filesLeft (leftAt text 38)) ≡ x .files
   files-left =

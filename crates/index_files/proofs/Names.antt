@@ -16,7 +16,7 @@ use Rattle.index_names.specs.Rows.{TableRow, namesOf, sortsOf}
 use Rattle.index_names.specs.Tables.{indexTable, placeTable, times, entryTable, ofDirectory, contentsTable, ofFile, extentinfoTable, extentTable, table, sort}
 use Rattle.index_names.specs.Names.{names, numberIn}
 use Rattle.index_names.proofs.ByKind.{by-kind, each-table}
-use Rattle.index_files.specs.FileSteps.{namesFile, namesSkipped}
+use Rattle.index_files.specs.Names.{namesFile, namesSkipped}
 
 -- a rule of sorts and names that holds at each name of a row holds of any name there, if it holds of what may not stand there
 module _ (test : ℕ → List ℕ → Bool) (other : (n : List ℕ) → test unknown n ≡ true) where

@@ -8,9 +8,11 @@ use lib.ListN.{length, take, drop, getD}
 use Rattle.refusals.specs.Refusals.{Answer, refused, answer, require, andThen}
 use Rattle.refusals.specs.declared.Refusal.the-variants.{Short}
 use Rattle.slices.specs.Slices.{written}
+use Rattle.elements.specs.declared.heads.Span.{Span}
 use Rattle.elements.specs.Reading.{Spans}
 use Rattle.extents.specs.Rows.{Row, numbersOf}
 use Rattle.index.specs.Index.{Index, File}
+use Rattle.index_files.specs.Names.{namePlace}
 
 module _ {A : Type 0} where
   -- 10: a buffer of that length is too short for so many numbers of each
@@ -34,20 +36,27 @@ partTold s out k = take (getD out (k + 1) 0) (drop (getD out k 0) s)
 abbrev pub TellsPart : List ℕ → List ℕ → ℕ → List ℕ → Type 0
 TellsPart s out k w = Spans s (getD out k 0) (getD out (k + 1) 0) w
 
--- four numbers say what a file says: its length, the place of its name, as spelled, in s and its length, and how many rows it has
-pub record SaysFile (s : List ℕ) (f : File) (out : List ℕ) : Type 0 where
+-- the place that they tell
+abbrev pub placeTold : List ℕ → ℕ → Span
+placeTold out k = record { from = getD out k 0; len = getD out (k + 1) 0 }
+
+-- four numbers say what the file f with the tag t says: its length, the place of its name, as spelled, in s and its length, and how many rows it
+-- has
+pub record SaysFile (s t : List ℕ) (f : File) (out : List ℕ) : Type 0 where
   pub length : getD out 0 0 ≡ f .length
   pub name : TellsPart s out 1 (f .name)
+  pub place : placeTold out 1 ≡ namePlace s t
   pub rows : getD out 3 0 ≡ lib.ListN.length (f .rows)
 
--- each four numbers from the front on say a file
-unfoldable pub SaysFiles : List ℕ → List File → List ℕ → Type 0
-SaysFiles s [] out = Unit {0}
-SaysFiles s (f ∷ fs) out = SaysFile s f out × SaysFiles s fs (drop 4 out)
+-- each four numbers from the front on say a file; the files have the tags ts
+unfoldable pub SaysFiles : List ℕ → List (List ℕ) → List File → List ℕ → Type 0
+SaysFiles s ts [] out = Unit {0}
+SaysFiles s [] (f ∷ fs) out = ⊥
+SaysFiles s (t ∷ ts) (f ∷ fs) out = SaysFile s t f out × SaysFiles s ts fs (drop 4 out)
 
 -- the buffer after: files at its front, and the rest as it was
-pub record HoldsFiles (s : List ℕ) (fs : List File) (before after : List ℕ) : Type 0 where
-  pub says : SaysFiles s fs after
+pub record HoldsFiles (s : List ℕ) (ts : List (List ℕ)) (fs : List File) (before after : List ℕ) : Type 0 where
+  pub says : SaysFiles s ts fs after
   pub rest : drop (length fs * 4) after ≡ drop (length fs * 4) before
   pub long : length after ≡ length before
 

@@ -1,3 +1,4 @@
+pub mod Names
 pub mod FileSteps
 pub mod RowSteps
 pub mod MetSteps

@@ -1,4 +1,4 @@
--- What this crate's functions owe each other, and its callers, of a lent buffer.
+-- What this crate's functions owe each other, and its callers.
 use mathlib.Core.List.{List}
 use Prim.Native.Nat.{ℕ}
 use lib.ListN.{length}
@@ -6,10 +6,27 @@ use Rattle.quantities.specs.declared.BlockNumber.{BlockNumber}
 use Rattle.extents.specs.Rows.{Row}
 use Rattle.index.specs.Index.{indexOf}
 use Rattle.index_values.specs.Tests.{Given}
+use Rattle.index_files.specs.Names.{allFileTags, fileTag}
+use Rattle.index_files.specs.FileSteps.{filesFrom, fileTagsFrom}
 use Rattle.index_files.specs.Asked.{fileIn}
+use Rattle.index_files.specs.AskedSteps.{Locates, ReadsFile}
 use Rattle.index_files.specs.Filling.{withRoom, rowsFor, filesFor, allRowsFor, HoldsRows, HoldsFiles}
 use Rattle.index_files.specs.FillingSteps.{FillsBuffer}
+use Rattle.index_files.specs.declared.asked.FileTag.{FileTag}
+use Rattle.index_files.specs.declared.asked.FileRead.{FileRead}
 use Rattle.index_files.specs.declared.filling.Filled.{Filled}
+
+-- of the index with the text s at that partition letter and block: its file of number k
+module _ (s : List ℕ) (g : Given) (letter : ℕ) (block : BlockNumber) (k : ℕ) where
+  abbrev pub LocatesFile : FileTag → Type 0
+  LocatesFile l = Locates s (fileTag s k) (fileIn k (indexOf g letter (block .0) s)) l
+
+  abbrev pub ReadsNumbered : FileRead → Type 0
+  ReadsNumbered r = ReadsFile s (fileTag s k) (fileIn k (indexOf g letter (block .0) s)) r
+
+-- the files that are read along the text s
+abbrev pub WritesFiles : List ℕ → List ℕ → List ℕ → Type 0
+WritesFiles s before after = HoldsFiles s (fileTagsFrom s 38) (filesFrom s 38) before after
 
 -- some rows, where there is room for them
 abbrev pub PutsRows : List Row → List ℕ → List ℕ → Filled → Type 0
@@ -21,7 +38,7 @@ module _ (s : List ℕ) (g : Given) (letter : ℕ) (block : BlockNumber) (before
   PutsFileRows k r = FillsBuffer HoldsRows (rowsFor (length before) (fileIn k (indexOf g letter (block .0) s))) before after r
 
   abbrev pub PutsFiles : Filled → Type 0
-  PutsFiles r = FillsBuffer (HoldsFiles s) (filesFor (length before) (indexOf g letter (block .0) s)) before after r
+  PutsFiles r = FillsBuffer (HoldsFiles s (allFileTags s)) (filesFor (length before) (indexOf g letter (block .0) s)) before after r
 
   abbrev pub PutsAllRows : Filled → Type 0
   PutsAllRows r = FillsBuffer HoldsRows (allRowsFor (length before) (indexOf g letter (block .0) s)) before after r

@@ -13,14 +13,11 @@ use quantities::ByteCount;
 use refusals::Refusal;
 ghost use mathlib.Core.Path.{_≡_};
 ghost use lib.ListN.{length};
-ghost use Rattle.elements.specs.Reading.{leftAt, forestAt, childrenAt};
+ghost use Rattle.elements.specs.Reading.{forestAt};
 ghost use Rattle.index_values.specs.Tests.{rowsIn};
 ghost use Rattle.index_values.specs.Steps.{given};
-ghost use Rattle.index.specs.Index.{indexOf};
-ghost use Rattle.index_files.specs.FileSteps.{filesLeft};
-ghost use Rattle.index_files.specs.Asked.{nth, fileIn};
-ghost use Rattle.index_files.specs.AskedSteps.{childrenFound, fileFound, HeadOf, ReadsFile};
-ghost use Rattle.index_files.specs.Steps.{PutsRows, PutsFileRows};
+ghost use Rattle.index_files.specs.AskedSteps.{FindsFile, HeadOf};
+ghost use Rattle.index_files.specs.Steps.{LocatesFile, ReadsNumbered, PutsRows, PutsFileRows};
 
 // The place of a file's tag.
 enum FileTag {
@@ -42,7 +39,7 @@ pub enum FileRead {
 
 // The k-th file of a text.
 fn find(text: &[u8], k: u64) -> FileTag
-    ensures { λ r. ⌜ childrenFound (now (text .entry)) r ≡ nth k (filesLeft (leftAt (now (text .entry)) 38)) ⌝ }
+    ensures { λ r. ⌜ FindsFile (now (text .entry)) k r ⌝ }
 {
     let mut i: usize = 38;
     let mut left = k;
@@ -71,7 +68,7 @@ fn locate(
     block: BlockNumber,
     k: u64,
 ) -> FileTag
-    ensures { λ r. ⌜ fileFound (now (text .entry)) r ≡ fileIn k (indexOf (given (now (uuid .entry)) volume) letter (block .0) (now (text .entry))) ⌝ }
+    ensures { λ r. ⌜ LocatesFile (now (text .entry)) (given (now (uuid .entry)) volume) letter block k r ⌝ }
 {
     match index::read_index(text, uuid, volume, letter, block) {
         Read::Refused(r) => FileTag::Refused(r),
@@ -100,7 +97,7 @@ pub(crate) fn count_rows(text: &[u8], at: usize) -> u64
 
 // What the file whose tag is at n says.
 pub(crate) fn head_at(text: &[u8], n: usize) -> FileHead
-    ensures { λ r. ⌜ HeadOf (now (text .entry)) (childrenAt (now (text .entry)) n) r ⌝ }
+    ensures { λ r. ⌜ HeadOf (now (text .entry)) n r ⌝ }
 {
     let at = elements::first_child(text, n);
     FileHead {
@@ -119,7 +116,7 @@ pub fn file(
     block: BlockNumber,
     k: u64,
 ) -> FileRead
-    ensures { λ r. ⌜ ReadsFile (now (text .entry)) (fileIn k (indexOf (given (now (uuid .entry)) volume) letter (block .0) (now (text .entry)))) r ⌝ }
+    ensures { λ r. ⌜ ReadsNumbered (now (text .entry)) (given (now (uuid .entry)) volume) letter block k r ⌝ }
 {
     match locate(text, uuid, volume, letter, block, k) {
         FileTag::Refused(r) => FileRead::Refused(r),

@@ -1,7 +1,8 @@
 // The files of an index's text, one after the other.
 use elements::Tag;
 ghost use mathlib.Core.Path.{_≡_};
-ghost use Rattle.index_files.specs.FileSteps.{namesFile, namesSkipped, FileFrom};
+ghost use Rattle.index_files.specs.Names.{namesFile, namesSkipped};
+ghost use Rattle.index_files.specs.FileSteps.{FileFrom};
 
 // The next file: the place of its tag, and where reading goes on behind it.
 pub enum NextFile {

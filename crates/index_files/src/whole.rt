@@ -16,9 +16,9 @@ ghost use lib.ListN.{length};
 ghost use Rattle.slices.specs.Slices.{written};
 ghost use Rattle.index_values.specs.Steps.{given};
 ghost use Rattle.index_files.specs.FileSteps.{filesFrom};
-ghost use Rattle.index_files.specs.Filling.{withRoom, allRows, HoldsFiles, HoldsRows};
+ghost use Rattle.index_files.specs.Filling.{withRoom, allRows, HoldsRows};
 ghost use Rattle.index_files.specs.FillingSteps.{countOf, countAnswered, headNumbers};
-ghost use Rattle.index_files.specs.Steps.{PutsRows, PutsFiles, PutsAllRows};
+ghost use Rattle.index_files.specs.Steps.{WritesFiles, PutsRows, PutsFiles, PutsAllRows};
 
 // The four numbers of a file, into out from at on.
 fn put_file(out: &mut [u64], at: usize, h: FileHead)
@@ -34,7 +34,7 @@ fn put_file(out: &mut [u64], at: usize, h: FileHead)
 // The files of an index's text, into the front of out.
 fn write_files(text: &[u8], out: &mut [u64])
     requires { ⌜ length (filesFrom (now text) 38) * 4 ≤ length (now out) ⌝ }
-    ensures { λ r. ⌜ HoldsFiles (now (text .entry)) (filesFrom (now (text .entry)) 38) (now (out .entry)) (now (out .exit)) ⌝ }
+    ensures { λ r. ⌜ WritesFiles (now (text .entry)) (now (out .entry)) (now (out .exit)) ⌝ }
 {
     let mut i: usize = 38;
     let mut k: usize = 0;

@@ -1,6 +1,6 @@
 -- `klapouzen_read_file` meets its contract: what the reader answers, in numbers.
 use mathlib.Core.Path.{sym, subst, _∙_, ap}
-use Rattle.index_files.specs.AskedSteps.{nameInside, fileAnswered, shown}
+use Rattle.index_files.specs.AskedSteps.{ReadsFile, fileAnswered, shown}
 use Rattle.api.proofs.Showing.{not-told}
 use Rattle.index_files.proofs.Mapped.{mapped-refused}
 use Rattle.api.proofs.Headers.{says-file}
@@ -21,7 +21,7 @@ number-requires : tie.Need-number-requires
 number-requires c κs = search needs
 
 returns : tie.Need-returns
-returns c = says-file (c .before .before .before .before .before .before .before .args .text .now) _ (c .before .before .h .given .0 .0) (ap (fileAnswered (c .before .before .before .before .before .before .before .args .text .now)) (sym (c .before .before .h .given .1)) ∙ c .before .before .before .before .file .ensures .says) (subst (nameInside (c .before .before .before .before .before .before .before .args .text .now)) (c .before .before .h .given .1) (c .before .before .before .before .file .ensures .inside))
+returns c = says-file (c .before .before .before .before .before .before .before .args .text .now) _ _ (c .before .before .h .given .0 .0) (subst (ReadsFile (c .before .before .before .before .before .before .before .args .text .now) _ _) (c .before .before .h .given .1) (c .before .before .before .before .file .ensures))
 
 returns-2 : tie.Need-returns-2
 returns-2 c = not-told (c .before .before .before .r .given .0 .0) (mapped-refused shown _ _ (ap (fileAnswered (c .before .before .before .before .before .before .before .before .args .text .now)) (sym (c .before .before .before .r .given .1)) ∙ c .before .before .before .before .before .file .ensures .says)) (c .number .ensures)

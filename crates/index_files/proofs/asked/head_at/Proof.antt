@@ -3,6 +3,8 @@ use mathlib.Core.Path.{ap, _∙_}
 use lib.ListN.{length}
 use Rattle.slices.specs.Words.{bytes}
 use Rattle.xml.specs.Tree.{Forest}
+use Rattle.elements.specs.Tags.{Tags}
+use Rattle.children.specs.Places.{tagsNamed, firstText}
 use Rattle.index_values.specs.Elements.{textIn}
 use Rattle.index_values.specs.Entries.{numberOrZero}
 use Rattle.index_values.specs.Tests.{rowsIn}
@@ -40,6 +42,7 @@ returns c =
     record {
       length = c .before .before .before .before .number-said .ensures ∙ ap numberOrZero (c .before .before .before .before .before .text-in .ensures ∙ ap (textIn (bytes "length")) (c .before .before .before .before .before .before .before .first-child .ensures .row));
       name = record { part = c .before .before .span-in .ensures .spans .part ∙ ap (textIn (bytes "name")) (c .before .before .before .before .before .before .before .first-child .ensures .row); inside = c .before .before .span-in .ensures .spans .inside };
+      place = c .before .before .span-in .ensures .place ∙ ap (λ (t : Tags). firstText (c .before .before .before .before .before .before .before .before .before .args .text .now) (tagsNamed (bytes "name") t)) (c .before .before .before .before .before .before .before .first-child .ensures .tags);
       rows = c .count-rows .ensures ∙ ap (λ (f : Forest). length (rowsIn f)) (c .before .first-row .ensures .row);
     }
 

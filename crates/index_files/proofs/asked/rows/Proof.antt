@@ -27,7 +27,7 @@ put-rows-requires c κs = search needs
 
 returns : tie.Need-returns
 returns c =
-    put-refused (c .before .before .before .before .before .before .before .args .out .now) (c .before .r .given .0 .0) (ap (rowsFor (length (c .before .before .before .before .before .before .before .args .out .now))) (ap (fileFound (c .before .before .before .before .before .before .before .args .text .now)) (sym (c .before .r .given .1)) ∙ c .before .before .before .locate .ensures))
+    put-refused (c .before .before .before .before .before .before .before .args .out .now) (c .before .r .given .0 .0) (ap (rowsFor (length (c .before .before .before .before .before .before .before .args .out .now))) (ap (fileFound (c .before .before .before .before .before .before .before .args .text .now)) (sym (c .before .r .given .1)) ∙ c .before .before .before .locate .ensures .file))
 
 same-length : tie.Need-same-length
 same-length c = search needs
@@ -36,7 +36,7 @@ returns-2 : tie.Need-returns-2
 returns-2 c =
     put-as
     (ap (λ (f : Forest). withRoom 5 (length (c .before .before .before .before .before .before .before .before .before .before .before .before .args .out .now)) (rowsIn f)) (c .before .before .before .before .first-row .ensures .row)
-    ∙ ap (rowsFor (length (c .before .before .before .before .before .before .before .before .before .before .before .before .args .out .now))) (ap (fileFound (c .before .before .before .before .before .before .before .before .before .before .before .before .args .text .now)) (sym (c .before .before .before .before .before .before .n .given .1)) ∙ c .before .before .before .before .before .before .before .before .locate .ensures))
+    ∙ ap (rowsFor (length (c .before .before .before .before .before .before .before .before .before .before .before .before .args .out .now))) (ap (fileFound (c .before .before .before .before .before .before .before .before .before .before .before .before .args .text .now)) (sym (c .before .before .before .before .before .before .n .given .1)) ∙ c .before .before .before .before .before .before .before .before .locate .ensures .file))
     (c .before .before .put-rows .ensures)
 
 pub rows-spec : {M : Type 1} → statement M

@@ -1,6 +1,6 @@
 -- `is_file` meets its contract.
 use Rattle.slices.specs.Words.{bytes}
-use Rattle.index_files.specs.FileSteps.{namesFile}
+use Rattle.index_files.specs.Names.{namesFile}
 use borrow.Author.Needs.{needs}
 use Rattle.index_files.proofs.files.is_file.Statement.{statement}
 use Rattle.index_files.proofs.files.is_file.Tie as tie

@@ -3,7 +3,7 @@ use mathlib.Core.Path.{ap, sym, _∙_}
 use mathlib.Core.Bool.{Bool, _||_}
 use Rattle.slices.specs.Slices.{same}
 use Rattle.slices.specs.Words.{bytes}
-use Rattle.index_files.specs.FileSteps.{namesSkipped}
+use Rattle.index_files.specs.Names.{namesSkipped}
 use borrow.Author.Needs.{needs}
 use Rattle.index_files.proofs.files.is_skipped.Statement.{statement}
 use Rattle.index_files.proofs.files.is_skipped.Tie as tie

@@ -4,22 +4,21 @@ use Prim.Native.Nat.{_-_, _≤_}
 use native.Mathlib.Omega.{arith}
 use lib.ListN.{length}
 use Rattle.elements.specs.declared.tags.Tag.the-variants.{End, Close, Open, Empty}
-use Rattle.elements.specs.Reading.{leftAt}
 use Rattle.elements.specs.TagSteps.{NextTag}
-use Rattle.index_files.specs.FileSteps.{filesLeft, namesFile, namesSkipped}
-use Rattle.index_files.proofs.Passing.{files-end, files-close, file-open, files-skipped, files-open, file-empty, files-empty, file-along}
+use Rattle.index_files.specs.Names.{namesFile, namesSkipped}
+use Rattle.index_files.proofs.Passing.{NonePassed, files-end, files-close, file-open, files-skipped, files-open, file-empty, files-empty, passed-on, none-along, file-along}
 use borrow.Author.Needs.{needs}
 use Rattle.index_files.proofs.files.next_file.Statement.{statement}
 use Rattle.index_files.proofs.files.next_file.Tie as tie
 
 abbrev Inv-loop : tie.InvT-loop
-Inv-loop text at i₀ i = (at ≤ i) × (filesLeft (leftAt text at) ≡ filesLeft (leftAt text i))
+Inv-loop text at i₀ i = (at ≤ i) × NonePassed text at i
 
 abbrev μ-loop : tie.MeasureT-loop
 μ-loop text at i₀ i = length text - i
 
 loop-holds : tie.Need-loop-holds Inv-loop μ-loop
-loop-holds c = (omega arith, refl)
+loop-holds c = (omega arith, record { left = refl; tags = refl })
 
 next-tag-requires : tie.Need-next-tag-requires Inv-loop μ-loop
 next-tag-requires c κs = search needs
@@ -32,7 +31,7 @@ returns c =
     let s = c .before .before .before .before .before .args .text .now in
     let l = c .before .before .before .loop in
     let t : NextTag s (l .i) End = subst (NextTag s (l .i)) (c .enum-told .given .1) (c .before .before .next-tag .ensures) in
-    l .inv .1 ∙ files-end t
+    none-along (l .inv .1) (files-end t)
 
 enum-known-n : tie.Need-enum-known-n Inv-loop μ-loop
 enum-known-n c = search needs
@@ -51,7 +50,7 @@ loop-again c =
     let l = c .before .before .before .before .loop in
     let n = c .before .n .given in
     let t : NextTag s (l .i) (Close (n .0 .0)) = subst (NextTag s (l .i)) (n .1) (c .before .before .before .next-tag .ensures) in
-    (omega (arith, t .place), l .inv .1 ∙ files-close t)
+    (omega (arith, t .place), passed-on (l .inv .1) (files-close t))
 
 enum-known-n-2 : tie.Need-enum-known-n-2 Inv-loop μ-loop
 enum-known-n-2 c = search needs
@@ -72,7 +71,7 @@ returns-2 c =
     let n = c .before .before .before .before .before .n2 .given in
     let t : NextTag s (l .i) (Open (n .0 .0)) = subst (NextTag s (l .i)) (n .1) (c .before .before .before .before .before .before .before .next-tag .ensures) in
     let e = sym (ap namesFile (c .before .before .before .name-of .ensures)) ∙ sym (c .before .before .is-file .ensures) ∙ c .before .if1 .taken in
-    file-along (l .inv .0) (l .inv .1) (file-open t (c .leave .ensures) e)
+    file-along (l .inv .1) (l .inv .0) (file-open t (c .leave .ensures) e)
 
 is-skipped-requires : tie.Need-is-skipped-requires Inv-loop μ-loop
 is-skipped-requires c κs = search needs
@@ -96,7 +95,7 @@ loop-again-2 c =
     let t : NextTag s (l .i) (Open (n .0 .0)) = subst (NextTag s (l .i)) (n .1) (c .before .before .before .before .before .before .before .before .before .next-tag .ensures) in
     let e = sym (ap namesFile (c .before .before .before .before .before .name-of .ensures)) ∙ sym (c .before .before .before .before .is-file .ensures) ∙ c .before .before .before .if1 .left in
     let k = sym (ap namesSkipped (c .before .before .before .before .before .name-of .ensures)) ∙ sym (c .before .before .is-skipped .ensures) ∙ c .before .if2 .taken in
-    (omega (arith, t .place, c .leave2 .ensures .ahead), l .inv .1 ∙ files-skipped t (c .leave2 .ensures) e k)
+    (omega (arith, t .place, c .leave2 .ensures .ahead), passed-on (l .inv .1) (files-skipped t (c .leave2 .ensures) e k))
 
 loop-less-3 : tie.Need-loop-less-3 Inv-loop μ-loop
 loop-less-3 c =
@@ -114,7 +113,7 @@ loop-again-3 c =
     let t : NextTag s (l .i) (Open (n .0 .0)) = subst (NextTag s (l .i)) (n .1) (c .before .before .before .before .before .before .before .before .next-tag .ensures) in
     let e = sym (ap namesFile (c .before .before .before .before .name-of .ensures)) ∙ sym (c .before .before .before .is-file .ensures) ∙ c .before .before .if1 .left in
     let k = sym (ap namesSkipped (c .before .before .before .before .name-of .ensures)) ∙ sym (c .before .is-skipped .ensures) ∙ c .if2 .left in
-    (omega (arith, t .place), l .inv .1 ∙ files-open t e k)
+    (omega (arith, t .place), passed-on (l .inv .1) (files-open t e k))
 
 enum-known-n-3 : tie.Need-enum-known-n-3 Inv-loop μ-loop
 enum-known-n-3 c = search needs
@@ -132,7 +131,7 @@ returns-3 c =
     let n = c .before .before .before .before .n3 .given in
     let t : NextTag s (l .i) (Empty (n .0 .0)) = subst (NextTag s (l .i)) (n .1) (c .before .before .before .before .before .before .next-tag .ensures) in
     let e = sym (ap namesFile (c .before .before .name-of2 .ensures)) ∙ sym (c .before .is-file2 .ensures) ∙ c .if3 .taken in
-    file-along (l .inv .0) (l .inv .1) (file-empty t e)
+    file-along (l .inv .1) (l .inv .0) (file-empty t e)
 
 loop-less-4 : tie.Need-loop-less-4 Inv-loop μ-loop
 loop-less-4 c =
@@ -149,7 +148,7 @@ loop-again-4 c =
     let n = c .before .before .before .before .n3 .given in
     let t : NextTag s (l .i) (Empty (n .0 .0)) = subst (NextTag s (l .i)) (n .1) (c .before .before .before .before .before .before .next-tag .ensures) in
     let e = sym (ap namesFile (c .before .before .name-of2 .ensures)) ∙ sym (c .before .is-file2 .ensures) ∙ c .if3 .left in
-    (omega (arith, t .place), l .inv .1 ∙ files-empty t e)
+    (omega (arith, t .place), passed-on (l .inv .1) (files-empty t e))
 
 pub next-file-spec : {M : Type 1} → statement M
 next-file-spec =

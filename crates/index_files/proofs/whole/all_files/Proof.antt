@@ -6,7 +6,8 @@ use Rattle.index.specs.Steps.{means}
 use Rattle.index_values.specs.Steps.{given}
 use Rattle.index_files.specs.FileSteps.{filesFrom}
 use Rattle.index_files.specs.Filling.{withRoom}
-use Rattle.index_files.proofs.Asking.{index-refused, index-found, files-counted}
+use Rattle.index_files.proofs.Asking.{index-refused, index-found, files-counted, tags-found}
+use Rattle.index_files.proofs.Buffers.{holds-as}
 use Rattle.index_files.proofs.Putting.{put-refused, put-as, put-short, put-all}
 use borrow.Author.Needs.{needs}
 use Rattle.index_files.proofs.whole.all_files.Statement.{statement}
@@ -51,7 +52,7 @@ returns-3 c =
     let g = given (a .uuid .now) (a .volume) in
     let t = ap (means (a .text .now)) (sym (c .before .before .before .before .before .before .before .h .given .1)) ∙ c .before .before .before .before .before .before .before .before .before .read-index .ensures .answers in
     put-as (index-found g (a .letter) (a .block .0) (a .text .now) (withRoom 4 (length (a .out .now))) _ t)
-    (put-all 4 (filesFrom (a .text .now) 38) (c .before .before .before .before .before .before .before .h .given .0 .0 .files) (a .out .now) (files-counted g (a .letter) (a .block .0) (a .text .now) _ t) (omega (arith, c .before .before .before .before .if1 .left)) _ (c .before .before .write-files .ensures))
+    (put-all 4 (filesFrom (a .text .now) 38) (c .before .before .before .before .before .before .before .h .given .0 .0 .files) (a .out .now) (files-counted g (a .letter) (a .block .0) (a .text .now) _ t) (omega (arith, c .before .before .before .before .if1 .left)) _ (holds-as (tags-found g (a .letter) (a .block .0) (a .text .now) _ t) (c .before .before .write-files .ensures)))
 
 pub all-files-spec : {M : Type 1} → statement M
 all-files-spec =

@@ -35,7 +35,7 @@ returns c =
     let s = c .before .before .before .before .before .args .text .now in
     let l = c .before .before .before .loop in
     let e : FileFrom s (l .i) Done = subst (FileFrom s (l .i)) (c .enum-told .given .1) (c .before .before .next-file .ensures) in
-    let z : l .n ≡ length (allRows (filesFrom s 38)) = omega (arith, l .inv .1, ap length (rows-none s (l .i) e)) in
+    let z : l .n ≡ length (allRows (filesFrom s 38)) = omega (arith, l .inv .1, ap length (rows-none s (l .i) (e .left))) in
     ap answer z ∙ ap countOf (fits 5 (c .before .before .before .before .before .args .room) (allRows (filesFrom s 38)) (omega (arith, l .inv, z)))
 
 enum-known-tag : tie.Need-enum-known-tag Inv-loop μ-loop

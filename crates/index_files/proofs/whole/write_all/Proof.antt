@@ -40,7 +40,7 @@ returns c =
     let s = c .before .before .before .before .before .before .args .text .now in
     let l = c .before .before .before .loop in
     let e : FileFrom s (l .i) Done = subst (FileFrom s (l .i)) (c .enum-told .given .1) (c .before .before .next-file .ensures) in
-    writing-done (l .inv) (rows-none s (l .i) e) .0
+    writing-done (l .inv) (rows-none s (l .i) (e .left)) .0
 
 enum-known-n : tie.Need-enum-known-n Inv-loop μ-loop
 enum-known-n c = search needs

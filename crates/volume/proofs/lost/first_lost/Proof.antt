@@ -37,7 +37,7 @@ enum-told c = search needs
 returns : tie.Need-returns Inv-loop μ-loop
 returns c =
     loses (c .before .before .before .before .before .before .before .args .text .now) (c .before .before .before .before .before .before .before .args .volume) (c .before .before .before .before .before .before .before .args .index-reach .now) (c .before .before .before .before .before .before .before .args .index-kept) (c .before .before .before .before .before .before .before .args .data-reach .now) (c .before .before .before .before .before .before .before .args .data-kept) Nothing
-    (lost-end (every (liesIn (c .before .before .before .before .before .before .before .args .volume) (c .before .before .before .before .before .before .before .args .index-reach .now) (c .before .before .before .before .before .before .before .args .index-kept) (c .before .before .before .before .before .before .before .args .data-reach .now) (c .before .before .before .before .before .before .before .args .data-kept))) (firstFailing (every (liesIn (c .before .before .before .before .before .before .before .args .volume) (c .before .before .before .before .before .before .before .args .index-reach .now) (c .before .before .before .before .before .before .before .args .index-kept) (c .before .before .before .before .before .before .before .args .data-reach .now) (c .before .before .before .before .before .before .before .args .data-kept))) 0 (map extentRows (filesLeft (leftAt (c .before .before .before .before .before .before .before .args .text .now) 38)))) (c .before .before .before .loop .k) (filesLeft (leftAt (c .before .before .before .before .before .before .before .args .text .now) (c .before .before .before .loop .at))) (c .before .before .before .loop .inv .1) (subst (FileFrom (c .before .before .before .before .before .before .before .args .text .now) (c .before .before .before .loop .at)) (c .enum-told .given .1) (c .before .before .next-file .ensures)))
+    (lost-end (every (liesIn (c .before .before .before .before .before .before .before .args .volume) (c .before .before .before .before .before .before .before .args .index-reach .now) (c .before .before .before .before .before .before .before .args .index-kept) (c .before .before .before .before .before .before .before .args .data-reach .now) (c .before .before .before .before .before .before .before .args .data-kept))) (firstFailing (every (liesIn (c .before .before .before .before .before .before .before .args .volume) (c .before .before .before .before .before .before .before .args .index-reach .now) (c .before .before .before .before .before .before .before .args .index-kept) (c .before .before .before .before .before .before .before .args .data-reach .now) (c .before .before .before .before .before .before .before .args .data-kept))) 0 (map extentRows (filesLeft (leftAt (c .before .before .before .before .before .before .before .args .text .now) 38)))) (c .before .before .before .loop .k) (filesLeft (leftAt (c .before .before .before .before .before .before .before .args .text .now) (c .before .before .before .loop .at))) (c .before .before .before .loop .inv .1) (subst (FileFrom (c .before .before .before .before .before .before .before .args .text .now) (c .before .before .before .loop .at)) (c .enum-told .given .1) (c .before .before .next-file .ensures) .left))
 
 enum-known-n : tie.Need-enum-known-n Inv-loop μ-loop
 enum-known-n c = search needs
