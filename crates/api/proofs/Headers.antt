@@ -10,6 +10,7 @@ use Rattle.refusals.specs.Refusals.{Answer, refused, answer, andThen}
 use Rattle.quantities.specs.Addresses.{Address}
 use Rattle.constructs.specs.declared.Bounds.{Bounds as Spot}
 use Rattle.index.specs.Index.{Index, File, Summary, summary}
+use Rattle.index.specs.Places.{updateTimePlace}
 use Rattle.index.specs.Steps.{summaryIn, Definite, ReadsIndex}
 use Rattle.index.specs.declared.read.Header.{Header}
 use Rattle.index.specs.declared.read.Read.the-variants.{Found}
@@ -34,12 +35,13 @@ back-numbers : (b : Bool) (l k : ℕ) → (b ≡ false → _≡_ {A = Address} (
 back-numbers true l k z = refl
 back-numbers false l k z = ap (λ (p : Address). 0 ∷ p .letter ∷ p .block ∷ []) (z refl)
 
-says-header : (s : List ℕ) (h : Header) → Definite s h → SaysHeader s (summaryIn s h) (headerNumbers h)
+says-header : (s : List ℕ) (h : Header) → Definite s (updateTimePlace s) h → SaysHeader s (summaryIn s h) (headerNumbers h)
 says-header s h d =
     record {
       release = refl;
       generation = refl;
-      updatetime = record { part = refl; inside = d .time };
+      updatetime = record { part = refl; inside = d .inside };
+      place = d .time;
       letter = refl;
       block = refl;
       back = back-numbers (h .back) (h .«back_letter») (h .«back_block» .0) (d .noBack);

@@ -7,6 +7,7 @@ use lib.ListN.{length, take, drop, getD}
 use Rattle.refusals.specs.Refusals.{Answer}
 use Rattle.quantities.specs.Addresses.{Address}
 use Rattle.index.specs.Index.{Index, Summary, summary, indexOf}
+use Rattle.index.specs.Places.{updateTimePlace}
 use Rattle.index_files.specs.Names.{allFileTags, fileTag}
 use Rattle.index_files.specs.Asked.{fileIn}
 use Rattle.index_files.specs.Filling.{TellsPart, Stored, SaysFile, rowsFor, filesFor, allRowsFor, HoldsRows, HoldsFiles}
@@ -18,12 +19,13 @@ abbrev pub backNumbers : Option Address → List ℕ
 backNumbers none = 0 ∷ 0 ∷ 0 ∷ []
 backNumbers (some p) = 1 ∷ p .letter ∷ p .block ∷ []
 
--- thirteen numbers say what an index says: the R of its version, its generation, the place of its update time in s and its length, its location's
--- letter and block, its back pointer, the policy's boolean, the highest file UID, and how many directories and files it has
+-- thirteen numbers say what an index says: the R of its version, its generation, the place of its update time in s, its text, and its length, its
+-- location's letter and block, its back pointer, the policy's boolean, the highest file UID, and how many directories and files it has
 pub record SaysHeader (s : List ℕ) (x : Summary) (out : List ℕ) : Type 0 where
   pub release : getD out 0 0 ≡ x .heading .release
   pub generation : getD out 1 0 ≡ x .heading .generation
   pub updatetime : TellsPart s out 2 (x .heading .updatetime)
+  pub place : record { from = getD out 2 0; len = getD out 3 0 } ≡ updateTimePlace s
   pub letter : getD out 4 0 ≡ x .heading .location .letter
   pub block : getD out 5 0 ≡ x .heading .location .block
   pub back : take 3 (drop 6 out) ≡ backNumbers (x .heading .back)
