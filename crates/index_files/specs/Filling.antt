@@ -40,8 +40,7 @@ TellsPart s out k w = Spans s (getD out k 0) (getD out (k + 1) 0) w
 abbrev pub placeTold : List ℕ → ℕ → Span
 placeTold out k = record { from = getD out k 0; len = getD out (k + 1) 0 }
 
--- four numbers say what the file f with the tag t says: its length, the place of its name, as spelled, in s and its length, and how many rows it
--- has
+-- four numbers say what a file with the tag t says: its length, the place of its name, as spelled, in s and its length, and how many rows it has
 pub record SaysFile (s t : List ℕ) (f : File) (out : List ℕ) : Type 0 where
   pub length : getD out 0 0 ≡ f .length
   pub name : TellsPart s out 1 (f .name)
