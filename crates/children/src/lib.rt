@@ -80,7 +80,7 @@ pub fn no_attribute(text: &[u8], n: usize) -> bool
     elements::key_of(text, n).len() == 0
 }
 
-// Whether the element at n mayHold what a mark allows.
+// Whether the element at n holds what a mark allows.
 pub fn holds_at(text: &[u8], n: usize, mark: u8) -> bool
     ensures { λ r. ⌜ r ≡ mayHold mark (headAt (now (text .entry)) n) (childrenAt (now (text .entry)) n) ⌝ }
 {

@@ -31,11 +31,15 @@ byteAt B p (r ∷ rows) = cond (inRow p r) (byteInRow B p r) (byteAt B p rows)
 abbrev pub lettered : List Row → Bool
 lettered rows = every (λ (r : Row). isLetter (r .letter)) rows
 
+-- the most extents of a file (01, Bounds)
+abbrev pub maxRows : ℕ
+maxRows = 1024
+
 -- 14 for block size, letters and numbers not in fives; 15; 11; 2 (01, Refusal numbers)
 unfoldable pub byteMap : List ℕ → ℕ → ℕ → ℕ → Answer BytePlace
 byteMap numbers L B p =
     require (isBlockSize B && lettered (rowsOf numbers) && eqb (length numbers % 5) 0) Caller
-    (require (leb (length (rowsOf numbers)) 1024) TooMany
+    (require (leb (length (rowsOf numbers)) maxRows) TooMany
     (require (lawful L B (rowsOf numbers)) Extents
     (require (ltb p L) Missing
     (answer (byteAt B p (rowsOf numbers))))))

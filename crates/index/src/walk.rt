@@ -130,7 +130,7 @@ fn is_open(sort: usize) -> bool
     sort <= EXTENT
 }
 
-// Whether an element may stand where it does, as one of a sort, and holdsElements what it may.
+// Whether an element may stand where it does, as one of a sort, and holds what it may.
 fn fits_at(text: &[u8], h: Start, sort: usize) -> bool
     requires { ⌜ Shape (now text) h ⌝ }
     ensures { λ r. ⌜ r ≡ mayStand sort (headAt (now (text .entry)) (h .at)) (childrenAt (now (text .entry)) (h .at)) ⌝ }
@@ -165,7 +165,7 @@ fn is_entry(sort: usize) -> bool
     sort == FILE
 }
 
-// One oneMore where it is one of those that are counted.
+// One more where it is one of those that are counted.
 fn bump_if(one: bool, n: u64) -> u64
     ensures { λ r. ⌜ r ≡ cond one (oneMore n) n ⌝ }
 {

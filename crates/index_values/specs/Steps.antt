@@ -11,11 +11,12 @@ use Rattle.elements.specs.declared.heads.Span.{Span}
 use Rattle.children.specs.Places.{tagsNamed, firstText}
 use Rattle.extents.specs.Rows as numbers
 use Rattle.extents.specs.Rows.{Row}
+use Rattle.extents.specs.Map.{maxRows}
 use Rattle.index_rows.specs.Steps.{Placed}
 use Rattle.index_names.specs.Sorts.{file, uuid}
 use Rattle.index_values.specs.declared.tests.Partitions.{Partitions}
 use Rattle.index_values.specs.Elements.{textIn}
-use Rattle.index_values.specs.Tests.{Given, few, lawfulFile, most}
+use Rattle.index_values.specs.Tests.{Given, few, lawfulFile}
 
 -- w is where the text of the first element of a name stands, in the row at i
 pub record TextFound (s : List ℕ) (i : ℕ) (name : List ℕ) (w : Span) : Type 0 where
@@ -27,8 +28,8 @@ given u v = record { uuid = u; indexLetter = v .«index_letter»; dataLetter = v
 
 -- n rows stand in the front of out, if there are not too many
 pub record RowsRead (rows : List Row) (out : List ℕ) (n : ℕ) : Type 0 where
-  pub all : n ≤ most → (numbers.rowsOf (take (n * 5) out) ≡ rows) × (length rows ≡ n)
-  pub many : most < n → most < length rows
+  pub all : n ≤ maxRows → (numbers.rowsOf (take (n * 5) out) ≡ rows) × (length rows ≡ n)
+  pub many : maxRows < n → maxRows < length rows
 
 -- the two tests of the extents of an element of sort s, whose children stand at places t of the text x
 abbrev pub TestsExtents : List ℕ → List ℕ → ℕ → Partitions → Bool → Bool → Type 0

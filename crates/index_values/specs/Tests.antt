@@ -13,6 +13,7 @@ use Rattle.values.specs.Values as values
 use Rattle.extents.specs.Rows as numbers
 use Rattle.extents.specs.Rows.{Row}
 use Rattle.extents.specs.Lawful as extents
+use Rattle.extents.specs.Map.{maxRows}
 use Rattle.index_names.specs.Sorts.{file, creator, uuid, generation, time, booleanSort, numberSort, letterSort, name, rootName, uid, rootUid}
 use Rattle.index_values.specs.Elements.{textIn, childrenIn}
 use Rattle.index_values.specs.Entries.{orZero, numberOrZero}
@@ -76,13 +77,9 @@ extentRows c = rowsIn (childrenIn (bytes "extentinfo") c)
 abbrev pub lengthOf : Forest → ℕ
 lengthOf c = numberOrZero (textIn (bytes "length") c)
 
--- the most extents of a file
-abbrev pub most : ℕ
-most = 1024
-
 -- 15
 unfoldable pub few : ℕ → Forest → Bool
-few s c = not (eqb s file) || leb (length (extentRows c)) most
+few s c = not (eqb s file) || leb (length (extentRows c)) maxRows
 
 -- 11: a file's extents, not too many, are lawful for its length and the block size
 unfoldable pub lawfulFile : Given → ℕ → Forest → Bool

@@ -18,7 +18,7 @@ ghost use Rattle.writing.specs.Steps.{Adds};
 ghost use Rattle.label_writer.specs.Text.{escape, escaped, booleanWord, texts, letters, sizeAndCompression, labelOfGiven, areNumbers};
 ghost use Rattle.label_writer.specs.Steps.{ComposesText, WritesText};
 
-// The fields of a label that are sizeAndCompression: its letters, its block size, and whether it is compressed.
+// The fields of a label that are numbers: its letters, its block size, and whether it is compressed.
 pub struct Given {
     pub location: u8,
     pub index_letter: u8,
@@ -166,7 +166,7 @@ fn letter(b: u8) -> bool
     quantities::is_letter(b as u64)
 }
 
-// Whether the sizeAndCompression of a label are in their rules.
+// Whether the numbers of a label are in their rules.
 fn are_numbers(g: Given) -> bool
     ensures { λ r. ⌜ r ≡ areNumbers (g .location) (g .«index_letter») (g .«data_letter») (g .«block_size») ⌝ }
 {

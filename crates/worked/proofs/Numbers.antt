@@ -7,15 +7,15 @@ use Rattle.digits.specs.Runs.{value}
 use Rattle.digits.specs.Decimal as decimal
 use Rattle.digits.specs.Decimal.{isNumber, plain}
 use Rattle.xml.specs.Bytes.{declaration, isSpace, isAsciiLetter, isNameByte}
-use Rattle.xml.specs.CheckSteps.{reads, char, inText, insideElement, tagEnd, outside, leave, innermost, withoutText, formStep, ended, formRun, form}
-use Rattle.xml.specs.Tree.{front, behind, isNot, quoteAfter, past, quoted, headOf, top, pop, closed, opened, alone, put, forests}
+use Rattle.xml.specs.CheckSteps.{reads, char, inText, insideElement, tagEnd, outside, leave, innermost, withoutText, formStep, ended, formRun, form, inForm}
+use Rattle.xml.specs.Tree.{front, behind, isNot, quoteAfter, past, quoted, headOf, behindTag, top, pop, closed, opened, alone, put, trees}
 use Rattle.elements.specs.Reading.{hasElement}
 use Rattle.texts.specs.Decoded.{referenceMeant, meaning, decodedBehind, codePoints}
 use Rattle.children.specs.Children.{below}
 use Rattle.values.specs.Values.{number, boolean, byPattern, inPattern, inRanges, isTime, isUuid, sameUuid, letter, isCreator, isName, isRootName, version}
 use Rattle.extents.specs.Lawful.{lawful, rowLawful, apart}
 use Rattle.index_names.specs.Rows.{countOnce, someAnyNumber}
-use Rattle.index_names.specs.Tables.{indexTable, placeTable, entryTable, ofDirectory, contentsTable, ofFile, extentinfoTable, extentTable, table, sort, must, repeats}
+use Rattle.index_names.specs.Tables.{indexTable, placeTable, times, entryTable, ofDirectory, contentsTable, ofFile, extentinfoTable, extentTable, table, sort, must, repeats}
 use Rattle.index_names.specs.Names.{names, numberIn}
 use Rattle.index_values.specs.Elements.{elements, textIn, childrenIn}
 use Rattle.index_values.specs.Entries.{uidOf, many, uidsOf}
@@ -33,5 +33,5 @@ pub numbers :
     (says 18446744073709551615 (cases.readNumber "18446744073709551615") ≡ true)
     × (isRefused 6 (cases.readNumber "18446744073709551616") ≡ true)
     × (isRefused 6 (cases.readNumber "007") ≡ true)
-unfolding sampleTimes sampleIndex every same bytes value decimal.number isNumber plain isSpace isAsciiLetter isNameByte reads char inText insideElement tagEnd outside leave innermost withoutText formStep ended formRun form front behind isNot quoteAfter past quoted headOf top pop closed opened alone put forests hasElement referenceMeant meaning decodedBehind codePoints below number boolean byPattern inPattern inRanges isTime isUuid sameUuid letter isCreator isName isRootName version lawful rowLawful apart countOnce someAnyNumber indexTable placeTable entryTable ofDirectory contentsTable ofFile extentinfoTable extentTable table sort must repeats names numberIn elements textIn childrenIn uidOf many uidsOf valued own rowOf rowsIn few tests.lawfulFile member different structure.mayStand count complete rightly filesOf structured bounded allValued childrenRead tagRead rootRead callerRight indexOf declaration
+unfolding sampleTimes sampleIndex every same bytes value decimal.number isNumber plain isSpace isAsciiLetter isNameByte reads char inText insideElement tagEnd outside leave innermost withoutText formStep ended formRun form inForm front behind isNot quoteAfter past quoted headOf top pop closed opened alone put trees behindTag hasElement referenceMeant meaning decodedBehind codePoints below number boolean byPattern inPattern inRanges isTime isUuid sameUuid letter isCreator isName isRootName version lawful rowLawful apart countOnce someAnyNumber indexTable placeTable times entryTable ofDirectory contentsTable ofFile extentinfoTable extentTable table sort must repeats names numberIn elements textIn childrenIn uidOf many uidsOf valued own rowOf rowsIn few tests.lawfulFile member different structure.mayStand count complete rightly filesOf structured bounded allValued childrenRead tagRead rootRead callerRight indexOf declaration
 numbers = (refl, refl, refl)

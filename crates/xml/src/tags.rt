@@ -1,4 +1,4 @@
-// ScansTag, from behind their `<` on.
+// Tags, from behind their `<` on.
 ghost use mathlib.Core.Path.{_≡_};
 ghost use mathlib.Core.List.{List};
 ghost use Prim.Native.Nat.{ℕ, _≤_};
