@@ -268,7 +268,11 @@ fn text_case(kind: u64, fd: i32) -> bool {
     let first = byte(fd);
     let other = byte(fd);
     let size = case_files::number(fd);
-    let volume = Partitions { first, other, size };
+    let volume = Partitions {
+        index_letter: first,
+        data_letter: other,
+        block_size: size,
+    };
     let letter = byte(fd);
     let block = case_files::number(fd);
     if kind == 1 {
@@ -356,7 +360,11 @@ fn construct_case(fd: i32) -> bool {
     let first = byte(fd);
     let other = byte(fd);
     let size = case_files::number(fd);
-    let letters = Partitions { first, other, size };
+    let letters = Partitions {
+        index_letter: first,
+        data_letter: other,
+        block_size: size,
+    };
     let letter = byte(fd);
     let k = case_files::number(fd);
     let refusal = case_files::number(fd);
