@@ -6,7 +6,7 @@ use mathlib.Core.Option.{none, some}
 use Prim.Native.Nat.{ℕ, _-_, min}
 use native.Mathlib.Omega.{arith}
 use lib.ListN.{length, drop, length-take, length-drop}
-use Rattle.refusals.specs.Refusals.{Answer, refused, answer, andThen}
+use Rattle.refusals.specs.Refusals.{Answer, refused, answer}
 use Rattle.quantities.specs.Addresses.{Address}
 use Rattle.constructs.specs.declared.Bounds.{Bounds as Spot}
 use Rattle.index.specs.Index.{Index, File, Summary, summary}

@@ -7,7 +7,6 @@ use lib.ListN.{length, take, drop, getD}
 use Rattle.refusals.specs.Refusals.{Answer, refused, answer, andThen}
 use Rattle.refusals.specs.declared.Refusal.{Refusal}
 use Rattle.refusals.specs.declared.Refusal.the-variants.{Missing}
-use Rattle.xml.specs.Tree.{Forest}
 use Rattle.elements.specs.Reading.{leftAt, forestAt, childrenAt}
 use Rattle.elements.specs.TagSteps.{FirstOf}
 use Rattle.index_values.specs.Tests.{Given, rowsIn}
