@@ -11,7 +11,6 @@ use Rattle.slices.specs.Slices.{written}
 use Rattle.big_endian.specs.BigEndian.{bigEndian}
 use Rattle.tape.specs.Tape.{Tape}
 use Rattle.tape.specs.Answers.{tapeIn}
-use Rattle.ansi.specs.declared.FilesRead.the-variants as readIs
 use Rattle.ansi.specs.Layout.{TapeFile}
 use Rattle.ansi.specs.Places.{TapeMeans}
 use Rattle.ansi.specs.ReadingSteps.{ansiOf, frontOf}

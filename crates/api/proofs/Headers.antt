@@ -8,7 +8,7 @@ use native.Mathlib.Omega.{arith}
 use lib.ListN.{length, drop, length-take, length-drop}
 use Rattle.refusals.specs.Refusals.{Answer, refused, answer}
 use Rattle.quantities.specs.Addresses.{Address}
-use Rattle.constructs.specs.declared.Bounds.{Bounds as Spot}
+use Rattle.constructs.specs.declared.Bounds.{Bounds}
 use Rattle.index.specs.Index.{Index, File, Summary, summary}
 use Rattle.index.specs.Places.{updateTimePlace}
 use Rattle.index.specs.Steps.{summaryIn, Definite, ReadsIndex}
@@ -56,7 +56,7 @@ says-index s a h {out} w q =
     let (x, g, p) = mapped summary a _ (w .answers) in
     tells x g (subst (λ (o : List ℕ). SaysIndex s x o) (sym q) (subst (λ (t : Summary). SaysHeader s t (headerNumbers h)) p (says-header s h (w .header))))
 
-says-place : (s : List ℕ) (p : Spot) (h : Header) → LiesInStore s p h → SaysConstruct s (indexedIn s p h) (constructNumbers p h)
+says-place : (s : List ℕ) (p : Bounds) (h : Header) → LiesInStore s p h → SaysConstruct s (indexedIn s p h) (constructNumbers p h)
 says-place s p h i =
     record {
       first = refl;
@@ -70,7 +70,7 @@ says-place s p h i =
     whole : min (p .to - p .from) (length (drop (p .from) s)) ≡ p .to - p .from
     whole = omega (arith, length-drop (p .from) s, i .text)
 
-pub says-construct : (s : List ℕ) (a : Answer Indexed) (p : Spot) (h : Header) {out : List ℕ} → Chooses s a (chosenIs.Found p h)
+pub says-construct : (s : List ℕ) (a : Answer Indexed) (p : Bounds) (h : Header) {out : List ℕ} → Chooses s a (chosenIs.Found p h)
     → out ≡ constructNumbers p h → ShownAs 17 (SaysConstruct s) a 0 out
 says-construct s a p h w q =
     tells (indexedIn s p h) (w .answers) (subst (λ (o : List ℕ). SaysConstruct s (indexedIn s p h) o) (sym q) (says-place s p h (w .inside)))

@@ -5,7 +5,6 @@ use lib.Seq.{sets}
 use Rattle.tape.specs.Tape.{Tape}
 use Rattle.tape.specs.Answers.{bytesBefore}
 use Rattle.refusals.specs.Refusals.{Answer, refused, answer}
-use Rattle.constructs.specs.declared.Scanned.the-variants as scannedIs
 use Rattle.constructs.specs.Constructs.{Construct, standing}
 
 -- a construct: its first block's number, the number of elements through its closing mark, and where its text begins and ends in the store

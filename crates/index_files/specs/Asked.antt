@@ -5,8 +5,6 @@ use Prim.Native.Nat.{ℕ, zero, suc}
 use Rattle.refusals.specs.Refusals.{Answer, refused, answer, andThen}
 use Rattle.refusals.specs.declared.Refusal.the-variants.{Missing}
 use Rattle.index.specs.Index.{Index, File}
-use Rattle.index_files.specs.declared.asked.FileTag.the-variants as located
-use Rattle.index_files.specs.declared.asked.FileRead.the-variants as file
 
 module _ {A : Type 0} where
   -- that of number k, refused 2 where there is none

@@ -10,7 +10,6 @@ use Rattle.slices.specs.Words.{bytes}
 use Rattle.xml.specs.Tree.{Forest, none as noElement, node}
 use Rattle.texts.specs.Decoded.{decoded}
 use Rattle.values.specs.Values as values
-use Rattle.extents.specs.Rows as numbers
 use Rattle.extents.specs.Rows.{Row}
 use Rattle.extents.specs.Lawful as extents
 use Rattle.extents.specs.Map.{maxRows}

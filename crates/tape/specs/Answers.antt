@@ -9,9 +9,6 @@ use lib.Dec.{eqb}
 use Rattle.refusals.specs.declared.Refusal.the-variants as refusal
 use Rattle.refusals.specs.Refusals.{Answer, refused, answer, require, andThen}
 use Rattle.quantities.specs.Letters.{areLetters}
-use Rattle.tape.specs.declared.ListChecked.the-variants as checked
-use Rattle.tape.specs.declared.Kept.the-variants as keptIs
-use Rattle.tape.specs.declared.Located.the-variants as locatedIs
 use Rattle.tape.specs.Tape.{Tape, Element, mark, block, list, store}
 use Rattle.tape.specs.ReadingSteps.{tapeOf}
 

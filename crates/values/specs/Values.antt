@@ -12,9 +12,6 @@ use Rattle.quantities.specs.Letters.{isLetter}
 use Rattle.digits.specs.Decimal as decimal
 use Rattle.digits.specs.Hex.{isHex}
 use Rattle.texts.specs.Decoded.{begins, codePoints}
-use Rattle.values.specs.declared.Boolean.the-variants as aBoolean
-use Rattle.values.specs.declared.Letter.the-variants as aLetter
-use Rattle.values.specs.declared.Version.the-variants as aVersion
 
 -- Number: what a number's text means to every reader
 unfoldable pub number : List ℕ → Option ℕ

@@ -23,7 +23,7 @@ use Rattle.constructs.proofs.Lengths.{length-lengths}
 use Rattle.label.specs.Label.{Label}
 use Rattle.labels.specs.Labels.{labelsOf, labelsIn}
 use Rattle.index_values.specs.Tests.{Given}
-use Rattle.index_values.specs.declared.tests.Partitions.{Partitions as Letters}
+use Rattle.index_values.specs.declared.tests.Partitions.{Partitions}
 use Rattle.verdict.specs.Verdict.{Volume, endsWith, chainBreak, verdict, Cut}
 use Rattle.verdict.specs.Rescue.{generationOf, through, chain, cutAmong, rescue}
 use Rattle.verdict.specs.Steps.{beginnings, firsts}
@@ -105,13 +105,13 @@ module _ (g : Given) (is dl ds : List ℕ) (i d : Tape) (ed : Encodes dl ds d) (
     unfolding rescue
     found r e = e ∙ ap (λ (x : List Construct). cutAmong (volumeWith g) (dataLengths i) (dataLengths d) x (standing (g .blockSize) i)) (sym (hc .longest))
 
-    cuts : (w : Letters) (r : Tried) → Searches g w is ti n td gens begins ri rd r → triedCut r ≡ rescue v i d
+    cuts : (w : Partitions) (r : Tried) → Searches g w is ti n td gens begins ri rd r → triedCut r ≡ rescue v i d
     cuts w r e = found r (e (standing (g .blockSize) i) (firsts k (standing (g .blockSize) d)) (dataLengths i) (dataLengths d) ready (sym (hi .number)))
 
 -- the cut and the breaks from 3 on, by the tables of both partitions
 module _ (g : Given) (is ds ti : List ℕ) (n : ℕ) (ri td : List ℕ) (m : ℕ) (rd gens : List ℕ) (k : ℕ)
     (lc : ChainsOf (volumeWith g) ds td m (length {A = ℕ} (replicate 21845 0)) gens k) where
-  pub cuts-by : (w : Letters) (begins : List ℕ) (r : Tried) → BeginsOf td k (replicate 65536 0) begins → Searches g w is ti n td gens begins ri rd r
+  pub cuts-by : (w : Partitions) (begins : List ℕ) (r : Tried) → BeginsOf td k (replicate 65536 0) begins → Searches g w is ti n td gens begins ri rd r
       → CutsBy g is ds ti n ri td m rd r
   cuts-by w begins r lb ls dl i d ed hi hd =
       let c = chain-of g is dl ds i d ed ti n ri td m rd hi hd gens k lc in

@@ -11,7 +11,7 @@ use Rattle.quantities.specs.Addresses.{Address}
 use Rattle.quantities.specs.declared.Generation.{Generation}
 use Rattle.constructs.specs.Constructs.{Construct}
 use Rattle.constructs.specs.TableSteps.{boundsIn}
-use Rattle.constructs.specs.declared.Bounds.{Bounds as Spot}
+use Rattle.constructs.specs.declared.Bounds.{Bounds}
 use Rattle.constructs.specs.Steps.{Suffix, here, there}
 use Rattle.constructs.proofs.Suffixes.{suffix-length, suffix-trans, nil-suffix}
 use Rattle.verdict.specs.Verdict.{IndexLinks, Volume, isNone, readData, follows, beginsChain, chained, chainBreak}
@@ -104,16 +104,16 @@ module _ (v : Volume) where
         }
 
 -- what is read of a construct at its place in the store
-pub link-located : (g : Given) (s : List ℕ) (letter : ℕ) (p : Spot) (t : List ℕ) (b : Brief) → t ≡ boundsText s p → briefLink b ≡ linkOf (soundly (indexOf g letter (p .first .0) t))
+pub link-located : (g : Given) (s : List ℕ) (letter : ℕ) (p : Bounds) (t : List ℕ) (b : Brief) → t ≡ boundsText s p → briefLink b ≡ linkOf (soundly (indexOf g letter (p .first .0) t))
     → (c : Construct) → Located s p c → briefLink b ≡ linkOf (volumeWith g .read letter (c .first) (c .text))
 link-located g s letter p t b f r c w =
     r ∙ ap (λ (x : ℕ). linkOf (soundly (indexOf g letter x t))) (w .first) ∙ ap (λ (x : List ℕ). linkOf (soundly (indexOf g letter (c .first) x))) (f ∙ w .text)
 
 -- construct k lies at the place that the table has for it
-pub located-at : (s table : List ℕ) (k : ℕ) (p : Spot) (c : Construct) (cs : List Construct) → p ≡ boundsIn table k → Located s (boundsIn table (length cs)) c → length cs ≡ k → Located s p c
-located-at s table k p c cs e l n = subst (λ (x : Spot). Located s x c) (sym (e ∙ ap (boundsIn table) (sym n))) l
+pub located-at : (s table : List ℕ) (k : ℕ) (p : Bounds) (c : Construct) (cs : List Construct) → p ≡ boundsIn table k → Located s (boundsIn table (length cs)) c → length cs ≡ k → Located s p c
+located-at s table k p c cs e l n = subst (λ (x : Bounds). Located s x c) (sym (e ∙ ap (boundsIn table) (sym n))) l
 
-pub link-placed : (g : Given) (s table : List ℕ) (letter k : ℕ) (p : Spot) (t : List ℕ) (b : Brief) → p ≡ boundsIn table k → t ≡ boundsText s p
+pub link-placed : (g : Given) (s table : List ℕ) (letter k : ℕ) (p : Bounds) (t : List ℕ) (b : Brief) → p ≡ boundsIn table k → t ≡ boundsText s p
     → briefLink b ≡ linkOf (soundly (indexOf g letter (p .first .0) t))
     → (c : Construct) (cs : List Construct) → Located s (boundsIn table (length cs)) c → length cs ≡ k
     → briefLink b ≡ linkOf (volumeWith g .read letter (c .first) (c .text))
@@ -129,12 +129,12 @@ module _ (v : Volume) (s table : List ℕ) (k before : ℕ) (b : Brief)
   at-first z f ds l c [] suf n whole gen = links-first v c b (link-of c [] (l c [] suf) n) f
   at-first z f ds l c (p ∷ ps) suf n whole gen = absurd (omega arith)
 
-  pub at-behind : (k ≡ 0 → ⊥) → (q : Spot) (ok : Bool) → q ≡ boundsIn table (k - 1) → ok ≡ joined (briefLink b) (v .dataLetter) (q .first .0) before
+  pub at-behind : (k ≡ 0 → ⊥) → (q : Bounds) (ok : Bool) → q ≡ boundsIn table (k - 1) → ok ≡ joined (briefLink b) (v .dataLetter) (q .first .0) before
       → LinksAt v s table k before (record { ok = ok; generation = b .generation })
   at-behind z q ok e j ds l c [] suf n whole gen = absurd (z (sym n))
   at-behind z q ok e j ds l c (p ∷ ps) suf n whole gen =
       let m : k - 1 ≡ length ps = omega arith in
-      let w : Located s q p = subst (λ (x : Spot). Located s x p) (sym (e ∙ ap (boundsIn table) m)) (l p ps (suffix-trans (there (here refl)) suf)) in
+      let w : Located s q p = subst (λ (x : Bounds). Located s x p) (sym (e ∙ ap (boundsIn table) m)) (l p ps (suffix-trans (there (here refl)) suf)) in
       links-behind v c b (link-of c (p ∷ ps) (l c (p ∷ ps) suf) n) p ps (q .first .0) before ok whole (w .first) gen j
 
 -- the chain so far: the first k constructs have no break, the table has their generations, and the last one's is at hand

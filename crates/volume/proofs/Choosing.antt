@@ -15,7 +15,7 @@ use Rattle.tape.proofs.Encoding.{Bytes}
 use Rattle.constructs.specs.Constructs.{Construct, standing}
 use Rattle.constructs.specs.Tables.{tableAfter}
 use Rattle.constructs.specs.TableSteps.{boundsIn, ScansPartition, scannedCount}
-use Rattle.constructs.specs.declared.Bounds.{Bounds as Spot}
+use Rattle.constructs.specs.declared.Bounds.{Bounds}
 use Rattle.constructs.specs.declared.Scanned.{Scanned}
 use Rattle.constructs.specs.Steps.{Suffix, here, there}
 use Rattle.constructs.proofs.Suffixes.{suffix-length, nil-suffix}
@@ -50,17 +50,17 @@ at-suffix k {c} {cs} {ds = d ∷ ds} (here q) n =
     rw (eq-eqb (length ds) k (ap length (sym y) ∙ n), ← z)
 at-suffix k {c} {cs} {ds = d ∷ ds} (there s) n = rw (ne-eqb (length ds) k (λ e. omega (arith, suffix-length s))) (at-suffix k s n)
 
-module _ (g : Given) (letter : ℕ) (s : List ℕ) (p : Spot) (x : List ℕ) (is-text : x ≡ boundsText s p) where
+module _ (g : Given) (letter : ℕ) (s : List ℕ) (p : Bounds) (x : List ℕ) (is-text : x ≡ boundsText s p) where
   index-at : (t : Tape) (c : Construct) → p ≡ boundsOf t c → boundsText s p ≡ c .text → indexOf g letter (p .first .0) x ≡ indexOf g letter (c .first) (c .text)
-  index-at t c at e = ap (λ (n : ℕ). indexOf g letter n x) (ap (λ (q : Spot). q .first .0) at) ∙ ap (indexOf g letter (c .first)) (is-text ∙ e)
+  index-at t c at e = ap (λ (n : ℕ). indexOf g letter n x) (ap (λ (q : Bounds). q .first .0) at) ∙ ap (indexOf g letter (c .first)) (is-text ∙ e)
 
   pub place-found : (h : Header) → ReadsIndex x (indexOf g letter (p .first .0) x) (readIs.Found h) → ReadsPlace g letter s p (chosenIs.Found p h)
   place-found h w t c at lies =
       let q : answer (summaryIn (boundsText s p) h) ≡ summaryOf (indexOf g letter (c .first) (c .text))
       = ap (λ (y : List ℕ). answer (summaryIn y h)) (sym is-text) ∙ w .answers ∙ ap summaryOf (index-at t c at (lies .part)) in
-      let at-first : p .first .0 ≡ c .first = ap (λ (q : Spot). q .first .0) at in
-      let at-end : p .end ≡ c .end = ap (λ (q : Spot). q .end) at in
-      let at-from : p .from ≡ bytesBefore t (c .first) = ap (λ (q : Spot). q .from) at in
+      let at-first : p .first .0 ≡ c .first = ap (λ (q : Bounds). q .first .0) at in
+      let at-end : p .end ≡ c .end = ap (λ (q : Bounds). q .end) at in
+      let at-from : p .from ≡ bytesBefore t (c .first) = ap (λ (q : Bounds). q .from) at in
       record {
         answers =
             ap
@@ -116,7 +116,7 @@ module _ (g : Given) (letter k : ℕ) (l s : List ℕ) where
           let a = lists-of (g .blockSize) l s before after sc n w e (t .0) (read-tape l s (t .0) bytes (t .1)) room in
           record { answers = rw (right, t .1, at-missing k (standing (g .blockSize) (t .0)) (omega (arith, a .0))); inside = tt }
 
-      pub chosen-found : k < n → (p : Spot) → p ≡ boundsIn after k → (r : Chosen) → ReadsPlace g letter s p r → Chooses s (chosenIn g letter k l s) r
+      pub chosen-found : k < n → (p : Bounds) → p ≡ boundsIn after k → (r : Chosen) → ReadsPlace g letter s p r → Chooses s (chosenIn g letter k l s) r
       unfolding chosenIn
       chosen-found h p at r d =
           let t = tape-of n e in
@@ -129,5 +129,5 @@ module _ (g : Given) (letter k : ℕ) (l s : List ℕ) where
           = at ∙ ap (boundsIn after) (sym m) ∙ ap (λ (y : List ℕ). boundsIn y (length (firsts k (standing (g .blockSize) (t .0))))) table
           ∙ spot-of (g .blockSize) l s (t .0) en before room (x .0) (firsts k (standing (g .blockSize) (t .0))) (x .2) in
           let lies : Spans s (p .from) (p .to - p .from) (x .0 .text)
-          = subst (λ (y : Spot). Spans s (y .from) (y .to - y .from) (x .0 .text)) (sym q) (spot-spans (g .blockSize) l s (t .0) en (x .0) (firsts k (standing (g .blockSize) (t .0))) (x .2)) in
+          = subst (λ (y : Bounds). Spans s (y .from) (y .to - y .from) (x .0 .text)) (sym q) (spot-spans (g .blockSize) l s (t .0) en (x .0) (firsts k (standing (g .blockSize) (t .0))) (x .2)) in
           subst (λ (y : Answer Indexed). Chooses s y r) (sym (rw (right, t .1, at-suffix k (x .2) m))) (d (t .0) (x .0) q lies)

@@ -20,11 +20,10 @@ use Rattle.constructs.specs.ReachSteps.{liesBy}
 use Rattle.constructs.proofs.Lying.{lies-by}
 use Rattle.index_names.specs.Sorts.{index}
 use Rattle.index_values.specs.Elements.{elements}
-use Rattle.index_values.specs.Tests as tests
 use Rattle.index_values.specs.Tests.{Given, extentRows}
 use Rattle.index.specs.Index as text
 use Rattle.index.specs.Index.{File, fileOf, filesOf, indexOf, callerRight}
-use Rattle.index_values.specs.declared.tests.Partitions.{Partitions as Letters}
+use Rattle.index_values.specs.declared.tests.Partitions.{Partitions}
 use Rattle.elements.specs.Reading.{leftAt}
 use Rattle.xml.specs.Tree.{Forest}
 use Rattle.index_files.specs.FileSteps.{filesLeft}
@@ -50,7 +49,7 @@ row-byte L B r e =
     let a : 1 ≤ r .bytecount = leb-true 1 (r .bytecount) (and-left (leb 1 (r .bytecount)) (ltb (r .byteoffset) B) c) in
     omega arith
 
-module _ (g : Given) (w : Letters) (li ld ri rd : List ℕ) (ki kd : ℕ) (i : ReachTable (g .blockSize) li ri) (d : ReachTable (g .blockSize) ld rd)
+module _ (g : Given) (w : Partitions) (li ld ri rd : List ℕ) (ki kd : ℕ) (i : ReachTable (g .blockSize) li ri) (d : ReachTable (g .blockSize) ld rd)
     (hi : ki ≤ length li) (hd : kd ≤ length ld) (hB : 1 ≤ g .blockSize)
     (first : w .«index_letter» ≡ g .indexLetter) (other : w .«data_letter» ≡ g .dataLetter) (size : w .«block_size» ≡ g .blockSize) where
   lies-same : (r : Row) → 1 ≤ r .byteoffset + r .bytecount → liesIn w ri ki rd kd r ≡ lies (volumeWith g) (take ki li) (take kd ld) r
@@ -85,7 +84,7 @@ size-one g letter e =
     omega arith
 
 -- of an index that reads: the lowest file by the tables is the lowest by the definition
-pub lost-same : (g : Given) (w : Letters) (li ld ri rd : List ℕ) (ki kd letter block : ℕ) (t : List ℕ) (x : text.Index)
+pub lost-same : (g : Given) (w : Partitions) (li ld ri rd : List ℕ) (ki kd letter block : ℕ) (t : List ℕ) (x : text.Index)
     → ReachTable (g .blockSize) li ri → ReachTable (g .blockSize) ld rd → ki ≤ length li → kd ≤ length ld
     → w .«index_letter» ≡ g .indexLetter → w .«data_letter» ≡ g .dataLetter → w .«block_size» ≡ g .blockSize
     → indexOf g letter block t ≡ answer x
@@ -98,7 +97,7 @@ lost-same g w li ld ri rd ki kd letter block t x i d hi hd a b c e =
     ∙ ap (λ (z : Answer text.Index). badFileIn (volumeWith g) (soundly z) (take ki li) (take kd ld)) (sym e)
 
 -- a row by its letter
-module _ (w : Letters) (ri : List ℕ) (ki : ℕ) (rd : List ℕ) (kd : ℕ) (r : Row) where
+module _ (w : Partitions) (ri : List ℕ) (ki : ℕ) (rd : List ℕ) (kd : ℕ) (r : Row) where
   pub row-first : (b : Bool) → r .letter ≡ w .«index_letter» → b ≡ liesBy ri (w .«block_size») ki (r .startblock) (r .byteoffset) (r .bytecount) → b ≡ liesIn w ri ki rd kd r
   row-first b e h = rw (eq-eqb _ _ e) h
 
@@ -145,7 +144,7 @@ rows-of-files [] = refl
 rows-of-files (c ∷ l) = ap (λ (x : List (List Row)). extentRows c ∷ x) (rows-of-files l)
 
 -- the files that are read along the text are those of the index
-pub loses : (t : List ℕ) (w : Letters) (ri : List ℕ) (ki : ℕ) (rd : List ℕ) (kd : ℕ) (r : Lost)
+pub loses : (t : List ℕ) (w : Partitions) (ri : List ℕ) (ki : ℕ) (rd : List ℕ) (kd : ℕ) (r : Lost)
     → lostFile r ≡ firstFailing (every (liesIn w ri ki rd kd)) 0 (map extentRows (filesLeft (leftAt t 38))) → Loses t w ri ki rd kd r
 loses t w ri ki rd kd r h g letter block x e =
     h ∙ ap (firstFailing (every (liesIn w ri ki rd kd)) 0) (sym (rows-of-files (filesLeft (leftAt t 38))) ∙ ap rowsOfEach (files-left g letter block t x e))

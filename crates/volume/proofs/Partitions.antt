@@ -21,7 +21,7 @@ use Rattle.constructs.specs.Constructs.{Construct, standing, dataLengths}
 use Rattle.constructs.specs.Tables.{tableAfter}
 use Rattle.constructs.specs.TableSteps.{boundsIn, ScansPartition, scannedCount}
 use Rattle.constructs.specs.ReachSteps.{reaches, Reaches, reachAfter}
-use Rattle.constructs.specs.declared.Bounds.{Bounds as Spot}
+use Rattle.constructs.specs.declared.Bounds.{Bounds}
 use Rattle.constructs.specs.declared.Scanned.{Scanned}
 use Rattle.constructs.specs.Steps.{Suffix, here}
 use Rattle.constructs.proofs.Suffixes.{suffix-length, suffix-trans}
@@ -66,7 +66,7 @@ module _ (B : ℕ) (l s : List ℕ) (t : Tape) (e : Encodes l s t) where
 
   listed : (T : List ℕ) → length T ≡ 87380 → Listed s (tableAfter B T (answer t)) (standing B t)
   listed T n c cs suf =
-      subst (λ (q : Spot). Located s q c) (sym (spot-of T n c cs suf)) (record { first = refl; end = refl; text = spot-spans c cs suf .part })
+      subst (λ (q : Bounds). Located s q c) (sym (spot-of T n c cs suf)) (record { first = refl; end = refl; text = spot-spans c cs suf .part })
 
 -- a scan for constructs that answers n
 pub lists-of : (B : ℕ) (l s before after : List ℕ) (r : Scanned) (n : ℕ) → ScansPartition B l s before after r → scannedCount r ≡ answer n → ListsOf B l s before after n
@@ -115,7 +115,7 @@ ends-none table n count z = record { ends = go }
     go s t [] l e f = refl
     go s t (c ∷ cs) l e f = absurd (omega arith)
 
-pub ends-last : (table : List ℕ) (n count : ℕ) (p : Spot) (b : Bool) → (n ≡ 0 → ⊥) → p ≡ boundsIn table (n - 1) → b ≡ eqb (p .end) count → EndsAt table n count b
+pub ends-last : (table : List ℕ) (n count : ℕ) (p : Bounds) (b : Bool) → (n ≡ 0 → ⊥) → p ≡ boundsIn table (n - 1) → b ≡ eqb (p .end) count → EndsAt table n count b
 ends-last table n count p b z at q = record { ends = go }
   where
     go : (s : List ℕ) (t : Tape) (ds : List Construct) → Listed s table ds → n ≡ length ds → count ≡ length t → b ≡ endsWith t ds
@@ -123,7 +123,7 @@ ends-last table n count p b z at q = record { ends = go }
     go s t (c ∷ cs) l e f =
         let m : n - 1 ≡ length cs = omega arith in
         let w = l c cs (here refl) in
-        let h : p .end ≡ c .end = ap (λ (x : Spot). x .end) (at ∙ ap (boundsIn table) m) ∙ w .end in
+        let h : p .end ≡ c .end = ap (λ (x : Bounds). x .end) (at ∙ ap (boundsIn table) m) ∙ w .end in
         q ∙ ap (λ (x : ℕ). eqb x count) h ∙ ap (eqb (c .end)) f
 
 -- both tables filled

@@ -11,7 +11,7 @@ use Rattle.slices.proofs.Booleans.{split}
 use Rattle.quantities.specs.Addresses.{Address}
 use Rattle.constructs.specs.Constructs.{Construct}
 use Rattle.constructs.specs.TableSteps.{boundsIn}
-use Rattle.constructs.specs.declared.Bounds.{Bounds as Spot}
+use Rattle.constructs.specs.declared.Bounds.{Bounds}
 use Rattle.constructs.specs.Steps.{Suffix}
 use Rattle.verdict.specs.Verdict.{IndexLinks, Volume, readIndex, readData, follows, chainBreak, badFileIn}
 use Rattle.verdict.specs.Rescue.{pointedBlock, target, generationOf, through, cutAt, attempt}
@@ -34,14 +34,14 @@ module _ (table : List ℕ) (n : ℕ) (before : List ℕ) where
   unfolding beginnings
   begins-start s ds l h b = sym (ap (λ (x : List Construct). beginnings x before) (firsts-none ds))
 
-  pub begins-more : (after : List ℕ) (k : ℕ) (p : Spot) (m : ℕ) → BeginsAt table n before after k → k < n → p ≡ boundsIn table k → (k + 1 < 4294967296 → m ≡ k + 1)
+  pub begins-more : (after : List ℕ) (k : ℕ) (p : Bounds) (m : ℕ) → BeginsAt table n before after k → k < n → p ≡ boundsIn table k → (k + 1 < 4294967296 → m ≡ k + 1)
       → BeginsAt table n before (set after (p .first .0) m) (k + 1)
   unfolding beginnings
   begins-more after k p m w i e q s ds l h b =
       let x = next-first ds k (omega arith) in
       let z : length (firsts k ds) ≡ k = firsts-length ds k (omega arith) in
       let c = l (x .0) (firsts k ds) (x .2) in
-      let f : p .first .0 ≡ x .0 .first = ap (λ (y : Spot). y .first .0) (e ∙ ap (boundsIn table) (sym z)) ∙ c .first in
+      let f : p .first .0 ≡ x .0 .first = ap (λ (y : Bounds). y .first .0) (e ∙ ap (boundsIn table) (sym z)) ∙ c .first in
       let r : m ≡ suc (length (firsts k ds)) = q (omega arith) ∙ omega arith in
       ap (λ (y : List ℕ). set y (p .first .0) m) (w s ds l h b) ∙ rw (f, r) (sym (ap (λ (y : List Construct). beginnings y before) (x .1)))
 

@@ -9,13 +9,13 @@ use lib.ListN.{length, getD, take}
 use Rattle.refusals.specs.Refusals.{Answer, refused, answer}
 use Rattle.constructs.specs.Constructs.{Construct}
 use Rattle.constructs.specs.TableSteps.{boundsIn}
-use Rattle.constructs.specs.declared.Bounds.{Bounds as Spot}
+use Rattle.constructs.specs.declared.Bounds.{Bounds}
 use Rattle.constructs.specs.Steps.{Suffix}
 use Rattle.index.specs.Index as text
 use Rattle.index.specs.Index.{indexOf}
 use Rattle.index_values.specs.Tests.{Given}
 use Rattle.index_values.specs.Steps.{given}
-use Rattle.index_values.specs.declared.tests.Partitions.{Partitions as Letters}
+use Rattle.index_values.specs.declared.tests.Partitions.{Partitions}
 use Rattle.verdict.specs.Verdict.{IndexLinks, Volume, readIndex, badFileIn}
 use Rattle.verdict.specs.Rescue.{cutAmong}
 use Rattle.verdict.specs.Steps.{firsts}
@@ -37,7 +37,7 @@ sound-answer (refused r) b e f = let z : _≡_ {A = ℕ} 0 1 = cc (rw f at e) in
 sound-answer (answer x) b e f = (x, refl)
 
 -- of an index that reads: by the tables and by the definition the same file is lost
-pub lost-located : (u : List ℕ) (w : Letters) (is ds : List ℕ) (li ld ri rd : List ℕ) (here there : Spot) (t : List ℕ) (b : Brief) (c d : Construct)
+pub lost-located : (u : List ℕ) (w : Partitions) (is ds : List ℕ) (li ld ri rd : List ℕ) (here there : Bounds) (t : List ℕ) (b : Brief) (c d : Construct)
     → t ≡ boundsText is here → briefLink b ≡ linkOf (soundly (indexOf (given u w) (w .«index_letter») (here .first .0) t)) → Located is here c → Located ds there d
     → ReachTable (w .«block_size») li ri → ReachTable (w .«block_size») ld rd → c .end ≤ length li → d .end ≤ length ld
     → (lost : Lost) → Loses t w ri (here .end) rd (there .end) lost → b .sound ≡ true
@@ -53,7 +53,7 @@ lost-located u w is ds li ld ri rd here there t b c d is-text reads p q hi hd fi
     ∙ ap (λ (y : ℕ). badFileIn (volumeWith (given u w)) (readIndex (volumeWith (given u w)) c) (take y li) (take (there .end) ld)) (p .end)
     ∙ ap (λ (y : ℕ). badFileIn (volumeWith (given u w)) (readIndex (volumeWith (given u w)) c) (take (c .end) li) (take y ld)) (q .end))
 
-module _ (u : List ℕ) (w : Letters) (is ti : List ℕ) (k : ℕ) (td gens begins ri rd : List ℕ) (here : Spot) (t : List ℕ) (b : Brief)
+module _ (u : List ℕ) (w : Partitions) (is ti : List ℕ) (k : ℕ) (td gens begins ri rd : List ℕ) (here : Bounds) (t : List ℕ) (b : Brief)
     (at-here : here ≡ boundsIn ti k) (is-text : t ≡ boundsText is here) (reads : briefLink b ≡ linkOf (soundly (indexOf (given u w) (w .«index_letter») (here .first .0) t))) where
   v : Volume
   v = volumeWith (given u w)
@@ -71,9 +71,9 @@ module _ (u : List ℕ) (w : Letters) (is ti : List ℕ) (k : ℕ) (td gens begi
       there-is : Partner v ds gens (r .ds-store) td (b .block .0) j
       there-is = partner v ds gens (r .ds-store) td (b .block .0) j (r .chain) (r .whole) (r .generations) (sym (r .partners (b .block .0)) ∙ at-begin) some-one
 
-      module _ (there : Spot) (at-there : there ≡ boundsIn td (j - 1)) where
+      module _ (there : Bounds) (at-there : there ≡ boundsIn td (j - 1)) where
         located-there : Located (r .ds-store) there (there-is .one)
-        located-there = subst (λ (x : Spot). Located (r .ds-store) x (there-is .one)) (sym at-there) (there-is .placed)
+        located-there = subst (λ (x : Bounds). Located (r .ds-store) x (there-is .one)) (sym at-there) (there-is .placed)
 
         lost-here : (lost : Lost) → Loses t w ri (here .end) rd (there .end) lost → b .sound ≡ true
             → badFileIn v (readIndex v c) (take (c .end) li) (take (there-is .one .end) ld) ≡ lostFile lost
@@ -87,7 +87,7 @@ module _ (u : List ℕ) (w : Letters) (is ti : List ℕ) (k : ℕ) (td gens begi
   tries-nowhere z cs ds li ld r c bs suf n =
       sym (try-nowhere (volumeWith (given u w)) li ld c bs ds b (link-here cs ds li ld r c bs suf n) (sym (r .partners (b .block .0)) ∙ z))
 
-  module _ (j : ℕ) (at-begin : getD begins (b .block .0) 0 ≡ j) (some-one : j ≡ 0 → ⊥) (there : Spot) (at-there : there ≡ boundsIn td (j - 1))
+  module _ (j : ℕ) (at-begin : getD begins (b .block .0) 0 ≡ j) (some-one : j ≡ 0 → ⊥) (there : Bounds) (at-there : there ≡ boundsIn td (j - 1))
       (generation : ℕ) (is-generation : generation ≡ getD gens (j - 1) 0) where
     tries-apart : joined (briefLink b) (w .«data_letter») (there .first .0) generation ≡ false → Tries (given u w) w is ti k td gens begins ri rd Fails
     unfolding v
@@ -139,7 +139,7 @@ SearchesAt g is ti n td gens begins ri rd k =
     (cs ds : List Construct) (li ld : List ℕ) → Ready (volumeWith g) is ti td gens begins ri rd cs ds li ld
     → length cs ≡ n → cutAmong (volumeWith g) li ld ds cs ≡ cutAmong (volumeWith g) li ld ds (firsts k cs)
 
-module _ (g : Given) (w : Letters) (is ti : List ℕ) (n : ℕ) (td gens begins ri rd : List ℕ) where
+module _ (g : Given) (w : Partitions) (is ti : List ℕ) (n : ℕ) (td gens begins ri rd : List ℕ) where
   pub searches-start : SearchesAt g is ti n td gens begins ri rd n
   searches-start cs ds li ld r e =
       ap (cutAmong (volumeWith g) li ld ds) (sym (ap (λ (m : ℕ). firsts m cs) (sym e) ∙ firsts-all cs))

@@ -11,11 +11,11 @@ use lib.Seq.{take-length}
 use Rattle.tape.specs.Tape.{Tape}
 use Rattle.constructs.specs.Constructs.{Construct, standing, dataLengths}
 use Rattle.constructs.specs.TableSteps.{boundsIn}
-use Rattle.constructs.specs.declared.Bounds.{Bounds as Spot}
+use Rattle.constructs.specs.declared.Bounds.{Bounds}
 use Rattle.constructs.specs.Steps.{here}
 use Rattle.index.specs.Index.{indexOf}
 use Rattle.index_values.specs.Steps.{given}
-use Rattle.index_values.specs.declared.tests.Partitions.{Partitions as Letters}
+use Rattle.index_values.specs.declared.tests.Partitions.{Partitions}
 use Rattle.verdict.specs.Verdict.{IndexLinks, Volume, numbered, endsWith, readIndex, readData, follows, chainBreak, verdict}
 use Rattle.volume.specs.Volume.{soundly, volumeWith}
 use Rattle.volume.specs.Steps.{linkOf, briefLink, joined, boundsText, Located, lostFile, Loses, breakOf, lastBreak, JudgesLast}
@@ -27,7 +27,7 @@ use Rattle.volume.proofs.Briefs.{joined-follows}
 use Rattle.volume.proofs.Chaining.{link-located, joined-sound}
 use Rattle.volume.proofs.Trying.{lost-located}
 
-module _ (u : List ℕ) (w : Letters) (is ti : List ℕ) (k : ℕ) (td : List ℕ) (j generation : ℕ) (ri rd : List ℕ) (here there : Spot) (t : List ℕ) (b : Brief)
+module _ (u : List ℕ) (w : Partitions) (is ti : List ℕ) (k : ℕ) (td : List ℕ) (j generation : ℕ) (ri rd : List ℕ) (here there : Bounds) (t : List ℕ) (b : Brief)
     (at-here : here ≡ boundsIn ti k) (is-text : t ≡ boundsText is here) (reads : briefLink b ≡ linkOf (soundly (indexOf (given u w) (w .«index_letter») (here .first .0) t)))
     (at-there : there ≡ boundsIn td j) where
   abbrev v : Volume
@@ -36,10 +36,10 @@ module _ (u : List ℕ) (w : Letters) (is ti : List ℕ) (k : ℕ) (td : List �
   module _ (ds : List ℕ) (c d : Construct) (lc : Located is (boundsIn ti k) c) (ld : Located ds (boundsIn td j) d) (y : IndexLinks) (r : readData v d ≡ some y)
       (g : generation ≡ y .generation) where
     located-here : Located is here c
-    located-here = subst (λ (x : Spot). Located is x c) (sym at-here) lc
+    located-here = subst (λ (x : Bounds). Located is x c) (sym at-here) lc
 
     located-there : Located ds there d
-    located-there = subst (λ (x : Spot). Located ds x d) (sym at-there) ld
+    located-there = subst (λ (x : Bounds). Located ds x d) (sym at-there) ld
 
     follows-by : joined (briefLink b) (w .«data_letter») (there .first .0) generation ≡ follows v (readIndex v c) d (readData v d)
     follows-by =

@@ -11,7 +11,6 @@ use Rattle.tape.specs.Answers.{tapeIn, bytesBefore}
 use Rattle.constructs.specs.Constructs.{Construct, standing}
 use Rattle.index.specs.Index.{Summary, summaryOf, callerRight, indexOf}
 use Rattle.index_values.specs.Tests.{Given}
-use Rattle.volume.specs.declared.chosen.Chosen.the-variants as chosenIs
 
 -- the construct with a number: they are listed the last one first, the first of all has number 0
 unfoldable pub constructAt : ℕ → List Construct → Answer Construct

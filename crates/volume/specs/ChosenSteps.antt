@@ -10,14 +10,14 @@ use Rattle.index.specs.Places.{updateTimePlace}
 use Rattle.index.specs.Steps.{summaryIn, Definite}
 use Rattle.index_values.specs.Tests.{Given}
 use Rattle.index.specs.declared.read.Header.{Header}
-use Rattle.constructs.specs.declared.Bounds.{Bounds as Spot}
+use Rattle.constructs.specs.declared.Bounds.{Bounds}
 use Rattle.volume.specs.Steps.{boundsText, boundsOf}
 use Rattle.volume.specs.declared.chosen.Chosen.{Chosen}
 use Rattle.volume.specs.declared.chosen.Chosen.the-variants as chosenIs
 use Rattle.volume.specs.Chosen.{Indexed, readAt}
 
 -- a construct that was found at a spot of a store, and its header
-abbrev pub indexedIn : List ℕ → Spot → Header → Indexed
+abbrev pub indexedIn : List ℕ → Bounds → Header → Indexed
 indexedIn s p h =
     record { construct = record { first = p .first .0; end = p .end; text = boundsText s p }; from = p .from; summary = summaryIn (boundsText s p) h }
 
@@ -26,7 +26,7 @@ chosenBy s (chosenIs.Found p h) = answer (indexedIn s p h)
 chosenBy s (chosenIs.Refused r) = refused r
 
 -- its text lies in the store, and its header leaves nothing open
-pub record LiesInStore (s : List ℕ) (p : Spot) (h : Header) : Type 0 where
+pub record LiesInStore (s : List ℕ) (p : Bounds) (h : Header) : Type 0 where
   pub text : Inside s (p .from) (p .to - p .from)
   pub header : Definite (boundsText s p) (updateTimePlace (boundsText s p)) h
 
@@ -39,6 +39,6 @@ pub record Chooses (s : List ℕ) (a : Answer Indexed) (r : Chosen) : Type 0 whe
   pub inside : liesInStore s r
 
 -- the index at the spot of a construct
-abbrev pub ReadsPlace : Given → ℕ → List ℕ → Spot → Chosen → Type 0
+abbrev pub ReadsPlace : Given → ℕ → List ℕ → Bounds → Chosen → Type 0
 ReadsPlace g letter s p r =
     (t : Tape) (c : Construct) → p ≡ boundsOf t c → Spans s (p .from) (p .to - p .from) (c .text) → Chooses s (readAt g letter t c) r

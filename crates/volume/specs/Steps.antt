@@ -13,13 +13,13 @@ use Rattle.extents.specs.Rows.{Row}
 use Rattle.index.specs.Index as text
 use Rattle.index.specs.Index.{indexOf}
 use Rattle.index_values.specs.Tests.{Given}
-use Rattle.index_values.specs.declared.tests.Partitions.{Partitions as Letters}
+use Rattle.index_values.specs.declared.tests.Partitions.{Partitions}
 use Rattle.tape.specs.Tape.{Tape, Encodes, maxElements}
 use Rattle.tape.specs.Answers.{bytesBefore}
 use Rattle.constructs.specs.Constructs.{Construct, standing, dataLengths}
 use Rattle.constructs.specs.TableSteps.{boundsIn, tableLength}
 use Rattle.constructs.specs.ReachSteps.{reaches, liesBy}
-use Rattle.constructs.specs.declared.Bounds.{Bounds as Spot}
+use Rattle.constructs.specs.declared.Bounds.{Bounds}
 use Rattle.constructs.specs.Steps.{Suffix}
 use Rattle.verdict.specs.Verdict.{IndexLinks, Volume, Break, orElse, unless, numbered, follows, badFileIn, verdict, isAt, endsWith, firstFailing, readIndex, readData, chained, chainBreak, Cut}
 use Rattle.verdict.specs.Rescue.{generationOf, target, through, chain, attempt, cutAmong, rescue}
@@ -38,15 +38,15 @@ use Rattle.volume.specs.declared.chains.Linked.{Linked}
 use Rattle.volume.specs.Answers.{cutIs}
 
 -- the bytes of a store that a spot names
-abbrev pub boundsText : List ℕ → Spot → List ℕ
+abbrev pub boundsText : List ℕ → Bounds → List ℕ
 boundsText s p = take (p .to - p .from) (drop (p .from) s)
 
 -- the spot of a construct of a tape: its text begins behind the bytes of the blocks before it, and ends before its closing mark
-abbrev pub boundsOf : Tape → Construct → Spot
+abbrev pub boundsOf : Tape → Construct → Bounds
 boundsOf t c = record { first = record { 0 = c .first }; end = c .end; from = bytesBefore t (c .first); to = bytesBefore t (c .end - 1) }
 
 -- a construct lies at a spot of the store
-pub record Located (s : List ℕ) (p : Spot) (c : Construct) : Type 0 where
+pub record Located (s : List ℕ) (p : Bounds) (c : Construct) : Type 0 where
   pub first : p .first .0 ≡ c .first
   pub end : p .end ≡ c .end
   pub text : boundsText s p ≡ c .text
@@ -111,7 +111,7 @@ BeginsOf table n before after =
     (s : List ℕ) (ds : List Construct) → Listed s table ds → n ≤ length ds → n < 4294967296 → after ≡ beginnings (firsts n ds) before
 
 -- an extent lies on so many elements of each partition, by tables of how far data blocks reach
-abbrev pub liesIn : Letters → List ℕ → ℕ → List ℕ → ℕ → Row → Bool
+abbrev pub liesIn : Partitions → List ℕ → ℕ → List ℕ → ℕ → Row → Bool
 liesIn w ri ki rd kd r =
     cond (eqb (r .letter) (w .«index_letter»)) (liesBy ri (w .«block_size») ki (r .startblock) (r .byteoffset) (r .bytecount))
     (cond (eqb (r .letter) (w .«data_letter»)) (liesBy rd (w .«block_size») kd (r .startblock) (r .byteoffset) (r .bytecount)) false)
@@ -121,14 +121,14 @@ lostFile (lostIs.File k) = some k
 lostFile lostIs.Nothing = none
 
 -- the lowest file of an index that reads with an extent that does not lie there
-abbrev pub Loses : List ℕ → Letters → List ℕ → ℕ → List ℕ → ℕ → Lost → Type 0
+abbrev pub Loses : List ℕ → Partitions → List ℕ → ℕ → List ℕ → ℕ → Lost → Type 0
 Loses t w ri ki rd kd r =
     (g : Given) (letter block : ℕ) (x : text.Index) → indexOf g letter block t ≡ answer x
     → lostFile r ≡ firstFailing (every (liesIn w ri ki rd kd)) 0 (rowsOfEach (x .files))
 
 -- whether an index that has the text t and says b follows the construct at there, and by the tables its extents all lie on the ki elements
 -- of its partition and on those of the other up to that construct's end
-pub data FitsCut (t : List ℕ) (b : Brief) (w : Letters) (ki : ℕ) (there : Spot) (generation : ℕ) (ri rd : List ℕ) (r : Bool) : Type 0 where
+pub data FitsCut (t : List ℕ) (b : Brief) (w : Partitions) (ki : ℕ) (there : Bounds) (generation : ℕ) (ri rd : List ℕ) (r : Bool) : Type 0 where
   apart : r ≡ false → joined (briefLink b) (w .«data_letter») (there .first .0) generation ≡ false → FitsCut t b w ki there generation ri rd r
   losing : (l : Lost) (m : ℕ) → r ≡ false → joined (briefLink b) (w .«data_letter») (there .first .0) generation ≡ true → Loses t w ri ki rd (there .end) l
       → lostFile l ≡ some m → FitsCut t b w ki there generation ri rd r
@@ -156,7 +156,7 @@ pub record Ready (v : Volume) (is ti : List ℕ) (td gens begins ri rd : List �
 
 -- a cut that keeps construct k of the index partition and construct j of the data partition, which lie at here and there; b is what the
 -- index of the first says
-pub record Keeps (k j : ℕ) (here there : Spot) (b : Brief) (a : FoundCut) : Type 0 where
+pub record Keeps (k j : ℕ) (here there : Bounds) (b : Brief) (a : FoundCut) : Type 0 where
   pub indexConstruct : a .«index_construct» ≡ k
   pub dataConstruct : a .«data_construct» ≡ j
   pub indexKept : a .«index_kept» ≡ here .end
@@ -167,13 +167,13 @@ abbrev pub triedCut : Tried → Option Cut
 triedCut (triedIs.Fits k) = some (cutIs k)
 triedCut triedIs.Fails = none
 
-abbrev pub Tries : Given → Letters → List ℕ → List ℕ → ℕ → List ℕ → List ℕ → List ℕ → List ℕ → List ℕ → Tried → Type 0
+abbrev pub Tries : Given → Partitions → List ℕ → List ℕ → ℕ → List ℕ → List ℕ → List ℕ → List ℕ → List ℕ → Tried → Type 0
 Tries g w is ti k td gens begins ri rd r =
     (cs ds : List Construct) (li ld : List ℕ) → Ready (volumeWith g) is ti td gens begins ri rd cs ds li ld
     → (c : Construct) (bs : List Construct) → Suffix (c ∷ bs) cs → length bs ≡ k
     → triedCut r ≡ attempt (volumeWith g) li ld c bs (through (target (readIndex (volumeWith g) c)) ds)
 
-abbrev pub Searches : Given → Letters → List ℕ → List ℕ → ℕ → List ℕ → List ℕ → List ℕ → List ℕ → List ℕ → Tried → Type 0
+abbrev pub Searches : Given → Partitions → List ℕ → List ℕ → ℕ → List ℕ → List ℕ → List ℕ → List ℕ → List ℕ → Tried → Type 0
 Searches g w is ti n td gens begins ri rd r =
     (cs ds : List Construct) (li ld : List ℕ) → Ready (volumeWith g) is ti td gens begins ri rd cs ds li ld
     → length cs ≡ n → triedCut r ≡ cutAmong (volumeWith g) li ld ds cs

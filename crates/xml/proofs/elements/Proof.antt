@@ -11,10 +11,6 @@ use Rattle.xml.proofs.Scanning.{run-out}
 use Rattle.xml.proofs.OpenElements.{Stands, first, opened-below, opened, inside-ahead, inside, outside-ahead, left, root-ended, stopped}
 use Rattle.xml.proofs.elements.Statement.{statement}
 use Rattle.xml.proofs.elements.Tie as tie
-use Rattle.xml.proofs.elements.Reads as reads
-use Rattle.xml.proofs.elements.Lts as lts
-use Rattle.xml.proofs.finish.Reads as finish-reads
-use Rattle.xml.proofs.next_tag.Reads as next-tag-reads
 
 abbrev Inv-loop : tie.InvT-loop
 Inv-loop text from start end kinds starts₀ ends₀ depth₀ i₀ children₀ starts ends depth i children = Stands text (formRun (at (content blank) (part text start end ∷ [])) (drop from text)) starts ends depth i children

@@ -11,7 +11,6 @@ use Rattle.elements.proofs.Plain.{start-told}
 use borrow.Author.Needs.{needs}
 use Rattle.elements.proofs.starts.other_start.Statement.{statement}
 use Rattle.elements.proofs.starts.other_start.Tie as tie
-use Rattle.elements.proofs.starts.other_start.Reads as reads
 
 tag-end-requires : tie.Need-tag-end-requires
 tag-end-requires c κs = omega (arith, past-ahead (c .before .pre), c .before .pre .inside)
