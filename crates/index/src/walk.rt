@@ -210,7 +210,8 @@ fn settle(v: Judged, a: Sums) -> Sums
 
 // The fileuid of an entry goes into the table, from the place of that element; no other element has one there.
 fn put_uid(text: &[u8], uids: &mut [u64; 4096], place: usize, entry: bool, at: u64)
-    ensures { λ r. ⌜ now (uids .exit) ≡ cond entry (set (now (uids .entry)) at (numberOrZero (textOfFirst (seat (now (text .entry)) place)))) (now (uids .entry)) ⌝ }
+    ensures { λ r. ⌜ now (uids .exit)
+        ≡ cond entry (set (now (uids .entry)) at (numberOrZero (textOfFirst (seat (now (text .entry)) place)))) (now (uids .entry)) ⌝ }
 {
     if entry {
         tables::put(uids, at as usize, index_values::number_placed(text, place));

@@ -8,7 +8,7 @@ use lib.Seq.{take-take, drop-drop}
 use Rattle.slices.proofs.Parts.{drop-front}
 use Rattle.refusals.specs.Refusals.{Answer}
 use Rattle.elements.specs.Reading.{Inside}
-use Rattle.label.specs.Label.{Label as Told}
+use Rattle.label.specs.Label.{Label as Values}
 use Rattle.label.specs.TextPlaces.{TextPlaces}
 use Rattle.label.specs.Steps.{ReadsLabel}
 use Rattle.label.specs.declared.reader.Label.{Label}
@@ -32,7 +32,7 @@ module _ (s : List ℕ) (n by : ℕ) (k : Inside s by n) where
   within : (from len : ℕ) → Inside (take n (drop by s)) from len → from + len ≤ n
   within from len h = omega (arith, part-long)
 
-  pub reads-moved : {a : Answer Told} {w : TextPlaces} (r : Label) → ReadsLabel (take n (drop by s)) a w r → ReadsLabel s a (placesMoved by w) (labelMoved by r)
+  pub reads-moved : {a : Answer Values} {w : TextPlaces} (r : Label) → ReadsLabel (take n (drop by s)) a w r → ReadsLabel s a (placesMoved by w) (labelMoved by r)
   reads-moved (Refused r) p = record { says = p .says; inside = tt; stands = tt }
   reads-moved (Says f) p =
       let i = p .inside in
@@ -47,7 +47,7 @@ module _ (s : List ℕ) (n by : ℕ) (k : Inside s by n) where
         stands = ap (placesMoved by) (p .stands);
       }
 
-  pub begins : {a : Answer Told} {w : TextPlaces} (r : Label) → ReadsLabel (take n (drop by s)) a w r → BeginWithin n r
+  pub begins : {a : Answer Values} {w : TextPlaces} (r : Label) → ReadsLabel (take n (drop by s)) a w r → BeginWithin n r
   begins (Refused r) p = tt
   begins (Says f) p =
       let i = p .inside in
