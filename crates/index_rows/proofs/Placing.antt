@@ -16,7 +16,7 @@ use Rattle.elements.proofs.ByTag.{no-tags}
 use Rattle.children.specs.RowSteps.{seat, tagSeat}
 use Rattle.children.proofs.Seats.{seat-none, seat-some, tag-none, tag-some}
 use Rattle.index_names.specs.Names.{names, numberIn}
-use Rattle.index_rows.specs.Steps.{firstBy, firstIn, noted, Placed, TagsPlaced}
+use Rattle.index_rows.specs.Steps.{firstBy, noted, Placed, TagsPlaced}
 
 length-noted : (j n : ℕ) (t : List ℕ) → length (noted j n t) ≡ length t
 unfolding noted

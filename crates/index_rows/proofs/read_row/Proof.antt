@@ -5,7 +5,6 @@ use native.Mathlib.Omega.{arith}
 use lib.ListN.{length}
 use Rattle.elements.specs.declared.starts.Next.the-variants.{End, Close, Opens}
 use Rattle.elements.specs.Tags.{tagsAround}
-use Rattle.elements.specs.Reading.{forestAt}
 use Rattle.elements.specs.TagSteps.{FirstOf}
 use Rattle.elements.specs.StartSteps.{NextStart}
 use Rattle.elements.proofs.Plain.{inner-first}
