@@ -30,7 +30,7 @@ use Rattle.index_values.specs.Elements.{IndexElement, elements, textIn, childre
 use Rattle.index_values.specs.Entries.{numberOrZero, many, entriesOf}
 use Rattle.index_values.specs.Tests.{Given}
 use Rattle.index_values.proofs.Seated.{no-number}
-use Rattle.index_rows.specs.Steps.{Placed}
+use Rattle.index_rows.specs.Steps.{Placed, TagsPlaced}
 use Rattle.index.specs.declared.read.Header.{Header}
 use Rattle.index.specs.declared.read.Read.{Read}
 use Rattle.index.specs.declared.read.Read.the-variants.{Found, Refused}
@@ -100,16 +100,15 @@ pub same-place : {s : List ℕ} {a : Answer Index} {r : Read} {t u : Tags} (plac
 same-place {s} {a} {r} place e p = subst (λ (x : Tags). ReadsAs s (place x) a r) e p
 
 -- an index whose children are those of the header
-pub reads-children : {s t : List ℕ} {at : ℕ} {a : Answer Index} {h : Header} (release entries files : ℕ) → HeaderOf s at t release entries files h
-    → Placed s index (forestAt s at) t → entries ≡ entriesOf (elements index (forestAt s at)) → files ≡ fileCount (elements index (forestAt s at))
-    → a ≡ answer (indexWith release (forestAt s at)) → ReadsAs s (updateTimeIn s (tagsAt s at)) a (Found h)
-reads-children {s} {at = at} release entries files w p e f q =
-    let k = forestAt s at in
+pub reads-children : {s t : List ℕ} {a : Answer Index} {h : Header} (release entries files : ℕ) (k : Forest) (c : Tags) → HeaderOf s t release entries files h
+    → Placed s index k t → TagsPlaced s index c t → entries ≡ entriesOf (elements index k) → files ≡ fileCount (elements index k)
+    → a ≡ answer (indexWith release k) → ReadsAs s (updateTimeIn s c) a (Found h)
+reads-children release entries files k c w p r e f q =
     record {
       answers =
-          ap answer (w .heading p e f ∙ ap (λ (n : ℕ). record { heading = headingOf release k; files = n }) (sym (files-length (elements index k))))
+          ap answer (w .heading k p e f ∙ ap (λ (n : ℕ). record { heading = headingOf release k; files = n }) (sym (files-length (elements index k))))
           ∙ ap summaryOf (sym q);
-      header = w .definite;
+      header = w .definite c r;
     }
 
 module _ (g : Given) (letter block : ℕ) (f : Forest) where

@@ -6,14 +6,14 @@ use Prim.Native.Nat.{ℕ}
 use lib.ListN.{drop}
 use Rattle.quantities.specs.declared.BlockNumber.{BlockNumber}
 use Rattle.xml.specs.Tree.{Forest, none}
-use Rattle.elements.specs.Tags.{tagsAt, tagsIn}
+use Rattle.elements.specs.Tags.{Tags, tagsAt, tagsIn}
 use Rattle.elements.specs.declared.heads.Span.{Span}
 use Rattle.elements.specs.Reading.{forestAt, headAt, childrenAt, partAt, Inside}
 use Rattle.elements.specs.TagSteps.{Behind, FirstOf}
 use Rattle.elements.specs.StartSteps.{StartsElement}
 use Rattle.elements.specs.declared.starts.Start.{Start}
 use Rattle.index_names.specs.Sorts.{index}
-use Rattle.index_rows.specs.Steps.{noted, Placed}
+use Rattle.index_rows.specs.Steps.{noted, Placed, TagsPlaced}
 use Rattle.index_values.specs.Elements.{nameNumber, sortOf, elements}
 use Rattle.index_values.specs.Entries.{isEntry, entriesOf}
 use Rattle.index_values.specs.Tests.{Given, own, few}
@@ -88,11 +88,11 @@ pub record ReadsAs (s : List ℕ) (w : Span) (a : Answer Index) (r : Read) : Typ
 abbrev pub ReadsIndex : List ℕ → Answer Index → Read → Type 0
 ReadsIndex s = ReadsAs s (updateTimePlace s)
 
--- the header of an index whose children are the row at a place of the text s, and stand at places t, with so many entries, so many of them files
-pub record HeaderOf (s : List ℕ) (at : ℕ) (t : List ℕ) (release entries files : ℕ) (h : Header) : Type 0 where
-  pub heading : Placed s index (forestAt s at) t → entries ≡ entriesOf (elements index (forestAt s at)) → files ≡ fileCount (elements index (forestAt s at))
-      → summaryIn s h ≡ record { heading = headingOf release (forestAt s at); files = fileCount (elements index (forestAt s at)) }
-  pub definite : Definite s (updateTimeIn s (tagsAt s at)) h
+-- the header of any index whose children stand at places t of the text s, with so many entries, so many of them files
+pub record HeaderOf (s t : List ℕ) (release entries files : ℕ) (h : Header) : Type 0 where
+  pub heading : (k : Forest) → Placed s index k t → entries ≡ entriesOf (elements index k) → files ≡ fileCount (elements index k)
+      → summaryIn s h ≡ record { heading = headingOf release k; files = fileCount (elements index k) }
+  pub definite : (f : Tags) → TagsPlaced s index f t → Definite s (updateTimeIn s f) h
 
 -- a row in an element of that kind is over, of which m is seen and the places t are noted; reading goes on at n
 pub record Ends (n kind : ℕ) (m : List ℕ) (a : Sums) (t : List ℕ) (r : Left) : Type 0 where
@@ -124,6 +124,7 @@ pub record WalksRow (g : Given) (s : List ℕ) (kind at : ℕ) (a : All) (after 
   pub gathers : gathered (r .sums) after ≡ sweep g kind noneSeen (forestAt s at) a
   pub behind : Behind s at (r .at)
   pub places : Placed s kind (forestAt s at) (r .places)
+  pub tags : TagsPlaced s kind (tagsAt s at) (r .places)
 
 -- nothing gathered yet
 abbrev pub nothingYet : Sums
@@ -137,6 +138,7 @@ SumsUp u a r = (g : Given) (k : Forest) (table : List ℕ) → gathered a u ≡ 
 pub record Surveys (g : Given) (s : List ℕ) (at : ℕ) (r : Gathered) : Type 0 where
   pub sums : Surveyed g (forestAt s at) (r .sums)
   pub places : Placed s index (forestAt s at) (r .places)
+  pub tags : TagsPlaced s index (tagsAt s at) (r .places)
 
 module _ (s : List ℕ) (g : Given) (letter : ℕ) (block : BlockNumber) where
   -- what is read of an index at that partition letter and block: by its release and the row of its children

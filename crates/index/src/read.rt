@@ -113,24 +113,17 @@ fn has_row(text: &[u8], at: usize) -> bool
     }
 }
 
-// The header of an index whose children are the row at at and have those places.
-fn head_from(
-    text: &[u8],
-    at: usize,
-    places: &[usize; 16],
-    release: u64,
-    entries: u64,
-    files: u64,
-) -> Header
+// The header of an index whose children have those places.
+fn head_from(text: &[u8], places: &[usize; 16], release: u64, entries: u64, files: u64) -> Header
     requires { ⌜ files ≤ entries ⌝ }
-    ensures { λ r. ⌜ HeaderOf (now (text .entry)) at (now (places .entry)) release entries files r ⌝ }
+    ensures { λ r. ⌜ HeaderOf (now (text .entry)) (now (places .entry)) release entries files r ⌝ }
 {
     let here = index_rows::row_at(text, places[4]);
     let back = index_rows::row_at(text, places[9]);
     Header {
         release,
         generation: Generation(index_values::number_placed(text, places[2])),
-        time: index_values::span_in(text, at, b"updatetime"),
+        time: index_rows::span_at(text, places[3]),
         letter: letter_named(text, here),
         block: block_named(text, here),
         back: has_row(text, back),
@@ -177,7 +170,7 @@ fn read_children(
     if !is_place(text, index_rows::row_at(text, places[4]), letter, block) {
         return Read::Refused(Refusal::Location);
     }
-    Read::Found(head_from(text, at, &places, release, s.entries, s.files))
+    Read::Found(head_from(text, &places, release, s.entries, s.files))
 }
 
 // The index whose root's tag is at n.

@@ -1,5 +1,6 @@
 // A row of an index's elements read once: where the first element of each name stands.
 use elements::Next;
+use elements::Span;
 ghost use mathlib.Core.Path.{_≡_};
 ghost use Prim.Native.Nat.{_≤_};
 ghost use lib.ListN.{length};
@@ -7,7 +8,7 @@ ghost use Rattle.elements.specs.Reading.{forestAt};
 ghost use Rattle.elements.specs.TagSteps.{Behind};
 ghost use Rattle.children.specs.Children.{textOfFirst, childrenOfFirst};
 ghost use Rattle.children.specs.RowSteps.{seat};
-ghost use Rattle.index_rows.specs.Steps.{noted, Placed};
+ghost use Rattle.index_rows.specs.Steps.{noted, Placed, TextSeated};
 
 // Where the first element of each number stands, 0 where there is none, and where reading goes on behind the row.
 pub struct RowPlaces {
@@ -54,6 +55,16 @@ pub fn read_row(text: &[u8], at: usize, kind: usize) -> RowPlaces
             }
         }
     }
+}
+
+// Where the text of the element at a place stands.
+pub fn span_at(text: &[u8], n: usize) -> Span
+    ensures { λ r. ⌜ TextSeated (now (text .entry)) n r ⌝ }
+{
+    if n == 0 {
+        return Span { from: 0, len: 0 };
+    }
+    elements::text_at(text, n)
 }
 
 // The text of the element at a place, empty for the place 0.

@@ -11,20 +11,22 @@ use Rattle.slices.specs.Slices.{same, every}
 use Rattle.slices.specs.Words.{bytes}
 use Rattle.digits.specs.Decimal.{number, isNumber, plain}
 use Rattle.values.specs.Values as values
-use Rattle.xml.specs.Tree.{Forest, none, node}
-use Rattle.children.specs.Children.{textOfFirst, childrenOfFirst}
-use Rattle.children.specs.RowSteps.{seat}
+use Rattle.xml.specs.Tree.{Forest, none, node, tagHead}
+use Rattle.elements.specs.Tags.{Tags}
+use Rattle.children.specs.Children.{matching, textOfFirst, childrenOfFirst}
+use Rattle.children.specs.Places.{tagsNamed, firstText}
+use Rattle.children.specs.RowSteps.{seat, tagSeat}
 use Rattle.index_names.specs.Sorts.{index, root, directory, file, extent}
 use Rattle.index_names.specs.Tables.{indexTable, times, entryTable, ofDirectory, ofFile, extentTable, table}
 use Rattle.index_names.specs.Names.{names, numberIn}
-use Rattle.index_rows.specs.Steps.{firstIn, Placed}
-use Rattle.index_rows.proofs.Named.{ruled, number-own}
+use Rattle.index_rows.specs.Steps.{firstBy, firstIn, firstTag, Placed, TagsPlaced}
+use Rattle.index_rows.proofs.Named.{same-flip, ruled, number-own}
 use Rattle.index_values.specs.Elements.{textIn, childrenIn}
 use Rattle.index_values.specs.Entries.{isEntry, numberOrZero, uidOf}
 
 module _ (kind j : ℕ) (name : List ℕ) (told : (n : List ℕ) → eqb (numberIn (names kind) n) j ≡ same n name) where
   text-first : (f : Forest) → textIn name f ≡ textOfFirst (firstIn kind j f)
-  unfolding textIn firstIn textOfFirst
+  unfolding textIn firstBy textOfFirst
   text-first none = refl
   text-first (node h c r) = ap (λ (b : Bool). cond b (h .text) (textIn name r)) (sym (told (h .name))) ∙ go (eqb (numberIn (names kind) (h .name)) j) (text-first r)
     where
@@ -33,11 +35,24 @@ module _ (kind j : ℕ) (name : List ℕ) (told : (n : List ℕ) → eqb (number
       go false i = i
 
   row-first : (f : Forest) → childrenIn name f ≡ childrenOfFirst (firstIn kind j f)
-  unfolding childrenIn firstIn childrenOfFirst
+  unfolding childrenIn firstBy childrenOfFirst
   row-first none = refl
   row-first (node h c r) = ap (λ (b : Bool). cond b c (childrenIn name r)) (sym (told (h .name))) ∙ go (eqb (numberIn (names kind) (h .name)) j) (row-first r)
     where
       go : (b : Bool) → childrenIn name r ≡ childrenOfFirst (firstIn kind j r) → cond b c (childrenIn name r) ≡ childrenOfFirst (cond b (node h c none) (firstIn kind j r))
+      go true i = refl
+      go false i = i
+
+  -- where that text stands
+  place-first : (s : List ℕ) (f : Tags) → firstText s (tagsNamed name f) ≡ firstText s (firstTag kind j f)
+  unfolding matching firstBy
+  place-first s none = refl
+  place-first s (node x c r) =
+      ap (λ (b : Bool). firstText s (cond b (node x c (tagsNamed name r)) (tagsNamed name r))) (same-flip name (tagHead x .name) ∙ sym (told (tagHead x .name)))
+      ∙ go (eqb (numberIn (names kind) (tagHead x .name)) j) (place-first s r)
+    where
+      go : (b : Bool) → firstText s (tagsNamed name r) ≡ firstText s (firstTag kind j r)
+          → firstText s (cond b (node x c (tagsNamed name r)) (tagsNamed name r)) ≡ firstText s (cond b (node x c none) (firstTag kind j r))
       go true i = refl
       go false i = i
 
@@ -103,6 +118,10 @@ module _ (s : List ℕ) (f : Forest) (t : List ℕ) (placed : Placed s index f t
   unfolding names table indexTable bytes ruled same
   generation-placed = text-placed index 2 (bytes "generationnumber") (λ n. number-own (names index) 2 n refl) s f t placed (omega arith)
 
+  pub updatetime-placed : textIn (bytes "updatetime") f ≡ textOfFirst (seat s (getD t 3 0))
+  unfolding names table indexTable bytes ruled same
+  updatetime-placed = text-placed index 3 (bytes "updatetime") (λ n. number-own (names index) 3 n refl) s f t placed (omega arith)
+
   pub location-placed : childrenIn (bytes "location") f ≡ childrenOfFirst (seat s (getD t 4 0))
   unfolding names table indexTable bytes ruled same
   location-placed = row-placed index 4 (bytes "location") (λ n. number-own (names index) 4 n refl) s f t placed (omega arith)
@@ -123,3 +142,8 @@ module _ (s : List ℕ) (f : Forest) (t : List ℕ) (placed : Placed s index f t
 pub no-number : numberOrZero [] ≡ 0
 unfolding values.number number isNumber plain every
 no-number = refl
+
+pub updatetime-stands : (s : List ℕ) (f : Tags) (t : List ℕ) → TagsPlaced s index f t → firstText s (tagsNamed (bytes "updatetime") f) ≡ firstText s (tagSeat s (getD t 3 0))
+unfolding names table indexTable bytes ruled same
+updatetime-stands s f t placed =
+    place-first index 3 (bytes "updatetime") (λ n. number-own (names index) 3 n refl) s f ∙ ap (firstText s) (placed 3 (omega arith))

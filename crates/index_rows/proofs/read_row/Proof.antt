@@ -5,7 +5,6 @@ use native.Mathlib.Omega.{arith}
 use lib.ListN.{length}
 use Rattle.elements.specs.declared.starts.Next.the-variants.{End, Close, Opens}
 use Rattle.elements.specs.Tags.{tagsAround}
-use Rattle.elements.specs.Reading.{forestAt}
 use Rattle.elements.specs.TagSteps.{FirstOf}
 use Rattle.elements.specs.StartSteps.{NextStart}
 use Rattle.elements.proofs.Plain.{inner-first}
@@ -18,13 +17,13 @@ use Rattle.index_rows.proofs.read_row.Tie as tie
 
 abbrev Inv-loop : tie.InvT-loop
 Inv-loop text at kind i₀ places₀ i places =
-    (min at (length text) ≤ i) × (tagsAround text at ≡ tagsAround text i) × Noting text kind (forestAt text at) (forestAt text i) places
+    (min at (length text) ≤ i) × (tagsAround text at ≡ tagsAround text i) × Noting text kind at i places
 
 abbrev μ-loop : tie.MeasureT-loop
 μ-loop text at kind i₀ places₀ i places = length text - i
 
 loop-holds : tie.Need-loop-holds Inv-loop μ-loop
-loop-holds c = (omega arith, refl, noting-none (c .before .args .text .now) (c .before .args .kind) (forestAt (c .before .args .text .now) (c .before .args .at)))
+loop-holds c = (omega arith, refl, noting-none (c .before .args .text .now) (c .before .args .kind) (c .before .args .at))
 
 next-start-requires : tie.Need-next-start-requires Inv-loop μ-loop
 next-start-requires c κs = search needs
@@ -38,7 +37,7 @@ returns c =
     let s = a .text .now in
     let l = c .before .before .before .loop in
     let t : NextStart s (l .i) End = subst (NextStart s (l .i)) (c .enum-told .given .1) (c .before .before .next-start .ensures) in (
-      noting-all s (a .kind) (forestAt s (a .at)) (forestAt s (l .i)) (l .places) (row-end t) (l .inv .2),
+      noting-all s (a .kind) (a .at) (l .i) (l .places) (row-end t) (l .inv .2),
       behind-along (l .inv .0) (l .inv .1) (behind-end t),
     )
 
@@ -51,7 +50,7 @@ returns-2 c =
     let s = a .text .now in
     let l = c .before .before .before .before .loop in
     let t : NextStart s (l .i) (Close (c .before .n .given .0 .0)) = subst (NextStart s (l .i)) (c .before .n .given .1) (c .before .before .before .next-start .ensures) in (
-      noting-all s (a .kind) (forestAt s (a .at)) (forestAt s (l .i)) (l .places) (row-close t) (l .inv .2),
+      noting-all s (a .kind) (a .at) (l .i) (l .places) (row-close t) (l .inv .2),
       behind-along (l .inv .0) (l .inv .1) (behind-close t),
     )
 
@@ -87,7 +86,7 @@ loop-again c =
     let first : FirstOf s (l .i) (x .at) (x .next) = o .next (c .if1 .taken) in (
       omega (arith, l .inv .0, first .place, first .after),
       l .inv .1 ∙ first .tagsKept,
-      noting-more s (a .kind) (c .before .before .before .number-in .result) (l .places) (c .before .note .last .0) first (c .before .before .before .number-in .ensures ∙ ap (numberIn (names (a .kind))) (c .before .before .before .before .part .ensures ∙ o .shape .name .part)) (c .before .note .ensures) (forestAt s (a .at)) (l .inv .2),
+      noting-more s (a .kind) (c .before .before .before .number-in .result) (l .places) (c .before .note .last .0) first (c .before .before .before .number-in .ensures ∙ ap (numberIn (names (a .kind))) (c .before .before .before .before .part .ensures ∙ o .shape .name .part)) (c .before .note .ensures) (a .at) (l .inv .2),
     )
 
 leave-requires : tie.Need-leave-requires Inv-loop μ-loop
@@ -113,7 +112,7 @@ loop-again-2 c =
     let first : FirstOf s (l .i) (x .at) (c .leave .result) = inner-first o (c .before .if1 .left) (c .leave .ensures) in (
       omega (arith, l .inv .0, first .place, first .after),
       l .inv .1 ∙ first .tagsKept,
-      noting-more s (a .kind) (c .before .before .before .before .number-in .result) (l .places) (c .before .before .note .last .0) first (c .before .before .before .before .number-in .ensures ∙ ap (numberIn (names (a .kind))) (c .before .before .before .before .before .part .ensures ∙ o .shape .name .part)) (c .before .before .note .ensures) (forestAt s (a .at)) (l .inv .2),
+      noting-more s (a .kind) (c .before .before .before .before .number-in .result) (l .places) (c .before .before .note .last .0) first (c .before .before .before .before .number-in .ensures ∙ ap (numberIn (names (a .kind))) (c .before .before .before .before .before .part .ensures ∙ o .shape .name .part)) (c .before .before .note .ensures) (a .at) (l .inv .2),
     )
 
 pub read-row-spec : {M : Type 1} → statement M

@@ -3,14 +3,13 @@ use mathlib.Core.Path.{refl, ap, sym, _∙_}
 use mathlib.Core.List.{List}
 use Prim.Native.Nat.{ℕ}
 use native.Mathlib.Omega.{arith}
-use Rattle.slices.specs.Words.{bytes}
 use Rattle.xml.specs.Tree.{Forest}
 use Rattle.elements.specs.Reading.{hasElement, forestAt}
 use Rattle.values.specs.Values as values
 use Rattle.index_values.specs.Entries.{numberOrZero}
 use Rattle.index.specs.Index.{isTrue, locationOf}
 use Rattle.index.proofs.Answers.{same-heading, no-back-at}
-use Rattle.index_values.proofs.Seated.{generation-placed, location-placed, allow-placed, highest-placed, back-placed}
+use Rattle.index_values.proofs.Seated.{generation-placed, updatetime-placed, updatetime-stands, location-placed, allow-placed, highest-placed, back-placed}
 use borrow.Author.Needs.{needs}
 use Rattle.index.proofs.read.head_from.Statement.{statement}
 use Rattle.index.proofs.read.head_from.Tie as tie
@@ -33,11 +32,11 @@ element-copy-out-number-placed c = search needs
 number-placed-requires : tie.Need-number-placed-requires
 number-placed-requires c κs = search needs
 
-slice-aggregate-span-in : tie.Need-slice-aggregate-span-in
-slice-aggregate-span-in c = search needs
+element-copy-out-span-at : tie.Need-element-copy-out-span-at
+element-copy-out-span-at c = search needs
 
-span-in-requires : tie.Need-span-in-requires
-span-in-requires c κs = search needs
+span-at-requires : tie.Need-span-at-requires
+span-at-requires c κs = search needs
 
 letter-named-requires : tie.Need-letter-named-requires
 letter-named-requires c κs = search needs
@@ -69,32 +68,30 @@ element-copy-out-number-placed-2 c = search needs
 number-placed-requires-2 : tie.Need-number-placed-requires-2
 number-placed-requires-2 c κs = search needs
 
-sub-t36 : tie.Need-sub-t36
-sub-t36 c = omega (arith, c .before .before .before .before .before .before .before .before .before .before .before .before .before .before .before .before .before .before .before .pre)
+sub-t35 : tie.Need-sub-t35
+sub-t35 c = omega (arith, c .before .before .before .before .before .before .before .before .before .before .before .before .before .before .before .before .before .before .before .pre)
 
 returns : tie.Need-returns
-unfolding bytes
 returns c =
     record {
-      heading = λ p e f.
+      heading = λ k p e f.
           let s = c .before .before .before .before .before .before .before .before .before .before .before .before .before .before .before .before .before .before .before .args .text .now in
-          let k = forestAt s (c .before .before .before .before .before .before .before .before .before .before .before .before .before .before .before .before .before .before .before .args .at) in
           let t = c .before .before .before .before .before .before .before .before .before .before .before .before .before .before .before .before .before .before .before .args .places .now in
           let here = c .before .before .before .before .before .before .before .before .before .before .before .before .before .before .before .before .row-at .ensures .0 ∙ sym (location-placed s k t p) in
           let back = c .before .before .before .before .before .before .before .before .before .before .before .before .before .before .row-at2 .ensures .0 ∙ sym (back-placed s k t p) in
           same-heading (c .before .before .before .before .before .before .before .before .before .before .before .before .before .before .before .before .before .before .before .args .release) k (c .before .before .before .before .before .before .before .before .before .before .before .before .before .before .before .before .before .before .before .args .entries) (c .before .before .before .before .before .before .before .before .before .before .before .before .before .before .before .before .before .before .before .args .files) (c .before .before .before .before .before .before .before .before .before .before .before .before .number-placed .result) (c .number-placed2 .result) _ _ (c .before .before .before .before .before .before .before .before .before .letter-named .result) (c .before .before .before .before .before .before .before .before .block-named .result .0) (c .before .before .before .before .before .before .letter-named2 .result) (c .before .before .before .before .before .block-named2 .result .0) (c .before .before .before .before .before .before .before .has-row .result) (c .before .before .is-true .result)
           e f
           (c .before .before .before .before .before .before .before .before .before .before .before .before .number-placed .ensures ∙ ap numberOrZero (sym (generation-placed s k t p)))
-          (c .before .before .before .before .before .before .before .before .before .before .span-in .ensures .spans .part)
+          (c .before .before .before .before .before .before .before .before .before .before .span-at .ensures .spans .part ∙ sym (updatetime-placed s k t p))
           (c .before .before .before .before .before .before .before .before .before .letter-named .ensures ∙ ap (λ (f : Forest). locationOf f .letter) here) (c .before .before .before .before .before .before .before .before .block-named .ensures ∙ ap (λ (f : Forest). locationOf f .block) here)
           (c .before .before .before .before .before .before .before .has-row .ensures ∙ ap hasElement back)
           (c .before .before .before .before .before .before .letter-named2 .ensures ∙ ap (λ (f : Forest). locationOf f .letter) back) (c .before .before .before .before .before .block-named2 .ensures ∙ ap (λ (f : Forest). locationOf f .block) back)
           (c .before .before .is-true .ensures ∙ ap (λ (x : List ℕ). isTrue (values.boolean x)) (c .before .before .before .text-at .ensures ∙ sym (allow-placed s k t p)))
           (c .number-placed2 .ensures ∙ ap numberOrZero (sym (highest-placed s k t p))) refl;
-      definite =
+      definite = λ f q.
           record {
-            time = c .before .before .before .before .before .before .before .before .before .before .span-in .ensures .place;
-            inside = c .before .before .before .before .before .before .before .before .before .before .span-in .ensures .spans .inside;
+            time = c .before .before .before .before .before .before .before .before .before .before .span-at .ensures .place ∙ sym (updatetime-stands (c .before .before .before .before .before .before .before .before .before .before .before .before .before .before .before .before .before .before .before .args .text .now) f (c .before .before .before .before .before .before .before .before .before .before .before .before .before .before .before .before .before .before .before .args .places .now) q);
+            inside = c .before .before .before .before .before .before .before .before .before .before .span-at .ensures .spans .inside;
             noBack = no-back-at (forestAt (c .before .before .before .before .before .before .before .before .before .before .before .before .before .before .before .before .before .before .before .args .text .now) (c .before .before .before .before .before .before .before .before .before .before .before .before .before .before .row-at2 .result)) (c .before .before .before .before .before .before .before .has-row .result) (c .before .before .before .before .before .before .letter-named2 .result) (c .before .before .before .before .before .block-named2 .result .0) (c .before .before .before .before .before .before .before .has-row .ensures) (c .before .before .before .before .before .before .letter-named2 .ensures) (c .before .before .before .before .before .block-named2 .ensures);
           };
     }
@@ -109,8 +106,8 @@ head-from-spec =
     row-at-requires-2
     element-copy-out-number-placed
     number-placed-requires
-    slice-aggregate-span-in
-    span-in-requires
+    element-copy-out-span-at
+    span-at-requires
     letter-named-requires
     block-named-requires
     has-row-requires
@@ -121,5 +118,5 @@ head-from-spec =
     is-true-requires
     element-copy-out-number-placed-2
     number-placed-requires-2
-    sub-t36
+    sub-t35
     returns)

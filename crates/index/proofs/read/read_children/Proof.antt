@@ -3,6 +3,7 @@ use mathlib.Core.Path.{ap, sym, _∙_}
 use native.Mathlib.Omega.{arith}
 use borrow.Author.Tests.{not-true, not-false}
 use Rattle.xml.specs.Tree.{Forest}
+use Rattle.elements.specs.Tags.{tagsAt}
 use Rattle.elements.specs.Reading.{forestAt}
 use Rattle.index_names.specs.Sorts.{index}
 use Rattle.index_values.specs.Elements.{elements}
@@ -55,7 +56,7 @@ returns-7 : tie.Need-returns-7
 returns-7 c =
     let e = c .before .before .before .before .before .before .before .before .before .before .before .before .before .before .before .before .before .survey .ensures .sums .entries (not-false _ (c .before .before .before .before .before .before .before .before .before .before .before .if2 .left)) in
     let f = c .before .before .before .before .before .before .before .before .before .before .before .before .before .before .before .before .before .survey .ensures .sums .files (not-false _ (c .before .before .before .before .before .before .before .before .before .before .before .if2 .left)) in
-    reads-children (c .before .before .before .before .before .before .before .before .before .before .before .before .before .before .before .before .before .before .before .before .args .release) (c .before .before .before .before .before .before .before .before .before .before .before .before .before .before .before .before .before .survey .result .sums .entries) (c .before .before .before .before .before .before .before .before .before .before .before .before .before .before .before .before .before .survey .result .sums .files) (c .head-from .ensures) (c .before .before .before .before .before .before .before .before .before .before .before .before .before .before .before .before .before .survey .ensures .places) e f
+    reads-children (c .before .before .before .before .before .before .before .before .before .before .before .before .before .before .before .before .before .before .before .before .args .release) (c .before .before .before .before .before .before .before .before .before .before .before .before .before .before .before .before .before .survey .result .sums .entries) (c .before .before .before .before .before .before .before .before .before .before .before .before .before .before .before .before .before .survey .result .sums .files) (forestAt (c .before .before .before .before .before .before .before .before .before .before .before .before .before .before .before .before .before .before .before .before .args .text .now) (c .before .before .before .before .before .before .before .before .before .before .before .before .before .before .before .before .before .before .before .before .args .at)) (tagsAt (c .before .before .before .before .before .before .before .before .before .before .before .before .before .before .before .before .before .before .before .before .args .text .now) (c .before .before .before .before .before .before .before .before .before .before .before .before .before .before .before .before .before .before .before .before .args .at)) (c .head-from .ensures) (c .before .before .before .before .before .before .before .before .before .before .before .before .before .before .before .before .before .survey .ensures .places) (c .before .before .before .before .before .before .before .before .before .before .before .before .before .before .before .before .before .survey .ensures .tags) e f
     (children-read (given (c .before .before .before .before .before .before .before .before .before .before .before .before .before .before .before .before .before .before .before .before .args .uuid .now) (c .before .before .before .before .before .before .before .before .before .before .before .before .before .before .before .before .before .before .before .before .args .volume)) (c .before .before .before .before .before .before .before .before .before .before .before .before .before .before .before .before .before .before .before .before .args .letter) (c .before .before .before .before .before .before .before .before .before .before .before .before .before .before .before .before .before .before .before .before .args .block .0) (c .before .before .before .before .before .before .before .before .before .before .before .before .before .before .before .before .before .before .before .before .args .release) (forestAt (c .before .before .before .before .before .before .before .before .before .before .before .before .before .before .before .before .before .before .before .before .args .text .now) (c .before .before .before .before .before .before .before .before .before .before .before .before .before .before .before .before .before .before .before .before .args .at)) (sym (c .before .before .before .before .before .before .before .before .before .before .before .before .before .before .before .before .before .survey .ensures .sums .right) ∙ not-false _ (c .before .before .before .before .before .before .before .before .before .before .before .before .before .if1 .left)) (sym (c .before .before .before .before .before .before .before .before .before .before .before .before .before .before .before .before .before .survey .ensures .sums .small) ∙ not-false _ (c .before .before .before .before .before .before .before .before .before .before .before .if2 .left)) (sym (c .before .before .before .before .before .before .before .before .before .before .before .before .before .before .before .before .before .survey .ensures .sums .values (not-false _ (c .before .before .before .before .before .before .before .before .before .before .before .if2 .left))) ∙ not-false _ (c .before .before .before .before .before .before .before .before .before .if3 .left)) (sym (c .before .before .before .before .before .before .before .before .before .before .before .before .before .before .before .before .before .survey .ensures .sums .owned (not-false _ (c .before .before .before .before .before .before .before .before .before .before .before .if2 .left))) ∙ not-false _ (c .before .before .before .before .before .before .before .if4 .left)) (sym (c .before .before .before .before .before .before .before .before .before .before .before .before .before .before .before .before .before .survey .ensures .sums .lawful (not-false _ (c .before .before .before .before .before .before .before .before .before .before .before .if2 .left))) ∙ not-false _ (c .before .before .before .before .before .if5 .left)) (ap (λ (f : Forest). standsAt (c .before .before .before .before .before .before .before .before .before .before .before .before .before .before .before .before .before .before .before .before .args .letter) (c .before .before .before .before .before .before .before .before .before .before .before .before .before .before .before .before .before .before .before .before .args .block .0) (locationOf f)) (sym (c .before .before .before .before .row-at .ensures .0 ∙ sym (location-placed (c .before .before .before .before .before .before .before .before .before .before .before .before .before .before .before .before .before .before .before .before .args .text .now) (forestAt (c .before .before .before .before .before .before .before .before .before .before .before .before .before .before .before .before .before .before .before .before .args .text .now) (c .before .before .before .before .before .before .before .before .before .before .before .before .before .before .before .before .before .before .before .before .args .at)) (c .before .before .before .before .before .before .before .before .before .before .before .before .before .before .before .before .before .survey .result .places) (c .before .before .before .before .before .before .before .before .before .before .before .before .before .before .before .before .before .survey .ensures .places)))) ∙ sym (c .before .before .before .is-place .ensures) ∙ not-false _ (c .before .before .if6 .left)))
 
 pub read-children-spec : {M : Type 1} → statement M

@@ -17,6 +17,7 @@ returns c =
     record {
       sums = c .sum-up .ensures (given (a .uuid .now) (a .volume)) (forestAt (a .text .now) (a .at)) (a .table .now) (c .before .before .before .walk .ensures .gathers);
       places = c .before .before .before .walk .ensures .places;
+      tags = c .before .before .before .walk .ensures .tags;
     }
 
 pub survey-with-spec : {M : Type 1} → statement M

@@ -9,7 +9,7 @@ use Rattle.xml.specs.Tree.{Forest, none}
 use Rattle.xml.specs.FormSteps.{height}
 use Rattle.elements.specs.declared.tags.Tag.the-variants.{Open, Empty}
 use Rattle.elements.specs.declared.starts.Next.the-variants.{End, Close, Opens}
-use Rattle.elements.specs.Tags.{tagsAround}
+use Rattle.elements.specs.Tags.{tagsAt, tagsAround}
 use Rattle.elements.specs.Reading.{forestAt, headAt, childrenAt}
 use Rattle.elements.specs.TagSteps.{NextTag, Behind, FirstOf}
 use Rattle.elements.specs.StartSteps.{NextStart}
@@ -19,8 +19,8 @@ use Rattle.index_values.specs.Elements.{nameNumber}
 use Rattle.index_values.specs.Steps.{given}
 use Rattle.index.specs.SweepSteps.{gathered, noneSeen, afterRow, afterElement, sweep}
 use Rattle.index.specs.declared.walk.Sums.{Sums}
-use Rattle.index_rows.specs.Steps.{Placed}
-use Rattle.index_rows.proofs.Placing.{Noting, noting-none, noting-more, noting-all}
+use Rattle.index_rows.specs.Steps.{Placed, TagsPlaced}
+use Rattle.index_rows.proofs.Placing.{Noting, noting-none, noting-more, noting-all, noting-tags}
 use Rattle.index.proofs.Steps.{row-over, step-holds, step-other}
 use borrow.Author.Needs.{needs}
 use borrow.Fn.Kinds.{In}
@@ -74,13 +74,13 @@ abbrev walk-Inv-loop : walk-lts.InvT-loop
 walk-Inv-loop text uuid uids₀ rows₀ at kind depth volume i₀ a₀ seen₀ places₀ uids rows i a seen places =
     (at ≤ i) × (i ≤ length text) × (height (forestAt text i) ≤ depth) × (tagsAround text at ≡ tagsAround text i)
     × (sweep (given uuid volume) kind noneSeen (forestAt text at) (gathered a₀ uids₀) ≡ sweep (given uuid volume) kind seen (forestAt text i) (gathered a uids))
-    × Noting text kind (forestAt text at) (forestAt text i) places
+    × Noting text kind at i places
 
 abbrev walk-μ-loop : walk-lts.MeasureT-loop
 walk-μ-loop text uuid uids₀ rows₀ at kind depth volume i₀ a₀ seen₀ places₀ uids rows i a seen places = length text - i
 
 walk-loop-holds : (t : ℕ) → walk-lts.Need-loop-holds (claims t) (walk-at t) walk.Post walk-Inv-loop walk-μ-loop
-walk-loop-holds t c = (search needs, search needs, c .before .before .pre .1 .1, refl, refl, noting-none (c .before .before .args .text .now) (c .before .before .args .kind) (forestAt (c .before .before .args .text .now) (c .before .before .args .at)))
+walk-loop-holds t c = (search needs, search needs, c .before .before .pre .1 .1, refl, refl, noting-none (c .before .before .args .text .now) (c .before .before .args .kind) (c .before .before .args .at))
 
 walk-next-start-requires : (t : ℕ) → walk-lts.Need-next-start-requires (claims t) (walk-at t) walk.Post walk-Inv-loop walk-μ-loop
 walk-next-start-requires t c κs = search needs
@@ -103,7 +103,8 @@ walk-returns t c =
     record {
       gathers = ap (λ (x : Sums). gathered x (l .uids)) (c .over .ensures .sums) ∙ sym (l .inv .4 ∙ row-over g (a .kind) (l .seen) (gathered (l .a) (l .uids)) (forestAt s (l .i)) (row-end tag));
       behind = subst (Behind s (a .at)) (sym (c .over .ensures .at)) behind;
-      places = subst (Placed s (a .kind) (forestAt s (a .at))) (sym (c .over .ensures .places)) (noting-all s (a .kind) (forestAt s (a .at)) (forestAt s (l .i)) (l .places) (row-end tag) (l .inv .5));
+      places = subst (Placed s (a .kind) (forestAt s (a .at))) (sym (c .over .ensures .places)) (noting-all s (a .kind) (a .at) (l .i) (l .places) (row-end tag) (l .inv .5));
+      tags = subst (TagsPlaced s (a .kind) (tagsAt s (a .at))) (sym (c .over .ensures .places)) (noting-tags s (a .kind) (a .at) (l .i) (l .places) (row-end tag) (l .inv .5));
     }
 
 walk-enum-known-n : (t : ℕ) → walk-lts.Need-enum-known-n (claims t) (walk-at t) walk.Post walk-Inv-loop walk-μ-loop
@@ -125,7 +126,8 @@ walk-returns-2 t c =
     record {
       gathers = ap (λ (x : Sums). gathered x (l .uids)) (c .over2 .ensures .sums) ∙ sym (l .inv .4 ∙ row-over g (a .kind) (l .seen) (gathered (l .a) (l .uids)) (forestAt s (l .i)) (row-close tag));
       behind = subst (Behind s (a .at)) (sym (c .over2 .ensures .at)) behind;
-      places = subst (Placed s (a .kind) (forestAt s (a .at))) (sym (c .over2 .ensures .places)) (noting-all s (a .kind) (forestAt s (a .at)) (forestAt s (l .i)) (l .places) (row-close tag) (l .inv .5));
+      places = subst (Placed s (a .kind) (forestAt s (a .at))) (sym (c .over2 .ensures .places)) (noting-all s (a .kind) (a .at) (l .i) (l .places) (row-close tag) (l .inv .5));
+      tags = subst (TagsPlaced s (a .kind) (tagsAt s (a .at))) (sym (c .over2 .ensures .places)) (noting-tags s (a .kind) (a .at) (l .i) (l .places) (row-close tag) (l .inv .5));
     }
 
 walk-enum-known-h : (t : ℕ) → walk-lts.Need-enum-known-h (claims t) (walk-at t) walk.Post walk-Inv-loop walk-μ-loop
@@ -182,7 +184,7 @@ walk-loop-again t c =
       omega arith,
       l .inv .3 ∙ first .tagsKept,
       l .inv .4 ∙ step-other g (a .kind) (l .seen) (gathered (l .a) (l .uids)) first srt _ (c .before .before .before .enter .result) (met .known) (met .seen) (c .before .before .before .enter .ensures) (sym (c .before .before .is-open .ensures) ∙ not-true _ (c .before .if1 .taken)),
-      noting-more s (a .kind) (nameNumber (a .kind) (headAt s (x .at))) (l .places) _ first refl (met .places) (forestAt s (a .at)) (l .inv .5),
+      noting-more s (a .kind) (nameNumber (a .kind) (headAt s (x .at))) (l .places) _ first refl (met .places) (a .at) (l .inv .5),
     )
 
 walk-close-empty-requires : (t : ℕ) → walk-lts.Need-close-empty-requires (claims t) (walk-at t) walk.Post walk-Inv-loop walk-μ-loop
@@ -221,7 +223,7 @@ walk-loop-again-2 t c =
       omega arith,
       l .inv .3 ∙ first .tagsKept,
       l .inv .4 ∙ step-holds g (a .kind) (l .seen) (gathered (l .a) (l .uids)) first srt _ (c .before .before .before .before .before .before .enter .result) (met .known) (met .seen) (c .before .before .before .before .before .before .enter .ensures) _ (sym (c .before .before .before .before .before .is-open .ensures) ∙ not-false _ (c .before .before .before .before .if1 .left)) closes,
-      noting-more s (a .kind) (nameNumber (a .kind) (headAt s (x .at))) (l .places) _ first refl (met .places) (forestAt s (a .at)) (l .inv .5),
+      noting-more s (a .kind) (nameNumber (a .kind) (headAt s (x .at))) (l .places) _ first refl (met .places) (a .at) (l .inv .5),
     )
 
 walk-sub-walk : (t : ℕ) → walk-lts.Need-sub-walk (claims t) (walk-at t) walk.Post walk-Inv-loop walk-μ-loop
@@ -286,7 +288,7 @@ walk-loop-again-3 t c =
       omega arith,
       l .inv .3 ∙ first .tagsKept,
       l .inv .4 ∙ step-holds g (a .kind) (l .seen) (gathered (l .a) (l .uids)) first srt _ (c .before .before .before .before .before .before .before .before .before .enter .result) (met .known) (met .seen) (c .before .before .before .before .before .before .before .before .before .enter .ensures) _ (sym (c .before .before .before .before .before .before .before .before .is-open .ensures) ∙ not-false _ (c .before .before .before .before .before .before .before .if1 .left)) closes,
-      noting-more s (a .kind) (nameNumber (a .kind) (headAt s (x .at))) (l .places) _ first refl (met .places) (forestAt s (a .at)) (l .inv .5),
+      noting-more s (a .kind) (nameNumber (a .kind) (headAt s (x .at))) (l .places) _ first refl (met .places) (a .at) (l .inv .5),
     )
 
 pub +walk-spec : {M : Type 1} → statement M
