@@ -49,8 +49,12 @@ linesOf (answer b) k = verdictLine b ++ rescueLine k
 
 -- the bounds of the files: lists, then stores
 abbrev pub filesBounded : List ℕ → List ℕ → List ℕ → List ℕ → Bool
-filesBounded indexList indexStore dataList dataStore = leb (length indexList) 4096 && leb (length indexStore) 24576 && leb (length dataList) 4096 && leb (length dataStore) 24576
+filesBounded indexList indexStore dataList dataStore =
+    leb (length indexList) 4096 && leb (length indexStore) 24576 && leb (length dataList) 4096 && leb (length dataStore) 24576
 
 -- a file past its bound is 15 before all else
 abbrev pub linesIn : List ℕ → List ℕ → List ℕ → List ℕ → List ℕ
-linesIn indexList indexStore dataList dataStore = cond (filesBounded indexList indexStore dataList dataStore) (linesOf (verdictIn indexList indexStore dataList dataStore) (rescueIn indexList indexStore dataList dataStore)) (refusedLine TooMany)
+linesIn indexList indexStore dataList dataStore =
+    cond (filesBounded indexList indexStore dataList dataStore)
+    (linesOf (verdictIn indexList indexStore dataList dataStore) (rescueIn indexList indexStore dataList dataStore))
+    (refusedLine TooMany)

@@ -27,7 +27,8 @@ count j kind (node h c r) = cond (eqb (nameNumber kind h) j) (suc (count j kind 
 abbrev pub rightOften : ℕ → ℕ → ℕ → Bool
 rightOften needed j n = cond (ltb j needed) (eqb n 1) (leb n 1)
 
--- 16 is more than any kind has names, so names that are unknown are counted too. With `mayStand` of each of its elements, this is `lawful` of children's specs/Children by the table of the kind's names: proofs/Lawful, row-lawful
+-- 16 is more than any kind has names, so names that are unknown are counted too. With `mayStand` of each of its elements, this is
+-- `lawfulChildren` of children's specs/Children by the table of the kind's names: proofs/Lawful, row-lawful
 unfoldable pub complete : ℕ → Forest → Bool
 complete kind f = repeats kind || below 16 (λ j. rightOften (must kind) j (count j kind f))
 
