@@ -3,6 +3,7 @@
  * names, and once with nothing wrong. After every refusal all outputs are zero, and
  * no byte of a buffer is changed.
  */
+#include <ctype.h>
 #include <inttypes.h>
 #include <stdio.h>
 #include <string.h>
@@ -100,6 +101,23 @@ static void read_with(const struct volume_given *v)
            klapouzen_index(NONE, NONE, WORD(v->uuid), v->index, v->data, v->size, v->letter, 0, out), missing,
            KLAPOUZEN_CHOSEN);
 #undef TEXT
+}
+
+/* Each byte in each place of a UUID. */
+static void digits_with(void)
+{
+    static const char sample[] = SAMPLE_UUID;
+    for (size_t place = 0; place < sizeof sample - 1; place++)
+        for (int byte = 0; byte < 256; byte++) {
+            uint8_t uuid[sizeof sample - 1];
+            memcpy(uuid, sample, sizeof uuid);
+            uuid[place] = (uint8_t)byte;
+            int may_stand = sample[place] == '-' ? byte == '-' : isxdigit(byte) != 0;
+            uint64_t found = klapouzen_read_index(NONE, uuid, sizeof uuid, 'a', 'b', 4096, 'a', 5, out);
+            if (found != (may_stand ? KLAPOUZEN_BAD_FORM : 14))
+                fail("read_index", "a byte of the UUID", found);
+        }
+    fill();
 }
 
 /* These are given the letters alone, or the block size alone. */
@@ -211,6 +229,7 @@ int main(void)
 {
     fill();
     ansi_with();
+    digits_with();
     for (size_t i = 0; i < sizeof volumes / sizeof volumes[0]; i++) {
         read_with(&volumes[i]);
         find_with(&volumes[i]);

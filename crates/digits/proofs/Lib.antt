@@ -3,4 +3,4 @@ pub mod Widths
 pub mod Short
 pub mod Numbers
 pub mod Left
-pub mod Entries
+pub mod FormerTable

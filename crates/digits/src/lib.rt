@@ -1,4 +1,4 @@
-// Decimal and hex digits: numbers read from a text and written into one, and the table of hex digits.
+// Decimal and hex digits: numbers read from a text and written into one, and which bytes are hex digits.
 pub mod hex;
 
 use refusals::Refusal;

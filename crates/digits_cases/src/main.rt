@@ -28,14 +28,14 @@ fn show_read(s: &[u8]) {
 }
 
 fn show_hex() {
-    let table = digits::hex::table();
-    let mut b: u8 = 0;
-    while b < 255 {
-        if digits::hex::entry(&table, b) < 16 {
+    let mut n: usize = 0;
+    while n < 256 {
+        let b = n as u8;
+        if digits::hex::is_digit(b) {
             let text = [b];
             io::write_all(1, &text);
         }
-        b += 1;
+        n += 1;
     }
     line(b"");
 }

@@ -7,7 +7,6 @@ ghost use Prim.Native.Nat.{_+_, _-_, _<_, _≤_};
 ghost use lib.ListN.{length};
 ghost use Rattle.slices.specs.Slices.{within, every};
 ghost use Rattle.digits.specs.Steps.{valueOf};
-ghost use Rattle.digits.specs.Hex.{hexTable};
 ghost use Rattle.texts.specs.Decoded.{decoded};
 ghost use Rattle.slices.specs.Slices as slices;
 ghost use Rattle.values.specs.Values.{number, boolean, letter, version, byPattern, inPattern, two, inRanges, isPlain, isTime, isUuid, sameUuid, isCreator, isName, isRootName};
@@ -61,9 +60,8 @@ pub fn read_boolean(raw: &[u8]) -> Boolean
     Boolean::Nothing
 }
 
-// Whether a byte is as a form's byte says, by the table of hex digits.
-fn byte_fits(p: u8, b: u8, hex: &[u8; 256]) -> bool
-    requires { ⌜ now hex ≡ hexTable ⌝ }
+// Whether a byte is as a form's byte says.
+fn byte_fits(p: u8, b: u8) -> bool
     ensures { λ r. ⌜ r ≡ byPattern p b ⌝ }
 {
     if p == b'#' {
@@ -73,14 +71,13 @@ fn byte_fits(p: u8, b: u8, hex: &[u8; 256]) -> bool
         return b <= b'9';
     }
     if p == b'*' {
-        return digits::hex::entry(hex, b) < 16;
+        return digits::hex::is_digit(b);
     }
     p == b
 }
 
 // Whether each byte of raw is as the form's says.
-fn is_in_form(form: &[u8], raw: &[u8], hex: &[u8; 256]) -> bool
-    requires { ⌜ now hex ≡ hexTable ⌝ }
+fn is_in_form(form: &[u8], raw: &[u8]) -> bool
     ensures { λ r. ⌜ r ≡ inPattern (now (form .entry)) (now (raw .entry)) ⌝ }
 {
     if form.len() != raw.len() {
@@ -88,7 +85,7 @@ fn is_in_form(form: &[u8], raw: &[u8], hex: &[u8; 256]) -> bool
     }
     let mut i: usize = 0;
     while i < raw.len() {
-        if !byte_fits(form[i], raw[i], hex) {
+        if !byte_fits(form[i], raw[i]) {
             return false;
         }
         i += 1;
@@ -142,8 +139,7 @@ fn is_in_ranges(raw: &[u8]) -> bool
 pub fn is_time(raw: &[u8]) -> bool
     ensures { λ r. ⌜ r ≡ isTime (now (raw .entry)) ⌝ }
 {
-    let hex = digits::hex::table();
-    if !is_in_form(b"####-##-##T##:##:##.#########Z", raw, &hex) {
+    if !is_in_form(b"####-##-##T##:##:##.#########Z", raw) {
         return false;
     }
     is_in_ranges(raw)
@@ -153,8 +149,7 @@ pub fn is_time(raw: &[u8]) -> bool
 pub fn is_uuid(raw: &[u8]) -> bool
     ensures { λ r. ⌜ r ≡ isUuid (now (raw .entry)) ⌝ }
 {
-    let hex = digits::hex::table();
-    is_in_form(b"********-****-****-****-************", raw, &hex)
+    is_in_form(b"********-****-****-****-************", raw)
 }
 
 // Whether two UUIDs are the same.

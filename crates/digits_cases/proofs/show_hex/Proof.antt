@@ -1,23 +1,23 @@
--- `digits_cases::show_hex` counts bytes up to 254.
+-- `digits_cases::show_hex` goes over every byte.
 use Prim.Native.Nat.{_-_, _≤_}
 use borrow.Author.Needs.{needs}
 use Rattle.digits_cases.proofs.show_hex.Statement.{statement}
 use Rattle.digits_cases.proofs.show_hex.Tie as tie
 
 abbrev Inv-loop : tie.InvT-loop
-Inv-loop table b₀ t4 b = b ≤ 255
+Inv-loop n₀ t n = n ≤ 256
 
 abbrev μ-loop : tie.MeasureT-loop
-μ-loop table b₀ t4 b = 255 - b
-
-table-requires : tie.Need-table-requires Inv-loop μ-loop
-table-requires c κs = search needs
+μ-loop n₀ t n = 256 - n
 
 loop-holds : tie.Need-loop-holds Inv-loop μ-loop
 loop-holds c = search needs
 
-entry-requires : tie.Need-entry-requires Inv-loop μ-loop
-entry-requires c κs = search needs
+cast-b : tie.Need-cast-b Inv-loop μ-loop
+cast-b c = search needs
+
+is-digit-requires : tie.Need-is-digit-requires Inv-loop μ-loop
+is-digit-requires c κs = search needs
 
 slice-aggregate-write-all : tie.Need-slice-aggregate-write-all Inv-loop μ-loop
 slice-aggregate-write-all c = search needs
@@ -25,8 +25,8 @@ slice-aggregate-write-all c = search needs
 write-all-requires : tie.Need-write-all-requires Inv-loop μ-loop
 write-all-requires c κs = search needs
 
-add-b : tie.Need-add-b Inv-loop μ-loop
-add-b c = search needs
+add-n : tie.Need-add-n Inv-loop μ-loop
+add-n c = search needs
 
 loop-less : tie.Need-loop-less Inv-loop μ-loop
 loop-less c = search needs
@@ -49,12 +49,12 @@ show-hex-spec =
     (tie.spec
     Inv-loop
     μ-loop
-    table-requires
     loop-holds
-    entry-requires
+    cast-b
+    is-digit-requires
     slice-aggregate-write-all
     write-all-requires
-    add-b
+    add-n
     loop-less
     loop-again
     slice-aggregate-line

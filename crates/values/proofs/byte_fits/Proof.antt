@@ -1,12 +1,7 @@
--- `values::byte_fits` meets its contract: one case of the definition at each return; the table tells a hex digit.
-use mathlib.Core.Path.{ap, _∙_}
+-- `values::byte_fits` meets its contract: one case of the definition at each return.
+use mathlib.Core.Path.{_∙_}
 use borrow.Author.Tests.{eq-eqb, ne-eqb, le-leb, lt-leb}
 use Rattle.values.specs.Values.{byPattern}
-use Rattle.digits.proofs.Entries.{hex-entry, hex-digit}
-use lib.ListN.{getD}
-use lib.Dec.{ltb}
-use mathlib.Core.List.{List}
-use Prim.Native.Nat.{ℕ}
 use borrow.Author.Needs.{needs}
 use Rattle.values.proofs.byte_fits.Statement.{statement}
 use Rattle.values.proofs.byte_fits.Tie as tie
@@ -19,19 +14,16 @@ returns-2 : tie.Need-returns-2
 unfolding byPattern
 returns-2 c = simp (eq-eqb _ _ (c .before .if1 .taken), le-leb _ _ (c .if2 .left))
 
-entry-requires : tie.Need-entry-requires
-entry-requires c κs = search needs
+is-digit-requires : tie.Need-is-digit-requires
+is-digit-requires c κs = search needs
 
 returns-3 : tie.Need-returns-3
 unfolding byPattern
-returns-3 c =
-    let b = c .before .before .before .args .b in
-    let e = c .entry .ensures ∙ ap (λ (t : List ℕ). getD t b 0) (c .before .before .before .pre) ∙ hex-entry b (search needs) in
-    ap (λ (n : ℕ). ltb n 16) e ∙ hex-digit b ∙ simp (ne-eqb _ _ (c .before .before .if1 .left), eq-eqb _ _ (c .before .if3 .taken))
+returns-3 c = c .is-digit .ensures ∙ simp (ne-eqb _ _ (c .before .before .if1 .left), eq-eqb _ _ (c .before .if3 .taken))
 
 returns-4 : tie.Need-returns-4
 unfolding byPattern
 returns-4 c = simp (ne-eqb _ _ (c .before .if1 .left), ne-eqb _ _ (c .if3 .left))
 
 pub byte-fits-spec : {M : Type 1} → statement M
-byte-fits-spec = tie.close (tie.spec returns returns-2 entry-requires returns-3 returns-4)
+byte-fits-spec = tie.close (tie.spec returns returns-2 is-digit-requires returns-3 returns-4)

@@ -10,10 +10,10 @@ use Rattle.values.proofs.is_in_form.Statement.{statement}
 use Rattle.values.proofs.is_in_form.Tie as tie
 
 abbrev Inv-loop : tie.InvT-loop
-Inv-loop form raw hex i₀ i = (i ≤ length raw) × (length form ≡ length raw) × (inPattern form raw ≡ inPattern (drop i form) (drop i raw))
+Inv-loop form raw i₀ i = (i ≤ length raw) × (length form ≡ length raw) × (inPattern form raw ≡ inPattern (drop i form) (drop i raw))
 
 abbrev μ-loop : tie.MeasureT-loop
-μ-loop form raw hex i₀ i = length raw - i
+μ-loop form raw i₀ i = length raw - i
 
 returns : tie.Need-returns Inv-loop μ-loop
 returns c = sym (form-differs _ _ (c .if1 .taken))
@@ -28,7 +28,7 @@ shared-slice-read-byte-fits-2 : tie.Need-shared-slice-read-byte-fits-2 Inv-loop 
 shared-slice-read-byte-fits-2 c = search needs
 
 byte-fits-requires : tie.Need-byte-fits-requires Inv-loop μ-loop
-byte-fits-requires c κs = c .before .before .before .before .before .before .before .pre
+byte-fits-requires c κs = search needs
 
 returns-2 : tie.Need-returns-2 Inv-loop μ-loop
 returns-2 c = sym (c .before .before .before .before .before .loop .inv .2 ∙ form-off _ _ (c .before .before .before .before .before .loop .i) (search needs) (search needs) (sym (c .before .byte-fits .ensures) ∙ not-true _ (c .if2 .taken)))

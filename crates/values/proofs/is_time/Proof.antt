@@ -8,14 +8,11 @@ use borrow.Author.Needs.{needs}
 use Rattle.values.proofs.is_time.Statement.{statement}
 use Rattle.values.proofs.is_time.Tie as tie
 
-table-requires : tie.Need-table-requires
-table-requires c κs = search needs
-
 slice-aggregate-is-in-form : tie.Need-slice-aggregate-is-in-form
 slice-aggregate-is-in-form c = search needs
 
 is-in-form-requires : tie.Need-is-in-form-requires
-is-in-form-requires c κs = c .before .before .table .ensures
+is-in-form-requires c κs = search needs
 
 returns : tie.Need-returns
 unfolding isTime bytes
@@ -32,7 +29,6 @@ pub is-time-spec : {M : Type 1} → statement M
 is-time-spec =
     tie.close
     (tie.spec
-    table-requires
     slice-aggregate-is-in-form
     is-in-form-requires
     returns
