@@ -5,7 +5,8 @@ void bench_texts(void);
 void bench_volumes(void);
 void bench_ansi(void);
 
-/* One call of klapouzen_ansi on the most files, for a program that counts instructions. */
+/* One call of what is named, for a program that counts instructions. */
+void bench_once(const char *what);
 void ansi_once(void);
 
 #endif
