@@ -14,7 +14,7 @@ use Rattle.digits.specs.Decimal.{short}
 use Rattle.digits.proofs.Short.{length-short}
 use Rattle.xml.specs.Bytes.{declaration}
 use Rattle.values.specs.Values.{isCreator, isTime, isUuid, inRanges, isPlain}
-use Rattle.values.proofs.Forms.{form-length}
+use Rattle.values.proofs.Patterns.{pattern-length}
 use Rattle.label.specs.Label.{Label}
 use Rattle.label_writer.specs.Text.{escape, escaped, booleanWord, texts, letters, sizeAndCompression, textFront, textEnd, labelText, isLawfulLabel}
 use Rattle.label_writer.proofs.Fields.{in-rules}
@@ -41,11 +41,11 @@ word-short false = omega arith
 
 pub time-length : (s : List ℕ) → isTime s ≡ true → length s ≡ 30
 unfolding isTime bytes
-time-length s e = sym (form-length _ s (and-left _ (inRanges s) e))
+time-length s e = sym (pattern-length _ s (and-left _ (inRanges s) e))
 
 pub uuid-length : (s : List ℕ) → isUuid s ≡ true → length s ≡ 36
 unfolding isUuid bytes
-uuid-length s e = sym (form-length _ s e)
+uuid-length s e = sym (pattern-length _ s e)
 
 creator-length : (s : List ℕ) → isCreator s ≡ true → length s ≤ 255
 unfolding isCreator

@@ -22,7 +22,7 @@ use Rattle.xml.proofs.Logic.{cons-head}
 use Rattle.xml.proofs.Classes.{space-low, space-text, name-text, letter-name}
 use Rattle.xml.proofs.Utf8.{ascii}
 use Rattle.values.specs.Values.{isTime, isUuid, inRanges}
-use Rattle.values.proofs.Forms.{form-every}
+use Rattle.values.proofs.Patterns.{pattern-every}
 use Rattle.label_writer.specs.Text.{booleanWord}
 
 none-of : (a b c d : Bool) → not (a || b || c || d) ≡ true → (a ≡ false) × (b ≡ false) × (d ≡ false)
@@ -109,8 +109,8 @@ short-plain n = every-weaker isDigit isText digit-plain (short n) (digits-short 
 
 pub time-plain : (s : List ℕ) → isTime s ≡ true → every isText s ≡ true
 unfolding isTime every bytes isText isSpace
-time-plain s e = form-every isText digit-plain hex-plain (bytes "####-##-##T##:##:##.#########Z") s refl (and-left _ (inRanges s) e)
+time-plain s e = pattern-every isText digit-plain hex-plain (bytes "####-##-##T##:##:##.#########Z") s refl (and-left _ (inRanges s) e)
 
 pub uuid-plain : (s : List ℕ) → isUuid s ≡ true → every isText s ≡ true
 unfolding isUuid every bytes isText isSpace
-uuid-plain s e = form-every isText digit-plain hex-plain (bytes "********-****-****-****-************") s refl e
+uuid-plain s e = pattern-every isText digit-plain hex-plain (bytes "********-****-****-****-************") s refl e

@@ -23,11 +23,11 @@ boolean s =
     cond (same s (bytes "true") || same s (bytes "1")) (some true)
     (cond (same s (bytes "false") || same s (bytes "0")) (some false) none)
 
--- a byte by a form's: `#` stands for a decimal digit, `*` for a hex digit, any other byte for itself
+-- a byte by a pattern's: `#` stands for a decimal digit, `*` for a hex digit, any other byte for itself
 unfoldable pub byPattern : ℕ → ℕ → Bool
 byPattern p b = cond (eqb p 35) (decimal.isDigit b) (cond (eqb p 42) (isHex b) (eqb p b))
 
--- each byte by the form's, and none missing
+-- each byte by the pattern's, and none missing
 unfoldable pub inPattern : List ℕ → List ℕ → Bool
 inPattern [] [] = true
 inPattern [] (b ∷ s) = false

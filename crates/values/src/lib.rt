@@ -60,8 +60,8 @@ pub fn read_boolean(raw: &[u8]) -> Boolean
     Boolean::Nothing
 }
 
-// Whether a byte is as a form's byte says.
-fn byte_fits(p: u8, b: u8) -> bool
+// Whether a byte is as a pattern's byte says.
+fn is_by_pattern(p: u8, b: u8) -> bool
     ensures { λ r. ⌜ r ≡ byPattern p b ⌝ }
 {
     if p == b'#' {
@@ -76,16 +76,16 @@ fn byte_fits(p: u8, b: u8) -> bool
     p == b
 }
 
-// Whether each byte of raw is as the form's says.
-fn is_in_form(form: &[u8], raw: &[u8]) -> bool
-    ensures { λ r. ⌜ r ≡ inPattern (now (form .entry)) (now (raw .entry)) ⌝ }
+// Whether each byte of raw is as the pattern's says.
+fn is_in_pattern(pattern: &[u8], raw: &[u8]) -> bool
+    ensures { λ r. ⌜ r ≡ inPattern (now (pattern .entry)) (now (raw .entry)) ⌝ }
 {
-    if form.len() != raw.len() {
+    if pattern.len() != raw.len() {
         return false;
     }
     let mut i: usize = 0;
     while i < raw.len() {
-        if !byte_fits(form[i], raw[i]) {
+        if !is_by_pattern(pattern[i], raw[i]) {
             return false;
         }
         i += 1;
@@ -115,7 +115,7 @@ fn is_two(raw: &[u8], i: usize, lo: usize, hi: usize) -> bool
     n <= hi
 }
 
-// Whether the fields of a time in its form are in their ranges.
+// Whether the fields of a time in its pattern are in their ranges.
 fn is_in_ranges(raw: &[u8]) -> bool
     requires { ⌜ length (now raw) ≡ 30 ⌝ }
     ensures { λ r. ⌜ r ≡ inRanges (now (raw .entry)) ⌝ }
@@ -139,7 +139,7 @@ fn is_in_ranges(raw: &[u8]) -> bool
 pub fn is_time(raw: &[u8]) -> bool
     ensures { λ r. ⌜ r ≡ isTime (now (raw .entry)) ⌝ }
 {
-    if !is_in_form(b"####-##-##T##:##:##.#########Z", raw) {
+    if !is_in_pattern(b"####-##-##T##:##:##.#########Z", raw) {
         return false;
     }
     is_in_ranges(raw)
@@ -149,7 +149,7 @@ pub fn is_time(raw: &[u8]) -> bool
 pub fn is_uuid(raw: &[u8]) -> bool
     ensures { λ r. ⌜ r ≡ isUuid (now (raw .entry)) ⌝ }
 {
-    is_in_form(b"********-****-****-****-************", raw)
+    is_in_pattern(b"********-****-****-****-************", raw)
 }
 
 // Whether two UUIDs are the same.

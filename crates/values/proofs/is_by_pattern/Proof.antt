@@ -1,10 +1,10 @@
--- `values::byte_fits` meets its contract: one case of the definition at each return.
+-- `values::is_by_pattern` meets its contract: one case of the definition at each return.
 use mathlib.Core.Path.{_∙_}
 use borrow.Author.Tests.{eq-eqb, ne-eqb, le-leb, lt-leb}
 use Rattle.values.specs.Values.{byPattern}
 use borrow.Author.Needs.{needs}
-use Rattle.values.proofs.byte_fits.Statement.{statement}
-use Rattle.values.proofs.byte_fits.Tie as tie
+use Rattle.values.proofs.is_by_pattern.Statement.{statement}
+use Rattle.values.proofs.is_by_pattern.Tie as tie
 
 returns : tie.Need-returns
 unfolding byPattern
@@ -25,5 +25,5 @@ returns-4 : tie.Need-returns-4
 unfolding byPattern
 returns-4 c = simp (ne-eqb _ _ (c .before .if1 .left), ne-eqb _ _ (c .if3 .left))
 
-pub byte-fits-spec : {M : Type 1} → statement M
-byte-fits-spec = tie.close (tie.spec returns returns-2 is-digit-requires returns-3 returns-4)
+pub is-by-pattern-spec : {M : Type 1} → statement M
+is-by-pattern-spec = tie.close (tie.spec returns returns-2 is-digit-requires returns-3 returns-4)
