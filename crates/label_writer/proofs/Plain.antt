@@ -87,12 +87,12 @@ unfolding isAsciiLetter
 large-plain b h g = name-text b (letter-name b (simp (le-leb 65 b h, le-leb b 90 g, or-true)))
 
 hex-plain : (b : ℕ) → isHex b ≡ true → isText b ≡ true
-hex-plain b = go (within 48 57 b) (within 65 70 b) (within 97 102 b) refl refl refl
+hex-plain b = go (within 48 57 b) (within 97 102 b) (within 65 70 b) refl refl refl
   where
-    go : (t u v : Bool) → within 48 57 b ≡ t → within 65 70 b ≡ u → within 97 102 b ≡ v → (t || u || v) ≡ true → isText b ≡ true
+    go : (t u v : Bool) → within 48 57 b ≡ t → within 97 102 b ≡ u → within 65 70 b ≡ v → (t || u || v) ≡ true → isText b ≡ true
     go true u v e f g h = digit-plain b e
-    go false true v e f g h = let (x, y) = range 65 70 b f in large-plain b x (omega arith)
-    go false false true e f g h = let (x, y) = range 97 102 b g in small-plain b x (omega arith)
+    go false true v e f g h = let (x, y) = range 97 102 b f in small-plain b x (omega arith)
+    go false false true e f g h = let (x, y) = range 65 70 b g in large-plain b x (omega arith)
     go false false false e f g h = absurd (false≢true h)
 
 pub letter-plain : (b : ℕ) → isPartition b ≡ true → every isText (b ∷ []) ≡ true
