@@ -24,7 +24,13 @@ static void read_once(struct buffer text)
     buffer_free(&text);
 }
 
-/* Tests one time and one UUID. */
+/* No text: the UUID, the letters and the block size are all that is looked at before the refusal. */
+static void give_once(void)
+{
+    uint64_t header[KLAPOUZEN_INDEX];
+    need(klapouzen_read_index(NULL, 0, WORD(SAMPLE_UUID), 'a', 'b', 4096, 'a', 5, header) != KLAPOUZEN_BAD_FORM);
+}
+
 static void write_once(void)
 {
     uint8_t label[KLAPOUZEN_MAX_LABEL];
@@ -37,6 +43,8 @@ void bench_once(const char *what)
 {
     if (strcmp(what, "ansi") == 0)
         ansi_once();
+    else if (strcmp(what, "given") == 0)
+        give_once();
     else if (strcmp(what, "label") == 0)
         write_once();
     else if (strcmp(what, "nested") == 0)
