@@ -7,7 +7,10 @@ out=$1/bench/callgrind.out
 
 count() {
     local function=$1 what=$2 name=$3
-    valgrind --tool=callgrind --callgrind-out-file="$out" --toggle-collect="$function" "$bench" once "$what" 2> "$out.log" > /dev/null
+    if ! valgrind --tool=callgrind --callgrind-out-file="$out" --toggle-collect="$function" "$bench" once "$what" 2> "$out.log" > /dev/null; then
+        cat "$out.log" >&2
+        exit 1
+    fi
     printf '%-52s %12s\n' "$function, $name" "$(awk '/Collected/ { print $NF }' "$out.log")"
 }
 
