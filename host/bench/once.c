@@ -9,46 +9,66 @@
 
 #define WORD(text) (const uint8_t *)(text), strlen(text)
 
-static void need(uint64_t refusal)
+static void expect(uint64_t found, uint64_t wanted)
 {
-    if (refusal == 0)
+    if (found == wanted)
         return;
-    fprintf(stderr, "refused %d\n", (int)refusal);
+    fprintf(stderr, "answered %d\n", (int)found);
     exit(1);
 }
 
 static void read_once(struct buffer text)
 {
     uint64_t header[KLAPOUZEN_INDEX];
-    need(klapouzen_read_index(text.bytes, text.length, WORD(SAMPLE_UUID), 'a', 'b', 4096, 'a', 5, header));
+    expect(klapouzen_read_index(text.bytes, text.length, WORD(SAMPLE_UUID), 'a', 'b', 4096, 'a', 5, header), 0);
     buffer_free(&text);
 }
 
-/* No text: the UUID, the letters and the block size are all that is looked at before the refusal. */
-static void give_once(void)
+static void flat_once(void)
 {
-    uint64_t header[KLAPOUZEN_INDEX];
-    need(klapouzen_read_index(NULL, 0, WORD(SAMPLE_UUID), 'a', 'b', 4096, 'a', 5, header) != KLAPOUZEN_BAD_FORM);
+    read_once(index_of_size(KLAPOUZEN_MAX_INDEX, false));
 }
 
-static void write_once(void)
+static void indented_once(void)
+{
+    read_once(index_of_size(KLAPOUZEN_MAX_INDEX, true));
+}
+
+static void nested_once(void)
+{
+    read_once(nested_index(KLAPOUZEN_MAX_INDEX, 30));
+}
+
+/* No text: the UUID, the letters and the block size are all that is looked at before the refusal. */
+static void given_once(void)
+{
+    uint64_t header[KLAPOUZEN_INDEX];
+    expect(klapouzen_read_index(NULL, 0, WORD(SAMPLE_UUID), 'a', 'b', 4096, 'a', 5, header), KLAPOUZEN_BAD_FORM);
+}
+
+static void label_once(void)
 {
     uint8_t label[KLAPOUZEN_MAX_LABEL];
     uint64_t length;
-    need(klapouzen_write_label(label, sizeof label, WORD("LTFS"), WORD(SAMPLE_TIME), WORD(SAMPLE_UUID), 'a', 'a', 'b',
-                               524288, 1, &length));
+    expect(klapouzen_write_label(label, sizeof label, WORD("LTFS"), WORD(SAMPLE_TIME), WORD(SAMPLE_UUID), 'a', 'a', 'b',
+                                 524288, 1, &length), 0);
 }
+
+static const struct {
+    const char *what;
+    void (*run)(void);
+} calls[] = {
+    { "ansi", ansi_once },     { "flat", flat_once },   { "indented", indented_once },
+    { "nested", nested_once }, { "given", given_once }, { "label", label_once },
+};
 
 void bench_once(const char *what)
 {
-    if (strcmp(what, "ansi") == 0)
-        ansi_once();
-    else if (strcmp(what, "given") == 0)
-        give_once();
-    else if (strcmp(what, "label") == 0)
-        write_once();
-    else if (strcmp(what, "nested") == 0)
-        read_once(nested_index(KLAPOUZEN_MAX_INDEX, 30));
-    else
-        read_once(index_of_size(KLAPOUZEN_MAX_INDEX, strcmp(what, "indented") == 0));
+    for (size_t i = 0; i < sizeof calls / sizeof calls[0]; i++)
+        if (strcmp(what, calls[i].what) == 0) {
+            calls[i].run();
+            return;
+        }
+    fprintf(stderr, "no call has the name %s\n", what);
+    exit(1);
 }

@@ -4,3 +4,4 @@ pub mod Short
 pub mod Numbers
 pub mod Left
 pub mod FormerTable
+pub mod HexDigits

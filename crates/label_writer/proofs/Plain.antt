@@ -13,6 +13,7 @@ use Rattle.slices.proofs.Every.{every-weaker}
 use Rattle.quantities.specs.Letters.{isLetter as isPartition}
 use Rattle.digits.specs.Decimal.{isDigit, short}
 use Rattle.digits.specs.Hex.{isHex}
+use Rattle.digits.proofs.HexDigits.{hex-each}
 use Rattle.digits.proofs.Short.{digits-short}
 use Rattle.xml.specs.Bytes.{isSpace, isAsciiLetter, isNameByte}
 use Rattle.xml.specs.Tree.{isNot, notOpen}
@@ -87,13 +88,9 @@ unfolding isAsciiLetter
 large-plain b h g = name-text b (letter-name b (simp (le-leb 65 b h, le-leb b 90 g, or-true)))
 
 hex-plain : (b : ℕ) → isHex b ≡ true → isText b ≡ true
-hex-plain b = go (within 48 57 b) (within 97 102 b) (within 65 70 b) refl refl refl
-  where
-    go : (t u v : Bool) → within 48 57 b ≡ t → within 97 102 b ≡ u → within 65 70 b ≡ v → (t || u || v) ≡ true → isText b ≡ true
-    go true u v e f g h = digit-plain b e
-    go false true v e f g h = let (x, y) = range 97 102 b f in small-plain b x (omega arith)
-    go false false true e f g h = let (x, y) = range 65 70 b g in large-plain b x (omega arith)
-    go false false false e f g h = absurd (false≢true h)
+hex-plain =
+    hex-each (λ b. isText b ≡ true) digit-plain (λ b e. let (x, y) = range 97 102 b e in small-plain b x (omega arith))
+    (λ b e. let (x, y) = range 65 70 b e in large-plain b x (omega arith))
 
 pub letter-plain : (b : ℕ) → isPartition b ≡ true → every isText (b ∷ []) ≡ true
 unfolding every
