@@ -1,26 +1,24 @@
 -- What is told of a volume keeps demand 3.
 use mathlib.Core.Path.{_≡_, refl, sym, _∙_, ap}
 use mathlib.Core.Logic.{_↔_}
-use mathlib.Core.Bool.{true}
 use mathlib.Core.List.{List}
 use mathlib.Core.Option.{Option, none, some}
 use Prim.Native.Nat.{ℕ, _≤_}
 use native.Mathlib.Omega.{arith}
-use lib.Dec.{eqb}
 use lib.ListN.{getD}
-use Rattle.refusals.specs.Refusals.{Answer, refused, answer, numberOf}
+use Rattle.refusals.specs.Refusals.{Answer, refused, answer}
+use Rattle.refusals.proofs.Numbers.{not-zero}
 use Rattle.verdict.specs.Verdict.{Break}
 use Rattle.volume.specs.Volume.{verdictIn}
 use Rattle.volume.proofs.Demands.{verdict-owes, breaks-named}
 use Rattle.api.specs.Outputs.{Shown}
 use Rattle.api.specs.Volumes.{breakNumbers, NoBreak, JudgesOut}
-use Rattle.api.proofs.Showing.{not-zero}
 
 -- the numbers tell that no break is answered
 no-break-told : (a : Answer (Option Break)) → ((b : Break) → a ≡ answer (some b) → 1 ≤ b .which) → {n : ℕ} {out : List ℕ} → Shown 2 breakNumbers a n out
     → NoBreak n out ↔ (a ≡ answer none)
 no-break-told (refused r) w s = (
-  (λ q. let e : eqb (numberOf r) 0 ≡ true = ap (λ (m : ℕ). eqb m 0) (sym (s .refusal) ∙ q .0) in let z : _≡_ {A = ℕ} 0 1 = cc (e, not-zero r) in absurd (omega arith)),
+  (λ q. absurd (not-zero r (sym (s .refusal) ∙ q .0))),
   (λ q. let z : _≡_ {A = ℕ} 0 1 = cc in absurd (omega arith)),
 )
 no-break-told (answer none) w s = ((λ q. refl), (λ q. (s .refusal, ap (λ (o : List ℕ). getD o 0 0) (s .holds))))

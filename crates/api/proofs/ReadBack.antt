@@ -4,9 +4,10 @@ use mathlib.Core.Bool.{Bool, true, false}
 use mathlib.Core.List.{List, [], _∷_}
 use Prim.Native.Nat.{ℕ, zero, suc, _≤_}
 use native.Mathlib.Omega.{arith}
-use lib.Dec.{leb, eqb}
+use lib.Dec.{leb}
 use lib.ListN.{length, take, drop, getD, length-drop}
 use Rattle.refusals.specs.Refusals.{Answer, answer}
+use Rattle.refusals.proofs.Numbers.{not-zero}
 use Rattle.slices.specs.Slices.{written}
 use Rattle.slices.proofs.Booleans.{and-right}
 use Rattle.slices.specs.declared.Written.{Written}
@@ -23,17 +24,13 @@ use Rattle.label_writer.specs.Text.{labelText, isGiven}
 use Rattle.label_writer.proofs.RoundTrip.{text-reads}
 use Rattle.api.specs.Outputs.{Shown, ShownAs, one, writtenLength, WritesOut, Stores}
 use Rattle.api.specs.Labels.{vol1Places, SaysLabel, ReadAsVol1, ReadAsLabel, WritesVol1, WritesLabel, isWritable}
-use Rattle.api.proofs.Showing.{not-zero}
 
 -- what is not refused was written whole
 wrote-all : (w before after : List ℕ) (n : ℕ) (given : Bool) → WritesOut given w before after 0 n → (given ≡ true) × (take n after ≡ w)
 wrote-all w before after n given p = go given (p .written) (p .writes) (p .shows)
   where
     go : (given : Bool) (a : Written) → Writes given w before after a → Shown 1 one (writtenLength a) 0 (one n) → (given ≡ true) × (take n after ≡ w)
-    go given (Refused r) q s =
-        let e : eqb 0 0 ≡ false = ap (λ (k : ℕ). eqb k 0) (s .refusal) ∙ not-zero r in
-        let z : _≡_ {A = ℕ} 0 1 = cc in
-        absurd (omega arith)
+    go given (Refused r) q s = absurd (not-zero r (sym (s .refusal)))
     go true (To m) q s =
         let (h, e, z) = reached 0 w before after m (record { answers = q .answers; holds = q .holds }) in
         let l : n ∷ [] ≡ m ∷ [] = s .holds in

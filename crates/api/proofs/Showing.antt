@@ -1,35 +1,11 @@
 -- What a function shows of a callee's answer: a value's numbers, or a refusal's number and zeros.
 use mathlib.Core.Path.{_≡_, refl, subst}
-use mathlib.Core.Bool.{false}
 use mathlib.Core.List.{List}
 use Prim.Native.Nat.{ℕ}
-use lib.Dec.{eqb}
 use lib.ListN.{replicate}
 use Rattle.refusals.specs.declared.Refusal.{Refusal}
-use Rattle.refusals.specs.declared.Refusal.the-variants as refusal
 use Rattle.refusals.specs.Refusals.{Answer, refused, answer, numberOf}
 use Rattle.api.specs.Outputs.{Shown, ShownAs}
-
--- no refusal has the number 0
-pub not-zero : (r : Refusal) → eqb (numberOf r) 0 ≡ false
-not-zero refusal.List = refl
-not-zero refusal.Missing = refl
-not-zero refusal.Vol1 = refl
-not-zero refusal.Form = refl
-not-zero refusal.Structure = refl
-not-zero refusal.Value = refl
-not-zero refusal.Version = refl
-not-zero refusal.Foreign = refl
-not-zero refusal.Layout = refl
-not-zero refusal.Short = refl
-not-zero refusal.Extents = refl
-not-zero refusal.Location = refl
-not-zero refusal.NoCut = refl
-not-zero refusal.Caller = refl
-not-zero refusal.TooMany = refl
-not-zero refusal.Labels = refl
-not-zero refusal.EndOfVolume = refl
-not-zero refusal.BlockCount = refl
 
 module _ {A : Type 0} {n : ℕ} {a : Answer A} where
   pub shown : {show : A → List ℕ} (v : A) → answer v ≡ a → Shown n show a 0 (show v)
