@@ -1,4 +1,5 @@
 pub mod Showing
+pub mod Keeping
 pub mod Saying
 pub mod Writing
 pub mod ReadBack

@@ -7,18 +7,26 @@ use Rattle.refusals.specs.declared.Refusal.the-variants.{Caller}
 use Rattle.refusals.specs.Refusals.{Answer, answer, require, andThen}
 use Rattle.quantities.specs.Sizes.{isBlockSize}
 use Rattle.tape.specs.Tape.{Tape}
-use Rattle.tape.specs.Answers.{tapeIn, Lengths, lengths, keeping, StorePart, placeOf, blockOf, Holds}
+use Rattle.tape.specs.Answers.{tapeIn, Fronts, Lengths, keeping, keptOf, StorePart, placeOf, blockOf, Holds}
+use Rattle.tape.specs.Again.{frontsOf, KeepsAgain}
 use Rattle.constructs.specs.Constructs.{standing}
 use Rattle.constructs.specs.Tables.{tableAfter}
 use Rattle.api.specs.Outputs.{Shown, one, bit}
-use lib.ListN.{length}
+use lib.ListN.{length, getD}
 
--- how many bytes of the list and of the store n elements keep
-abbrev pub keptOf : ℕ → List ℕ → List ℕ → Answer Lengths
-keptOf n l s = andThen (keeping n l s) (λ f. answer (lengths f))
-
+-- how many bytes of the list and of the store are kept
 abbrev pub fronts : Lengths → List ℕ
 fronts f = f .list ∷ f .store ∷ []
+
+-- the first bytes of the list and of the store, as many as the outputs tell
+abbrev pub toldFronts : List ℕ → List ℕ → List ℕ → Fronts
+toldFronts outputs l s = frontsOf (record { list = getD outputs 0 0; store = getD outputs 1 0 }) l s
+
+-- what keeping m elements shows: the lengths; those bytes are what is kept, and keeping n of them is keeping the smaller number
+pub record ShowsKept (m : ℕ) (l s : List ℕ) (returned : ℕ) (outputs : List ℕ) : Type 0 where
+  pub shown : Shown 2 fronts (keptOf m l s) returned outputs
+  pub bytes : returned ≡ 0 → keeping m l s ≡ answer (toldFronts outputs l s)
+  pub again : returned ≡ 0 → KeepsAgain m l s (toldFronts outputs l s)
 
 -- the side, 0 for the index side and 1 for the data side; where the block begins in that side's store, and its length
 abbrev pub partNumbers : StorePart → List ℕ

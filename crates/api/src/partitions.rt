@@ -7,7 +7,7 @@ use tape::ListChecked;
 use tape::Located;
 ghost use Rattle.tape.specs.Answers.{elementCount};
 ghost use Rattle.api.specs.Outputs.{Shown, one};
-ghost use Rattle.api.specs.Partitions.{keptOf, fronts, ShowsPlace, ListsConstructs};
+ghost use Rattle.api.specs.Partitions.{ShowsKept, ShowsPlace, ListsConstructs};
 
 // The number of elements of a partition.
 #[no_mangle]
@@ -29,7 +29,7 @@ pub extern "C" fn klapouzen_check_list(list: &[u8], store: &[u8], count: &mut u6
 // How many bytes of the list and of the store n elements keep; n above the count keeps all.
 #[no_mangle]
 pub extern "C" fn klapouzen_keep(list: &[u8], store: &[u8], n: u64, out: &mut [u64; 2]) -> u64
-    ensures { λ r. ⌜ Shown 2 fronts (keptOf n (now (list .entry)) (now (store .entry))) r (now (out .exit)) ⌝ }
+    ensures { λ r. ⌜ ShowsKept n (now (list .entry)) (now (store .entry)) r (now (out .exit)) ⌝ }
 {
     match tape::keep(list, store, n as usize) {
         Kept::Lengths(l, s) => {

@@ -9,12 +9,11 @@ use lib.ListN.{length, take, length-append, length-take}
 use lib.Seq.{take-nil, take-append-add}
 use Rattle.refusals.specs.declared.Refusal.{Refusal}
 use Rattle.refusals.specs.declared.Refusal.the-variants as refusal
-use Rattle.refusals.specs.Refusals.{Answer, refused, answer, andThen, Shows}
+use Rattle.refusals.specs.Refusals.{refused, answer, andThen}
 use Rattle.tape.specs.Tape.{Tape, list, store, entry, content, cellOf, Encodes}
 use Rattle.tape.specs.ReadingSteps.{tapeOf}
 use Rattle.tape.specs.WalkSteps.{reach}
-use Rattle.tape.specs.Answers.{orRefused, tapeIn, elementCount, Fronts, kept, keeping, Lengths, lengths}
-use Rattle.tape.specs.Steps.{listKept, storeKept}
+use Rattle.tape.specs.Answers.{orRefused, tapeIn, elementCount, kept, keeping}
 use Rattle.tape.proofs.Entries.{Bytes}
 use Rattle.tape.proofs.Encoding.{encodes-read}
 use Rattle.tape.proofs.Walking.{reach-tape}
@@ -84,45 +83,6 @@ pub keeping-absent : (n : ℕ) (l s : List ℕ) (r : Refusal) → refused r ≡ 
 unfolding keeping
 keeping-absent n l s r e = rw (absent l s r e)
 
--- the parts of those lengths
-pub record Parts (n : ℕ) (l s : List ℕ) (a b : ℕ) : Type 0 where
-  pub list : Shows (listKept (keeping n l s)) (take a l) 0
-  pub store : Shows (storeKept (keeping n l s)) (take b s) 0
-  pub inList : a ≤ length l
-  pub inStore : b ≤ length s
-
 -- a front is no longer than the whole
-front-within : (x y : List ℕ) → take (length x) y ≡ x → length x ≤ length y
+pub front-within : (x y : List ℕ) → take (length x) y ≡ x → length x ≤ length y
 front-within x y e = let f : min (length x) (length y) ≡ length x = sym (length-take (length x) y) ∙ ap length e in omega arith
-
-parts-of : (n a b : ℕ) (l s : List ℕ) (o : Option Tape) → Bytes l → tapeOf l s ≡ o
-    → answer (record { list = a; store = b }) ≡ andThen (andThen (orRefused o) (λ t. answer (kept n t))) (λ f. answer (lengths f)) → Parts n l s a b
-unfolding keeping
-parts-of n a b l s none w q e = let z : _≡_ {A = ℕ} 0 1 = cc in absurd (omega arith)
-parts-of n a b l s (some t) w q e =
-    let d = encodes-read l s t w q in
-    let p : record { list = a; store = b } ≡ lengths (kept n t) = cc in
-    let x : a ≡ length (list (take n t)) = ap (λ (m : Lengths). m .list) p in
-    let y : b ≡ length (store (take n t)) = ap (λ (m : Lengths). m .store) p in
-    record {
-      list = rw (x, q, d .lists) record { part = list-front n t; refusal = refl };
-      store = rw (y, q, d .stores) record { part = store-front n t; refusal = refl };
-      inList = rw (x, d .lists) (front-within _ _ (list-front n t));
-      inStore = rw (y, d .stores) (front-within _ _ (store-front n t));
-    }
-
-pub parts : (n a b : ℕ) (l s : List ℕ) → Bytes l → answer (record { list = a; store = b }) ≡ andThen (keeping n l s) (λ f. answer (lengths f)) → Parts n l s a b
-unfolding keeping
-parts n a b l s w e = parts-of n a b l s (tapeOf l s) w refl e
-
--- where keeping is refused, so are both parts
-pub record NoParts (n : ℕ) (l s : List ℕ) (r : Refusal) : Type 0 where
-  pub list : listKept (keeping n l s) ≡ refused r
-  pub store : storeKept (keeping n l s) ≡ refused r
-
-no-parts-of : (n : ℕ) (r : Refusal) (l s : List ℕ) (a : Answer Fronts) → keeping n l s ≡ a → refused r ≡ andThen a (λ f. answer (lengths f)) → NoParts n l s r
-no-parts-of n r l s (refused x) q e = let z : x ≡ r = cc in record { list = rw (q, z); store = rw (q, z) }
-no-parts-of n r l s (answer f) q e = let z : _≡_ {A = ℕ} 0 1 = cc in absurd (omega arith)
-
-pub no-parts : (n : ℕ) (r : Refusal) (l s : List ℕ) → refused r ≡ andThen (keeping n l s) (λ f. answer (lengths f)) → NoParts n l s r
-no-parts n r l s e = no-parts-of n r l s (keeping n l s) refl e

@@ -4,5 +4,6 @@ pub mod Walking
 pub mod Encoding
 pub mod Elements
 pub mod Keeping
+pub mod Again
 pub mod Passing
 pub mod Blocks

@@ -48,6 +48,9 @@ pub record Lengths : Type 0 where
 abbrev pub lengths : Fronts → Lengths
 lengths f = record { list = length (f .list); store = length (f .store) }
 
+abbrev pub keptOf : ℕ → List ℕ → List ℕ → Answer Lengths
+keptOf n l s = andThen (keeping n l s) (λ f. answer (lengths f))
+
 abbrev pub asBlock : Option Element → Answer (List ℕ)
 asBlock none = refused refusal.Missing
 asBlock (some mark) = refused refusal.Missing

@@ -2,4 +2,5 @@ pub mod Tape
 pub mod ReadingSteps
 pub mod WalkSteps
 pub mod Answers
+pub mod Again
 pub mod Steps

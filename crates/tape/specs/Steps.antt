@@ -1,10 +1,10 @@
--- What the answers of this crate say, and what finding a block owes.
+-- What the answers of this crate say, and what keeping and finding a block owe.
 use mathlib.Core.Path.{_≡_}
 use mathlib.Core.Bool.{true, false}
 use mathlib.Core.List.{List}
 use Prim.Native.Nat.{ℕ}
 use lib.ListN.{length}
-use Rattle.refusals.specs.Refusals.{Answer, refused, answer, andThen}
+use Rattle.refusals.specs.Refusals.{Answer, refused, answer, andThen, Shows}
 use Rattle.tape.specs.declared.ListChecked.{ListChecked}
 use Rattle.tape.specs.declared.ListChecked.the-variants as checked
 use Rattle.tape.specs.declared.Kept.{Kept}
@@ -12,7 +12,8 @@ use Rattle.tape.specs.declared.Kept.the-variants as keptIs
 use Rattle.tape.specs.declared.Located.{Located}
 use Rattle.tape.specs.declared.Located.the-variants as locatedIs
 use Rattle.tape.specs.Tape.{Tape, list, store, Encodes}
-use Rattle.tape.specs.Answers.{Fronts, Holds, Lengths, StorePart, blockOf, placeOf}
+use Rattle.tape.specs.Answers.{Lengths, keeping, keptOf, Holds, StorePart, blockOf, placeOf}
+use Rattle.tape.specs.Again.{frontsOf, KeepsAgain}
 
 -- a list and a store of a tape with so many elements
 pub record Encoded (l s : List ℕ) (count : ℕ) : Type 0 where
@@ -28,12 +29,18 @@ abbrev pub keptLengths : Kept → Answer Lengths
 keptLengths (keptIs.Lengths l s) = answer (record { list = l; store = s })
 keptLengths (keptIs.Refused r) = refused r
 
--- the parts themselves
-abbrev pub listKept : Answer Fronts → Answer (List ℕ)
-listKept a = andThen a (λ f. answer (f .list))
+-- what keeping m elements answers: the lengths of what is kept, which is the first bytes, and these can be kept again
+pub record Keeps (m : ℕ) (l s : List ℕ) (a : Answer Lengths) : Type 0 where
+  pub answers : a ≡ keptOf m l s
+  pub bytes : keeping m l s ≡ andThen a (λ k. answer (frontsOf k l s))
+  pub again : (k : Lengths) → a ≡ answer k → KeepsAgain m l s (frontsOf k l s)
 
-abbrev pub storeKept : Answer Fronts → Answer (List ℕ)
-storeKept a = andThen a (λ f. answer (f .store))
+-- the list that is kept, and the store, each beside the refusal's number
+abbrev pub ShowsList : ℕ → List ℕ → List ℕ → List ℕ → ℕ → Type 0
+ShowsList m l s x number = Shows (andThen (keeping m l s) (λ f. answer (f .list))) x number
+
+abbrev pub ShowsStore : ℕ → List ℕ → List ℕ → List ℕ → ℕ → Type 0
+ShowsStore m l s y number = Shows (andThen (keeping m l s) (λ f. answer (f .store))) y number
 
 abbrev pub located : Located → Answer StorePart
 located (locatedIs.Index from n) = answer (record { onIndex = true; from = from; size = n })

@@ -4,13 +4,13 @@ use refusals::Refusal;
 ghost use mathlib.Core.Path.{_≡_};
 ghost use Prim.Native.Nat.{_+_, _≤_, _<_, min};
 ghost use lib.ListN.{length};
-ghost use Rattle.refusals.specs.Refusals.{answer, andThen, Shows};
+ghost use Rattle.refusals.specs.Refusals.{Shows};
 ghost use Rattle.quantities.specs.Letters.{areLetters};
 ghost use Rattle.tape.specs.Tape.{maxElements};
 ghost use Rattle.tape.specs.ReadingSteps.{numberAt, entryAt, cells};
 ghost use Rattle.tape.specs.WalkSteps.{totalsFrom, reach, spotAt, spotBelow};
-ghost use Rattle.tape.specs.Answers.{elementCount, keeping, lengths, blockOf};
-ghost use Rattle.tape.specs.Steps.{counted, keptLengths, listKept, storeKept, located, FindsBlock};
+ghost use Rattle.tape.specs.Answers.{elementCount, blockOf};
+ghost use Rattle.tape.specs.Steps.{counted, keptLengths, Keeps, ShowsList, ShowsStore, located, FindsBlock};
 
 // What stands at a place of a list, with the place of the next entry: a file mark, a block with its length, nothing since the list
 // ends, or no entry of a list.
@@ -184,7 +184,7 @@ fn least(a: usize, b: usize) -> usize
 
 // Keeps n elements; n above the count keeps all.
 pub fn keep(list: &[u8], store: &[u8], n: usize) -> Kept
-    ensures { λ r. ⌜ keptLengths r ≡ andThen (keeping n (now (list .entry)) (now (store .entry))) (λ f. answer (lengths f)) ⌝ }
+    ensures { λ r. ⌜ Keeps n (now (list .entry)) (now (store .entry)) (keptLengths r) ⌝ }
 {
     match check(list, store) {
         ListChecked::Elements(count) => {
@@ -197,7 +197,7 @@ pub fn keep(list: &[u8], store: &[u8], n: usize) -> Kept
 
 // The front of the list that keeping n elements keeps, empty where refused; the refusal's number, or 0, beside it.
 pub fn kept_list<'a>(list: &'a [u8], store: &[u8], n: usize, refusal: &mut u64) -> &'a [u8]
-    ensures { λ r. ⌜ Shows (listKept (keeping n (now (list .entry)) (now (store .entry)))) (now r) (now (refusal .exit)) ⌝ }
+    ensures { λ r. ⌜ ShowsList n (now (list .entry)) (now (store .entry)) (now r) (now (refusal .exit)) ⌝ }
 {
     match keep(list, store, n) {
         Kept::Lengths(l, _) => {
@@ -213,7 +213,7 @@ pub fn kept_list<'a>(list: &'a [u8], store: &[u8], n: usize, refusal: &mut u64) 
 
 // The front of the store, likewise.
 pub fn kept_store<'a>(list: &[u8], store: &'a [u8], n: usize, refusal: &mut u64) -> &'a [u8]
-    ensures { λ r. ⌜ Shows (storeKept (keeping n (now (list .entry)) (now (store .entry)))) (now r) (now (refusal .exit)) ⌝ }
+    ensures { λ r. ⌜ ShowsStore n (now (list .entry)) (now (store .entry)) (now r) (now (refusal .exit)) ⌝ }
 {
     match keep(list, store, n) {
         Kept::Lengths(_, s) => {

@@ -1,8 +1,7 @@
 -- `tape::kept_list` meets its contract: the length that `keep` answers is that of the front.
-use mathlib.Core.Path.{refl, sym, _∙_, ap}
+use mathlib.Core.Path.{refl, sym}
 use lib.Seq.{length-take-le}
-use Rattle.tape.specs.Steps.{keptLengths}
-use Rattle.tape.proofs.Keeping.{parts, no-parts}
+use Rattle.tape.proofs.Again.{keeps-as, parts}
 use borrow.Author.Needs.{needs}
 use Rattle.tape.proofs.kept_list.Statement.{statement}
 use Rattle.tape.proofs.kept_list.Tie as tie
@@ -15,7 +14,7 @@ enum-known-l c = search needs
 
 slice-aggregate-result : tie.Need-slice-aggregate-result
 slice-aggregate-result c =
-    let p = parts (c .before .before .before .before .before .before .before .args .n) (c .before .before .l .given .0 .0) (c .before .before .l .given .0 .1 .0) (c .before .before .before .before .before .before .before .args .list .now) (c .before .before .before .before .before .before .before .args .store .now) (λ i. c .before .before .before .before .before .before .shared-slice-known .given i .fits) (ap keptLengths (sym (c .before .before .l .given .1)) ∙ c .before .before .before .before .keep .ensures) in
+    let p = parts (keeps-as (c .before .before .before .before .keep .ensures) (c .before .before .l .given .1)) in
     sym (length-take-le (c .before .before .l .given .0 .0) (c .before .before .before .before .before .before .before .args .list .now) (p .inList))
 
 enum-known-r : tie.Need-enum-known-r
@@ -28,12 +27,11 @@ slice-aggregate-result-2 : tie.Need-slice-aggregate-result-2
 slice-aggregate-result-2 c = search needs
 
 returns : tie.Need-returns
-returns c = parts (c .before .before .before .before .before .before .before .args .n) (c .before .before .l .given .0 .0) (c .before .before .l .given .0 .1 .0) (c .before .before .before .before .before .before .before .args .list .now) (c .before .before .before .before .before .before .before .args .store .now) (λ i. c .before .before .before .before .before .before .shared-slice-known .given i .fits) (ap keptLengths (sym (c .before .before .l .given .1)) ∙ c .before .before .before .before .keep .ensures) .list
+returns c = parts (keeps-as (c .before .before .before .before .keep .ensures) (c .before .before .l .given .1)) .list
 
 returns-2 : tie.Need-returns-2
 returns-2 c =
-    rw (no-parts (c .before .before .before .before .before .before .before .before .args .n) (c .before .before .before .r .given .0 .0) (c .before .before .before .before .before .before .before .before .args .list .now) (c .before .before .before .before .before .before .before .before .args .store .now) (ap keptLengths (sym (c .before .before .before .r .given .1)) ∙ c .before .before .before .before .before .keep .ensures) .list)
-    record { part = refl; refusal = c .before .number .ensures }
+    rw (keeps-as (c .before .before .before .before .before .keep .ensures) (c .before .before .before .r .given .1) .bytes) record { part = refl; refusal = c .before .number .ensures }
 
 pub kept-list-spec : {M : Type 1} → statement M
 kept-list-spec =

@@ -1,7 +1,6 @@
--- `klapouzen_keep` meets its contract: the lengths that are kept.
-use mathlib.Core.Path.{sym, _∙_, ap}
-use Rattle.tape.specs.Steps.{keptLengths}
-use Rattle.api.proofs.Showing.{shown, not-shown}
+-- `klapouzen_keep` meets its contract: the lengths that are kept, and what the bytes of those lengths are.
+use Rattle.tape.proofs.Again.{keeps-as}
+use Rattle.api.proofs.Keeping.{kept-shown, kept-refused}
 use borrow.Author.Needs.{needs}
 use Rattle.api.proofs.partitions.klapouzen_keep.Statement.{statement}
 use Rattle.api.proofs.partitions.klapouzen_keep.Tie as tie
@@ -19,10 +18,11 @@ number-requires : tie.Need-number-requires
 number-requires c κs = search needs
 
 returns : tie.Need-returns
-returns c = shown _ (ap keptLengths (sym (c .before .before .l .given .1)) ∙ c .before .before .before .before .keep .ensures)
+returns c = kept-shown (keeps-as (c .before .before .before .before .keep .ensures) (c .before .before .l .given .1))
 
 returns-2 : tie.Need-returns-2
-returns-2 c = not-shown (c .before .before .before .r .given .0 .0) (ap keptLengths (sym (c .before .before .before .r .given .1)) ∙ c .before .before .before .before .before .keep .ensures) (c .number .ensures)
+returns-2 c =
+    kept-refused (c .before .before .before .r .given .0 .0) (keeps-as (c .before .before .before .before .before .keep .ensures) (c .before .before .before .r .given .1)) (c .number .ensures)
 
 pub klapouzen-keep-spec : {M : Type 1} → statement M
 klapouzen-keep-spec =
