@@ -35,19 +35,83 @@ fn keep_case(fd: i32) -> bool {
     if !lengths_as(&list[..l], &store[..s], n, refusal, a, b) {
         return false;
     }
-    let mut told: u64 = 0;
-    let list_kept = tape::kept_list(&list[..l], &store[..s], n, &mut told);
-    if !slices::same(list_kept, &list_front[..a]) {
+    if !fronts_as(
+        &list[..l],
+        &store[..s],
+        n,
+        refusal,
+        &list_front[..a],
+        &store_front[..b],
+    ) {
+        return false;
+    }
+    if refusal != 0 {
+        return true;
+    }
+    twice_as(
+        &list[..l],
+        &store[..s],
+        n,
+        &list_front[..a],
+        &store_front[..b],
+    )
+}
+
+fn fronts_as(
+    list: &[u8],
+    store: &[u8],
+    n: usize,
+    refusal: u64,
+    list_front: &[u8],
+    store_front: &[u8],
+) -> bool {
+    let mut told: u64 = 99;
+    let list_kept = tape::kept_list(list, store, n, &mut told);
+    if !slices::same(list_kept, list_front) {
         return false;
     }
     if told != refusal {
         return false;
     }
-    let store_kept = tape::kept_store(&list[..l], &store[..s], n, &mut told);
-    if !slices::same(store_kept, &store_front[..b]) {
+    told = 99;
+    let store_kept = tape::kept_store(list, store, n, &mut told);
+    if !slices::same(store_kept, store_front) {
         return false;
     }
     told == refusal
+}
+
+// The same fronts where more elements are kept first, and where more are kept of the fronts.
+fn twice_as(list: &[u8], store: &[u8], n: usize, list_front: &[u8], store_front: &[u8]) -> bool {
+    if !through_as(
+        list,
+        store,
+        18446744073709551615,
+        n,
+        list_front,
+        store_front,
+    ) {
+        return false;
+    }
+    let more = if n < 65536 { n + 1 } else { n };
+    through_as(list, store, more, n, list_front, store_front)
+}
+
+fn through_as(
+    list: &[u8],
+    store: &[u8],
+    more: usize,
+    n: usize,
+    list_front: &[u8],
+    store_front: &[u8],
+) -> bool {
+    let mut told: u64 = 99;
+    let l = tape::kept_list(list, store, more, &mut told);
+    let s = tape::kept_store(list, store, more, &mut told);
+    if !fronts_as(l, s, n, 0, list_front, store_front) {
+        return false;
+    }
+    fronts_as(list_front, store_front, more, 0, list_front, store_front)
 }
 
 fn lengths_as(list: &[u8], store: &[u8], n: usize, refusal: u64, a: usize, b: usize) -> bool {
