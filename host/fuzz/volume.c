@@ -10,6 +10,17 @@ struct volume {
 
 static uint32_t table[KLAPOUZEN_CONSTRUCT_TABLE];
 
+/* Keeping m elements and then n is keeping the smaller of the two. */
+static void try_again(const struct volume *volume, int side, uint64_t m, uint64_t n)
+{
+    uint64_t first[KLAPOUZEN_KEPT], again[KLAPOUZEN_KEPT], once[KLAPOUZEN_KEPT];
+    const uint8_t *list = volume->parts[2 * side].start, *store = volume->parts[2 * side + 1].start;
+    must(klapouzen_keep(SIDE(volume, side), m, FILLED(first)) == 0);
+    must(klapouzen_keep(list, first[KLAPOUZEN_KEPT_LIST], store, first[KLAPOUZEN_KEPT_STORE], n, FILLED(again)) == 0);
+    must(klapouzen_keep(SIDE(volume, side), m < n ? m : n, FILLED(once)) == 0);
+    must(memcmp(again, once, sizeof once) == 0);
+}
+
 /* Keeping fewer elements keeps fewer bytes, and the kept front is well formed. */
 static void try_list(const struct volume *volume, int side, uint64_t n)
 {
@@ -23,6 +34,9 @@ static void try_list(const struct volume *volume, int side, uint64_t n)
     must(kept[0] <= list->length && kept[1] <= store->length);
     must(klapouzen_check_list(list->start, kept[0], store->start, kept[1], FILLED(count)) == 0);
     must(count[0] == (n < all[0] ? n : all[0]));
+    const uint64_t numbers[] = { n / 2, n, all[0] - 1, UINT64_MAX };
+    for (int i = 0; i < 16; i++)
+        try_again(volume, side, numbers[i / 4], numbers[i % 4]);
     for (uint64_t i = 0; i < standing[0]; i++) {
         const uint32_t *row = table + KLAPOUZEN_CONSTRUCT * i;
         must(row[KLAPOUZEN_CONSTRUCT_BEGIN] < row[KLAPOUZEN_CONSTRUCT_END]

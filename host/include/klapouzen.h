@@ -148,7 +148,8 @@ uint64_t klapouzen_check_list(const uint8_t *list, size_t list_length,
 
 /*
  * How many bytes at the front of list and store hold the first n elements; with
- * n above the count, all of them.
+ * n above the count, all of them. These bytes are a list and its store again:
+ * keeping m elements of them is keeping the smaller of n and m of the whole.
  * Refusals: 1.
  */
 enum klapouzen_kept {

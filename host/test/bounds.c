@@ -161,6 +161,17 @@ static void smallest_ansi(void)
 
 /* ---- The largest lists ---- */
 
+/* All elements but the last are what is kept of them again. */
+static void keep_again(const char *what, struct slice list, struct slice store, uint64_t elements)
+{
+    expect(what, klapouzen_keep(SLICE(list), SLICE(store), elements - 1, filled()), 0);
+    uint64_t list_kept = out[KLAPOUZEN_KEPT_LIST], store_kept = out[KLAPOUZEN_KEPT_STORE];
+    expect(what, list_kept < list.length, true);
+    expect(what, klapouzen_keep(list.start, list_kept, store.start, store_kept, elements, filled()), 0);
+    expect(what, out[KLAPOUZEN_KEPT_LIST], list_kept);
+    expect(what, out[KLAPOUZEN_KEPT_STORE], store_kept);
+}
+
 static void list_of(const char *what, uint64_t blocks, size_t length, uint64_t marks, uint64_t wanted)
 {
     struct tape tape = { 0 };
@@ -174,6 +185,8 @@ static void list_of(const char *what, uint64_t blocks, size_t length, uint64_t m
     expect(what, klapouzen_keep(SLICE(list), SLICE(store), UINT64_MAX, filled()), wanted);
     expect(what, out[KLAPOUZEN_KEPT_LIST], wanted == 0 ? list.length : 0);
     expect(what, out[KLAPOUZEN_KEPT_STORE], wanted == 0 ? store.length : 0);
+    if (wanted == 0)
+        keep_again(what, list, store, tape.elements);
     drop(list);
     drop(store);
 }

@@ -145,13 +145,36 @@ static void compare_tables(void)
         differ("constructs' table");
 }
 
+static struct slice guarded_front(struct slice whole, uint64_t length)
+{
+    return (struct slice){ guarded_copy(whole.start, length), length };
+}
+
+/* m elements and then n, which are the smaller of the two. */
+static void compare_again(struct slice list, struct slice store, uint64_t m, uint64_t n)
+{
+    uint64_t again[KLAPOUZEN_KEPT];
+    BOTH("keep", f->keep(SIDE(list, store), m, a->out));
+    if (answers[1].refusal != 0)
+        return;
+    struct slice list_front = guarded_front(list, answers[1].out[KLAPOUZEN_KEPT_LIST]);
+    struct slice store_front = guarded_front(store, answers[1].out[KLAPOUZEN_KEPT_STORE]);
+    BOTH("keep of what was kept", f->keep(SIDE(list_front, store_front), n, a->out));
+    memcpy(again, answers[0].out, sizeof again);
+    BOTH("keep", f->keep(SIDE(list, store), m < n ? m : n, a->out));
+    if (memcmp(again, answers[0].out, sizeof again) != 0)
+        differ("keeping twice");
+    guarded_free(SLICE(list_front));
+    guarded_free(SLICE(store_front));
+}
+
 static void compare_list(struct slice list, struct slice store, const uint64_t *numbers,
                          uint64_t block_size)
 {
     BOTH("check_list", f->check_list(SIDE(list, store), a->out));
-    BOTH("keep", f->keep(SIDE(list, store), numbers[0], a->out));
-    BOTH("keep", f->keep(SIDE(list, store), numbers[1], a->out));
-    BOTH("keep", f->keep(SIDE(list, store), numbers[2], a->out));
+    compare_again(list, store, numbers[0], numbers[1]);
+    compare_again(list, store, numbers[1], numbers[2]);
+    compare_again(list, store, numbers[2], numbers[0]);
     BOTH("constructs", f->constructs(SIDE(list, store), block_size, tables[side], a->out));
     compare_tables();
     BOTH("constructs", f->constructs(SIDE(list, store), numbers[2] % 9000, tables[side], a->out));

@@ -269,6 +269,18 @@ mod tests {
     }
 
     #[test]
+    fn keeping_twice_keeps_the_smaller() {
+        let list = [&block_entry(1)[..], &[1], &block_entry(3), &[1, 1], &block_entry(2)].concat();
+        let store = b"abcdef";
+        for m in 0..8 {
+            let (list_front, store_front, _) = keep(&list, store, m).unwrap();
+            for n in 0..8 {
+                assert_eq!(keep(list_front, store_front, n), keep(&list, store, m.min(n)));
+            }
+        }
+    }
+
+    #[test]
     fn block_by_letter_and_number() {
         let list = [&[1][..], &block_entry(2)].concat();
         let index = Side {
