@@ -4,12 +4,17 @@
 
 #include "words.h"
 
-void assess(const struct volume *volume, struct assessment *found)
+void assess_lists(const struct volume *volume, struct assessment *found)
 {
     *found = (struct assessment){ 0 };
     for (int side = INDEX; side <= DATA; side++)
         found->malformed[side] =
             klapouzen_check_list(SIDE(&volume->sides[side]), &found->elements[side]) != 0;
+}
+
+void assess(const struct volume *volume, struct assessment *found)
+{
+    assess_lists(volume, found);
     found->refusal = read_labels(volume, &found->label);
     if (found->refusal != 0)
         return;
@@ -40,6 +45,26 @@ void print_cut_clause(FILE *out, const struct assessment *found)
     print_cut(out, found);
 }
 
+void print_outcome(FILE *out, const struct volume *volume, const struct assessment *found)
+{
+    if (found->refusal == 0) {
+        print_verdict(out, found->verdict);
+        return;
+    }
+    fputs(colour_code(out, RED), out);
+    print_refusal(out, TO_TERMINAL, volume, found->refusal);
+    fputs(colour_code(out, PLAIN), out);
+}
+
+void print_kept(FILE *out, const uint64_t kept[2], const uint64_t elements[2])
+{
+    if (kept[INDEX] == elements[INDEX] && kept[DATA] == elements[DATA])
+        fprintf(out, "keeps all %s + %s elements", grouped(kept[INDEX]), grouped(kept[DATA]));
+    else
+        fprintf(out, "keeps %s + %s of %s + %s elements", grouped(kept[INDEX]), grouped(kept[DATA]),
+                grouped(elements[INDEX]), grouped(elements[DATA]));
+}
+
 void print_cut(FILE *out, const struct assessment *found)
 {
     if (!found->has_cut) {
@@ -47,11 +72,7 @@ void print_cut(FILE *out, const struct assessment *found)
                 colour_code(out, PLAIN));
         return;
     }
-    uint64_t index = kept_elements(found, INDEX), data = kept_elements(found, DATA);
-    if (index == found->elements[INDEX] && data == found->elements[DATA])
-        fprintf(out, "keeps all %s + %s elements", grouped(index), grouped(data));
-    else
-        fprintf(out, "keeps %s + %s of %s + %s elements", grouped(index), grouped(data),
-                grouped(found->elements[INDEX]), grouped(found->elements[DATA]));
+    const uint64_t kept[] = { kept_elements(found, INDEX), kept_elements(found, DATA) };
+    print_kept(out, kept, found->elements);
     fprintf(out, ", generation %" PRIu64, found->cut[KLAPOUZEN_CUT_GENERATION]);
 }

@@ -16,10 +16,19 @@ struct assessment {
 
 void assess(const struct volume *volume, struct assessment *found);
 
+/* Only how many elements the lists have, and whether they are malformed. */
+void assess_lists(const struct volume *volume, struct assessment *found);
+
 bool is_consistent(const struct assessment *found);
 
 /* Elements kept of a side by the cut; all where there is none. */
 uint64_t kept_elements(const struct assessment *found, int side);
+
+/* "consistent", "break 2: ..", or "refused 3: ..". */
+void print_outcome(FILE *out, const struct volume *volume, const struct assessment *found);
+
+/* "keeps all 7 + 7 elements", or "keeps 7 + 7 of 9 + 12 elements". */
+void print_kept(FILE *out, const uint64_t kept[2], const uint64_t elements[2]);
 
 /* What the cut does: "keeps all 7 + 7 elements, generation 1" or "none leaves a consistent volume". */
 void print_cut(FILE *out, const struct assessment *found);

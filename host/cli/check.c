@@ -48,17 +48,16 @@ static enum outcome outcome_of(const struct volume *volume, const struct assessm
 static void print_line(const struct volume *volume, const struct assessment *found)
 {
     print_bytes(stdout, bytes_of(volume->folder));
-    if (found->refusal != 0) {
-        fprintf(stdout, "  %s", colour_code(stdout, RED));
-        print_refusal(stdout, TO_TERMINAL, volume, found->refusal);
-        fputs(colour_code(stdout, PLAIN), stdout);
-    } else {
-        printf("  %s", colour_code(stdout, BOLD));
+    fputs("  ", stdout);
+    if (found->refusal == 0) {
+        fputs(colour_code(stdout, BOLD), stdout);
         print_bytes(stdout, found->label.identifier);
         printf("%s  ", colour_code(stdout, PLAIN));
         print_bytes(stdout, found->label.uuid);
         fputs("  ", stdout);
-        print_verdict(stdout, found->verdict);
+    }
+    print_outcome(stdout, volume, found);
+    if (found->refusal == 0) {
         fputs("; ", stdout);
         print_cut_clause(stdout, found);
     }

@@ -119,6 +119,13 @@ void print_refusal(FILE *out, enum form form, const struct volume *volume, uint6
             origin.side, strcmp(origin.side, "both") == 0 ? "s" : "", origin.file);
 }
 
+void complain_list(const struct volume *volume)
+{
+    struct origin origin = origin_of(volume, KLAPOUZEN_BAD_LIST);
+    complain("%s: refused %d: %s (%s side: %s)", volume->folder, KLAPOUZEN_BAD_LIST,
+             klapouzen_refusal_text(KLAPOUZEN_BAD_LIST), origin.side, origin.file);
+}
+
 void complain_refusal(const struct volume *volume, uint64_t refusal)
 {
     fflush(stdout);

@@ -38,6 +38,9 @@ void print_refusal(FILE *out, enum form form, const struct volume *volume, uint6
 /* The same on standard error, after the folder. */
 void complain_refusal(const struct volume *volume, uint64_t refusal);
 
+/* That a list is refused, whatever kind of tape it is, on standard error. */
+void complain_list(const struct volume *volume);
+
 /* "refused 6: text (side side, side.store, index construct n)" on standard error. */
 void complain_construct(const struct volume *volume, int side, uint64_t construct,
                         uint64_t refusal);

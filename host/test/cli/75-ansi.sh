@@ -434,3 +434,13 @@ for words in files show "extract:HOSTS" "cut:nothing"; do
     says both "an ANSI labelled tape, volume BENCH1, with 6 files: see klapouzen ansi ansi"
 done
 absent nothing
+
+# Cut where it is told: what is no LTFS volume has a list too.
+is 0 "$K" cut --keep-index 20 ansi ansi_front
+says out "ansi_front  keeps 20 + 0 of 65 + 0 elements; refused 9: "
+is 1 "$K" ansi ansi_front
+says out "behind element 19, the last: the tape ends too early, EOF1 is missing (file 1, PAYROLL.DAT)"
+cp -r ansi ansi_bad && printf '\003' > ansi_bad/data.list
+is 1 "$K" cut --keep-index 20 ansi_bad nothing
+says err "klapouzen: ansi_bad: refused 1: the block list is malformed or does not fit its store (data side: data.list with data.store)"
+absent nothing
