@@ -43,21 +43,21 @@ for n in 0 3 5 40 71 77 78 18446744073709551615; do
     same data.$n/index.store nights/index.store
 done
 
-# And twice.
-for m in 0 1 4 5 12 13 14; do
-    for n in 0 1 4 5 12 13 14; do
-        told index $n index.$m again
-        same_folder again index.$((m < n ? m : n))
-        rm -r again
+# And twice: each of the numbers and then each.
+twice() { # SIDE N..
+    local side=$1 m n
+    shift
+    for m; do
+        for n; do
+            told "$side" "$n" "$side.$m" again
+            same_folder again "$side.$((m < n ? m : n))"
+            rm -r again
+        done
     done
-done
-for m in 0 3 5 40 71 77 78; do
-    for n in 0 3 5 40 71 77 78; do
-        told data $n data.$m again
-        same_folder again data.$((m < n ? m : n))
-        rm -r again
-    done
-done
+}
+
+twice index 0 1 4 5 12 13 14
+twice data 0 3 5 40 71 77 78
 is 0 "$K" cut --keep-index 5 --keep-data 40 nights fewer
 is 0 "$K" cut --keep-data 40 index.5 again
 same_folder again fewer
