@@ -9,7 +9,7 @@ use borrow.Author.Tests.{ne-eqb, eqb-true, eqb-false, not-true}
 use lib.Dec.{eqb, ltb, leb}
 use Rattle.slices.specs.Slices.{every}
 use Rattle.slices.specs.Words.{bytes}
-use Rattle.slices.proofs.Booleans.{and-left, and-right, and-both}
+use Rattle.slices.proofs.Booleans.{same-tests, and-left, and-right, and-both}
 use Rattle.slices.proofs.Every.{every-append}
 use Rattle.digits.specs.Decimal.{short}
 use Rattle.xml.specs.Bytes.{declaration, isSpace, isAsciiLetter, isNameByte}
@@ -239,11 +239,6 @@ formed-characters f l =
     same-tests (inForm (labelText f)) (isCharacters (f .creator))
     (λ e. are-characters (f .creator) .1 (creator-read f (in-rules f l) (in-form (labelText f) e)))
     (λ e. creator-derived f (in-rules f l) (are-characters (f .creator) .0 e))
-  where
-    same-tests : (a b : Bool) → (a ≡ true → b ≡ true) → (b ≡ true → a ≡ true) → a ≡ b
-    same-tests true b p q = sym (p refl)
-    same-tests false true p q = q refl
-    same-tests false false p q = refl
 
 -- lawful fields may be written exactly where their text is in the form
 pub given-formed : (f : Label) → isLawfulLabel f ≡ true → isGiven f ≡ inForm (labelText f)

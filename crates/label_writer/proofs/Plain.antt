@@ -9,6 +9,7 @@ use lib.Dec.{eqb, leb}
 use Rattle.slices.specs.Slices.{every, within}
 use Rattle.slices.specs.Words.{bytes}
 use Rattle.slices.proofs.Booleans.{and-left, and-right, and-both}
+use Rattle.slices.proofs.Ranges.{range}
 use Rattle.slices.proofs.Every.{every-weaker}
 use Rattle.quantities.specs.Letters.{isLetter as isPartition}
 use Rattle.digits.specs.Decimal.{isDigit, short}
@@ -71,9 +72,6 @@ unfolding isNot
 plain-closed s = every-weaker isText notOpen (λ b e. rw (ne-eqb b 60 (plain b e .no-open))) s
 
 -- ---- the values
-
-range : (lo hi b : ℕ) → within lo hi b ≡ true → (lo ≤ b) × (b ≤ hi)
-range lo hi b e = (leb-true lo b (and-left (leb lo b) (leb b hi) e), leb-true b hi (and-right (leb lo b) (leb b hi) e))
 
 digit-plain : (b : ℕ) → isDigit b ≡ true → isText b ≡ true
 unfolding isNameByte

@@ -1,5 +1,5 @@
 -- Tests taken apart: a Boolean split in two with its equation, and the parts of a test that passed.
-use mathlib.Core.Path.{_≡_, refl, sym, _∙_}
+use mathlib.Core.Path.{_≡_, refl, sym}
 use mathlib.Core.Bool.{Bool, true, false, _&&_}
 use Prim.Native.Nat.{ℕ, _≤_}
 use borrow.Author.Tests.{le-leb, leb-true}
@@ -24,8 +24,11 @@ and-both false b e f = e
 pub and-parts : (a b : Bool) → (a && b) ≡ true → (a ≡ true) × (b ≡ true)
 and-parts a b e = (and-left a b e, and-right a b e)
 
--- two comparisons that follow from each other
+-- two tests that follow from each other
+pub same-tests : (a b : Bool) → (a ≡ true → b ≡ true) → (b ≡ true → a ≡ true) → a ≡ b
+same-tests true b f g = sym (f refl)
+same-tests false true f g = g refl
+same-tests false false f g = refl
+
 pub same-leb : (a b m n : ℕ) → (a ≤ b → m ≤ n) → (m ≤ n → a ≤ b) → leb a b ≡ leb m n
-same-leb a b m n f g =
-    split (λ (t : Bool). t ≡ leb m n) (leb a b) (λ e. sym (le-leb m n (f (leb-true a b e))))
-    (λ e. sym (split (λ (t : Bool). t ≡ false) (leb m n) (λ h. sym (le-leb a b (g (leb-true m n h))) ∙ e) (λ h. refl)))
+same-leb a b m n f g = same-tests (leb a b) (leb m n) (λ e. le-leb m n (f (leb-true a b e))) (λ e. le-leb a b (g (leb-true m n e)))

@@ -9,6 +9,7 @@ use lib.Dec.{eqb}
 use lib.ListN.{length, drop, getD, drop-of-length-le}
 use lib.Seq.{drop-cons}
 use Rattle.slices.specs.Slices.{same}
+use Rattle.slices.proofs.Booleans.{same-tests}
 
 pub same-eq : (a b : List ℕ) → same a b ≡ true → a ≡ b
 unfolding same
@@ -38,6 +39,10 @@ ne-same a b n = go (same a b) refl
 
 pub same-ne : (a b : List ℕ) → same a b ≡ false → a ≡ b → ⊥
 same-ne a b e h = false≢true (sym e ∙ eq-same a b h)
+
+-- two comparisons that follow from each other
+pub same-both : (a b c d : List ℕ) → (a ≡ b → c ≡ d) → (c ≡ d → a ≡ b) → same a b ≡ same c d
+same-both a b c d f g = same-tests (same a b) (same c d) (λ e. eq-same c d (f (same-eq a b e))) (λ e. eq-same a b (g (same-eq c d e)))
 
 pub lengths-differ : (a b : List ℕ) → (length a ≡ length b → ⊥) → same a b ≡ false
 lengths-differ a b n = ne-same a b (λ e. n (ap length e))

@@ -1,5 +1,6 @@
 pub mod Booleans
 pub mod Tables
+pub mod Ranges
 pub mod Every
 pub mod Equal
 pub mod Writing
