@@ -5,3 +5,4 @@ pub mod Numbers
 pub mod Left
 pub mod FormerTable
 pub mod HexDigits
+pub mod Spelled

@@ -10,7 +10,7 @@ use Rattle.slices.specs.Slices.{within, every, same}
 use Rattle.slices.specs.Words.{bytes}
 use Rattle.quantities.specs.Letters.{isLetter}
 use Rattle.digits.specs.Decimal as decimal
-use Rattle.digits.specs.Hex.{isHex}
+use Rattle.digits.specs.Hex.{isHex, uuidBytes}
 use Rattle.texts.specs.Decoded.{begins, codePoints}
 
 -- Number: what a number's text means to every reader
@@ -51,9 +51,9 @@ isTime s = inPattern (bytes "####-##-##T##:##:##.#########Z") s && inRanges s
 unfoldable pub isUuid : List ℕ → Bool
 isUuid s = inPattern (bytes "********-****-****-****-************") s
 
--- two UUIDs are the same when their bytes are
+-- two UUIDs are the same when the 16 bytes that they spell are (02, Item 3)
 unfoldable pub sameUuid : List ℕ → List ℕ → Bool
-sameUuid a b = same a b
+sameUuid a b = isUuid a && isUuid b && same (uuidBytes a) (uuidBytes b)
 
 -- Letter: `a` to `z`
 unfoldable pub letter : List ℕ → Option ℕ

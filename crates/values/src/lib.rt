@@ -152,11 +152,20 @@ pub fn is_uuid(raw: &[u8]) -> bool
     is_in_pattern(b"********-****-****-****-************", raw)
 }
 
-// Whether two UUIDs are the same.
+// Whether a and b are UUIDs, and the same. Mostly they are spelled alike: then b is not tested for itself.
 pub fn same_uuid(a: &[u8], b: &[u8]) -> bool
     ensures { λ r. ⌜ r ≡ sameUuid (now (a .entry)) (now (b .entry)) ⌝ }
 {
-    slices::same(a, b)
+    if !is_uuid(a) {
+        return false;
+    }
+    if slices::same(a, b) {
+        return true;
+    }
+    if !is_uuid(b) {
+        return false;
+    }
+    digits::hex::same_folded(a, b)
 }
 
 // The letter that raw says.

@@ -6,6 +6,7 @@ use Rattle.slices.specs.Words.{bytes}
 use Rattle.digits.specs.Runs.{value}
 use Rattle.digits.specs.Decimal as decimal
 use Rattle.digits.specs.Decimal.{isNumber, plain}
+use Rattle.digits.specs.Hex.{uuidDigits, spelled, uuidBytes}
 use Rattle.xml.specs.Bytes.{declaration, isSpace, isAsciiLetter, isNameByte}
 use Rattle.xml.specs.CheckSteps.{reads, char, inText, insideElement, tagEnd, outside, leave, innermost, withoutText, formStep, ended, formRun, form, inForm}
 use Rattle.xml.specs.Tree.{front, behind, isNot, quoteAfter, past, quoted, headOf, behindTag, top, pop, closed, opened, alone, put, trees}
@@ -33,5 +34,5 @@ pub numbers :
     (says 18446744073709551615 (cases.readNumber "18446744073709551615") ≡ true)
     × (isRefused 6 (cases.readNumber "18446744073709551616") ≡ true)
     × (isRefused 6 (cases.readNumber "007") ≡ true)
-unfolding sampleTimes sampleIndex every same bytes value decimal.number isNumber plain isSpace isAsciiLetter isNameByte reads char inText insideElement tagEnd outside leave innermost withoutText formStep ended formRun form inForm front behind isNot quoteAfter past quoted headOf top pop closed opened alone put trees behindTag hasElement referenceMeant meaning decodedBehind codePoints below number boolean byPattern inPattern inRanges isTime isUuid sameUuid letter isCreator isName isRootName version lawful rowLawful apart countOnce someAnyNumber indexTable placeTable times entryTable ofDirectory contentsTable ofFile extentinfoTable extentTable table sort must repeats names numberIn elements textIn childrenIn uidOf many uidsOf valued own rowOf rowsIn few tests.lawfulFile member different structure.mayStand count complete rightly filesOf structured bounded allValued childrenRead tagRead rootRead callerRight indexOf declaration
+unfolding sampleTimes sampleIndex every same bytes value decimal.number isNumber plain isSpace isAsciiLetter isNameByte reads char inText insideElement tagEnd outside leave innermost withoutText formStep ended formRun form inForm front behind isNot quoteAfter past quoted headOf top pop closed opened alone put trees behindTag hasElement referenceMeant meaning decodedBehind codePoints below number boolean byPattern inPattern inRanges isTime isUuid uuidDigits spelled uuidBytes sameUuid letter isCreator isName isRootName version lawful rowLawful apart countOnce someAnyNumber indexTable placeTable times entryTable ofDirectory contentsTable ofFile extentinfoTable extentTable table sort must repeats names numberIn elements textIn childrenIn uidOf many uidsOf valued own rowOf rowsIn few tests.lawfulFile member different structure.mayStand count complete rightly filesOf structured bounded allValued childrenRead tagRead rootRead callerRight indexOf declaration
 numbers = (refl, refl, refl)
