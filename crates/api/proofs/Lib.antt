@@ -6,3 +6,4 @@ pub mod ReadBack
 pub mod Headers
 pub mod Demands
 pub mod Sizing
+pub mod Spellings

@@ -7,3 +7,4 @@ pub mod Answers
 pub mod Lawful
 pub mod Derivation
 pub mod EachFile
+pub mod Spellings

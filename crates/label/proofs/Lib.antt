@@ -4,3 +4,4 @@ pub mod Places
 pub mod Values
 pub mod Tests
 pub mod Derivation
+pub mod Agreed

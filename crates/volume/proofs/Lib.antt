@@ -8,3 +8,4 @@ pub mod Verdicts
 pub mod Demands
 pub mod Answering
 pub mod Choosing
+pub mod Spellings
