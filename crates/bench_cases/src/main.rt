@@ -1,5 +1,5 @@
 // Cases of what the program writes, read from files beside this one: vectors, document 01's examples, and volumes of our own with each break,
-// cuts that are not the first or the obvious ones, and files at and past their bounds.
+// cuts that are not the first or the obvious ones, files at and past their bounds, and UUIDs in several spellings on one volume.
 use slices::Written;
 
 // Four files; the lines expected.
@@ -41,4 +41,5 @@ fn main() {
     run(b"examples");
     run(b"vectors");
     run(b"own");
+    run(b"spellings");
 }

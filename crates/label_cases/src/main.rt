@@ -37,8 +37,10 @@ fn main() {
     run(b"read_version", 0);
     run(b"read_values", 0);
     run(b"read_order", 0);
+    run(b"read_uuid", 0);
     run(b"write", 1);
     run(b"agreement", 2);
+    run(b"agreement_uuid", 2);
     run(b"names", 5);
     run(b"numbers", 6);
     run(b"rows", 7);
