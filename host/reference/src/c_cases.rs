@@ -140,6 +140,8 @@ pub extern "C" fn random_index(seed: u64) -> Case {
     if random.one_in(8) {
         numbers = numbers.map(|number| damaged_number(random, number));
         uuid = damaged_field(random, uuid);
+    } else if random.one_in(16) {
+        uuid = random::another_uuid(random, &uuid);
     }
     case_of(vec![text, uuid], Vec::new(), &numbers)
 }

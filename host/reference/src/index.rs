@@ -3,7 +3,9 @@
 use crate::extents::{is_block_size, lawful, Row, MAX_EXTENTS};
 use crate::label::Label;
 use crate::structure::{self, children, no_attribute, only, optional, value, Times};
-use crate::values::{boolean, is_creator, is_name, is_time, is_uuid, letter, number, Version};
+use crate::values::{
+    boolean, is_creator, is_name, is_time, is_uuid, letter, number, same_uuid, Version,
+};
 use crate::xml::Element;
 use crate::{require, Refusal};
 
@@ -96,7 +98,7 @@ pub fn check_arguments(label: &Label, letter: u8) -> Result<(), Refusal> {
 /// Refusal 8: the UUID and every letter must be the volume's.
 fn belongs(index: &Index, label: &Label) -> bool {
     let rows = index.files.iter().flat_map(|file| &file.rows);
-    index.uuid.as_bytes() == label.uuid
+    same_uuid(index.uuid.as_bytes(), &label.uuid)
         && label.letters.contain(index.location.letter)
         && index
             .back_pointer
@@ -675,7 +677,9 @@ mod tests {
     fn later_refusals() {
         refused("2.0.0", "2.1.0", Refusal::Version);
         refused("2.0.0", "", Refusal::Version);
-        refused("<volumeuuid>30a", "<volumeuuid>30A", Refusal::Disagreement);
+        refused("<volumeuuid>30a", "<volumeuuid>30b", Refusal::Disagreement);
+        refused("<volumeuuid>30a", "<volumeuuid>300", Refusal::Disagreement);
+        assert!(changed("<volumeuuid>30a", "<volumeuuid>30A").is_ok());
         refused(
             "<location><partition>a",
             "<location><partition>c",

@@ -3,7 +3,9 @@
 use crate::extents::is_block_size;
 use crate::structure::{self, children, no_attribute, only, value, Times};
 use crate::tape::Letters;
-use crate::values::{boolean, is_creator, is_letter, is_time, is_uuid, letter, number, Version};
+use crate::values::{
+    boolean, is_creator, is_letter, is_time, is_uuid, letter, number, same_uuid, Version,
+};
 use crate::vol1::Vol1;
 use crate::xml::{Element, DECLARATION};
 use crate::{require, Refusal};
@@ -148,12 +150,15 @@ pub struct SideLabels {
 
 /// Whether the labels of the index side and the data side agree.
 pub fn agree(index: &SideLabels, data: &SideLabels) -> bool {
+    // The data side's label with all that the two may spell differently as the index side has it.
     let data_moved = Label {
         location: index.label.location,
+        uuid: index.label.uuid.clone(),
         ..data.label.clone()
     };
     index.vol1 == data.vol1
         && index.label == data_moved
+        && same_uuid(&index.label.uuid, &data.label.uuid)
         && index.label.location == index.label.letters.index
         && data.label.location == data.label.letters.data
 }
@@ -431,9 +436,14 @@ mod tests {
             ..data_label.clone()
         }));
         assert!(other(Label {
-            uuid: UUID.to_uppercase().into(),
+            uuid: UUID.replace('a', "b").into(),
             ..data_label.clone()
         }));
+        let capitals = side(Label {
+            uuid: UUID.to_uppercase().into(),
+            ..data_label.clone()
+        });
+        assert!(agree(&index, &capitals));
         assert!(other(Label {
             block_size: 4096,
             ..data_label.clone()

@@ -212,6 +212,37 @@ fn uuid(random: &mut Random) -> String {
     }
 }
 
+/// The same UUID, at times with some of its letters in the other case.
+fn respelled(random: &mut Random, uuid: &[u8]) -> Vec<u8> {
+    let mut spelled = uuid.to_vec();
+    match random.below(6) {
+        0 => spelled.make_ascii_uppercase(),
+        1 => spelled.make_ascii_lowercase(),
+        2 => {
+            for byte in spelled.iter_mut().filter(|byte| byte.is_ascii_alphabetic()) {
+                if random.one_in(2) {
+                    *byte ^= 0x20;
+                }
+            }
+        }
+        _ => {}
+    }
+    spelled
+}
+
+/// A UUID that differs in one digit.
+pub fn another_uuid(random: &mut Random, uuid: &[u8]) -> Vec<u8> {
+    loop {
+        let mut other = uuid.to_vec();
+        let at = random.below(other.len());
+        let digit = b"0123456789abcdefABCDEF"[random.below(22)];
+        if other[at] != b'-' && !digit.eq_ignore_ascii_case(&other[at]) {
+            other[at] = digit;
+            return other;
+        }
+    }
+}
+
 fn creator(random: &mut Random) -> String {
     match random.below(7) {
         0 => "LTFS".into(),
@@ -641,7 +672,7 @@ pub fn index_node(
     let highest = if random.one_in(4) { 0 } else { pool.next_uid };
     let mut nodes = vec![
         Node::value("creator", creator(random)),
-        Node::value("volumeuuid", as_text(&label.uuid)),
+        Node::value("volumeuuid", as_text(&respelled(random, &label.uuid))),
         Node::value("generationnumber", header.generation.to_string()),
         Node::value("updatetime", time(random)),
         place_node("location", header.location),
@@ -752,13 +783,14 @@ impl Writer<'_> {
         let mut label = label.clone();
         let letter = label.location;
         let mut vol1 = vol1.clone();
+        label.uuid = respelled(self.random, &label.uuid);
         if self.fault() {
             match self.random.below(6) {
                 0 => vol1.owner[0] ^= 1,
                 1 => label.creator = b"another".to_vec(),
                 2 => label.compression = !label.compression,
                 3 => label.version.2 ^= 1,
-                4 => label.uuid.make_ascii_uppercase(),
+                4 => label.uuid = another_uuid(self.random, &label.uuid),
                 _ => std::mem::swap(&mut label.letters.index, &mut label.letters.data),
             }
         }
@@ -826,7 +858,10 @@ impl Writer<'_> {
                 length: 1 + self.random.draw() % 70,
             }];
         }
-        let label = self.label.clone();
+        let mut label = self.label.clone();
+        if self.fault() {
+            label.uuid = another_uuid(self.random, &label.uuid);
+        }
         let mut node = index_node(self.random, &label, &header, &blocks);
         if self.fault() {
             damage_node(self.random, &mut node);

@@ -62,6 +62,24 @@ pub fn is_uuid(text: &[u8]) -> bool {
         })
 }
 
+/// The number that a UUID's 32 digits are; none where the text is no UUID.
+fn uuid_number(text: &[u8]) -> Option<u128> {
+    if !is_uuid(text) {
+        return None;
+    }
+    let digits: String = text
+        .iter()
+        .filter(|byte| **byte != b'-')
+        .map(|byte| char::from(*byte))
+        .collect();
+    u128::from_str_radix(&digits, 16).ok()
+}
+
+/// Whether two texts are UUIDs that spell the same 16 bytes.
+pub fn same_uuid(one: &[u8], other: &[u8]) -> bool {
+    uuid_number(one).is_some() && uuid_number(one) == uuid_number(other)
+}
+
 pub fn is_letter(byte: u8) -> bool {
     byte.is_ascii_lowercase()
 }
@@ -194,6 +212,31 @@ mod tests {
         assert!(!is_uuid(b"30a91a08xdaae-48d1-ae75-69804e61d2ea"));
         assert!(!is_uuid(b"g0a91a08-daae-48d1-ae75-69804e61d2ea"));
         assert!(!is_uuid(b"30a91a0-8daae-48d1-ae75-69804e61d2ea"));
+    }
+
+    #[test]
+    fn one_uuid_two_spellings() {
+        let small = b"30a91a08-daae-48d1-ae75-69804e61d2ea";
+        let large = small.to_ascii_uppercase();
+        let mixed = b"30A91a08-DaAe-48d1-aE75-69804e61D2eA";
+        for one in [&small[..], &large, mixed] {
+            for other in [&small[..], &large, mixed] {
+                assert!(same_uuid(one, other));
+            }
+        }
+        for at in 0..small.len() {
+            for byte in 0..=255 {
+                let mut other = small.to_vec();
+                other[at] = byte;
+                let same = byte.eq_ignore_ascii_case(&small[at]);
+                assert_eq!(same_uuid(small, &other), same, "byte {byte} at {at}");
+                assert_eq!(same_uuid(&other, &large), same, "byte {byte} at {at}");
+            }
+        }
+        // No UUID is the same as none, however alike they are spelled.
+        for none in ["", "30a91a08", "g0a91a08-daae-48d1-ae75-69804e61d2ea"] {
+            assert!(!same_uuid(none.as_bytes(), none.as_bytes()));
+        }
     }
 
     #[test]

@@ -117,7 +117,7 @@ fn damaged_texts_are_refused_without_panic() {
     let mut random = Random::new(4);
     let mut label_refusals = BTreeSet::new();
     let mut index_refusals = BTreeSet::new();
-    for _ in 0..4_000 {
+    for _ in 0..12_000 {
         let label = random::label(&mut random);
         let mut node = random::label_node(&mut random, &label);
         for _ in 0..random.below(3) {
