@@ -11,12 +11,14 @@ count() {
         cat "$out.log" >&2
         exit 1
     fi
-    printf '%-52s %12s\n' "$function, $name" "$(awk '/Collected/ { print $NF }' "$out.log")"
+    printf '%-60s %12s\n' "$function, $name" "$(awk '/Collected/ { print $NF }' "$out.log")"
 }
 
 count klapouzen_ansi ansi "the most files"
 for text in flat indented nested; do
     count klapouzen_read_index "$text" "1 MB, $text"
 done
+count klapouzen_read_index smallest "no files"
+count klapouzen_read_index respelled "no files, its UUID given in capitals"
 count klapouzen_read_index given "what is given tested"
 count klapouzen_write_label label "378 bytes"

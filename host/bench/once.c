@@ -17,11 +17,35 @@ static void expect(uint64_t found, uint64_t wanted)
     exit(1);
 }
 
-static void read_once(struct buffer text)
+static void read_with(struct buffer text, const char *uuid)
 {
     uint64_t header[KLAPOUZEN_INDEX];
-    expect(klapouzen_read_index(text.bytes, text.length, WORD(SAMPLE_UUID), 'a', 'b', 4096, 'a', 5, header), 0);
+    expect(klapouzen_read_index(text.bytes, text.length, WORD(uuid), 'a', 'b', 4096, 'a', 5, header), 0);
     buffer_free(&text);
+}
+
+static void read_once(struct buffer text)
+{
+    read_with(text, SAMPLE_UUID);
+}
+
+/* An index without files, in which the UUID counts most. */
+static struct buffer smallest(void)
+{
+    struct index_text index;
+    index_begin(&index, &(struct index_head){ .generation = 1, .letter = 'a', .block = 5 });
+    index_end(&index);
+    return index.text;
+}
+
+static void smallest_once(void)
+{
+    read_once(smallest());
+}
+
+static void respelled_once(void)
+{
+    read_with(smallest(), "30A91A08-DAAE-48D1-AE75-69804E61D2EA");
 }
 
 static void flat_once(void)
@@ -60,6 +84,7 @@ static const struct {
 } calls[] = {
     { "ansi", ansi_once },     { "flat", flat_once },   { "indented", indented_once },
     { "nested", nested_once }, { "given", given_once }, { "label", label_once },
+    { "smallest", smallest_once }, { "respelled", respelled_once },
 };
 
 void bench_once(const char *what)

@@ -13,6 +13,8 @@ static const char help[] =
     "Judges each cartridge: its volume identifier and UUID, whether it is consistent,\n"
     "and after which elements its partitions can be cut. A cartridge is a folder with\n"
     "index.list, index.store, data.list and data.store; a missing file counts as empty.\n"
+    "The UUID is printed as the index partition's label spells it; labels and indexes that\n"
+    "spell it with capitals or without are of one volume all the same.\n"
     "An ANSI labelled tape on the index side is refused as no LTFS volume, but named: see\n"
     "klapouzen ansi.\n"
     "\n"
@@ -60,6 +62,7 @@ static void print_line(const struct volume *volume, const struct assessment *fou
     if (found->refusal == 0) {
         fputs("; ", stdout);
         print_cut_clause(stdout, found);
+        fputs(has_two_spellings(&found->label) ? "; its labels spell the UUID differently" : "", stdout);
     }
     putchar('\n');
 }
@@ -95,6 +98,8 @@ static void print_json_labels(const struct label *label)
     print_json(stdout, label->identifier, false);
     fputs(",\"uuid\":", stdout);
     print_json(stdout, label->uuid, false);
+    fputs(",\"data_uuid\":", stdout);
+    print_json(stdout, label->data_uuid, false);
 }
 
 static void print_json_verdict(const struct assessment *found)

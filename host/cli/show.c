@@ -223,6 +223,11 @@ static void print_labels(const struct label *label)
     print_bytes(stdout, label->identifier);
     printf("%s  ", colour_code(stdout, PLAIN));
     print_bytes(stdout, label->uuid);
+    if (has_two_spellings(label)) {
+        fputs("\nUUID     ", stdout);
+        print_bytes(stdout, label->data_uuid);
+        fputs(" on the data partition's label, spelled differently", stdout);
+    }
     printf("\nformat   2.0.%" PRIu64 ", ", label->release);
     print_bytes(stdout, label->time);
     fputs(", by ", stdout);

@@ -192,6 +192,16 @@ static void read_vol1(const struct volume *volume, struct label *label)
     label->owner = part_of(block, out[KLAPOUZEN_VOL1_OWNER], out[KLAPOUZEN_VOL1_OWNER_LENGTH]);
 }
 
+/* Of labels that agree. */
+static struct bytes read_data_uuid(const struct volume *volume)
+{
+    enum { LABEL_ELEMENT = 2 };
+    uint64_t out[KLAPOUZEN_LABEL];
+    struct bytes block = block_of(volume, DATA, LABEL_ELEMENT);
+    klapouzen_read_label(SLICE(block), out);
+    return part_of(block, out[KLAPOUZEN_LABEL_UUID], out[KLAPOUZEN_LABEL_UUID_LENGTH]);
+}
+
 uint64_t read_labels(const struct volume *volume, struct label *label)
 {
     uint64_t out[KLAPOUZEN_LABEL];
@@ -205,12 +215,18 @@ uint64_t read_labels(const struct volume *volume, struct label *label)
                              out[KLAPOUZEN_LABEL_CREATOR_LENGTH]);
     label->time = part_of(store, out[KLAPOUZEN_LABEL_TIME], out[KLAPOUZEN_LABEL_TIME_LENGTH]);
     label->uuid = part_of(store, out[KLAPOUZEN_LABEL_UUID], out[KLAPOUZEN_LABEL_UUID_LENGTH]);
+    label->data_uuid = read_data_uuid(volume);
     label->block_size = out[KLAPOUZEN_LABEL_BLOCK_SIZE];
     label->release = out[KLAPOUZEN_LABEL_RELEASE];
     label->letters[INDEX] = (uint8_t)out[KLAPOUZEN_LABEL_INDEX_LETTER];
     label->letters[DATA] = (uint8_t)out[KLAPOUZEN_LABEL_DATA_LETTER];
     label->compression = out[KLAPOUZEN_LABEL_COMPRESSION] != 0;
     return 0;
+}
+
+bool has_two_spellings(const struct label *label)
+{
+    return memcmp(label->uuid.start, label->data_uuid.start, label->uuid.length) != 0;
 }
 
 uint64_t read_constructs(const struct side *side, uint64_t block_size,

@@ -65,6 +65,7 @@ struct bytes block_of(const struct volume *volume, int side, uint64_t number);
 struct label {
     struct bytes identifier, owner; /* of VOL1 */
     struct bytes creator, time, uuid;
+    struct bytes data_uuid; /* the same UUID, as the data partition's label spells it */
     uint64_t block_size, release;
     uint8_t letters[2]; /* index, data */
     bool compression;
@@ -72,6 +73,9 @@ struct label {
 
 /* The label check's refusal, or 0 and the labels. */
 uint64_t read_labels(const struct volume *volume, struct label *label);
+
+/* Whether the two labels spell the UUID differently, which is no disagreement. */
+bool has_two_spellings(const struct label *label);
 
 /* An index text and where it stands. */
 struct place {

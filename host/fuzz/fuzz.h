@@ -70,6 +70,16 @@ static inline struct slice take_slice(struct slice *input)
     return slice;
 }
 
+enum { UUID_LENGTH = 36 };
+
+/* A UUID's letters in the other case. */
+static inline void other_case(uint8_t *uuid)
+{
+    for (int i = 0; i < UUID_LENGTH; i++)
+        if (uuid[i] >= 'A')
+            uuid[i] ^= 'a' ^ 'A';
+}
+
 /* Every output, filled before a call. */
 static inline uint64_t *fill(uint64_t *out, size_t count)
 {

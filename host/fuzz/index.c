@@ -88,6 +88,22 @@ static void try_files(const struct index *index, uint64_t refusal, uint64_t coun
     free(all_rows);
 }
 
+/* The same answer to the UUID in the other case; and 8, where it is looked for, to another UUID. */
+static void try_spelling(const struct index *index, uint64_t refusal, const uint64_t header[KLAPOUZEN_INDEX])
+{
+    uint64_t other_header[KLAPOUZEN_INDEX];
+    uint8_t uuid[UUID_LENGTH];
+    struct index other = *index;
+    memcpy(uuid, index->uuid.start, sizeof uuid);
+    other.uuid.start = uuid;
+    other_case(uuid);
+    must(klapouzen_read_index(GIVEN(&other), FILLED(other_header)) == refusal);
+    must(memcmp(header, other_header, sizeof other_header) == 0);
+    uuid[UUID_LENGTH - 1] = uuid[UUID_LENGTH - 1] == '0' ? 'A' : '0';
+    uint64_t another = klapouzen_read_index(GIVEN(&other), FILLED(other_header));
+    must(refusal != 0 || another == KLAPOUZEN_DISAGREEMENT);
+}
+
 /* Number by number: the expressions of an initializer list are evaluated in any order. */
 static struct index take_index(struct slice rest)
 {
@@ -111,5 +127,7 @@ int LLVMFuzzerTestOneInput(const uint8_t *input, size_t size)
     must(ANSWERED(klapouzen_read_file(GIVEN(&index), files, FILLED(file)), file)
          == (refusal != 0 ? refusal : KLAPOUZEN_MISSING));
     try_files(&index, refusal, files);
+    if (refusal != KLAPOUZEN_BAD_ARGUMENT)
+        try_spelling(&index, refusal, header);
     return 0;
 }

@@ -98,6 +98,36 @@ static void try_indexes(const struct volume *volume, int side, const uint64_t la
 #undef GIVEN
 }
 
+/* Where the label of a side spells the UUID, in its store. */
+static uint64_t uuid_place(const struct volume *volume, int side)
+{
+    uint64_t block[KLAPOUZEN_BLOCK], label[KLAPOUZEN_LABEL];
+    must(klapouzen_block(VOLUME(volume), 'a', 'b', side == 0 ? 'a' : 'b', 2, block) == 0);
+    const uint8_t *text = volume->parts[2 * side + 1].start + block[KLAPOUZEN_BLOCK_OFFSET];
+    must(klapouzen_read_label(text, block[KLAPOUZEN_BLOCK_LENGTH], label) == 0);
+    return block[KLAPOUZEN_BLOCK_OFFSET] + label[KLAPOUZEN_LABEL_UUID];
+}
+
+/* One label's UUID in the other case changes no answer; another digit in it makes the labels disagree. */
+static void try_spelling(const struct volume *volume, int side, const uint64_t verdict[KLAPOUZEN_BREAK],
+                         uint64_t no_cut, const uint64_t cut[KLAPOUZEN_CUT])
+{
+    uint64_t label[KLAPOUZEN_LABEL], other_verdict[KLAPOUZEN_BREAK], other_cut[KLAPOUZEN_CUT];
+    struct volume other = *volume;
+    struct slice *store = &other.parts[2 * side + 1];
+    uint8_t *bytes = malloc(store->length), *uuid = bytes + uuid_place(volume, side);
+    memcpy(bytes, store->start, store->length);
+    store->start = bytes;
+    other_case(uuid);
+    must(klapouzen_verdict(VOLUME(&other), FILLED(other_verdict)) == 0);
+    must(memcmp(verdict, other_verdict, sizeof other_verdict) == 0);
+    must(klapouzen_rescue(VOLUME(&other), FILLED(other_cut)) == no_cut);
+    must(memcmp(cut, other_cut, sizeof other_cut) == 0);
+    uuid[0] = uuid[0] == '0' ? 'A' : '0';
+    must(klapouzen_check_labels(VOLUME(&other), FILLED(label)) == KLAPOUZEN_DISAGREEMENT);
+    free(bytes);
+}
+
 static void try_volume(const struct volume *volume)
 {
     uint64_t label[KLAPOUZEN_LABEL], verdict[KLAPOUZEN_BREAK], cut[KLAPOUZEN_CUT];
@@ -109,6 +139,8 @@ static void try_volume(const struct volume *volume)
         must(no_cut == 0 || verdict[0] != 0);
         try_indexes(volume, 0, label);
         try_indexes(volume, 1, label);
+        try_spelling(volume, 0, verdict, no_cut, cut);
+        try_spelling(volume, 1, verdict, no_cut, cut);
     }
     if (no_cut == 0)
         try_cut(volume, cut, verdict[0] == 0);

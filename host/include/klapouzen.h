@@ -19,6 +19,10 @@
  * last. Constructs that are closed before the first defect stand; they are
  * numbered from 0 on each partition.
  *
+ * A volume has a UUID, 8-4-4-4-12 hex digits, which both labels and every index
+ * of it spell. Two UUIDs are the same when the 16 bytes that they spell are the
+ * same: a and A are one digit. A UUID that is handed out is as its text spells it.
+ *
  * An ANSI labelled tape, an old tape without LTFS, is one list with its
  * store and no volume: klapouzen_ansi is for it.
  *
@@ -297,7 +301,8 @@ uint64_t klapouzen_write_label(uint8_t *buffer, size_t buffer_length,
 /*
  * Checks the labels of both partitions, and that they are of one volume. out:
  * what klapouzen_read_label says of the index partition's label, but offsets
- * count from the beginning of index_store.
+ * count from the beginning of index_store. The data partition's label may spell
+ * the same UUID differently.
  * Refusals: 1, 9, 3, those of klapouzen_read_label, each of these four steps on
  * the index side first; then 8 (the two disagree).
  */
@@ -312,9 +317,9 @@ uint64_t klapouzen_check_labels(const uint8_t *index_list, size_t index_list_len
 /*
  * The readers of an index are given its text, the volume's UUID, letters and
  * block size as its label says them, and where the index stands: the letter of
- * its partition and the element number of its first block. Offsets count from
- * the text's beginning. An index that klapouzen_read_index does not refuse is
- * sound.
+ * its partition and the element number of its first block. Whichever way the
+ * UUID is spelled, they answer the same. Offsets count from the text's beginning.
+ * An index that klapouzen_read_index does not refuse is sound.
  * Refusals: 14, 15 (over 1,048,576 bytes), 4, 5 (root and its version
  * attribute), 7, 5 (the rest), 15 (over 4,096 entries, or over 1,024 extents of
  * a file), 6, 8 (another UUID, a letter that is neither of the two), 11 (as

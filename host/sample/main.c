@@ -1,4 +1,5 @@
 /* make_sample KIND DIR: writes one of the sample volumes to a new folder. */
+#include <ctype.h>
 #include <stdio.h>
 #include <stdlib.h>
 #include <string.h>
@@ -204,6 +205,32 @@ static void odd(struct sample *sample)
     sample_index(sample, 0, &index);
 }
 
+/* The UUID in capitals wherever it stands in the store, every second time, from the first on or from the second. */
+static void respell(struct tape *tape, bool first)
+{
+    enum { LENGTH = sizeof SAMPLE_UUID - 1 };
+    uint8_t *bytes = tape->store.bytes;
+    for (size_t at = 0; at + LENGTH <= tape->store.length; at++) {
+        if (memcmp(bytes + at, SAMPLE_UUID, LENGTH) != 0)
+            continue;
+        for (size_t i = at; first && i < at + LENGTH; i++)
+            bytes[i] = (uint8_t)toupper(bytes[i]);
+        first = !first;
+    }
+}
+
+/* Two programs wrote this volume, one with capitals: the data side's label, and every second index of each side. */
+static void spellings(struct sample *sample)
+{
+    for (int i = 0; i < 4; i++) {
+        put_run(sample, 5000, (uint8_t)i);
+        sample_unmount(sample);
+        sample->generation++;
+    }
+    respell(&sample->sides[0], false);
+    respell(&sample->sides[1], true);
+}
+
 /* As many generations as the stores have room for; one index is unsound, and the last is of the data side alone. */
 static void full(struct sample *sample)
 {
@@ -301,6 +328,7 @@ int main(int count, char **words)
         { "extents", extents },
         { "fresh", fresh }, { "torn", torn }, { "nights", nights }, { "defect", defect },
         { "sparse", sparse }, { "long", long_one }, { "many", many }, { "odd", odd },
+        { "spellings", spellings },
         { "full", full }, { "ansi", ansi }, { "ansi_worn", ansi_worn },
         { "ansi_many", ansi_many },
     };
@@ -314,7 +342,7 @@ int main(int count, char **words)
         sample_free(&sample);
         return 0;
     }
-    fputs("usage: make_sample fresh|torn|nights|defect|sparse|long|many|extents|odd|full|ansi|ansi_worn|ansi_many"
-          " DIR\n", stderr);
+    fputs("usage: make_sample fresh|torn|nights|defect|sparse|long|many|extents|odd|spellings|full|ansi|ansi_worn|"
+          "ansi_many DIR\n", stderr);
     return 2;
 }

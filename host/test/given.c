@@ -103,10 +103,13 @@ static void read_with(const struct volume_given *v)
 #undef TEXT
 }
 
-/* Each byte in each place of a UUID. */
+/* Each byte in each place of a UUID, of no index and of one: no digit, a digit of either case, or another one. */
 static void digits_with(void)
 {
     static const char sample[] = SAMPLE_UUID;
+    struct index_text index;
+    index_begin(&index, &(struct index_head){ .generation = 1, .letter = 'a', .block = 5 });
+    index_end(&index);
     for (size_t place = 0; place < sizeof sample - 1; place++)
         for (int byte = 0; byte < 256; byte++) {
             uint8_t uuid[sizeof sample - 1];
@@ -116,7 +119,13 @@ static void digits_with(void)
             uint64_t found = klapouzen_read_index(NONE, uuid, sizeof uuid, 'a', 'b', 4096, 'a', 5, out);
             if (found != (may_stand ? KLAPOUZEN_BAD_FORM : 14))
                 fail("read_index", "a byte of the UUID", found);
+            uint64_t wanted = tolower(byte) == tolower(sample[place]) ? 0 : KLAPOUZEN_DISAGREEMENT;
+            found = klapouzen_read_index(index.text.bytes, index.text.length, uuid, sizeof uuid, 'a', 'b', 4096, 'a', 5,
+                                         out);
+            if (found != (may_stand ? wanted : 14))
+                fail("read_index", "a byte of the UUID, of an index", found);
         }
+    buffer_free(&index.text);
     fill();
 }
 

@@ -24,30 +24,46 @@ module _ (P : ℕ → Type 0) where
       go false false true p q r e = r refl
       go false false false p q r e = absurd (false≢true e)
 
--- ---- the three ranges: what a digit counts, and the small digit for it
+-- ---- the three ranges: what a digit counts, and the small digit that counts the same
 
-module _ (b : ℕ) where
-  decimal-value : 48 ≤ b → b ≤ 57 → hexValue b ≡ b - 48
-  decimal-value l h = rw (in-range 48 57 b l h)
-
-  small-value : 97 ≤ b → b ≤ 102 → hexValue b ≡ 10 + (b - 97)
-  small-value l h = rw (above-range 48 57 b (omega arith), in-range 97 102 b l h)
-
-  capital-value : 65 ≤ b → b ≤ 70 → hexValue b ≡ 10 + (b - 65)
-  capital-value l h = rw (above-range 48 57 b (omega arith), below-range 97 102 b (omega arith))
-
-  folded-below : b < 65 → folded b ≡ b
-  folded-below h = rw (below-range 65 70 b h)
-
-  folded-above : 70 < b → folded b ≡ b
-  folded-above h = rw (above-range 65 70 b h)
-
-  folded-capital : 65 ≤ b → b ≤ 70 → folded b ≡ 97 + (b - 65)
-  folded-capital l h = rw (in-range 65 70 b l h)
-
--- the small digit that counts n
 abbrev smallDigit : ℕ → ℕ
 smallDigit n = cond (ltb n 10) (48 + n) (87 + n)
+
+module _ (b : ℕ) where
+  module _ (l : 48 ≤ b) (h : b ≤ 57) where
+    decimal-value : hexValue b ≡ b - 48
+    decimal-value = rw (in-range 48 57 b l h)
+
+    decimal-folded : folded b ≡ b
+    decimal-folded = rw (below-range 65 70 b (omega arith))
+
+    decimal-digit : b ≡ smallDigit (b - 48)
+    decimal-digit = let s : b ≡ 48 + (b - 48) = omega arith in rw (lt-ltb (b - 48) 10 (omega arith)) s
+
+  module _ (l : 97 ≤ b) (h : b ≤ 102) where
+    small-value : hexValue b ≡ 10 + (b - 97)
+    small-value = rw (above-range 48 57 b (omega arith), in-range 97 102 b l h)
+
+    small-folded : folded b ≡ b
+    small-folded = rw (above-range 65 70 b (omega arith))
+
+    small-digit : b ≡ smallDigit (10 + (b - 97))
+    small-digit = let s : b ≡ 87 + (10 + (b - 97)) = omega arith in rw (le-ltb (10 + (b - 97)) 10 (omega arith)) s
+
+module _ (b : ℕ) (l : 65 ≤ b) (h : b ≤ 70) where
+  capital-value : hexValue b ≡ 10 + (b - 65)
+  capital-value = rw (above-range 48 57 b (omega arith), below-range 97 102 b (omega arith))
+
+  -- its small letter counts the same
+  capital-folded : hexValue (folded b) ≡ 10 + (b - 65)
+  capital-folded =
+      let t : 10 + (97 + (b - 65) - 97) ≡ 10 + (b - 65) = omega arith in
+      rw (in-range 65 70 b l h) (small-value (97 + (b - 65)) (omega arith) (omega arith) ∙ t)
+
+  capital-digit : folded b ≡ smallDigit (10 + (b - 65))
+  capital-digit =
+      let s : 97 + (b - 65) ≡ 87 + (10 + (b - 65)) = omega arith in
+      rw (in-range 65 70 b l h, le-ltb (10 + (b - 65)) 10 (omega arith)) s
 
 pub hex-below : (b : ℕ) → isHex b ≡ true → hexValue b < 16
 hex-below =
@@ -60,33 +76,17 @@ hex-below =
 folded-counts : (b : ℕ) → isHex b ≡ true → hexValue b ≡ hexValue (folded b)
 folded-counts =
     hex-each (λ b. hexValue b ≡ hexValue (folded b))
-    (λ b e. let (l, h) = range 48 57 b e in ap hexValue (sym (folded-below b (omega arith))))
-    (λ b e. let (l, h) = range 97 102 b e in ap hexValue (sym (folded-above b (omega arith))))
-    (λ b e.
-    let (l, h) = range 65 70 b e in
-    let f = folded-capital b l h in
-    let s : hexValue (97 + (b - 65)) ≡ 10 + (97 + (b - 65) - 97) = small-value (97 + (b - 65)) (omega arith) (omega arith) in
-    let t : 10 + (b - 65) ≡ 10 + (97 + (b - 65) - 97) = omega arith in
-    capital-value b l h ∙ t ∙ sym s ∙ ap hexValue (sym f))
+    (λ b e. let (l, h) = range 48 57 b e in ap hexValue (sym (decimal-folded b l h)))
+    (λ b e. let (l, h) = range 97 102 b e in ap hexValue (sym (small-folded b l h)))
+    (λ b e. let (l, h) = range 65 70 b e in capital-value b l h ∙ sym (capital-folded b l h))
 
+-- and what it counts tells it but for its case
 counts-folded : (b : ℕ) → isHex b ≡ true → folded b ≡ smallDigit (hexValue b)
 counts-folded =
     hex-each (λ b. folded b ≡ smallDigit (hexValue b))
-    (λ b e.
-    let (l, h) = range 48 57 b e in
-    let t : ltb (b - 48) 10 ≡ true = lt-ltb (b - 48) 10 (omega arith) in
-    let s : b ≡ 48 + (b - 48) = omega arith in
-    folded-below b (omega arith) ∙ s ∙ rw (decimal-value b l h, t))
-    (λ b e.
-    let (l, h) = range 97 102 b e in
-    let t : ltb (10 + (b - 97)) 10 ≡ false = le-ltb (10 + (b - 97)) 10 (omega arith) in
-    let s : b ≡ 87 + (10 + (b - 97)) = omega arith in
-    folded-above b (omega arith) ∙ s ∙ rw (small-value b l h, t))
-    (λ b e.
-    let (l, h) = range 65 70 b e in
-    let t : ltb (10 + (b - 65)) 10 ≡ false = le-ltb (10 + (b - 65)) 10 (omega arith) in
-    let s : 97 + (b - 65) ≡ 87 + (10 + (b - 65)) = omega arith in
-    folded-capital b l h ∙ s ∙ rw (capital-value b l h, t))
+    (λ b e. let (l, h) = range 48 57 b e in decimal-folded b l h ∙ decimal-digit b l h ∙ ap smallDigit (sym (decimal-value b l h)))
+    (λ b e. let (l, h) = range 97 102 b e in small-folded b l h ∙ small-digit b l h ∙ ap smallDigit (sym (small-value b l h)))
+    (λ b e. let (l, h) = range 65 70 b e in capital-digit b l h ∙ ap smallDigit (sym (capital-value b l h)))
 
 -- ---- runs of hex digits: they count the same, digit by digit, exactly where they are the same but for their case
 
