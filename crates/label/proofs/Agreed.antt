@@ -7,7 +7,7 @@ use Prim.Native.Nat.{ℕ}
 use borrow.Author.Tests.{eqb-true}
 use lib.Dec.{eqb}
 use Rattle.slices.specs.Slices.{same}
-use Rattle.slices.proofs.Booleans.{and-left, and-right}
+use Rattle.slices.proofs.Booleans.{and-right, and-parts}
 use Rattle.values.specs.Values.{sameUuid}
 use Rattle.values.proofs.Uuids.{same-turned, same-respelled}
 use Rattle.label.specs.Label.{Label}
@@ -22,17 +22,16 @@ pub record Common (f g : Label) : Type 0 where
 pub agreed-common : (v w : List ℕ) (f g : Label) → agree v f w g ≡ true → Common f g
 unfolding agree
 agreed-common v w f g e =
-    let front = and-left (same v w && sameTexts f g && sameNumbers f g) (ownLetters f g) e in
-    let texts = and-right (same v w) (sameTexts f g) (and-left (same v w && sameTexts f g) (sameNumbers f g) front) in
-    let numbers = and-right (same v w && sameTexts f g) (sameNumbers f g) front in
-    let sizes = and-left (eqb (f .release) (g .release) && eqb (f .indexLetter) (g .indexLetter) && eqb (f .dataLetter) (g .dataLetter) && eqb (f .blockSize) (g .blockSize)) (sameBool (f .compression) (g .compression)) numbers in
-    let letters = and-left (eqb (f .release) (g .release) && eqb (f .indexLetter) (g .indexLetter) && eqb (f .dataLetter) (g .dataLetter)) (eqb (f .blockSize) (g .blockSize)) sizes in
-    let first = and-left (eqb (f .release) (g .release) && eqb (f .indexLetter) (g .indexLetter)) (eqb (f .dataLetter) (g .dataLetter)) letters in
+    let (shared, own) = and-parts _ (ownLetters f g) e in
+    let (told, numbers) = and-parts _ (sameNumbers f g) shared in
+    let (sizes, compression) = and-parts _ (sameBool (f .compression) (g .compression)) numbers in
+    let (letters, size) = and-parts _ (eqb (f .blockSize) (g .blockSize)) sizes in
+    let (front, other) = and-parts _ (eqb (f .dataLetter) (g .dataLetter)) letters in
     record {
-      uuid = and-right (same (f .creator) (g .creator) && same (f .time) (g .time)) (sameUuid (f .uuid) (g .uuid)) texts;
-      indexLetter = eqb-true (f .indexLetter) (g .indexLetter) (and-right (eqb (f .release) (g .release)) (eqb (f .indexLetter) (g .indexLetter)) first);
-      dataLetter = eqb-true (f .dataLetter) (g .dataLetter) (and-right (eqb (f .release) (g .release) && eqb (f .indexLetter) (g .indexLetter)) (eqb (f .dataLetter) (g .dataLetter)) letters);
-      blockSize = eqb-true (f .blockSize) (g .blockSize) (and-right (eqb (f .release) (g .release) && eqb (f .indexLetter) (g .indexLetter) && eqb (f .dataLetter) (g .dataLetter)) (eqb (f .blockSize) (g .blockSize)) sizes);
+      uuid = and-right (same (f .creator) (g .creator) && same (f .time) (g .time)) (sameUuid (f .uuid) (g .uuid)) (and-right (same v w) (sameTexts f g) told);
+      indexLetter = eqb-true (f .indexLetter) (g .indexLetter) (and-right (eqb (f .release) (g .release)) (eqb (f .indexLetter) (g .indexLetter)) front);
+      dataLetter = eqb-true (f .dataLetter) (g .dataLetter) other;
+      blockSize = eqb-true (f .blockSize) (g .blockSize) size;
     }
 
 -- the label with its UUID so spelled

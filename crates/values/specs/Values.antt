@@ -51,7 +51,7 @@ isTime s = inPattern (bytes "####-##-##T##:##:##.#########Z") s && inRanges s
 unfoldable pub isUuid : List ℕ → Bool
 isUuid s = inPattern (bytes "********-****-****-****-************") s
 
--- two UUIDs are the same when the 16 bytes that they spell are (02, Item 3)
+-- two UUIDs are the same when the 16 bytes that they spell are (02, Item 3); what is no UUID is the same as nothing
 unfoldable pub sameUuid : List ℕ → List ℕ → Bool
 sameUuid a b = isUuid a && isUuid b && same (uuidBytes a) (uuidBytes b)
 
