@@ -318,8 +318,8 @@ uint64_t klapouzen_check_labels(const uint8_t *index_list, size_t index_list_len
  * The readers of an index are given its text, the volume's UUID, letters and
  * block size as its label says them, and where the index stands: the letter of
  * its partition and the element number of its first block. Whichever way the
- * UUID is spelled, they answer the same. Offsets count from the text's beginning.
- * An index that klapouzen_read_index does not refuse is sound.
+ * given UUID is spelled, they answer the same. Offsets count from the text's
+ * beginning. An index that klapouzen_read_index does not refuse is sound.
  * Refusals: 14, 15 (over 1,048,576 bytes), 4, 5 (root and its version
  * attribute), 7, 5 (the rest), 15 (over 4,096 entries, or over 1,024 extents of
  * a file), 6, 8 (another UUID, a letter that is neither of the two), 11 (as

@@ -150,7 +150,7 @@ pub struct SideLabels {
 
 /// Whether the labels of the index side and the data side agree.
 pub fn agree(index: &SideLabels, data: &SideLabels) -> bool {
-    // The data side's label with all that the two may spell differently as the index side has it.
+    // The data side's label with the index side's location and spelling, which are compared apart.
     let data_moved = Label {
         location: index.label.location,
         uuid: index.label.uuid.clone(),
