@@ -67,6 +67,9 @@ pub digits-short : (n : ℕ) → every isDigit (short n) ≡ true
 unfolding short
 digits-short n = bytes-digits (width 10 n) n
 
+pub short-some : (n : ℕ) → 0 < length (short n)
+short-some n = omega (arith, short-width n, width-of 10 (omega arith) n .some)
+
 -- a number below 10 ^ w has at most w digits
 pub length-short : (w n : ℕ) → 0 < w → n < 10 ^ w → length (short n) ≤ w
 length-short w n p h = go (ltb w (width 10 n)) refl

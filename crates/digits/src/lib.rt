@@ -7,7 +7,7 @@ ghost use mathlib.Core.Path.{_≡_};
 ghost use Prim.Native.Nat.{_%_};
 ghost use lib.ListN.{length};
 ghost use Rattle.slices.specs.Writers.{Puts};
-ghost use Rattle.digits.specs.Decimal.{plain, number, byteOf, short};
+ghost use Rattle.digits.specs.Decimal.{run, plain, plainNumber, byteOf, short};
 ghost use Rattle.digits.specs.Steps.{valueOf};
 
 // What a text says as a number.
@@ -22,24 +22,11 @@ fn wide(b: u8) -> u64
     b as u64
 }
 
-// Whether digits do not begin with a zero that is not alone.
-fn is_plain(s: &[u8]) -> bool
-    ensures { λ r. ⌜ r ≡ plain (now (s .entry)) ⌝ }
+// The number that a run of digits says, leading zeros or not.
+pub fn read_run(s: &[u8]) -> Number
+    ensures { λ r. ⌜ valueOf r ≡ run (now (s .entry)) ⌝ }
 {
     if s.len() == 0 {
-        return false;
-    }
-    if s.len() == 1 {
-        return true;
-    }
-    s[0] != 48
-}
-
-// The number that s says.
-pub fn read(s: &[u8]) -> Number
-    ensures { λ r. ⌜ valueOf r ≡ number (now (s .entry)) ⌝ }
-{
-    if !is_plain(s) {
         return Number::Nothing;
     }
     let mut v: u64 = 0;
@@ -64,6 +51,29 @@ pub fn read(s: &[u8]) -> Number
         i += 1;
     }
     Number::Value(v)
+}
+
+// Whether digits do not begin with a zero that is not alone.
+fn is_plain(s: &[u8]) -> bool
+    ensures { λ r. ⌜ r ≡ plain (now (s .entry)) ⌝ }
+{
+    if s.len() == 0 {
+        return false;
+    }
+    if s.len() == 1 {
+        return true;
+    }
+    s[0] != 48
+}
+
+// The number that a plain run of digits says.
+pub fn read_plain(s: &[u8]) -> Number
+    ensures { λ r. ⌜ valueOf r ≡ plainNumber (now (s .entry)) ⌝ }
+{
+    if !is_plain(s) {
+        return Number::Nothing;
+    }
+    read_run(s)
 }
 
 // How many digits n has in short form: 1 to 20.

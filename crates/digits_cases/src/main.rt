@@ -21,7 +21,7 @@ fn show_written(n: u64, at: usize) {
 fn show_read(s: &[u8]) {
     io::write_all(1, s);
     io::write_all(1, b" = ");
-    match digits::read(s) {
+    match digits::read_plain(s) {
         digits::Number::Value(n) => show_written(n, 2),
         digits::Number::Nothing => line(b"no number"),
     }

@@ -15,6 +15,7 @@ pub use heads::name_of;
 pub use heads::text_at;
 pub use heads::text_of;
 pub use heads::value_of;
+pub use scan::is_space;
 pub use starts::Item;
 pub use starts::Next;
 pub use starts::Start;

@@ -25,7 +25,7 @@ fn number_at(s: &[u8], from: usize, end: usize) -> u64 {
     if s.len() < end {
         return 0;
     }
-    match digits::read(&s[from..end]) {
+    match digits::read_plain(&s[from..end]) {
         digits::Number::Value(n) => n,
         digits::Number::Nothing => 0,
     }

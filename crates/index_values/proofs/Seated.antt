@@ -9,8 +9,7 @@ use lib.Dec.{eqb}
 use lib.ListN.{length, getD}
 use Rattle.slices.specs.Slices.{same, every}
 use Rattle.slices.specs.Words.{bytes}
-use Rattle.digits.specs.Decimal.{number, isNumber, plain}
-use Rattle.values.specs.Values as values
+use Rattle.values.proofs.SchemaForm.{number-empty}
 use Rattle.xml.specs.Tree.{Forest, none, node, tagHead}
 use Rattle.elements.specs.Tags.{Tags}
 use Rattle.children.specs.Children.{matching, textOfFirst, childrenOfFirst}
@@ -22,7 +21,7 @@ use Rattle.index_names.specs.Names.{names, numberIn}
 use Rattle.index_rows.specs.Steps.{firstBy, firstIn, firstTag, Placed, TagsPlaced}
 use Rattle.index_rows.proofs.Named.{same-flip, ruled, number-own}
 use Rattle.index_values.specs.Elements.{textIn, childrenIn}
-use Rattle.index_values.specs.Entries.{isEntry, numberOrZero, uidOf}
+use Rattle.index_values.specs.Entries.{isEntry, orZero, numberOrZero, uidOf}
 
 module _ (kind j : ℕ) (name : List ℕ) (told : (n : List ℕ) → eqb (numberIn (names kind) n) j ≡ same n name) where
   text-first : (f : Forest) → textIn name f ≡ textOfFirst (firstIn kind j f)
@@ -140,8 +139,7 @@ module _ (s : List ℕ) (f : Forest) (t : List ℕ) (placed : Placed s index f t
 
 -- what is not there says no number
 pub no-number : numberOrZero [] ≡ 0
-unfolding values.number number isNumber plain every
-no-number = refl
+no-number = ap orZero number-empty
 
 pub updatetime-stands : (s : List ℕ) (f : Tags) (t : List ℕ) → TagsPlaced s index f t → firstText s (tagsNamed (bytes "updatetime") f) ≡ firstText s (tagSeat s (getD t 3 0))
 unfolding names table indexTable bytes ruled same

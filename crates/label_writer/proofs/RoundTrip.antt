@@ -16,13 +16,13 @@ use Rattle.slices.proofs.Booleans.{and-left, and-right}
 use Rattle.quantities.specs.Letters.{isLetter}
 use Rattle.digits.specs.Runs as runs
 use Rattle.digits.specs.Decimal as decimal
-use Rattle.digits.proofs.Numbers.{number-short}
 use Rattle.xml.specs.Tree.{none}
 use Rattle.elements.specs.Reading.{hasElement}
 use Rattle.texts.specs.Decoded.{decoded}
 use Rattle.children.specs.Rules.{ruleNumber, markOf}
 use Rattle.children.specs.Children.{mayHold, matching, allKnown, atMostOne, below, lawfulChildren, textOfFirst as textOfFirst, childrenOfFirst}
 use Rattle.values.specs.Values.{number, boolean, letter, version, isCreator, isTime, isUuid}
+use Rattle.values.proofs.SchemaForm.{number-short}
 use Rattle.label_writer.specs.declared.Given.{Given}
 use Rattle.label.specs.Label.{Label, Texts, isShaped, textsIn, labelFrom, labelOf}
 use Rattle.label.specs.Steps.{threeLetters, sized, means}
@@ -49,7 +49,7 @@ word-says true = refl
 word-says false = refl
 
 version-says : version (bytes "2.0.1") ≡ some 1
-unfolding version same bytes decimal.number decimal.isNumber decimal.plain runs.value every
+unfolding version same bytes decimal.plainNumber decimal.plain decimal.run decimal.isRun runs.value every
 version-says = refl
 
 children-shaped : (f : Label) → isShaped (children f) ≡ true
@@ -90,7 +90,6 @@ released n f =
     }
 
 values-read : (f : Label) → Rules f → labelFrom 1 (shown f) ≡ answer (released 1 f)
-unfolding number
 values-read f ok =
     let h : f .blockSize ≤ 1048576 = leb-true (f .blockSize) 1048576 (and-right (leb 4096 (f .blockSize)) (leb (f .blockSize) 1048576) (ok .blockSize)) in
     let d = decoded-escaped (f .creator) in

@@ -1,3 +1,4 @@
 pub mod Patterns
 pub mod Parts
 pub mod Uuids
+pub mod SchemaForm

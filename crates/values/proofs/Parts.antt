@@ -9,7 +9,7 @@ use lib.ListN.{length, take, drop, getD, length-drop}
 use lib.Seq.{take-all}
 use Rattle.slices.specs.Words.{bytes}
 use Rattle.quantities.specs.Letters.{isLetter}
-use Rattle.digits.specs.Decimal.{number}
+use Rattle.digits.specs.Decimal.{plainNumber}
 use Rattle.texts.specs.Decoded.{begins}
 use Rattle.texts.proofs.Meanings.{begins-short}
 use Rattle.values.specs.Values.{letter, atMost, version}
@@ -36,10 +36,10 @@ module _ (s : List ℕ) where
   version-other e = rw e
 
   -- the number of the rest decides
-  pub version-rest : {o : Option ℕ} → begins (bytes "2.0.") s ≡ true → o ≡ number (take (length s - 4) (drop 4 s)) → version s ≡ atMost 65535 o
+  pub version-rest : {o : Option ℕ} → begins (bytes "2.0.") s ≡ true → o ≡ plainNumber (take (length s - 4) (drop 4 s)) → version s ≡ atMost 65535 o
   unfolding version
   version-rest e f =
-      rw e (ap (λ (r : List ℕ). atMost 65535 (number r)) (sym (take-all (length s - 4) (drop 4 s) (omega (arith, length-drop 4 s))))
+      rw e (ap (λ (r : List ℕ). atMost 65535 (plainNumber r)) (sym (take-all (length s - 4) (drop 4 s) (omega (arith, length-drop 4 s))))
       ∙ ap (atMost 65535) (sym f))
 
 -- five tests in a row: the first four passed, so the last decides

@@ -1,2 +1,3 @@
 pub mod Values
+pub mod Spells
 pub mod Steps

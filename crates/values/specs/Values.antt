@@ -1,5 +1,5 @@
 -- Values (01, Values): what the text of an element says, or that it says nothing. Number, boolean, time, UUID and letter are told by the text
--- as spelled; creator and name by the bytes that it means, decoded.
+-- as spelled, white space around a number aside; creator and name by the bytes that it means, decoded.
 use mathlib.Core.Bool.{Bool, true, false, not, cond, _&&_, _||_}
 use mathlib.Core.List.{List, [], _∷_}
 use mathlib.Core.Option.{Option, some, none}
@@ -9,13 +9,34 @@ use lib.ListN.{length, drop, getD}
 use Rattle.slices.specs.Slices.{within, every, same}
 use Rattle.slices.specs.Words.{bytes}
 use Rattle.quantities.specs.Letters.{isLetter}
+use Rattle.xml.specs.Bytes.{isSpace}
+use Rattle.xml.specs.Tree.{behind}
 use Rattle.digits.specs.Decimal as decimal
 use Rattle.digits.specs.Hex.{isHex, uuidBytes}
 use Rattle.texts.specs.Decoded.{begins, codePoints}
 
--- Number: what a number's text means to every reader
+-- what is said, if it is at most the bound
+abbrev pub atMost : ℕ → Option ℕ → Option ℕ
+atMost bound (some n) = cond (leb n bound) (some n) none
+atMost bound none = none
+
+-- a text without the white space at its end
+unfoldable pub endTrimmed : List ℕ → List ℕ
+endTrimmed [] = []
+endTrimmed (b ∷ s) = cond (every isSpace (b ∷ s)) [] (b ∷ endTrimmed s)
+
+-- and without that in front
+abbrev pub trimmed : List ℕ → List ℕ
+trimmed s = endTrimmed (behind isSpace s)
+
+-- what digits say behind `+`, behind `-` if they say zero, or alone
+unfoldable pub signed : List ℕ → Option ℕ
+signed [] = none
+signed (b ∷ s) = cond (eqb b 43) (decimal.run s) (cond (eqb b 45) (atMost 0 (decimal.run s)) (decimal.run (b ∷ s)))
+
+-- Number (02, Item 2), as XML Schema spells a nonnegative integer: the value that its text has to every reader. The form in one line: specs/Spells
 unfoldable pub number : List ℕ → Option ℕ
-number s = decimal.number s
+number s = signed (trimmed s)
 
 -- Boolean: `true`, `1`, `false`, `0`
 unfoldable pub boolean : List ℕ → Option Bool
@@ -77,11 +98,6 @@ isName s = within 1 255 (codePoints s) && every (isPlain false) s
 unfoldable pub isRootName : List ℕ → Bool
 isRootName s = eqb (length s) 0 || isName s
 
--- what is said, if it is at most the bound
-abbrev pub atMost : ℕ → Option ℕ → Option ℕ
-atMost bound (some n) = cond (leb n bound) (some n) none
-atMost bound none = none
-
 -- a version (01, Refusal numbers: 7): the R of 2.0.R, in plain numbers up to 65,535
 unfoldable pub version : List ℕ → Option ℕ
-version s = cond (begins (bytes "2.0.") s) (atMost 65535 (decimal.number (drop 4 s))) none
+version s = cond (begins (bytes "2.0.") s) (atMost 65535 (decimal.plainNumber (drop 4 s))) none

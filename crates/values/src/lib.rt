@@ -1,15 +1,17 @@
 // Values (01, Values): what the text of an element says, as spelled (raw), and whether it is lawful.
+mod numbers;
+
 use digits::Number;
+pub use numbers::read_number;
 use texts::Spelled;
 ghost use mathlib.Core.Path.{_≡_};
 ghost use mathlib.Core.Bool.{_||_};
 ghost use Prim.Native.Nat.{_+_, _-_, _<_, _≤_};
 ghost use lib.ListN.{length};
 ghost use Rattle.slices.specs.Slices.{within, every};
-ghost use Rattle.digits.specs.Steps.{valueOf};
 ghost use Rattle.texts.specs.Decoded.{decoded};
 ghost use Rattle.slices.specs.Slices as slices;
-ghost use Rattle.values.specs.Values.{number, boolean, letter, version, byPattern, inPattern, two, inRanges, isPlain, isTime, isUuid, sameUuid, isCreator, isName, isRootName};
+ghost use Rattle.values.specs.Values.{boolean, letter, version, byPattern, inPattern, two, inRanges, isPlain, isTime, isUuid, sameUuid, isCreator, isName, isRootName};
 ghost use Rattle.values.specs.Steps.{booleanOf, letterOf, versionOf};
 
 // What a text says as a boolean.
@@ -28,13 +30,6 @@ pub enum Letter {
 pub enum Version {
     Release(u64),
     Nothing,
-}
-
-// The number that raw says.
-pub fn read_number(raw: &[u8]) -> Number
-    ensures { λ r. ⌜ valueOf r ≡ number (now (raw .entry)) ⌝ }
-{
-    digits::read(raw)
 }
 
 // `true` or `1`; or `false` or `0` where that is the question.
@@ -265,7 +260,7 @@ pub fn read_version(raw: &[u8]) -> Version
     if !slices::same(&raw[0..4], b"2.0.") {
         return Version::Nothing;
     }
-    match digits::read(&raw[4..]) {
+    match digits::read_plain(&raw[4..]) {
         Number::Value(n) => {
             if n <= 65535 {
                 Version::Release(n)

@@ -123,9 +123,10 @@ cases f b B x y z =
     ∷ indexAt 5 B x y z
     -- 18446744073709551615 reads
     ∷ says 18446744073709551615 (readNumber "18446744073709551615")
-    -- 18446744073709551616 and 007 are 6
+    -- 18446744073709551616 is 6
     ∷ isRefused 6 (readNumber "18446744073709551616")
-    ∷ isRefused 6 (readNumber "007")
+    -- 007 is 7 (02, Item 2)
+    ∷ says 7 (readNumber "007")
     -- a label such as the bench's, of which there is one, has 378 bytes
     ∷ isBench sample
     ∷ benchLength f

@@ -33,17 +33,17 @@ returns-2 : tie.Need-returns-2
 unfolding bytes
 returns-2 c = sym (version-other (c .before .before .before .before .before .before .args .raw .now) (sym (c .before .same .ensures) ∙ not-true _ (c .if2 .taken)))
 
-sub-read : tie.Need-sub-read
-sub-read c = search needs
+sub-read-plain : tie.Need-sub-read-plain
+sub-read-plain c = search needs
 
-part-read-start : tie.Need-part-read-start
-part-read-start c = search needs
+part-read-plain-start : tie.Need-part-read-plain-start
+part-read-plain-start c = search needs
 
-part-read-end : tie.Need-part-read-end
-part-read-end c = search needs
+part-read-plain-end : tie.Need-part-read-plain-end
+part-read-plain-end c = search needs
 
-read-requires : tie.Need-read-requires
-read-requires c κs = search needs
+read-plain-requires : tie.Need-read-plain-requires
+read-plain-requires c κs = search needs
 
 enum-known-n : tie.Need-enum-known-n
 enum-known-n c = search needs
@@ -56,20 +56,20 @@ unfolding bytes
 returns-3 c =
     let e : begins (bytes "2.0.") (c .before .before .before .before .before .before .before .before .before .before .before .before .args .raw .now) ≡ true = sym (c .before .before .before .before .before .before .before .same .ensures) ∙ not-false _ (c .before .before .before .before .before .before .if2 .left) in
     let n = c .before .before .n .given in
-    sym (version-rest (c .before .before .before .before .before .before .before .before .before .before .before .before .args .raw .now) {o = some (n .0 .0)} e (sym (ap valueOf (n .1)) ∙ c .before .before .before .before .read .ensures) ∙ rw (le-leb _ _ (c .if3 .taken)))
+    sym (version-rest (c .before .before .before .before .before .before .before .before .before .before .before .before .args .raw .now) {o = some (n .0 .0)} e (sym (ap valueOf (n .1)) ∙ c .before .before .before .before .read-plain .ensures) ∙ rw (le-leb _ _ (c .if3 .taken)))
 
 returns-4 : tie.Need-returns-4
 unfolding bytes
 returns-4 c =
     let e : begins (bytes "2.0.") (c .before .before .before .before .before .before .before .before .before .before .before .before .args .raw .now) ≡ true = sym (c .before .before .before .before .before .before .before .same .ensures) ∙ not-false _ (c .before .before .before .before .before .before .if2 .left) in
     let n = c .before .before .n .given in
-    sym (version-rest (c .before .before .before .before .before .before .before .before .before .before .before .before .args .raw .now) {o = some (n .0 .0)} e (sym (ap valueOf (n .1)) ∙ c .before .before .before .before .read .ensures) ∙ rw (lt-leb _ _ (c .if3 .left)))
+    sym (version-rest (c .before .before .before .before .before .before .before .before .before .before .before .before .args .raw .now) {o = some (n .0 .0)} e (sym (ap valueOf (n .1)) ∙ c .before .before .before .before .read-plain .ensures) ∙ rw (lt-leb _ _ (c .if3 .left)))
 
 returns-5 : tie.Need-returns-5
 unfolding bytes
 returns-5 c =
     let e : begins (bytes "2.0.") (c .before .before .before .before .before .before .before .before .before .before .args .raw .now) ≡ true = sym (c .before .before .before .before .before .same .ensures) ∙ not-false _ (c .before .before .before .before .if2 .left) in
-    sym (version-rest (c .before .before .before .before .before .before .before .before .before .before .args .raw .now) {o = none} e (sym (ap valueOf (c .enum-told .given .1)) ∙ c .before .before .read .ensures))
+    sym (version-rest (c .before .before .before .before .before .before .before .before .before .before .args .raw .now) {o = none} e (sym (ap valueOf (c .enum-told .given .1)) ∙ c .before .before .read-plain .ensures))
 
 pub read-version-spec : {M : Type 1} → statement M
 read-version-spec =
@@ -82,10 +82,10 @@ read-version-spec =
     slice-aggregate-same
     same-requires
     returns-2
-    sub-read
-    part-read-start
-    part-read-end
-    read-requires
+    sub-read-plain
+    part-read-plain-start
+    part-read-plain-end
+    read-plain-requires
     enum-known-n
     enum-told
     returns-3

@@ -1,20 +1,19 @@
--- `digits::read` meets its contract. Invariant: the digits passed say v, and what is left says the number after it.
+-- `digits::read_run` meets its contract. Invariant: the digits passed say v, and what is left says the number after it.
 use mathlib.Core.Path.{_≡_, refl, ap, sym, _∙_}
 use mathlib.Core.Bool.{true}
 use mathlib.Core.Option.{some}
 use Prim.Native.Nat.{ℕ, _+_, _*_, _-_, _≤_}
 use native.Mathlib.Omega.{arith}
-use borrow.Author.Tests.{not-true, not-false}
 use lib.ListN.{length, drop, getD}
 use Rattle.slices.specs.Slices.{every}
 use Rattle.slices.proofs.Every.{every-on, every-off, every-end}
 use Rattle.digits.specs.Decimal.{isDigit, digitOf, decimal, largest}
 use Rattle.digits.proofs.Values.{value-on, value-end}
 use Rattle.digits.proofs.Short.{digit-between, digit-below, digit-above}
-use Rattle.digits.proofs.Numbers.{not-plain, not-digits, grown-too-large, a-number}
+use Rattle.digits.proofs.Numbers.{run-empty, not-digits, grown-too-large, a-run}
 use borrow.Author.Needs.{needs}
-use Rattle.digits.proofs.read.Statement.{statement}
-use Rattle.digits.proofs.read.Tie as tie
+use Rattle.digits.proofs.read_run.Statement.{statement}
+use Rattle.digits.proofs.read_run.Tie as tie
 
 abbrev Inv-loop : tie.InvT-loop
 Inv-loop s v₀ i₀ v i = (i ≤ length s) × (every isDigit s ≡ every isDigit (drop i s)) × (decimal 0 s ≡ decimal v (drop i s)) × (v ≤ largest)
@@ -22,11 +21,8 @@ Inv-loop s v₀ i₀ v i = (i ≤ length s) × (every isDigit s ≡ every isDigi
 abbrev μ-loop : tie.MeasureT-loop
 μ-loop s v₀ i₀ v i = length s - i
 
-is-plain-requires : tie.Need-is-plain-requires Inv-loop μ-loop
-is-plain-requires c κs = search needs
-
 returns : tie.Need-returns Inv-loop μ-loop
-returns c = sym (not-plain _ (sym (c .before .is-plain .ensures) ∙ not-true _ (c .if1 .taken)))
+returns c = sym (run-empty _ (c .if1 .taken))
 
 loop-holds : tie.Need-loop-holds Inv-loop μ-loop
 loop-holds c = (search needs, refl, refl, search needs)
@@ -36,13 +32,13 @@ shared-slice-read-b c = search needs
 
 returns-2 : tie.Need-returns-2 Inv-loop μ-loop
 returns-2 c =
-    let s = c .before .before .before .before .before .before .before .args .s .now in
+    let s = c .before .before .before .before .before .before .args .s .now in
     let l = c .before .before .before .loop in
     sym (not-digits s (l .inv .1 ∙ every-off isDigit 0 s (l .i) (search needs) (digit-below _ (c .if2 .taken))))
 
 returns-3 : tie.Need-returns-3 Inv-loop μ-loop
 returns-3 c =
-    let s = c .before .before .before .before .before .before .before .before .args .s .now in
+    let s = c .before .before .before .before .before .before .before .args .s .now in
     let l = c .before .before .before .before .loop in
     sym (not-digits s (l .inv .1 ∙ every-off isDigit 0 s (l .i) (search needs) (digit-above _ (c .if3 .taken))))
 
@@ -51,7 +47,7 @@ wide-requires c κs = search needs
 
 returns-4 : tie.Need-returns-4 Inv-loop μ-loop
 returns-4 c =
-    let s = c .before .before .before .before .before .before .before .before .before .before .args .s .now in
+    let s = c .before .before .before .before .before .before .before .before .before .args .s .now in
     let l = c .before .before .before .before .before .before .loop in
     sym (grown-too-large s (l .i) (l .v) (search needs) (l .inv .2) (omega arith))
 
@@ -63,7 +59,7 @@ sub-if5 c = search needs
 
 returns-5 : tie.Need-returns-5 Inv-loop μ-loop
 returns-5 c =
-    let s = c .before .before .before .before .before .before .before .before .before .before .before .args .s .now in
+    let s = c .before .before .before .before .before .before .before .before .before .before .args .s .now in
     let l = c .before .before .before .before .before .before .before .loop in
     sym (grown-too-large s (l .i) (l .v) (search needs) (l .inv .2) (omega arith))
 
@@ -78,7 +74,7 @@ loop-less c = search needs
 
 loop-again : tie.Need-loop-again Inv-loop μ-loop
 loop-again c =
-    let s = c .before .before .before .before .before .before .before .before .before .before .before .args .s .now in
+    let s = c .before .before .before .before .before .before .before .before .before .before .args .s .now in
     let l = c .before .before .before .before .before .before .before .loop in
     let w : c .before .before .wide .result ≡ getD s (l .i) 0 - 48 = c .before .before .wide .ensures in
     let f : isDigit (getD s (l .i) 0) ≡ true = digit-between (getD s (l .i) 0) (search needs) (search needs) in (
@@ -90,18 +86,17 @@ loop-again c =
 
 returns-6 : tie.Need-returns-6 Inv-loop μ-loop
 returns-6 c =
-    let s = c .before .before .before .before .before .args .s .now in
+    let s = c .before .before .before .before .args .s .now in
     let l = c .before .loop in
     let z : decimal 0 s ≡ l .v = l .inv .2 ∙ value-end 10 digitOf s (l .i) (l .v) (search needs) in
-    sym (a-number s (l .inv .1 ∙ every-end isDigit 0 s (l .i) (search needs)) (sym (c .before .before .before .is-plain .ensures) ∙ not-false _ (c .before .before .if1 .left)) (omega arith) ∙ ap some z)
+    sym (a-run s (l .inv .1 ∙ every-end isDigit 0 s (l .i) (search needs)) (omega arith) (omega arith) ∙ ap some z)
 
-pub read-spec : {M : Type 1} → statement M
-read-spec =
+pub read-run-spec : {M : Type 1} → statement M
+read-run-spec =
     tie.close
     (tie.spec
     Inv-loop
     μ-loop
-    is-plain-requires
     returns
     loop-holds
     shared-slice-read-b
