@@ -42,4 +42,5 @@ fn main() {
     run(b"vectors");
     run(b"own");
     run(b"spellings");
+    run(b"numbers");
 }

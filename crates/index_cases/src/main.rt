@@ -459,6 +459,8 @@ fn main() {
     run(b"own", 0);
     run(b"uuid", 0);
     run(b"spellings", 0);
+    run(b"numbers", 0);
+    run(b"number_spellings", 0);
     run(b"constructs", 2);
     let good = entries(3999, 6) + entries(4095, 6) + entries(4096, 15);
     case_files::report(b"entries", good, 3);

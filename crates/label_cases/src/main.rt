@@ -38,6 +38,7 @@ fn main() {
     run(b"read_values", 0);
     run(b"read_order", 0);
     run(b"read_uuid", 0);
+    run(b"read_numbers", 0);
     run(b"write", 1);
     run(b"agreement", 2);
     run(b"agreement_uuid", 2);
