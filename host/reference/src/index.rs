@@ -643,7 +643,9 @@ mod tests {
             ("<creator>LTFS", "<creator>"),
             ("<volumeuuid>3", "<volumeuuid>g"),
             ("<generationnumber>3", "<generationnumber>0"),
-            ("<generationnumber>3", "<generationnumber>03"),
+            ("<generationnumber>3", "<generationnumber>-0"),
+            ("<generationnumber>3", "<generationnumber>-3"),
+            ("<generationnumber>3", "<generationnumber>+"),
             ("<updatetime>2010-01", "<updatetime>2010-00"),
             ("<location><partition>a", "<location><partition>A"),
             ("<startblock>20", "<startblock>18446744073709551616"),
@@ -653,13 +655,15 @@ mod tests {
             ("<fileuid>2<", "<fileuid>1<"),
             ("<fileuid>2<", "<fileuid>0<"),
             ("<fileuid>2<", "<fileuid>9<"),
+            ("<fileuid>2<", "<fileuid>009<"),
+            ("<fileuid>2<", "<fileuid> +9 <"),
             ("<name>inner", "<name>in/ner"),
             ("<name>inner", "<name>in\tner"),
             ("<readonly>false", "<readonly>"),
-            ("<length>5", "<length> 5"),
+            ("<length>5", "<length>+ 5"),
             ("<extent><partition>a", "<extent><partition>"),
-            ("<byteoffset>0", "<byteoffset>00"),
-            ("<fileoffset>0", "<fileoffset>-0"),
+            ("<byteoffset>0", "<byteoffset>0 0"),
+            ("<fileoffset>0", "<fileoffset>-"),
         ] {
             refused(from, to, Refusal::Value);
         }
@@ -671,6 +675,25 @@ mod tests {
             "<generationnumber>18446744073709551615"
         )
         .is_ok());
+    }
+
+    #[test]
+    fn numbers_are_their_values() {
+        let lawful = changed("<creator>LTFS", "<creator>LTFS");
+        for (from, to) in [
+            ("<generationnumber>3", "<generationnumber>+03"),
+            ("<startblock>6<", "<startblock>\n\t6\r\n<"),
+            ("<startblock>20<", "<startblock>00020 <"),
+            ("<highestfileuid>4<", "<highestfileuid> 4<"),
+            ("<fileuid>1<", "<fileuid>+1<"),
+            ("<fileuid>2<", "<fileuid>002<"),
+            ("<length>5", "<length> 5"),
+            ("<byteoffset>0", "<byteoffset>-00"),
+            ("<bytecount>5", "<bytecount>0000000000000000000000005"),
+            ("<fileoffset>0", "<fileoffset>-0"),
+        ] {
+            assert_eq!(changed(from, to), lawful, "{to}");
+        }
     }
 
     #[test]
@@ -696,10 +719,12 @@ mod tests {
             Refusal::Disagreement,
         );
         refused("<bytecount>5", "<bytecount>0", Refusal::Extents);
+        refused("<bytecount>5", "<bytecount>-0", Refusal::Extents);
         refused("<bytecount>5", "<bytecount>6", Refusal::Extents);
         refused("<byteoffset>4095", "<byteoffset>4096", Refusal::Extents);
         refused("<fileoffset>6", "<fileoffset>2", Refusal::Extents);
         refused("<startblock>6", "<startblock>7", Refusal::Location);
+        refused("<startblock>6", "<startblock> +7", Refusal::Location);
         refused(
             "<location><partition>a",
             "<location><partition>b",

@@ -310,6 +310,7 @@ mod tests {
             })
         );
         assert_eq!(changed("<compression>true", "<compression>1"), Ok(sample()));
+        assert_eq!(changed("524288", "\n +0524288\t"), Ok(sample()));
         assert_eq!(
             changed(
                 "<index>a</index><data>b</data>",
@@ -374,7 +375,8 @@ mod tests {
         is("<data>b", "<data>a", Refusal::Value);
         is("<data>b", "<data>", Refusal::Value);
         is("524288", "4095", Refusal::Value);
-        is("524288", "0524288", Refusal::Value);
+        is("524288", "-524288", Refusal::Value);
+        is("524288", "524 288", Refusal::Value);
         is("524288", "1048577", Refusal::Value);
         is("<compression>true", "<compression> true", Refusal::Value);
     }

@@ -56,6 +56,7 @@ pub struct Node {
     pub name: String,
     pub attribute: Option<(String, String)>,
     pub text: String,
+    pub is_number: bool,
     pub children: Vec<Node>,
 }
 
@@ -65,7 +66,15 @@ impl Node {
             name: name.into(),
             attribute: None,
             text: text.into(),
+            is_number: false,
             children: Vec::new(),
+        }
+    }
+
+    pub fn number(name: &str, number: u64) -> Node {
+        Node {
+            is_number: true,
+            ..Node::value(name, number.to_string())
         }
     }
 
@@ -74,6 +83,7 @@ impl Node {
             name: name.into(),
             attribute: None,
             text: String::new(),
+            is_number: false,
             children,
         }
     }
@@ -89,6 +99,7 @@ struct Spelling {
     white_in_tags: bool,
     white_between: bool,
     other_order: bool,
+    padded_numbers: bool,
 }
 
 /// The text of a document with this root, in a lawful spelling.
@@ -97,6 +108,7 @@ pub fn document(random: &mut Random, root: &Node) -> Vec<u8> {
         white_in_tags: random.one_in(3),
         white_between: random.one_in(2),
         other_order: random.one_in(2),
+        padded_numbers: random.one_in(3),
     };
     let mut text = DECLARATION.to_string();
     text.push_str(random.pick(&["", "\n", "\r\n \t"]));
@@ -134,8 +146,12 @@ fn spell(random: &mut Random, node: &Node, spelling: &Spelling, text: &mut Strin
         return;
     }
     text.push('>');
-    for character in node.text.chars() {
-        spell_character(random, character, '\0', text);
+    if node.is_number && spelling.padded_numbers {
+        text.push_str(&padded(random, &node.text));
+    } else {
+        for character in node.text.chars() {
+            spell_character(random, character, '\0', text);
+        }
     }
     let mut children: Vec<&Node> = node.children.iter().collect();
     if spelling.other_order {
@@ -174,6 +190,19 @@ fn spell_character(random: &mut Random, character: char, quote: char, text: &mut
     } else {
         text.push(character);
     }
+}
+
+/// The same number with white space around it, a sign or leading zeros.
+fn padded(random: &mut Random, number: &str) -> String {
+    let white = ["", "", " ", "\n", "\r\n\t", "  \t"];
+    let minus = if number == "0" { "-" } else { "+" };
+    format!(
+        "{}{}{}{number}{}",
+        random.pick(&white),
+        random.pick(&["", "", "+", minus]),
+        random.pick(&["", "", "0", "00000000000000000000000"]),
+        random.pick(&white)
+    )
 }
 
 // ---- Values ----
@@ -351,7 +380,7 @@ pub fn label_node(random: &mut Random, label: &Label) -> Node {
                     Node::value("data", letter_text(label.letters.data)),
                 ],
             ),
-            Node::value("blocksize", label.block_size.to_string()),
+            Node::number("blocksize", label.block_size),
             Node::value("compression", boolean(random, label.compression)),
         ],
     )
@@ -556,7 +585,7 @@ fn skipped(random: &mut Random, name: &str) -> Node {
 fn entry_nodes(random: &mut Random, uid: u64, name: String) -> Vec<Node> {
     let read_only = random.one_in(2);
     let mut nodes = vec![
-        Node::value("fileuid", uid.to_string()),
+        Node::number("fileuid", uid),
         Node::value("name", name),
         Node::value("readonly", boolean(random, read_only)),
     ];
@@ -595,10 +624,10 @@ fn row_node(row: &Row) -> Node {
         "extent",
         vec![
             Node::value("partition", letter_text(row.letter)),
-            Node::value("startblock", row.start_block.to_string()),
-            Node::value("byteoffset", row.byte_offset.to_string()),
-            Node::value("bytecount", row.byte_count.to_string()),
-            Node::value("fileoffset", row.file_offset.to_string()),
+            Node::number("startblock", row.start_block),
+            Node::number("byteoffset", row.byte_offset),
+            Node::number("bytecount", row.byte_count),
+            Node::number("fileoffset", row.file_offset),
         ],
     )
 }
@@ -607,7 +636,7 @@ fn file_node(random: &mut Random, pool: &mut Pool) -> Node {
     let (uid, file_name) = (pool.uid(), name(random));
     let mut nodes = entry_nodes(random, uid, file_name);
     let (rows, length) = rows(random, pool.blocks, pool.block_size);
-    nodes.push(Node::value("length", length.to_string()));
+    nodes.push(Node::number("length", length));
     if !rows.is_empty() || random.one_in(2) {
         nodes.push(Node::parent(
             "extentinfo",
@@ -648,7 +677,7 @@ fn place_node(element: &str, place: Place) -> Node {
         element,
         vec![
             Node::value("partition", letter_text(place.letter)),
-            Node::value("startblock", place.start_block.to_string()),
+            Node::number("startblock", place.start_block),
         ],
     )
 }
@@ -673,11 +702,11 @@ pub fn index_node(
     let mut nodes = vec![
         Node::value("creator", creator(random)),
         Node::value("volumeuuid", as_text(&respelled(random, &label.uuid))),
-        Node::value("generationnumber", header.generation.to_string()),
+        Node::number("generationnumber", header.generation),
         Node::value("updatetime", time(random)),
         place_node("location", header.location),
         Node::value("allowpolicyupdate", boolean(random, update_policy)),
-        Node::value("highestfileuid", highest.to_string()),
+        Node::number("highestfileuid", highest),
         directory,
     ];
     if let Some(place) = header.back_pointer {
@@ -1156,8 +1185,16 @@ pub fn damage_node(random: &mut Random, node: &mut Node) {
         "007",
         "+1",
         "-1",
+        "-0",
+        "+",
+        "-",
+        "+ 5",
+        "5 5",
+        "--0",
+        "+005",
         " 7",
         "7 ",
+        "\r\n\t5 ",
         "18446744073709551615",
         "18446744073709551616",
         "4095",

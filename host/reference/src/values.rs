@@ -11,17 +11,35 @@ pub fn decode(raw: &str) -> String {
         .replace("&amp;", "&")
 }
 
-/// Decimal digits without a leading zero, up to 2^64 - 1.
-pub fn number(text: &[u8]) -> Option<u64> {
+/// Decimal digits, at least one, up to 2^64 - 1.
+fn digits(text: &[u8]) -> Option<u64> {
     if text.is_empty() || !text.iter().all(u8::is_ascii_digit) {
-        return None;
-    }
-    if text[0] == b'0' && text.len() > 1 {
         return None;
     }
     text.iter().try_fold(0u64, |value, digit| {
         value.checked_mul(10)?.checked_add(u64::from(digit - b'0'))
     })
+}
+
+/// Digits without a leading zero: a part of a version.
+fn plain_number(text: &[u8]) -> Option<u64> {
+    if text.len() > 1 && text[0] == b'0' {
+        return None;
+    }
+    digits(text)
+}
+
+/// A nonnegative integer as XML Schema spells it, up to 2^64 - 1: white space
+/// around it, a sign, leading zeros. The only one with a minus is zero.
+pub fn number(text: &[u8]) -> Option<u64> {
+    let is_space = |byte: &u8| b" \t\r\n".contains(byte);
+    let first = text.iter().position(|byte| !is_space(byte))?;
+    let last = text.iter().rposition(|byte| !is_space(byte))?;
+    match &text[first..=last] {
+        [b'+', unsigned @ ..] => digits(unsigned),
+        [b'-', unsigned @ ..] => digits(unsigned).filter(|value| *value == 0),
+        unsigned => digits(unsigned),
+    }
 }
 
 pub fn boolean(text: &[u8]) -> Option<bool> {
@@ -122,11 +140,11 @@ pub fn is_name(text: &str, root_directory: bool) -> bool {
 #[derive(Clone, Copy, Debug, PartialEq, Eq)]
 pub struct Version(pub u16, pub u16, pub u16);
 
-/// A version this format reads: 2.0.R, each part a number up to 65,535.
+/// A version this format reads: 2.0.R, each part a plain number up to 65,535.
 pub fn version(text: &[u8]) -> Option<Version> {
     let parts: Vec<u16> = text
         .split(|byte| *byte == b'.')
-        .map(|part| number(part).and_then(|value| u16::try_from(value).ok()))
+        .map(|part| plain_number(part).and_then(|value| u16::try_from(value).ok()))
         .collect::<Option<_>>()?;
     match parts[..] {
         [2, 0, r] => Some(Version(2, 0, r)),
@@ -143,20 +161,65 @@ mod tests {
         assert_eq!(number(b"0"), Some(0));
         assert_eq!(number(b"7"), Some(7));
         assert_eq!(number(b"18446744073709551615"), Some(u64::MAX));
+        for (text, value) in [
+            ("007", 7),
+            ("00", 0),
+            ("+7", 7),
+            ("-0", 0),
+            ("-000", 0),
+            ("+0", 0),
+            (" 7", 7),
+            ("7 ", 7),
+            ("\t\r\n +007\n\r\t ", 7),
+            ("00000000000000000000000018446744073709551615", u64::MAX),
+        ] {
+            assert_eq!(number(text.as_bytes()), Some(value), "{text:?}");
+        }
         for refused in [
             "",
+            " ",
+            "+",
+            "-",
+            " + ",
+            "-7",
+            "-007",
+            "+ 7",
+            "- 0",
+            "7 7",
+            "7+",
+            "++7",
+            "+-0",
+            "-+0",
+            "\u{c}7",
+            "7\u{b}",
+            "\u{a0}7",
             "18446744073709551616",
+            "+18446744073709551616",
             "99999999999999999999999",
-            "007",
-            "00",
-            "+1",
-            "-1",
-            " 7",
-            "7 ",
             "1a",
+            "7.0",
             "\u{661}",
         ] {
             assert_eq!(number(refused.as_bytes()), None, "{refused:?}");
+        }
+    }
+
+    #[test]
+    fn plain_numbers() {
+        assert_eq!(plain_number(b"0"), Some(0));
+        assert_eq!(plain_number(b"7"), Some(7));
+        assert_eq!(plain_number(b"18446744073709551615"), Some(u64::MAX));
+        for refused in [
+            "",
+            "007",
+            "00",
+            "+1",
+            "-0",
+            " 7",
+            "7 ",
+            "18446744073709551616",
+        ] {
+            assert_eq!(plain_number(refused.as_bytes()), None, "{refused:?}");
         }
     }
 
