@@ -18,6 +18,9 @@ count klapouzen_ansi ansi "the most files"
 for text in flat indented nested; do
     count klapouzen_read_index "$text" "1 MB, $text"
 done
+count klapouzen_read_index padded "1 MB, flat, its numbers padded"
+count klapouzen_read_index zeros "1 MB, a number with zeros in front"
+count klapouzen_read_index signed_zeros "1 MB, a number with a sign and zeros in front"
 count klapouzen_read_index smallest "no files"
 count klapouzen_read_index respelled "no files, its UUID given in capitals"
 count klapouzen_read_index given "what is given tested"

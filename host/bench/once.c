@@ -63,6 +63,40 @@ static void nested_once(void)
     read_once(nested_index(KLAPOUZEN_MAX_INDEX, 30));
 }
 
+static void padded_once(void)
+{
+    struct buffer text = index_of_size(KLAPOUZEN_MAX_INDEX * 9 / 10, false);
+    read_once(pad_numbers(text.bytes, text.length));
+    buffer_free(&text);
+}
+
+/* As many zeros as there is room for before the highest fileuid of an index without files, or before them white space and a sign. */
+static void zeros_with(const char *front)
+{
+    static const char tag[] = "<highestfileuid>";
+    struct buffer text = smallest(), filled = { 0 };
+    size_t before = 0;
+    while (memcmp(text.bytes + before, tag, sizeof tag - 1) != 0)
+        before++;
+    before += sizeof tag - 1;
+    put_bytes(&filled, text.bytes, before);
+    put(&filled, "%s", front);
+    put_byte(&filled, '0', KLAPOUZEN_MAX_INDEX - text.length - strlen(front));
+    put_bytes(&filled, text.bytes + before, text.length - before);
+    buffer_free(&text);
+    read_once(filled);
+}
+
+static void zeros_once(void)
+{
+    zeros_with("");
+}
+
+static void signed_zeros_once(void)
+{
+    zeros_with(" +");
+}
+
 /* No text: the UUID, the letters and the block size are all that is looked at before the refusal. */
 static void given_once(void)
 {
@@ -85,6 +119,7 @@ static const struct {
     { "ansi", ansi_once },     { "flat", flat_once },   { "indented", indented_once },
     { "nested", nested_once }, { "given", given_once }, { "label", label_once },
     { "smallest", smallest_once }, { "respelled", respelled_once },
+    { "padded", padded_once }, { "zeros", zeros_once }, { "signed_zeros", signed_zeros_once },
 };
 
 void bench_once(const char *what)

@@ -1,5 +1,6 @@
 /* An index text with what is given of its label and place: header, files, rows, byte map. */
 #include "fuzz.h"
+#include "sample.h"
 
 struct index {
     struct slice uuid, text;
@@ -104,6 +105,20 @@ static void try_spelling(const struct index *index, uint64_t refusal, const uint
     must(refusal != 0 || another == KLAPOUZEN_DISAGREEMENT);
 }
 
+/* The same answer where the numbers are padded; the update time stands elsewhere then. */
+static void try_padded(const struct index *index, uint64_t refusal, uint64_t header[KLAPOUZEN_INDEX])
+{
+    uint64_t padded_header[KLAPOUZEN_INDEX];
+    struct buffer text = pad_numbers(SLICE(index->text));
+    struct index padded = *index;
+    padded.text = (struct slice){ text.bytes, text.length };
+    uint64_t answer = klapouzen_read_index(GIVEN(&padded), FILLED(padded_header));
+    padded_header[KLAPOUZEN_INDEX_TIME] = header[KLAPOUZEN_INDEX_TIME];
+    if (text.length <= KLAPOUZEN_MAX_INDEX)
+        must(answer == refusal && memcmp(header, padded_header, sizeof padded_header) == 0);
+    buffer_free(&text);
+}
+
 /* Number by number: the expressions of an initializer list are evaluated in any order. */
 static struct index take_index(struct slice rest)
 {
@@ -129,5 +144,6 @@ int LLVMFuzzerTestOneInput(const uint8_t *input, size_t size)
     try_files(&index, refusal, files);
     if (refusal != KLAPOUZEN_BAD_ARGUMENT)
         try_spelling(&index, refusal, header);
+    try_padded(&index, refusal, header);
     return 0;
 }

@@ -1,5 +1,6 @@
 /* A text as a label and as a VOL1; what is read, written again, reads the same. */
 #include "fuzz.h"
+#include "sample.h"
 
 static void write_again(struct slice text, const uint64_t label[KLAPOUZEN_LABEL])
 {
@@ -23,6 +24,20 @@ static void write_again(struct slice text, const uint64_t label[KLAPOUZEN_LABEL]
     must(memcmp(text.start + label[KLAPOUZEN_LABEL_UUID], written + again[KLAPOUZEN_LABEL_UUID], 36) == 0);
 }
 
+/* The same answer where the block size is padded: all but where the texts stand. */
+static void try_padded(struct slice text, uint64_t refusal, const uint64_t label[KLAPOUZEN_LABEL])
+{
+    uint64_t fields[KLAPOUZEN_LABEL];
+    struct buffer padded = pad_numbers(SLICE(text));
+    uint64_t answer = klapouzen_read_label(padded.bytes, padded.length, FILLED(fields));
+    if (padded.length <= KLAPOUZEN_MAX_LABEL) {
+        must(answer == refusal);
+        must(memcmp(&label[KLAPOUZEN_LABEL_LOCATION], &fields[KLAPOUZEN_LABEL_LOCATION],
+                    (KLAPOUZEN_LABEL - KLAPOUZEN_LABEL_LOCATION) * sizeof *fields) == 0);
+    }
+    buffer_free(&padded);
+}
+
 static void try_vol1(struct slice block)
 {
     uint64_t fields[KLAPOUZEN_VOL1], length[1];
@@ -43,6 +58,7 @@ int LLVMFuzzerTestOneInput(const uint8_t *input, size_t size)
         must(klapouzen_check_form(SLICE(text)) == 0);
         write_again(text, label);
     }
+    try_padded(text, refusal, label);
     try_vol1(text);
     return 0;
 }

@@ -6,8 +6,8 @@ T=target/fuzz
 seconds=$1
 for target in volume label index form rows ansi; do
     # shellcheck disable=SC2086
-    if clang -std=c11 -D_GNU_SOURCE $CFLAGS -Iinclude -fsanitize=fuzzer,address,undefined fuzz/$target.c fuzz/counters.c \
-        target/libklapouzen.a -o $T/${target}_libfuzzer 2> $T/clang.log; then
+    if clang -std=c11 -D_GNU_SOURCE $CFLAGS -Iinclude -Isample -fsanitize=fuzzer,address,undefined fuzz/$target.c fuzz/counters.c \
+        sample/sample.c target/libklapouzen.a -o $T/${target}_libfuzzer 2> $T/clang.log; then
         echo "$target, libFuzzer; its corpus: $($T/${target}_mutate $T/corpus/$target 0)"
         mkdir -p $T/found/$target
         $T/${target}_libfuzzer -max_total_time="$seconds" -max_len=2000000 -print_final_stats=1 \

@@ -251,7 +251,9 @@ uint64_t klapouzen_write_vol1(uint8_t *buffer, size_t buffer_length,
 
 /*
  * Reads an LTFS label's text. Offsets count from the text's beginning. The
- * creator is told as the text spells it, with &amp; and the like.
+ * creator is told as the text spells it, with &amp; and the like; the block size
+ * by its value. As XML Schema allows, a number in a label or an index may have
+ * white space around it, a plus sign, leading zeros, and zero a minus sign.
  * Refusals: 15 (over 4,096 bytes), 4, 5 (root and its version attribute), 7,
  * 5 (the rest), 6.
  */
@@ -318,8 +320,9 @@ uint64_t klapouzen_check_labels(const uint8_t *index_list, size_t index_list_len
  * The readers of an index are given its text, the volume's UUID, letters and
  * block size as its label says them, and where the index stands: the letter of
  * its partition and the element number of its first block. Whichever way the
- * given UUID is spelled, they answer the same. Offsets count from the text's
- * beginning. An index that klapouzen_read_index does not refuse is sound.
+ * given UUID is spelled, they answer the same. Numbers are told by their values,
+ * however the text spells them. Offsets count from the text's beginning. An
+ * index that klapouzen_read_index does not refuse is sound.
  * Refusals: 14, 15 (over 1,048,576 bytes), 4, 5 (root and its version
  * attribute), 7, 5 (the rest), 15 (over 4,096 entries, or over 1,024 extents of
  * a file), 6, 8 (another UUID, a letter that is neither of the two), 11 (as

@@ -231,6 +231,37 @@ static void spellings(struct sample *sample)
     respell(&sample->sides[1], true);
 }
 
+/* Each block of a tape with its numbers padded, as far as it is a text. */
+static void pad_tape(struct tape *tape)
+{
+    struct tape padded = { 0 };
+    const uint8_t *list = tape->list.bytes, *store = tape->store.bytes;
+    for (size_t i = 0; i < tape->list.length; i++) {
+        if (list[i] == 1) {
+            tape_mark(&padded);
+            continue;
+        }
+        size_t length = 0;
+        for (int digit = 0; digit < 4; digit++)
+            length = 256 * length + list[++i];
+        struct buffer block = pad_numbers(store, length);
+        tape_block(&padded, block.bytes, block.length);
+        buffer_free(&block);
+        store += length;
+    }
+    buffer_free(&tape->list);
+    buffer_free(&tape->store);
+    *tape = padded;
+}
+
+/* The volume of nights as software wrote it that pads its numbers and puts line ends round them. */
+static void padded(struct sample *sample)
+{
+    nights(sample);
+    pad_tape(&sample->sides[0]);
+    pad_tape(&sample->sides[1]);
+}
+
 /* As many generations as the stores have room for; one index is unsound, and the last is of the data side alone. */
 static void full(struct sample *sample)
 {
@@ -328,7 +359,7 @@ int main(int count, char **words)
         { "extents", extents },
         { "fresh", fresh }, { "torn", torn }, { "nights", nights }, { "defect", defect },
         { "sparse", sparse }, { "long", long_one }, { "many", many }, { "odd", odd },
-        { "spellings", spellings },
+        { "spellings", spellings }, { "padded", padded },
         { "full", full }, { "ansi", ansi }, { "ansi_worn", ansi_worn },
         { "ansi_many", ansi_many },
     };
@@ -342,7 +373,7 @@ int main(int count, char **words)
         sample_free(&sample);
         return 0;
     }
-    fputs("usage: make_sample fresh|torn|nights|defect|sparse|long|many|extents|odd|spellings|full|ansi|ansi_worn|"
+    fputs("usage: make_sample fresh|torn|nights|defect|sparse|long|many|extents|odd|spellings|padded|full|ansi|ansi_worn|"
           "ansi_many DIR\n", stderr);
     return 2;
 }

@@ -234,6 +234,41 @@ struct buffer nested_index(size_t size, int depth)
     return index.text;
 }
 
+/* How many bytes the start tag of a number element has that stands there; 0 where none does. */
+static size_t number_tag(const uint8_t *text, size_t length)
+{
+    static const char *const tags[] = {
+        "<blocksize>",  "<generationnumber>", "<startblock>", "<highestfileuid>", "<fileuid>", "<length>",
+        "<byteoffset>", "<bytecount>",        "<fileoffset>",
+    };
+    for (size_t i = 0; *text == '<' && i < sizeof tags / sizeof tags[0]; i++) {
+        size_t tag = strlen(tags[i]);
+        if (tag <= length && memcmp(text, tags[i], tag) == 0)
+            return tag;
+    }
+    return 0;
+}
+
+struct buffer pad_numbers(const uint8_t *text, size_t length)
+{
+    struct buffer padded = { 0 };
+    for (size_t at = 0; at < length;) {
+        size_t tag = number_tag(text + at, length - at), end = at + tag;
+        while (tag > 0 && end < length && text[end] >= '0' && text[end] <= '9')
+            end++;
+        if (end == at + tag || end == length || text[end] != '<') {
+            put_byte(&padded, text[at++], 1);
+            continue;
+        }
+        put_bytes(&padded, text + at, tag);
+        put(&padded, "\r\n\t +000");
+        put_bytes(&padded, text + at + tag, end - at - tag);
+        put(&padded, "\n");
+        at = end;
+    }
+    return padded;
+}
+
 /* ---- Volumes ---- */
 
 void tape_mark(struct tape *tape)

@@ -62,6 +62,9 @@ struct buffer index_of_size(size_t size, bool indented);
 /* The same of directories: so many one in the other, the rest in the innermost; contents stand before the fileuid. */
 struct buffer nested_index(size_t size, int depth);
 
+/* The same text with each number between line ends, and a sign and zeros before its digits. */
+struct buffer pad_numbers(const uint8_t *text, size_t length);
+
 /* ---- Volumes ---- */
 
 #define SAMPLE_UUID "30a91a08-daae-48d1-ae75-69804e61d2ea"

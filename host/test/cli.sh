@@ -83,7 +83,7 @@ offset_of() {
         END { print sum }'
 }
 
-for kind in fresh torn nights defect sparse long many extents spellings; do
+for kind in fresh torn nights defect sparse long many extents spellings padded; do
     "$SAMPLE" $kind $kind || exit 2
 done
 

@@ -75,6 +75,7 @@ for target in volume label index form rows ansi; do
 done
 start "smallest and largest sizes" $T/test/bounds
 start "what 14 is" $T/test/given
+start "numbers" $T/test/numbers
 start "stack" $T/test/stack
 start "installed" installed
 start "the build" test/build.sh
