@@ -3,7 +3,9 @@ use mathlib.Core.Path.{_≡_, refl, ap, sym, _∙_}
 use mathlib.Core.Bool.{Bool, true, false, cond, _&&_, and-false}
 use mathlib.Core.List.{List}
 use mathlib.Core.Option.{some, none}
-use Prim.Native.Nat.{ℕ, _+_, _*_, _<_, _≤_}
+use Prim.Native.Nat.{ℕ, _+_, _*_, _^_, _<_, _≤_}
+use native.Mathlib.Nat.{suc-mul, pow-suc, mul-le-mul-right, pow-le-pow-right}
+use native.Mathlib.Numerals.{add-one}
 use native.Mathlib.Omega.{arith}
 use borrow.Author.Tests.{le-leb, lt-leb, leb-true, lt-ltb, ltb-true}
 use lib.Dec.{leb, ltb}
@@ -11,6 +13,7 @@ use lib.ListN.{length, drop, getD}
 use Rattle.slices.specs.Slices.{every}
 use Rattle.slices.proofs.Booleans.{and-parts}
 use Rattle.digits.specs.Decimal.{isDigit, digitOf, decimal, largest, isRun, run, plain, plainNumber, short}
+use Rattle.digits.specs.Steps.{ofFew}
 use Rattle.digits.proofs.Values.{value-on, value-grows}
 use Rattle.digits.proofs.Short.{decimal-short, digits-short, short-some, plain-short, short-decimal}
 
@@ -56,6 +59,23 @@ module _ (s : List ℕ) where
           (d, ltb-true 0 (length s) p, y, omega (arith, leb-true (decimal 0 s) largest h))
       go false e z = let y : _≡_ {A = ℕ} 0 1 = cc in absurd (omega arith)
 
+  -- of up to 19 digits
+  pub few-run : length s ≤ 19 → ofFew s ≡ run s
+  unfolding ofFew
+  few-run h = rw (le-leb _ _ h)
+
+  pub too-many : 19 < length s → ofFew s ≡ none
+  unfolding ofFew
+  too-many h = rw (lt-leb _ _ h)
+
+  pub run-of-few : (n : ℕ) → ofFew s ≡ some n → run s ≡ some n
+  unfolding ofFew
+  run-of-few n = go (leb (length s) 19)
+    where
+      go : (t : Bool) → cond t (run s) none ≡ some n → run s ≡ some n
+      go true z = z
+      go false z = let y : _≡_ {A = ℕ} 0 1 = cc in absurd (omega arith)
+
   pub not-plain : plain s ≡ false → plainNumber s ≡ none
   unfolding plainNumber
   not-plain e = rw e
@@ -72,6 +92,14 @@ module _ (s : List ℕ) where
       go : (t : Bool) → plain s ≡ t → cond t (run s) none ≡ some n → (s ≡ short n) × (n ≤ largest)
       go true p z = let (d, l, y, h) = run-parts n z in (sym (short-decimal s d p) ∙ ap short y, h)
       go false p z = let y : _≡_ {A = ℕ} 0 1 = cc in absurd (omega arith)
+
+-- a number that i digits say, up to 19: below the largest, and so it is with a digit more
+module _ (i v : ℕ) (small : v < 10 ^ i) where
+  pub few-small : i ≤ 19 → v ≤ largest
+  few-small h = let m = pow-le-pow-right {n = 10} (omega arith) {j = 19} h in omega arith
+
+  pub digit-more : (d : ℕ) → d < 10 → v * 10 + d < 10 ^ (i + 1)
+  digit-more d h = let m : v * 10 + 10 ≤ 10 ^ i * 10 = rw suc-mul at (mul-le-mul-right 10 small) in rw (add-one, pow-suc) (omega arith)
 
 -- the short form of a number up to the largest says it
 pub run-short : (n : ℕ) → n ≤ largest → run (short n) ≡ some n

@@ -8,7 +8,7 @@ ghost use Prim.Native.Nat.{_%_};
 ghost use lib.ListN.{length};
 ghost use Rattle.slices.specs.Writers.{Puts};
 ghost use Rattle.digits.specs.Decimal.{run, plain, plainNumber, byteOf, short};
-ghost use Rattle.digits.specs.Steps.{valueOf};
+ghost use Rattle.digits.specs.Steps.{valueOf, ofFew};
 
 // What a text says as a number.
 pub enum Number {
@@ -48,6 +48,32 @@ pub fn read_run(s: &[u8]) -> Number
             return Number::Nothing;
         }
         v = t + d;
+        i += 1;
+    }
+    Number::Value(v)
+}
+
+// The same of up to 19 digits alone: no digit takes their number past 64 bits, so none is tested for that.
+pub fn read_few(s: &[u8]) -> Number
+    ensures { λ r. ⌜ valueOf r ≡ ofFew (now (s .entry)) ⌝ }
+{
+    if s.len() == 0 {
+        return Number::Nothing;
+    }
+    if 19 < s.len() {
+        return Number::Nothing;
+    }
+    let mut v: u64 = 0;
+    let mut i: usize = 0;
+    while i < s.len() {
+        let b = s[i];
+        if b < 48 {
+            return Number::Nothing;
+        }
+        if 57 < b {
+            return Number::Nothing;
+        }
+        v = v * 10 + wide(b - 48);
         i += 1;
     }
     Number::Value(v)

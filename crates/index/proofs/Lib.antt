@@ -8,3 +8,4 @@ pub mod Lawful
 pub mod Derivation
 pub mod EachFile
 pub mod Spellings
+pub mod ByValue

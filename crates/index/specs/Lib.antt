@@ -1,5 +1,6 @@
 pub mod Structure
 pub mod SweepSteps
+pub mod Respelled
 pub mod Index
 pub mod Places
 pub mod Steps

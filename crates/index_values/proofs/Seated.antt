@@ -7,7 +7,7 @@ use native.Mathlib.Omega.{arith}
 use borrow.Author.Tests.{eqb-true}
 use lib.Dec.{eqb}
 use lib.ListN.{length, getD}
-use Rattle.slices.specs.Slices.{same, every}
+use Rattle.slices.specs.Slices.{same}
 use Rattle.slices.specs.Words.{bytes}
 use Rattle.values.proofs.SchemaForm.{number-empty}
 use Rattle.xml.specs.Tree.{Forest, none, node, tagHead}

@@ -47,6 +47,13 @@ size-together (some b) next = go (isBlockSize b)
     go false = refl
 
 module _ (release : ℕ) (t : Texts) where
+  -- a label is the same whichever way its block size is spelled (02, Item 2)
+  pub label-by-value : (b : List ℕ) → number b ≡ number (t .blockSize)
+      → labelFrom release (record { creator = t .creator; time = t .time; uuid = t .uuid; location = t .location; indexLetter = t .indexLetter; dataLetter = t .dataLetter; blockSize = b; compression = t .compression })
+      ≡ labelFrom release t
+  unfolding labelFrom
+  label-by-value b e = rw e
+
   pub no-texts : (isCreator (decoded (t .creator)) && isTime (t .time) && isUuid (t .uuid)) ≡ false → refused Value ≡ labelFrom release t
   unfolding labelFrom
   no-texts e = rw e

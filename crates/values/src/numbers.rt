@@ -67,11 +67,11 @@ fn read_signed(s: &[u8]) -> Number
     digits::read_run(s)
 }
 
-// The number that raw says. Mostly it is digits alone: then it is read once.
+// The number that raw says. Mostly it is a few digits alone, which are tried first.
 pub fn read_number(raw: &[u8]) -> Number
     ensures { λ r. ⌜ valueOf r ≡ number (now (raw .entry)) ⌝ }
 {
-    match digits::read_run(raw) {
+    match digits::read_few(raw) {
         Number::Value(n) => Number::Value(n),
         Number::Nothing => read_signed(end_trimmed(front_trimmed(raw))),
     }
