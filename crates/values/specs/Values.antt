@@ -4,6 +4,7 @@ use mathlib.Core.Bool.{Bool, true, false, not, cond, _&&_, _||_}
 use mathlib.Core.List.{List, [], _∷_}
 use mathlib.Core.Option.{Option, some, none}
 use Prim.Native.Nat.{ℕ, _+_, _*_}
+use Prim.Native.Char.{code}
 use lib.Dec.{leb, eqb}
 use lib.ListN.{length, drop, getD}
 use Rattle.slices.specs.Slices.{within, every, same}
@@ -32,9 +33,10 @@ trimmed s = endTrimmed (behind isSpace s)
 -- what digits say behind `+`, behind `-` if they say zero, or alone
 unfoldable pub signed : List ℕ → Option ℕ
 signed [] = none
-signed (b ∷ s) = cond (eqb b 43) (decimal.run s) (cond (eqb b 45) (atMost 0 (decimal.run s)) (decimal.run (b ∷ s)))
+signed (b ∷ s) = cond (eqb b (code "+")) (decimal.run s) (cond (eqb b (code "-")) (atMost 0 (decimal.run s)) (decimal.run (b ∷ s)))
 
--- Number (02, Item 2), as XML Schema spells a nonnegative integer: the value that its text has to every reader. The form in one line: specs/Spells
+-- Number (02, Item 2; 002, Appendix A and B), as XML Schema spells a nonnegative integer: what it means to every reader is this value. Its form
+-- in one line: specs/Spells
 unfoldable pub number : List ℕ → Option ℕ
 number s = signed (trimmed s)
 
