@@ -70,7 +70,7 @@ static void padded_once(void)
     buffer_free(&text);
 }
 
-/* As many zeros as there is room for before the highest fileuid of an index without files, or before them white space and a sign. */
+/* Before the highest fileuid of an index without files: what is given, and as many zeros as there is room for. */
 static void zeros_with(const char *front)
 {
     static const char tag[] = "<highestfileuid>";

@@ -36,12 +36,12 @@ module _ (b : ℕ) where
       let h : every isSpace (s ++ b ∷ []) ≡ every isSpace s = every-append isSpace s (b ∷ []) ∙ rw e (and-true (every isSpace s)) in
       rw (h, end-space e s)
 
-  end-solid : isSpace b ≡ false → (s : List ℕ) → endTrimmed (s ++ b ∷ []) ≡ s ++ b ∷ []
+  end-stays : isSpace b ≡ false → (s : List ℕ) → endTrimmed (s ++ b ∷ []) ≡ s ++ b ∷ []
   unfolding endTrimmed every
-  end-solid e [] = rw e
-  end-solid e (c ∷ s) =
+  end-stays e [] = rw e
+  end-stays e (c ∷ s) =
       let h : every isSpace (s ++ b ∷ []) ≡ false = every-append isSpace s (b ∷ []) ∙ rw e (and-false (every isSpace s)) in
-      rw (h, and-false (isSpace c), end-solid e s)
+      rw (h, and-false (isSpace c), end-stays e s)
 
 pub end-none : (s : List ℕ) (n : ℕ) → n ≤ 0 → endTrimmed (take n s) ≡ take n s
 unfolding endTrimmed
@@ -56,7 +56,7 @@ module _ (s : List ℕ) (n : ℕ) (h : 0 < n) (l : n ≤ length s) where
   end-on e = ap endTrimmed first-on ∙ end-space (getD s (n - 1) 0) e (take (n - 1) s)
 
   pub end-off : isSpace (getD s (n - 1) 0) ≡ false → endTrimmed (take n s) ≡ take n s
-  end-off e = ap endTrimmed first-on ∙ end-solid (getD s (n - 1) 0) e (take (n - 1) s) ∙ sym first-on
+  end-off e = ap endTrimmed first-on ∙ end-stays (getD s (n - 1) 0) e (take (n - 1) s) ∙ sym first-on
 
 -- what was taken off is white space
 record Ended (s : List ℕ) : Type 0 where
@@ -101,27 +101,24 @@ rest-behind test s i e = ap (λ (k : ℕ). drop k s) e ∙ sym (take-all (length
 
 -- ---- a text without white space in it
 
-abbrev isSolid : ℕ → Bool
-isSolid b = not (isSpace b)
+abbrev noSpace : ℕ → Bool
+noSpace b = not (isSpace b)
 
-solid : (b : ℕ) → isSolid b ≡ true → isSpace b ≡ false
-solid b e = not-true (isSpace b) e
-
--- a text of which the first byte is solid
-behind-solid : (s t : List ℕ) → every isSolid s ≡ true → 0 < length s → behind isSpace (s ++ t) ≡ s ++ t
+-- none is in front, and what is behind is taken off
+none-in-front : (s t : List ℕ) → every noSpace s ≡ true → 0 < length s → behind isSpace (s ++ t) ≡ s ++ t
 unfolding behind front every
-behind-solid [] t e h = absurd (omega arith)
-behind-solid (b ∷ s) t e h = rw (solid b (and-left (isSolid b) (every isSolid s) e))
+none-in-front [] t e h = absurd (omega arith)
+none-in-front (b ∷ s) t e h = rw (not-true (isSpace b) (and-left (noSpace b) (every noSpace s) e))
 
-end-behind : (s t : List ℕ) → every isSolid s ≡ true → every isSpace t ≡ true → endTrimmed (s ++ t) ≡ s
+end-behind : (s t : List ℕ) → every noSpace s ≡ true → every isSpace t ≡ true → endTrimmed (s ++ t) ≡ s
 unfolding endTrimmed every
 end-behind [] t e f = end-blank t f
 end-behind (b ∷ s) t e f =
-    rw (solid b (and-left (isSolid b) (every isSolid s) e), end-behind s t (and-right (isSolid b) (every isSolid s) e) f)
+    rw (not-true (isSpace b) (and-left (noSpace b) (every noSpace s) e), end-behind s t (and-right (noSpace b) (every noSpace s) e) f)
 
-trimmed-solid : (f s t : List ℕ) → every isSpace f ≡ true → every isSolid s ≡ true → 0 < length s → every isSpace t ≡ true → trimmed (f ++ (s ++ t)) ≡ s
-trimmed-solid f s t d e h g =
-    ap endTrimmed (behind-append isSpace f (s ++ t) d ∙ behind-solid s t e h)
+trimmed-part : (f s t : List ℕ) → every isSpace f ≡ true → every noSpace s ≡ true → 0 < length s → every isSpace t ≡ true → trimmed (f ++ (s ++ t)) ≡ s
+trimmed-part f s t d e h g =
+    ap endTrimmed (behind-append isSpace f (s ++ t) d ∙ none-in-front s t e h)
     ∙ end-behind s t e g
 
 -- ---- a sign and digits
@@ -152,9 +149,9 @@ module _ (s : List ℕ) (h : 0 < length s) where
   unsigned-run p q = first-byte s h ∙ rw (ne-eqb _ _ p, ne-eqb _ _ q)
 
 -- a digit is neither white space nor a sign
-digit-solid : (b : ℕ) → isDigit b ≡ true → isSolid b ≡ true
+digit-no-space : (b : ℕ) → isDigit b ≡ true → noSpace b ≡ true
 unfolding isSpace
-digit-solid b e =
+digit-no-space b e =
     let h = range 48 57 b e in
     let p : b ≡ 32 → ⊥ = λ z. omega arith in
     let q : b ≡ 9 → ⊥ = λ z. omega arith in
@@ -172,11 +169,11 @@ digits-alone (b ∷ s) e h =
     rw (ne-eqb b 43 p, ne-eqb b 45 q)
 
 module _ (n : ℕ) where
-  sign-solid : {x : List ℕ} → Sign n x → every isSolid x ≡ true
+  sign-no-space : {x : List ℕ} → Sign n x → every noSpace x ≡ true
   unfolding every isSpace
-  sign-solid unsigned = refl
-  sign-solid plus = refl
-  sign-solid (minus z) = refl
+  sign-no-space unsigned = refl
+  sign-no-space plus = refl
+  sign-no-space (minus z) = refl
 
   sign-says : {x : List ℕ} → Sign n x → (d : List ℕ) → run d ≡ some n → signed (x ++ d) ≡ some n
   unfolding signed
@@ -221,9 +218,9 @@ module _ (n : ℕ) where
   unfolding number
   spelled-says (spells f x d b blank sign r blank′) =
       let (e, h, v, l) = run-parts d n r in
-      let solids : every isSolid (x ++ d) ≡ true = every-append isSolid x d ∙ rw (sign-solid sign) (every-weaker isDigit isSolid digit-solid d e) in
+      let bare : every noSpace (x ++ d) ≡ true = every-append noSpace x d ∙ rw (sign-no-space sign) (every-weaker isDigit noSpace digit-no-space d e) in
       ap (λ (t : List ℕ). signed (trimmed t)) (joined f x d b)
-      ∙ ap signed (trimmed-solid f (x ++ d) b blank solids (rw length-append (omega arith)) blank′)
+      ∙ ap signed (trimmed-part f (x ++ d) b blank bare (rw length-append (omega arith)) blank′)
       ∙ sign-says sign d r
 
   says-spelled : (s : List ℕ) → number s ≡ some n → Spells n s
