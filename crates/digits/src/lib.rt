@@ -66,14 +66,14 @@ pub fn read_few(s: &[u8]) -> Number
     let mut v: u64 = 0;
     let mut i: usize = 0;
     while i < s.len() {
-        let b = s[i];
+        let b = wide(s[i]);
         if b < 48 {
             return Number::Nothing;
         }
         if 57 < b {
             return Number::Nothing;
         }
-        v = v * 10 + wide(b - 48);
+        v = v * 10 + (b - 48);
         i += 1;
     }
     Number::Value(v)

@@ -31,35 +31,37 @@ returns-2 c = sym (too-many _ (c .if2 .taken))
 loop-holds : tie.Need-loop-holds Inv-loop μ-loop
 loop-holds c = (search needs, refl, refl, rw pow-zero (omega arith))
 
-shared-slice-read-b : tie.Need-shared-slice-read-b Inv-loop μ-loop
-shared-slice-read-b c = search needs
-
-returns-3 : tie.Need-returns-3 Inv-loop μ-loop
-returns-3 c =
-    let s = c .before .before .before .before .before .before .before .args .s .now in
-    let l = c .before .before .before .loop in
-    sym (few-run s (omega arith) ∙ not-digits s (l .inv .1 ∙ every-off isDigit 0 s (l .i) (search needs) (digit-below _ (c .if3 .taken))))
-
-returns-4 : tie.Need-returns-4 Inv-loop μ-loop
-returns-4 c =
-    let s = c .before .before .before .before .before .before .before .before .args .s .now in
-    let l = c .before .before .before .before .loop in
-    sym (few-run s (omega arith) ∙ not-digits s (l .inv .1 ∙ every-off isDigit 0 s (l .i) (search needs) (digit-above _ (c .if4 .taken))))
-
-mul-v : tie.Need-mul-v Inv-loop μ-loop
-mul-v c =
-    let l = c .before .before .before .before .loop in
-    let m = few-small (l .i + 1) (l .v * 10 + 0) (digit-more (l .i) (l .v) (l .inv .3) 0 (omega arith)) (omega arith) in
-    omega arith
+shared-slice-read-wide : tie.Need-shared-slice-read-wide Inv-loop μ-loop
+shared-slice-read-wide c = search needs
 
 wide-requires : tie.Need-wide-requires Inv-loop μ-loop
 wide-requires c κs = search needs
 
+returns-3 : tie.Need-returns-3 Inv-loop μ-loop
+returns-3 c =
+    let s = c .before .before .before .before .before .before .before .before .args .s .now in
+    let l = c .before .before .before .before .loop in
+    let w : c .before .wide .result ≡ getD s (l .i) 0 = c .before .wide .ensures in
+    sym (few-run s (omega arith) ∙ not-digits s (l .inv .1 ∙ every-off isDigit 0 s (l .i) (search needs) (digit-below (getD s (l .i) 0) (omega (arith, c .if3 .taken)))))
+
+returns-4 : tie.Need-returns-4 Inv-loop μ-loop
+returns-4 c =
+    let s = c .before .before .before .before .before .before .before .before .before .args .s .now in
+    let l = c .before .before .before .before .before .loop in
+    let w : c .before .before .wide .result ≡ getD s (l .i) 0 = c .before .before .wide .ensures in
+    sym (few-run s (omega arith) ∙ not-digits s (l .inv .1 ∙ every-off isDigit 0 s (l .i) (search needs) (digit-above (getD s (l .i) 0) (omega (arith, c .if4 .taken)))))
+
+mul-v : tie.Need-mul-v Inv-loop μ-loop
+mul-v c =
+    let l = c .before .before .before .before .before .loop in
+    let m = few-small (l .i + 1) (l .v * 10 + 0) (digit-more (l .i) (l .v) (l .inv .3) 0 (omega arith)) (omega arith) in
+    omega arith
+
 add-v : tie.Need-add-v Inv-loop μ-loop
 add-v c =
     let l = c .before .before .before .before .before .loop in
-    let w : c .wide .result ≡ getD (c .before .before .before .before .before .before .before .before .before .args .s .now) (l .i) 0 - 48 = c .wide .ensures in
-    let m = few-small (l .i + 1) (l .v * 10 + c .wide .result) (digit-more (l .i) (l .v) (l .inv .3) (c .wide .result) (omega arith)) (omega arith) in
+    let d = c .before .before .wide .result - 48 in
+    let m = few-small (l .i + 1) (l .v * 10 + d) (digit-more (l .i) (l .v) (l .inv .3) d (omega arith)) (omega arith) in
     omega arith
 
 add-i : tie.Need-add-i Inv-loop μ-loop
@@ -72,12 +74,12 @@ loop-again : tie.Need-loop-again Inv-loop μ-loop
 loop-again c =
     let s = c .before .before .before .before .before .before .before .before .before .args .s .now in
     let l = c .before .before .before .before .before .loop in
-    let w : c .wide .result ≡ getD s (l .i) 0 - 48 = c .wide .ensures in
-    let f : isDigit (getD s (l .i) 0) ≡ true = digit-between (getD s (l .i) 0) (search needs) (search needs) in (
+    let w : c .before .before .wide .result ≡ getD s (l .i) 0 = c .before .before .wide .ensures in
+    let f : isDigit (getD s (l .i) 0) ≡ true = digit-between (getD s (l .i) 0) (omega arith) (omega arith) in (
       search needs,
       l .inv .1 ∙ every-on isDigit 0 s (l .i) (search needs) f,
-      l .inv .2 ∙ value-on 10 digitOf s (l .i) (l .v) (search needs) ∙ ap (λ (d : ℕ). decimal (l .v * 10 + d) (drop (l .i + 1) s)) (sym w),
-      digit-more (l .i) (l .v) (l .inv .3) (c .wide .result) (omega arith),
+      l .inv .2 ∙ value-on 10 digitOf s (l .i) (l .v) (search needs) ∙ ap (λ (b : ℕ). decimal (l .v * 10 + digitOf b) (drop (l .i + 1) s)) (sym w),
+      digit-more (l .i) (l .v) (l .inv .3) (c .before .before .wide .result - 48) (omega arith),
     )
 
 returns-5 : tie.Need-returns-5 Inv-loop μ-loop
@@ -97,13 +99,17 @@ read-few-spec =
     returns
     returns-2
     loop-holds
-    shared-slice-read-b
+    shared-slice-read-wide
+    wide-requires
     returns-3
     returns-4
     mul-v
-    wide-requires
     add-v
     add-i
     loop-less
     loop-again
     returns-5)
+
+-- unused: shared-slice-read-b : tie.Need-shared-slice-read-b Inv-loop μ-loop
+-- unused: shared-slice-read-b c = search needs
+-- unused:
