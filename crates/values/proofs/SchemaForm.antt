@@ -248,7 +248,7 @@ module _ (n : ℕ) where
   pub number-short : n ≤ largest → number (short n) ≡ some n
   number-short h = number-run (short n) (run-short n h)
 
--- no text says no number
+-- an empty text says none
 pub number-empty : number [] ≡ none
 unfolding number signed front behind endTrimmed
 number-empty = refl

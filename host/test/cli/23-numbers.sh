@@ -1,14 +1,17 @@
 # Numbers between line ends, with a sign and zeros: what they say is all that counts.
+# The same words for both cartridges, but for their names and how long their stores are.
 as_nights() { # status words..
     local status=$1
     shift
     is "$status" "$K" "$@" nights
-    sed s/nights/padded/ out > as_nights
+    sed 's/nights/padded/; s/ elements, [0-9,]* bytes$/ elements/' out > as_nights
     is "$status" "$K" "$@" padded
-    same out as_nights
+    sed 's/ elements, [0-9,]* bytes$/ elements/' out > as_padded
+    same as_padded as_nights
 }
 as_nights 1 check
 as_nights 1 check --json
+as_nights 0 show
 as_nights 0 files
 as_nights 0 files --json
 as_nights 0 files --data --construct 2
@@ -18,8 +21,6 @@ for file in monday.wav tuesday.wav wednesday.wav; do
     same plain other
     rm plain other
 done
-is 0 "$K" show padded
-says_not out "not sound"
 is 0 "$K" cut padded padded_kept
 is 0 "$K" check padded_kept
 says out "padded_kept  KLA001  30a91a08-daae-48d1-ae75-69804e61d2ea  consistent; cut keeps all 13 + 71 elements, generation 4"
@@ -56,4 +57,4 @@ says out "break 4: "
 # What is written has the short form.
 is 0 "$K" label --identifier KLA001 --creator LTFS --time 2026-11-17T05:00:00.000000000Z --block-size 0524288 --into short_label
 says short_label/data.label "<blocksize>524288</blocksize>"
-rm -rf respelled padded_kept short_label as_nights
+rm -rf respelled padded_kept short_label as_nights as_padded

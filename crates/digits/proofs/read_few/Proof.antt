@@ -109,7 +109,3 @@ read-few-spec =
     loop-less
     loop-again
     returns-5)
-
--- unused: shared-slice-read-b : tie.Need-shared-slice-read-b Inv-loop μ-loop
--- unused: shared-slice-read-b c = search needs
--- unused:
