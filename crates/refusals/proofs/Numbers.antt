@@ -27,6 +27,7 @@ tested refusal.TooMany = refl
 tested refusal.Labels = refl
 tested refusal.EndOfVolume = refl
 tested refusal.BlockCount = refl
+tested refusal.Unreadable = refl
 
 -- no refusal has the number 0
 pub not-zero : (r : Refusal) → numberOf r ≡ 0 → ⊥

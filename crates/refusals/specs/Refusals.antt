@@ -7,7 +7,7 @@ use Prim.Native.Nat.{ℕ}
 use Rattle.refusals.specs.declared.Refusal.{Refusal}
 use Rattle.refusals.specs.declared.Refusal.the-variants as refusal
 
--- the number in document 01's table; from 16 on in 02: Item 1 has 16 to 18
+-- the number in document 01's table; from 16 on in 02: Item 1 has 16 to 18, Item 7 has 19
 abbrev pub numberOf : Refusal → ℕ
 numberOf refusal.List = 1
 numberOf refusal.Missing = 2
@@ -27,6 +27,7 @@ numberOf refusal.TooMany = 15
 numberOf refusal.Labels = 16
 numberOf refusal.EndOfVolume = 17
 numberOf refusal.BlockCount = 18
+numberOf refusal.Unreadable = 19
 
 -- a refusal, or what was asked for
 pub data Answer (A : Type 0) : Type 0 where

@@ -39,6 +39,8 @@ pub enum Refusal {
     EndOfVolume,
     // A label EOF1 whose block count is not that of the data blocks present.
     BlockCount,
+    // A block that the drive could not read.
+    Unreadable,
 }
 
 // The number of a refusal in document 01's table, and from 16 on in 02.
@@ -64,5 +66,6 @@ pub fn number(refusal: Refusal) -> u64
         Refusal::Labels => 16,
         Refusal::EndOfVolume => 17,
         Refusal::BlockCount => 18,
+        Refusal::Unreadable => 19,
     }
 }

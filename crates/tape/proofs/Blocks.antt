@@ -18,13 +18,13 @@ use Rattle.tape.specs.declared.Entry.{Entry}
 use Rattle.tape.specs.declared.Front.{Front}
 use Rattle.tape.specs.declared.Spot.{Spot}
 use Rattle.tape.specs.declared.Spot.the-variants as spot
-use Rattle.tape.specs.Tape.{Tape, Element, mark, block, Cell, markCell, blockCell, list, store, content, lawfulTape, isBlockLength}
+use Rattle.tape.specs.Tape.{Tape, Element, mark, block, unreadable, cellOf, list, store, content, isLawfulCell, lawfulTape}
 use Rattle.tape.specs.ReadingSteps.{entryAt, tapeOf}
 use Rattle.tape.specs.WalkSteps.{reach, spotOf, spotAt, spotBelow}
 use Rattle.tape.specs.Answers.{orRefused, StorePart, placeOf, placeOn, asBlock, blockOn, blockOf, elementCount, storeOf, Holds}
 use Rattle.tape.specs.Steps.{FindsBlock}
-use Rattle.slices.proofs.Booleans.{split, and-left, and-right}
-use Rattle.tape.proofs.Walking.{entry-here, entry-none, next-here}
+use Rattle.slices.proofs.Booleans.{split, and-parts}
+use Rattle.tape.proofs.Walking.{entryFor, width, entry-here, entry-none, next-here, reach-done, reach-step, reach-element}
 use Rattle.tape.proofs.Entries.{Bytes}
 use Rattle.tape.proofs.Encoding.{encodes-read}
 use Rattle.tape.proofs.Keeping.{Present, absent-list}
@@ -39,25 +39,28 @@ abbrev pub spotFor : ℕ → Option Element → Spot
 spotFor v none = spot.Nothing
 spotFor v (some mark) = spot.Nothing
 spotFor v (some (block x)) = spot.Block v (length x)
+spotFor v (some unreadable) = spot.Unreadable
+
+spot-element : (v at : ℕ) (e : Element) → spotOf v (entryFor (cellOf e) at) ≡ spotFor v (some e)
+spot-element v at mark = refl
+spot-element v at (block x) = refl
+spot-element v at unreadable = refl
 
 -- the walk over n entries of a tape ends at element n
 spot-from : (n : ℕ) (l : List ℕ) (at v : ℕ) (t : Tape) → lawfulTape t ≡ true → drop at l ≡ list t
     → spotOf (reach n l at v .store) (entryAt l (reach n l at v .list)) ≡ spotFor (v + length (store (take n t))) (getElem? t n)
-unfolding reach list store lawfulTape content
-spot-from zero l at v [] h d = rw (entry-none l at d)
-spot-from zero l at v (mark ∷ t) h d = rw (entry-here l at markCell (list t) refl d)
-spot-from zero l at v (block x ∷ t) h d =
-    rw (entry-here l at (blockCell (length x)) (list t) (and-left (isBlockLength (length x)) (lawfulTape t) h) d, add-zero v)
-spot-from (suc n) l at v [] h d = rw (entry-none l at d, entry-none l at d)
-spot-from (suc n) l at v (mark ∷ t) h d =
-    rw (entry-here l at markCell (list t) refl d) (spot-from n l (at + 1) v t h (next-here l at markCell (list t) d))
-spot-from (suc n) l at v (block x ∷ t) h d =
-    let c : Cell = blockCell (length x) in
-    let ok : isBlockLength (length x) ≡ true = and-left (isBlockLength (length x)) (lawfulTape t) h in
-    let rest : lawfulTape t ≡ true = and-right (isBlockLength (length x)) (lawfulTape t) h in
-    let f : (v + length x) + length (store (take n t)) ≡ v + length (x ++ store (take n t))
-    = omega (arith, length-append x (store (take n t))) in
-    rw (entry-here l at c (list t) ok d, ← f) (spot-from n l (at + 5) (v + length x) t rest (next-here l at c (list t) d))
+unfolding list store lawfulTape
+spot-from zero l at v [] h d = rw (reach-done l at v zero (omega arith), entry-none l at d)
+spot-from zero l at v (e ∷ t) h d =
+    let (ok, rest) = and-parts (isLawfulCell (cellOf e)) (lawfulTape t) h in
+    rw (reach-done l at v zero (omega arith), entry-here l at (cellOf e) (list t) ok d, add-zero v) (spot-element v at e)
+spot-from (suc n) l at v [] h d = rw (reach-step l at v (suc n) (omega arith) (entry-none l at d), entry-none l at d)
+spot-from (suc n) l at v (e ∷ t) h d =
+    let (ok, rest) = and-parts (isLawfulCell (cellOf e)) (lawfulTape t) h in
+    let f : (v + length (content e)) + length (store (take n t)) ≡ v + length (content e ++ store (take n t))
+    = omega (arith, length-append (content e) (store (take n t))) in
+    rw (reach-element n l at v e (list t) ok d, ← f)
+    (spot-from n l (at + width (cellOf e)) (v + length (content e)) t rest (next-here l at (cellOf e) (list t) d))
 
 pub spot-of : (n count : ℕ) (l s : List ℕ) (p : Present l s count) → spotAt l n ≡ spotFor (length (store (take n (p .tape)))) (getElem? (p .tape) n)
 unfolding spotAt
@@ -77,12 +80,14 @@ below-of n count l s p =
 -- what a spot on one side answers
 abbrev pub placeFrom : Bool → Spot → Answer StorePart
 placeFrom side (spot.Block v k) = answer (record { onIndex = side; from = v; size = k })
+placeFrom side spot.Unreadable = refused refusal.Unreadable
 placeFrom side spot.Nothing = refused refusal.Missing
 
 placed : (side : Bool) (v : ℕ) (o : Option Element) → andThen (asBlock o) (λ x. answer (record { onIndex = side; from = v; size = length x })) ≡ placeFrom side (spotFor v o)
 placed side v none = refl
 placed side v (some mark) = refl
 placed side v (some (block x)) = refl
+placed side v (some unreadable) = refl
 
 module _ (i d c n : ℕ) (l s l′ s′ : List ℕ) where
   pub place-letters : areLetters i d c ≡ false → placeOf i d c n l s l′ s′ ≡ refused refusal.Caller
@@ -114,6 +119,7 @@ pub block-bytes : (t : Tape) (n : ℕ) (x : List ℕ) → getElem? t n ≡ some 
 unfolding store content
 block-bytes [] n x e = let z : _≡_ {A = ℕ} 0 1 = cc in absurd (omega arith)
 block-bytes (mark ∷ t) zero x e = let z : mark ≡ block x = cc in let y : _≡_ {A = ℕ} 0 1 = cc in absurd (omega arith)
+block-bytes (unreadable ∷ t) zero x e = let z : unreadable ≡ block x = cc in let y : _≡_ {A = ℕ} 0 1 = cc in absurd (omega arith)
 block-bytes (block y ∷ t) zero x e =
     let p : y ≡ x = cc in
     rw p (take-append-seam x (store t), omega (arith, length-append x (store t)))
@@ -132,6 +138,7 @@ holds-on : (side : Bool) (t : Tape) (n : ℕ) (s s′ : List ℕ) (o : Option El
     → Holds s s′ (andThen (asBlock o) (λ x. answer (record { onIndex = side; from = length (store (take n t)); size = length x }))) (asBlock o)
 holds-on side t n s s′ none e q = refused-holds s s′ refusal.Missing
 holds-on side t n s s′ (some mark) e q = refused-holds s s′ refusal.Missing
+holds-on side t n s s′ (some unreadable) e q = refused-holds s s′ refusal.Unreadable
 holds-on side t n s s′ (some (block x)) e q =
     let b = block-bytes t n x e in
     let here : StorePart = record { onIndex = side; from = length (store (take n t)); size = length x } in

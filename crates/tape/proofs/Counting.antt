@@ -16,7 +16,7 @@ use Rattle.tape.specs.declared.Entry.{Entry}
 use Rattle.tape.specs.declared.Entry.the-variants as entry
 use Rattle.tape.specs.declared.Totals.{Totals}
 use Rattle.tape.specs.declared.Totals.the-variants.{Of, Bad}
-use Rattle.tape.specs.Tape.{Tape, Cell, markCell, blockCell, maxStore}
+use Rattle.tape.specs.Tape.{Tape, Cell, maxStore}
 use Rattle.tape.specs.ReadingSteps.{andBehind, cellsFrom, cells, added, size, total, entryAt, filled, filledWith, tapeOf}
 use Rattle.tape.specs.WalkSteps.{totalsFrom}
 use Rattle.tape.specs.Answers.{orRefused, elementCount}
@@ -45,6 +45,7 @@ full-at : (l : List ℕ) (at v : ℕ) (behind : ℕ → Option (List Cell)) (e :
 unfolding totalsFrom
 full-at l at v behind (entry.Mark next) h i = over v _ (behind next)
 full-at l at v behind (entry.Block n next) h i = over v _ (behind next)
+full-at l at v behind (entry.Unreadable next) h i = over v _ (behind next)
 full-at l at v behind entry.End h i = absurd (omega arith)
 full-at l at v behind entry.Bad h i = refl
 
@@ -71,8 +72,7 @@ left-none l n at h = simp (le-ltb at (length l) h)
 pub length-filled : (cs : List Cell) (s : List ℕ) → length (filled cs s) ≡ length cs
 unfolding filled
 length-filled [] s = refl
-length-filled (markCell ∷ cs) s = ap suc (length-filled cs s)
-length-filled (blockCell n ∷ cs) s = ap suc (length-filled cs (drop n s))
+length-filled (c ∷ cs) s = ap suc (length-filled cs (drop (size c) s))
 
 -- what the check answers, from the totals
 abbrev pub countBy : List ℕ → Totals → Answer ℕ

@@ -7,30 +7,28 @@ use native.Mathlib.Omega.{arith}
 use lib.ListN.{length, drop}
 use Rattle.slices.proofs.Booleans.{and-left, and-right}
 use Rattle.tape.specs.declared.Entry.{Entry}
-use Rattle.tape.specs.declared.Entry.the-variants.{Mark, Block, End, Bad}
-use Rattle.tape.specs.Tape.{Element, mark, block, Tape, markCell, blockCell, cellOf, entry, list, isLawfulCell, lawfulTape}
+use Rattle.tape.specs.declared.Entry.the-variants.{Mark, Block, Unreadable, End, Bad}
+use Rattle.tape.specs.Tape.{Element, mark, block, unreadable, Tape, markCell, blockCell, unreadableCell, cellOf, entry, list, isLawfulCell, lawfulTape}
 use Rattle.tape.specs.ReadingSteps.{entryAt}
 use Rattle.tape.proofs.Walking.{entry-here, next-here, entryFor}
 
 -- element n and those after it
-record Next (t : Tape) (n : ℕ) : Type 0 where
-  element : Element
-  rest : Tape
-  is : drop n t ≡ element ∷ rest
-  legal : isLawfulCell (cellOf element) ≡ true
+pub next-of : (t : Tape) (n : ℕ) → n < length t → (e : Element) × (rest : Tape) × (drop n t ≡ e ∷ rest)
+next-of [] n h = absurd (omega arith)
+next-of (e ∷ t) zero h = (e, t, refl)
+next-of (e ∷ t) (suc n) h = next-of t n (omega arith)
 
-next-element : (t : Tape) (n : ℕ) → lawfulTape t ≡ true → n < length t → Next t n
+pub lawful-at : (t : Tape) (n : ℕ) (e : Element) (rest : Tape) → lawfulTape t ≡ true → drop n t ≡ e ∷ rest → isLawfulCell (cellOf e) ≡ true
 unfolding lawfulTape
-next-element [] n h w = absurd (omega arith)
-next-element (e ∷ t) zero h w = record { element = e; rest = t; is = refl; legal = and-left (isLawfulCell (cellOf e)) (lawfulTape t) h }
-next-element (e ∷ t) (suc n) h w =
-    let r = next-element t n (and-right (isLawfulCell (cellOf e)) (lawfulTape t) h) (omega arith) in
-    record { element = r .element; rest = r .rest; is = r .is; legal = r .legal }
+lawful-at [] zero e rest h d = let z : _≡_ {A = ℕ} 0 1 = cc in absurd (omega arith)
+lawful-at [] (suc n) e rest h d = let z : _≡_ {A = ℕ} 0 1 = cc in absurd (omega arith)
+lawful-at (f ∷ t) zero e rest h d = let z : f ≡ e = cc in rw (← z) (and-left (isLawfulCell (cellOf f)) (lawfulTape t) h)
+lawful-at (f ∷ t) (suc n) e rest h d = lawful-at t n e rest (and-right (isLawfulCell (cellOf f)) (lawfulTape t) h) d
 
--- a mark is element n
-pub record MarkAt (l : List ℕ) (next : ℕ) (t : Tape) (n : ℕ) : Type 0 where
+-- an element, one that has no bytes, is element n
+pub record ElementAt (e : Element) (l : List ℕ) (next : ℕ) (t : Tape) (n : ℕ) : Type 0 where
   pub rest : Tape
-  pub is : drop n t ≡ mark ∷ rest
+  pub is : drop n t ≡ e ∷ rest
   pub left : drop next l ≡ list rest
 
 -- a block of k bytes is element n
@@ -43,8 +41,9 @@ pub record BlockAt (l : List ℕ) (next k : ℕ) (t : Tape) (n : ℕ) : Type 0 w
 
 -- what an entry says of element n
 abbrev pub Says : List ℕ → Tape → ℕ → Entry → Type 0
-Says l t n (Mark next) = MarkAt l next t n
+Says l t n (Mark next) = ElementAt mark l next t n
 Says l t n (Block k next) = BlockAt l next k t n
+Says l t n (Unreadable next) = ElementAt unreadable l next t n
 Says l t n End = ⊥
 Says l t n Bad = ⊥
 
@@ -53,12 +52,12 @@ says-element : (l : List ℕ) (place : ℕ) (t : Tape) (n : ℕ) (e : Element) (
 says-element l place t n mark rest d h = record { rest = rest; is = d; left = next-here l place markCell (list rest) h }
 says-element l place t n (block x) rest d h =
     record { bytes = x; rest = rest; is = d; size = refl; left = next-here l place (blockCell (length x)) (list rest) h }
+says-element l place t n unreadable rest d h = record { rest = rest; is = d; left = next-here l place unreadableCell (list rest) h }
 
 pub says-at : (l : List ℕ) (place : ℕ) (t : Tape) (n : ℕ) {e : Entry} → lawfulTape t ≡ true → drop place l ≡ list (drop n t) → n < length t
     → entryAt l place ≡ e → Says l t n e
 unfolding list
 says-at l place t n {e} h d w q =
-    let r = next-element t n h w in
-    let d′ : drop place l ≡ entry (cellOf (r .element)) ++ list (r .rest) = d ∙ ap list (r .is) in
-    subst (Says l t n) (sym (entry-here l place (cellOf (r .element)) (list (r .rest)) (r .legal) d′) ∙ q)
-    (says-element l place t n (r .element) (r .rest) (r .is) d′)
+    let (x, rest, is) = next-of t n w in
+    let d′ : drop place l ≡ entry (cellOf x) ++ list rest = d ∙ ap list is in
+    subst (Says l t n) (sym (entry-here l place (cellOf x) (list rest) (lawful-at t n x rest h is) d′) ∙ q) (says-element l place t n x rest is d′)

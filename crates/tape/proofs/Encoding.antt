@@ -12,44 +12,57 @@ use lib.Seq.{take-append-seam, drop-append-seam, length-take-le}
 use borrow.Author.Tests.{leb-true, eqb-true, le-leb, eq-eqb}
 use Rattle.slices.proofs.Booleans.{split, and-parts, and-left, and-right}
 use Rattle.tape.specs.declared.Entry.{Entry}
-use Rattle.tape.specs.declared.Entry.the-variants.{Mark, Block, End, Bad}
-use Rattle.tape.specs.Tape.{mark, block, Tape, Cell, markCell, blockCell, cellOf, entry, content, list, store, isBlockLength, isLawfulCell, lawfulTape, maxElements, maxStore, Encodes, markKind}
-use Rattle.tape.specs.ReadingSteps.{entryAt, andBehind, cellsFrom, cells, added, size, total, filled, withinBounds, filledWith, tapeOf}
+use Rattle.tape.specs.declared.Entry.the-variants.{Mark, Block, Unreadable, End, Bad}
+use Rattle.tape.specs.Tape.{Element, mark, block, unreadable, Tape, Cell, markCell, blockCell, unreadableCell, cellOf, entry, content, list, store, isLawfulCell, lawfulTape, maxElements, maxStore, Encodes}
+use Rattle.tape.specs.ReadingSteps.{entryAt, andBehind, cellsFrom, cells, added, size, total, elementOf, filled, withinBounds, filledWith, tapeOf}
 pub use Rattle.tape.proofs.Entries.{Bytes}
 use Rattle.tape.proofs.Entries.{spells-as}
 use Rattle.tape.proofs.Counting.{length-filled}
-use Rattle.tape.proofs.Walking.{length-entry, entry-here, entry-none, next-here}
+use Rattle.tape.proofs.Walking.{entryFor, width, length-entry, size-content, entry-here, entry-none, next-here}
+
+some-width : (c : Cell) → 1 ≤ width c
+some-width markCell = omega arith
+some-width (blockCell n) = omega arith
+some-width unreadableCell = omega arith
 
 -- each element has at least a byte in the list
 elements-few : (t : Tape) → length t ≤ length (list t)
 unfolding list
 elements-few [] = omega arith
-elements-few (mark ∷ t) = omega (arith, length-append (entry markCell) (list t), length-entry markCell, elements-few t)
-elements-few (block x ∷ t) = omega (arith, length-append (entry (blockCell (length x))) (list t), length-entry (blockCell (length x)), elements-few t)
+elements-few (e ∷ t) =
+    omega (arith, length-append (entry (cellOf e)) (list t), length-entry (cellOf e), some-width (cellOf e), elements-few t)
+
+behind-cell : (behind : ℕ → Option (List Cell)) (c : Cell) (at : ℕ) → andBehind behind (entryFor c at) ≡ added c (behind (at + width c))
+behind-cell behind markCell at = refl
+behind-cell behind (blockCell n) at = refl
+behind-cell behind unreadableCell at = refl
 
 -- a list is read back, element by element
 pub cells-list : (n : ℕ) (l : List ℕ) (at : ℕ) (t : Tape) → lawfulTape t ≡ true → drop at l ≡ list t → length t < n → cellsFrom n l at ≡ some (map cellOf t)
 unfolding cellsFrom list lawfulTape added
 cells-list zero l at t h d few = absurd (omega arith)
 cells-list (suc n) l at [] h d few = rw (entry-none l at d)
-cells-list (suc n) l at (mark ∷ t) h d few =
-    rw (entry-here l at markCell (list t) refl d, cells-list n l (at + 1) t h (next-here l at markCell (list t) d) (omega arith))
-cells-list (suc n) l at (block x ∷ t) h d few =
-    let c : Cell = blockCell (length x) in
-    let (ok, rest) = and-parts (isBlockLength (length x)) (lawfulTape t) h in
-    rw (entry-here l at c (list t) ok d, cells-list n l (at + 5) t rest (next-here l at c (list t) d) (omega arith))
+cells-list (suc n) l at (e ∷ t) h d few =
+    let c : Cell = cellOf e in
+    let (ok, rest) = and-parts (isLawfulCell (cellOf e)) (lawfulTape t) h in
+    rw (entry-here l at c (list t) ok d, behind-cell (cellsFrom n l) c at, cells-list n l (at + width c) t rest (next-here l at c (list t) d) (omega arith))
+
+element-again : (e : Element) → elementOf (cellOf e) (content e) ≡ e
+unfolding content
+element-again mark = refl
+element-again (block x) = refl
+element-again unreadable = refl
 
 pub filled-store : (t : Tape) → filled (map cellOf t) (store t) ≡ t
-unfolding filled store content
+unfolding filled store
 filled-store [] = refl
-filled-store (mark ∷ t) = ap (λ (u : Tape). mark ∷ u) (filled-store t)
-filled-store (block x ∷ t) = rw (take-append-seam x (store t), drop-append-seam x (store t), filled-store t)
+filled-store (e ∷ t) =
+    rw (size-content e, take-append-seam (content e) (store t), drop-append-seam (content e) (store t), filled-store t, element-again e)
 
 pub total-store : (t : Tape) → total (map cellOf t) ≡ length (store t)
-unfolding total store content
+unfolding total store
 total-store [] = refl
-total-store (mark ∷ t) = let h : total (map cellOf t) ≡ length (store t) = total-store t in omega arith
-total-store (block x ∷ t) = rw (length-append x (store t), total-store t)
+total-store (e ∷ t) = rw (length-append (content e) (store t), total-store t, size-content e)
 
 -- an encoded tape is read
 pub read-encoded : {l s : List ℕ} {t : Tape} → Encodes l s t → tapeOf l s ≡ some t
@@ -86,20 +99,31 @@ added-some c (some ds) cs e = record { rest = ds; gives = refl; is = cc }
 Back : Option (List Cell) → List ℕ → Type 0
 Back o l = (s : List ℕ) (cs : List Cell) → o ≡ some cs → total cs ≡ length s → Spelt l s (filled cs s)
 
+-- the element of a cell with as many bytes as it says: it has these bytes, and the list says that cell of it
+content-of : (c : Cell) (x : List ℕ) → length x ≡ size c → content (elementOf c x) ≡ x
+unfolding content
+content-of markCell [] h = refl
+content-of markCell (b ∷ x) h = absurd (omega arith)
+content-of (blockCell n) x h = refl
+content-of unreadableCell [] h = refl
+content-of unreadableCell (b ∷ x) h = absurd (omega arith)
+
+cell-again : (c : Cell) (x : List ℕ) → length x ≡ size c → cellOf (elementOf c x) ≡ c
+cell-again markCell x h = refl
+cell-again (blockCell n) x h = ap blockCell h
+cell-again unreadableCell x h = refl
+
 -- one element more in front
 one-back : (c : Cell) (o : Option (List Cell)) (l : List ℕ) (rest : List Cell) → Back o l → isLawfulCell c ≡ true → o ≡ some rest
     → (s : List ℕ) → size c + total rest ≡ length s → Spelt (entry c ++ l) s (filled (c ∷ rest) s)
-unfolding Back list store lawfulTape entry content filled
-one-back markCell o l rest back h e s k =
-    let b = back s rest e (omega arith) in
-    record { lists = ap (λ (m : List ℕ). markKind ∷ m) (b .lists); stores = b .stores; blocks = b .blocks }
-one-back (blockCell n) o l rest back h e s k =
-    let b = back (drop n s) rest e (simp length-drop (omega arith)) in
-    let w : length (take n s) ≡ n = length-take-le n s (omega arith) in
+unfolding Back list store lawfulTape filled
+one-back c o l rest back h e s k =
+    let b = back (drop (size c) s) rest e (simp length-drop (omega arith)) in
+    let w : length (take (size c) s) ≡ size c = length-take-le (size c) s (omega arith) in
     record {
-      lists = rw (w, ← (b .lists));
-      stores = sym (take-append-drop n s) ∙ ap (λ (m : List ℕ). take n s ++ m) (b .stores);
-      blocks = rw (w, h) (b .blocks);
+      lists = rw (cell-again c (take (size c) s) w, ← (b .lists));
+      stores = sym (take-append-drop (size c) s) ∙ rw (content-of c (take (size c) s) w, ← (b .stores));
+      blocks = rw (cell-again c (take (size c) s) w, h) (b .blocks);
     }
 
 more-back : (c : Cell) (o : Option (List Cell)) (l : List ℕ) → Back o l → isLawfulCell c ≡ true → Back (added c o) (entry c ++ l)
@@ -128,6 +152,8 @@ module _ (l : List ℕ) (w : Bytes l) where
   entry-back at behind back (Block n next) q =
       let (d, h) = spells-as l at w q in
       subst (Back (added (blockCell n) (behind next))) (sym d) (more-back (blockCell n) (behind next) (drop next l) (back next) h)
+  entry-back at behind back (Unreadable next) q =
+      subst (Back (added unreadableCell (behind next))) (sym (spells-as l at w q)) (more-back unreadableCell (behind next) (drop next l) (back next) refl)
   entry-back at behind back End q = subst (Back (some [])) (sym (spells-as l at w q)) none-back
   entry-back at behind back Bad q = λ s cs e k. let z : _≡_ {A = ℕ} 0 1 = cc in absurd (omega arith)
 

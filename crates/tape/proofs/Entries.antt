@@ -1,6 +1,6 @@
 -- What stands at a place of a list: where an entry ends, and the bytes that it is spelt with.
-use mathlib.Core.Path.{_≡_, refl, sym, _∙_, ap, subst}
-use mathlib.Core.Bool.{Bool, true, cond, _&&_}
+use mathlib.Core.Path.{_≡_, sym, _∙_, ap, subst}
+use mathlib.Core.Bool.{true, cond, _&&_}
 use mathlib.Core.List.{List, [], _∷_, _++_}
 use Prim.Native.Nat.{ℕ, suc, _+_, _*_, _≤_, _<_}
 use native.Mathlib.Omega.{arith}
@@ -15,8 +15,8 @@ use Rattle.digits.specs.Runs.{value}
 use Rattle.big_endian.specs.BigEndian.{bigEndian}
 use Rattle.big_endian.proofs.Said.{bytes-said}
 use Rattle.tape.specs.declared.Entry.{Entry}
-use Rattle.tape.specs.declared.Entry.the-variants.{Mark, Block, End, Bad}
-use Rattle.tape.specs.Tape.{markCell, blockCell, entry, markKind, blockKind, isBlockLength, maxBlock}
+use Rattle.tape.specs.declared.Entry.the-variants.{Mark, Block, Unreadable, End, Bad}
+use Rattle.tape.specs.Tape.{markCell, blockCell, unreadableCell, entry, markKind, blockKind, unreadableKind, isBlockLength, maxBlock}
 use Rattle.tape.specs.ReadingSteps.{entryAt, numberAt}
 
 -- numbers that are bytes
@@ -49,36 +49,46 @@ module _ (l : List ℕ) (at : ℕ) (h : at + 4 ≤ length l) where
 -- what holds of each entry that can stand at a place holds of the one there
 module _ (P : Entry → Type 0) (l : List ℕ) (at : ℕ) where
   entry-by : (at < length l → getD l at 0 ≡ markKind → P (Mark (at + 1)))
+      → (at < length l → getD l at 0 ≡ unreadableKind → P (Unreadable (at + 1)))
       → (at + 5 ≤ length l → getD l at 0 ≡ blockKind → isBlockLength (numberAt l (at + 1)) ≡ true → P (Block (numberAt l (at + 1)) (at + 5)))
       → (length l ≤ at → P End) → (at < length l → P Bad) → P (entryAt l at)
   unfolding entryAt
-  entry-by mark block end bad =
+  entry-by mark unreadable block end bad =
       split
       (λ t. P (cond t
       (cond (eqb (getD l at 0) markKind) (Mark (at + 1))
+      (cond (eqb (getD l at 0) unreadableKind) (Unreadable (at + 1))
       (cond (eqb (getD l at 0) blockKind && leb (at + 5) (length l) && isBlockLength (numberAt l (at + 1)))
-      (Block (numberAt l (at + 1)) (at + 5)) Bad))
+      (Block (numberAt l (at + 1)) (at + 5)) Bad)))
       End))
       (ltb at (length l))
       (λ e. let h : at < length l = ltb-true _ _ e in
       split
       (λ t. P (cond t (Mark (at + 1))
+      (cond (eqb (getD l at 0) unreadableKind) (Unreadable (at + 1))
       (cond (eqb (getD l at 0) blockKind && leb (at + 5) (length l) && isBlockLength (numberAt l (at + 1)))
-      (Block (numberAt l (at + 1)) (at + 5)) Bad)))
+      (Block (numberAt l (at + 1)) (at + 5)) Bad))))
       (eqb (getD l at 0) markKind)
       (λ y. mark h (eqb-true _ _ y))
-      (λ y. split (λ t. P (cond t (Block (numberAt l (at + 1)) (at + 5)) Bad))
+      (λ y. split
+      (λ t. P (cond t (Unreadable (at + 1))
+      (cond (eqb (getD l at 0) blockKind && leb (at + 5) (length l) && isBlockLength (numberAt l (at + 1)))
+      (Block (numberAt l (at + 1)) (at + 5)) Bad)))
+      (eqb (getD l at 0) unreadableKind)
+      (λ z. unreadable h (eqb-true _ _ z))
+      (λ z. split (λ t. P (cond t (Block (numberAt l (at + 1)) (at + 5)) Bad))
       (eqb (getD l at 0) blockKind && leb (at + 5) (length l) && isBlockLength (numberAt l (at + 1)))
-      (λ z. let (p, q) = and-parts (eqb (getD l at 0) blockKind && leb (at + 5) (length l)) (isBlockLength (numberAt l (at + 1))) z in
+      (λ u. let (p, q) = and-parts (eqb (getD l at 0) blockKind && leb (at + 5) (length l)) (isBlockLength (numberAt l (at + 1))) u in
       let (k, r) = and-parts (eqb (getD l at 0) blockKind) (leb (at + 5) (length l)) p in
       block (leb-true _ _ r) (eqb-true _ _ k) q)
-      (λ z. bad h)))
+      (λ u. bad h))))
       (λ e. end (ltb-false _ _ e))
 
 -- the entry lies within the list, and a block's length within its bounds
 abbrev pub Lies : List ℕ → ℕ → Entry → Type 0
 Lies l at (Mark next) = (at < next) × (next ≤ length l)
 Lies l at (Block n next) = (1 ≤ n) × (n ≤ maxBlock) × (at < next) × (next ≤ length l)
+Lies l at (Unreadable next) = (at < next) × (next ≤ length l)
 Lies l at End = length l ≤ at
 Lies l at Bad = at < length l
 
@@ -87,13 +97,14 @@ length-between n y = let (lo, hi) = and-parts (leb 1 n) (leb n maxBlock) y in (l
 
 pub entry-lies : (l : List ℕ) (at : ℕ) → Lies l at (entryAt l at)
 entry-lies l at =
-    entry-by (Lies l at) l at (λ h k. (omega arith, omega arith))
+    entry-by (Lies l at) l at (λ h k. (omega arith, omega arith)) (λ h k. (omega arith, omega arith))
     (λ h k y. let (lo, hi) = length-between (numberAt l (at + 1)) y in (lo, hi, omega arith, h)) (λ h. h) (λ h. h)
 
 -- the bytes from a place on are the entry's and those behind it
 abbrev pub Spells : List ℕ → ℕ → Entry → Type 0
 Spells l at (Mark next) = drop at l ≡ entry markCell ++ drop next l
 Spells l at (Block n next) = (drop at l ≡ entry (blockCell n) ++ drop next l) × (isBlockLength n ≡ true)
+Spells l at (Unreadable next) = drop at l ≡ entry unreadableCell ++ drop next l
 Spells l at End = drop at l ≡ []
 Spells l at Bad = at < length l
 
@@ -101,6 +112,7 @@ pub entry-spells : (l : List ℕ) (at : ℕ) → Bytes l → Spells l at (entryA
 unfolding entry
 entry-spells l at w =
     entry-by (Spells l at) l at
+    (λ h k. first-byte l at h ∙ ap (λ (b : ℕ). b ∷ drop (at + 1) l) k)
     (λ h k. first-byte l at h ∙ ap (λ (b : ℕ). b ∷ drop (at + 1) l) k)
     (λ h k y. (
       first-byte l at (omega arith)

@@ -9,14 +9,15 @@ use native.Mathlib.Omega.{arith}
 use lib.ListN.{length, getD, take, drop, length-append, length-drop}
 use lib.Seq.{getD-drop, drop-drop, drop-append-seam, take-append-seam}
 use borrow.Author.Tests.{lt-ltb, le-ltb, le-leb}
-use Rattle.slices.proofs.Booleans.{and-left, and-right}
+use Rattle.slices.proofs.Booleans.{and-parts}
 use Rattle.tape.specs.declared.Entry.{Entry}
-use Rattle.tape.specs.declared.Entry.the-variants.{Mark, Block, End}
+use Rattle.tape.specs.declared.Entry.the-variants.{Mark, Block, Unreadable, End}
 use Rattle.big_endian.specs.BigEndian.{bytesSay}
 use Rattle.big_endian.proofs.Left.{length-big-endian}
 use Rattle.big_endian.proofs.Said.{said-bytes}
-use Rattle.tape.specs.Tape.{mark, block, Tape, Cell, markCell, blockCell, fourBytes, entry, content, list, store, isBlockLength, isLawfulCell, lawfulTape}
-use Rattle.tape.specs.ReadingSteps.{entryAt, numberAt}
+use Rattle.tape.specs.Tape.{Element, mark, block, unreadable, Tape, Cell, markCell, blockCell, unreadableCell, cellOf, fourBytes, entry, content, list, store, isBlockLength, isLawfulCell, lawfulTape}
+use Rattle.tape.specs.ReadingSteps.{entryAt, numberAt, size}
+use Rattle.tape.specs.declared.Front.{Front}
 use Rattle.tape.specs.WalkSteps.{reach, pastEntry}
 use Rattle.tape.proofs.Entries.{length-between}
 
@@ -24,16 +25,26 @@ use Rattle.tape.proofs.Entries.{length-between}
 abbrev pub entryFor : Cell → ℕ → Entry
 entryFor markCell at = Mark (at + 1)
 entryFor (blockCell n) at = Block n (at + 5)
+entryFor unreadableCell at = Unreadable (at + 1)
 
 -- the width of an entry
 abbrev pub width : Cell → ℕ
 width markCell = 1
 width (blockCell n) = 5
+width unreadableCell = 1
 
 pub length-entry : (c : Cell) → length (entry c) ≡ width c
 unfolding entry
 length-entry markCell = refl
 length-entry (blockCell n) = ap suc (length-big-endian 4 n)
+length-entry unreadableCell = refl
+
+-- an element's bytes are as many as the list says
+pub size-content : (e : Element) → size (cellOf e) ≡ length (content e)
+unfolding content
+size-content mark = refl
+size-content (block x) = refl
+size-content unreadable = refl
 
 byte-at : (l : List ℕ) (at : ℕ) (s : List ℕ) → drop at l ≡ s → (i : ℕ) → getD l (at + i) 0 ≡ getD s i 0
 byte-at l at s h i = sym (getD-drop at l i 0) ∙ ap (λ (x : List ℕ). getD x i 0) h
@@ -59,6 +70,10 @@ entry-here l at (blockCell n) s h d =
     let b : getD l at 0 ≡ 2 = rw add-zero at (byte-at l at _ d 0) in
     let v : numberAt l (at + 1) ≡ n = ap (λ (t : List ℕ). bytesSay (take 4 t)) (sym (drop-drop 1 at l) ∙ ap (drop 1) d) ∙ number-read n s h in
     simp (lt-ltb at (length l) (omega arith), b, le-leb (at + 5) (length l) (omega arith), v, h)
+entry-here l at unreadableCell s h d =
+    let r = room-at l at 3 s d in
+    let b : getD l at 0 ≡ 3 = rw add-zero at (byte-at l at _ d 0) in
+    simp (lt-ltb at (length l) (omega arith), b)
 
 pub entry-none : (l : List ℕ) (at : ℕ) → drop at l ≡ [] → entryAt l at ≡ End
 unfolding entryAt
@@ -69,26 +84,6 @@ entry-none l at d =
 -- behind an element
 pub next-here : (l : List ℕ) (at : ℕ) (c : Cell) (s : List ℕ) → drop at l ≡ entry c ++ s → drop (at + width c) l ≡ s
 next-here l at c s d = sym (drop-drop (width c) at l) ∙ ap (drop (width c)) d ∙ rw (← length-entry c) (drop-append-seam (entry c) s)
-
--- the walk over n entries of a tape reaches behind its first n elements
-pub reach-tape : (n : ℕ) (l : List ℕ) (at v : ℕ) (t : Tape) → lawfulTape t ≡ true → drop at l ≡ list t
-    → reach n l at v ≡ record { list = at + length (list (take n t)); store = v + length (store (take n t)) }
-unfolding reach list store lawfulTape content
-reach-tape zero l at v t h d = rw (add-zero at, add-zero v)
-reach-tape (suc n) l at v [] h d = rw (entry-none l at d, add-zero at, add-zero v)
-reach-tape (suc n) l at v (mark ∷ t) h d =
-    let e : (at + 1) + length (list (take n t)) ≡ at + length (entry markCell ++ list (take n t))
-    = omega (arith, length-append (entry markCell) (list (take n t)), length-entry markCell) in
-    rw (entry-here l at markCell (list t) refl d, reach-tape n l (at + 1) v t h (next-here l at markCell (list t) d), e)
-reach-tape (suc n) l at v (block x ∷ t) h d =
-    let c : Cell = blockCell (length x) in
-    let ok : isBlockLength (length x) ≡ true = and-left (isBlockLength (length x)) (lawfulTape t) h in
-    let rest : lawfulTape t ≡ true = and-right (isBlockLength (length x)) (lawfulTape t) h in
-    let e : (at + 5) + length (list (take n t)) ≡ at + length (entry c ++ list (take n t))
-    = omega (arith, length-append (entry c) (list (take n t)), length-entry c) in
-    let f : (v + length x) + length (store (take n t)) ≡ v + length (x ++ store (take n t))
-    = omega (arith, length-append x (store (take n t))) in
-    rw (entry-here l at c (list t) ok d, reach-tape n l (at + 5) (v + length x) t rest (next-here l at c (list t) d), e, f)
 
 pub reach-done : (l : List ℕ) (at v left : ℕ) → left ≤ 0 → reach left l at v ≡ record { list = at; store = v }
 unfolding reach
@@ -101,3 +96,31 @@ pub reach-step : (l : List ℕ) (at v left : ℕ) {e : Entry} → 0 < left → e
 unfolding reach
 reach-step l at v zero h q = absurd (omega arith)
 reach-step l at v (suc left) h q = let e : suc left - 1 ≡ left = omega arith in rw (q, e)
+
+-- past a cell's entry: by its width in the list, by its size in the store
+past-cell : (walk : ℕ → ℕ → Front) (at v : ℕ) (c : Cell) → pastEntry walk (record { list = at; store = v }) (entryFor c at) ≡ walk (at + width c) (v + size c)
+past-cell walk at v markCell = rw (add-zero v)
+past-cell walk at v (blockCell n) = refl
+past-cell walk at v unreadableCell = rw (add-zero v)
+
+-- the walk over an element
+pub reach-element : (n : ℕ) (l : List ℕ) (at v : ℕ) (e : Element) (s : List ℕ) → isLawfulCell (cellOf e) ≡ true → drop at l ≡ entry (cellOf e) ++ s
+    → reach (suc n) l at v ≡ reach n l (at + width (cellOf e)) (v + length (content e))
+unfolding reach
+reach-element n l at v e s h d = rw (entry-here l at (cellOf e) s h d) (past-cell (reach n l) at v (cellOf e) ∙ rw (size-content e))
+
+-- the walk over n entries of a tape reaches behind its first n elements
+pub reach-tape : (n : ℕ) (l : List ℕ) (at v : ℕ) (t : Tape) → lawfulTape t ≡ true → drop at l ≡ list t
+    → reach n l at v ≡ record { list = at + length (list (take n t)); store = v + length (store (take n t)) }
+unfolding list store lawfulTape
+reach-tape zero l at v t h d = reach-done l at v zero (omega arith) ∙ rw (add-zero at, add-zero v)
+reach-tape (suc n) l at v [] h d = reach-step l at v (suc n) (omega arith) (entry-none l at d) ∙ rw (add-zero at, add-zero v)
+reach-tape (suc n) l at v (e ∷ t) h d =
+    let c : Cell = cellOf e in
+    let (ok, rest) = and-parts (isLawfulCell (cellOf e)) (lawfulTape t) h in
+    let a : (at + width (cellOf e)) + length (list (take n t)) ≡ at + length (entry (cellOf e) ++ list (take n t))
+    = omega (arith, length-append (entry (cellOf e)) (list (take n t)), length-entry (cellOf e)) in
+    let b : (v + length (content e)) + length (store (take n t)) ≡ v + length (content e ++ store (take n t))
+    = omega (arith, length-append (content e) (store (take n t))) in
+    reach-element n l at v e (list t) ok d
+    ∙ reach-tape n l (at + width c) (v + length (content e)) t rest (next-here l at c (list t) d) ∙ rw (a, b)

@@ -9,7 +9,7 @@ use lib.Dec.{eqb}
 use Rattle.refusals.specs.declared.Refusal.the-variants as refusal
 use Rattle.refusals.specs.Refusals.{Answer, refused, answer, require, andThen}
 use Rattle.quantities.specs.Letters.{areLetters}
-use Rattle.tape.specs.Tape.{Tape, Element, mark, block, list, store}
+use Rattle.tape.specs.Tape.{Tape, Element, mark, block, unreadable, list, store}
 use Rattle.tape.specs.ReadingSteps.{tapeOf}
 
 abbrev pub orRefused : Option Tape → Answer Tape
@@ -55,6 +55,7 @@ abbrev pub asBlock : Option Element → Answer (List ℕ)
 asBlock none = refused refusal.Missing
 asBlock (some mark) = refused refusal.Missing
 asBlock (some (block x)) = answer x
+asBlock (some unreadable) = refused refusal.Unreadable
 
 -- the bytes of block n
 abbrev pub blockOn : Tape → ℕ → Answer (List ℕ)
@@ -68,7 +69,7 @@ module _ {A : Type 0} where
       require (areLetters i d letter) refusal.Caller
       (andThen (tapeIn indexList indexStore) (λ ti. andThen (tapeIn dataList dataStore) (λ td. asked (eqb letter i) (cond (eqb letter i) ti td))))
 
--- block n of the partition with that letter; else 2
+-- block n of the partition with that letter: 2 where none stands there, 19 where it is unreadable
 unfoldable pub blockOf : ℕ → ℕ → ℕ → ℕ → List ℕ → List ℕ → List ℕ → List ℕ → Answer (List ℕ)
 blockOf i d letter n l s l′ s′ = onPartition i d letter l s l′ s′ (λ side t. blockOn t n)
 

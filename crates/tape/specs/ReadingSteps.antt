@@ -8,8 +8,8 @@ use lib.ListN.{length, getD, take, drop}
 use lib.Dec.{leb, ltb, eqb}
 use Rattle.big_endian.specs.BigEndian.{bytesSay}
 use Rattle.tape.specs.declared.Entry.{Entry}
-use Rattle.tape.specs.declared.Entry.the-variants.{Mark, Block, End, Bad}
-use Rattle.tape.specs.Tape.{Tape, Cell, markCell, blockCell, mark, block, markKind, blockKind, isBlockLength, maxElements, maxStore}
+use Rattle.tape.specs.declared.Entry.the-variants.{Mark, Block, Unreadable, End, Bad}
+use Rattle.tape.specs.Tape.{Element, mark, block, unreadable, Tape, Cell, markCell, blockCell, unreadableCell, markKind, blockKind, unreadableKind, isBlockLength, maxElements, maxStore}
 
 -- the number in the four bytes at a place, high byte first
 abbrev pub numberAt : List ℕ → ℕ → ℕ
@@ -20,9 +20,10 @@ unfoldable pub entryAt : List ℕ → ℕ → Entry
 entryAt l at =
     cond (ltb at (length l))
     (cond (eqb (getD l at 0) markKind) (Mark (at + 1))
+    (cond (eqb (getD l at 0) unreadableKind) (Unreadable (at + 1))
     (cond (eqb (getD l at 0) blockKind && leb (at + 5) (length l) && isBlockLength (numberAt l (at + 1)))
     (Block (numberAt l (at + 1)) (at + 5))
-    Bad))
+    Bad)))
     End
 
 unfoldable pub added : Cell → Option (List Cell) → Option (List Cell)
@@ -33,6 +34,7 @@ added c (some cs) = some (c ∷ cs)
 abbrev pub andBehind : (ℕ → Option (List Cell)) → Entry → Option (List Cell)
 andBehind behind (Mark next) = added markCell (behind next)
 andBehind behind (Block n next) = added (blockCell n) (behind next)
+andBehind behind (Unreadable next) = added unreadableCell (behind next)
 andBehind behind End = some []
 andBehind behind Bad = none
 
@@ -49,16 +51,22 @@ cells l = cellsFrom (suc (length l)) l 0
 abbrev pub size : Cell → ℕ
 size markCell = 0
 size (blockCell n) = n
+size unreadableCell = 0
 
 unfoldable pub total : List Cell → ℕ
 total [] = 0
 total (c ∷ cs) = size c + total cs
 
+-- the element with those bytes
+abbrev pub elementOf : Cell → List ℕ → Element
+elementOf markCell x = mark
+elementOf (blockCell n) x = block x
+elementOf unreadableCell x = unreadable
+
 -- the blocks' bytes from the store
 unfoldable pub filled : List Cell → List ℕ → Tape
 filled [] s = []
-filled (markCell ∷ cs) s = mark ∷ filled cs s
-filled (blockCell n ∷ cs) s = block (take n s) ∷ filled cs (drop n s)
+filled (c ∷ cs) s = elementOf c (take (size c) s) ∷ filled cs (drop (size c) s)
 
 abbrev pub withinBounds : List Cell → List ℕ → Bool
 withinBounds cs s = leb (length cs) maxElements && eqb (total cs) (length s) && leb (length s) maxStore

@@ -6,7 +6,7 @@ use Prim.Native.Nat.{ℕ, zero, suc, _+_}
 use lib.ListN.{length}
 use lib.Dec.{leb}
 use Rattle.tape.specs.declared.Entry.{Entry}
-use Rattle.tape.specs.declared.Entry.the-variants.{Mark, Block, End, Bad as Broken}
+use Rattle.tape.specs.declared.Entry.the-variants.{Mark, Block, Unreadable, End, Bad as Broken}
 use Rattle.tape.specs.declared.Front.{Front}
 use Rattle.tape.specs.declared.Spot.{Spot}
 use Rattle.tape.specs.declared.Spot.the-variants as Spot·is
@@ -24,6 +24,7 @@ totalsFrom n v (some cs) = cond (leb (n + length cs) maxElements) (Of (n + lengt
 abbrev pub pastEntry : (ℕ → ℕ → Front) → Front → Entry → Front
 pastEntry walk here (Mark next) = walk next (here .store)
 pastEntry walk here (Block n next) = walk next (here .store + n)
+pastEntry walk here (Unreadable next) = walk next (here .store)
 pastEntry walk here End = here
 pastEntry walk here Broken = here
 
@@ -35,10 +36,11 @@ reach (suc n) l at v = pastEntry (reach n l) (record { list = at; store = v }) (
 abbrev pub spotOf : ℕ → Entry → Spot
 spotOf from (Mark next) = Spot·is.Nothing
 spotOf from (Block n next) = Spot·is.Block from n
+spotOf from (Unreadable next) = Spot·is.Unreadable
 spotOf from End = Spot·is.Nothing
 spotOf from Broken = Spot·is.Nothing
 
--- the block behind the first n entries: where its bytes begin, and their number
+-- the block behind the first n entries: where its bytes begin, and their number, or that it is unreadable
 unfoldable pub spotAt : List ℕ → ℕ → Spot
 spotAt l n = spotOf (reach n l 0 0 .store) (entryAt l (reach n l 0 0 .list))
 

@@ -12,11 +12,12 @@ ghost use Rattle.tape.specs.WalkSteps.{totalsFrom, reach, spotAt, spotBe
 ghost use Rattle.tape.specs.Answers.{elementCount, blockOf};
 ghost use Rattle.tape.specs.Steps.{counted, keptLengths, Keeps, ShowsList, ShowsStore, located, FindsBlock};
 
-// What stands at a place of a list, with the place of the next entry: a file mark, a block with its length, nothing since the list
-// ends, or no entry of a list.
+// What stands at a place of a list, with the place of the next entry: a file mark, a block with its length, an unreadable block, nothing
+// since the list ends, or no entry of a list.
 pub enum Entry {
     Mark(usize),
     Block(usize, usize),
+    Unreadable(usize),
     End,
     Bad,
 }
@@ -48,6 +49,9 @@ pub fn entry_at(list: &[u8], at: usize) -> Entry
     let k = list[at];
     if k == 1 {
         return Entry::Mark(at + 1);
+    }
+    if k == 3 {
+        return Entry::Unreadable(at + 1);
     }
     if k != 2 {
         return Entry::Bad;
@@ -90,6 +94,10 @@ fn sum_up(list: &[u8]) -> Totals
                 at = next;
                 elements += 1;
                 bytes += n;
+            }
+            Entry::Unreadable(next) => {
+                at = next;
+                elements += 1;
             }
             Entry::End => {
                 return Totals::Bad;
@@ -148,6 +156,10 @@ fn walk(list: &[u8], n: usize) -> Front
             Entry::Block(n, next) => {
                 at = next;
                 store += n;
+                left -= 1;
+            }
+            Entry::Unreadable(next) => {
+                at = next;
                 left -= 1;
             }
             Entry::End => {
@@ -227,9 +239,10 @@ pub fn kept_store<'a>(list: &[u8], store: &'a [u8], n: usize, refusal: &mut u64)
     }
 }
 
-// A block of a list: where its bytes begin in the store, and their number.
+// A block of a list: where its bytes begin in the store, and their number; or that it is unreadable; or that none stands there.
 enum Spot {
     Block(usize, usize),
+    Unreadable,
     Nothing,
 }
 
@@ -242,6 +255,7 @@ fn find(list: &[u8], n: usize) -> Spot
     match entry_at(list, f.list) {
         Entry::Mark(_) => Spot::Nothing,
         Entry::Block(k, _) => Spot::Block(f.store, k),
+        Entry::Unreadable(_) => Spot::Unreadable,
         Entry::End => Spot::Nothing,
         Entry::Bad => Spot::Nothing,
     }
@@ -311,11 +325,13 @@ pub fn find_block(
     if letter == index_letter {
         match numbered(index_list, index_count, number) {
             Spot::Block(from, n) => Located::Index(from, n),
+            Spot::Unreadable => Located::Refused(Refusal::Unreadable),
             Spot::Nothing => Located::Refused(Refusal::Missing),
         }
     } else {
         match numbered(data_list, data_count, number) {
             Spot::Block(from, n) => Located::Data(from, n),
+            Spot::Unreadable => Located::Refused(Refusal::Unreadable),
             Spot::Nothing => Located::Refused(Refusal::Missing),
         }
     }

@@ -22,6 +22,9 @@ enum-told-2 c = search needs
 enum-told-3 : tie.Need-enum-told-3
 enum-told-3 c = search needs
 
+enum-told-4 : tie.Need-enum-told-4
+enum-told-4 c = search needs
+
 returns : tie.Need-returns
 returns c = spot-as (c .before .before .before .before .before .args .list .now) (c .before .before .before .before .before .args .n) (c .before .before .before .walk .ensures) (c .before .before .entry-at .ensures) (c .enum-told .given .1)
 
@@ -34,6 +37,9 @@ returns-3 c = spot-as (c .before .before .before .before .before .args .list .no
 returns-4 : tie.Need-returns-4
 returns-4 c = spot-as (c .before .before .before .before .before .args .list .now) (c .before .before .before .before .before .args .n) (c .before .before .before .walk .ensures) (c .before .before .entry-at .ensures) (c .enum-told3 .given .1)
 
+returns-5 : tie.Need-returns-5
+returns-5 c = spot-as (c .before .before .before .before .before .args .list .now) (c .before .before .before .before .before .args .n) (c .before .before .before .walk .ensures) (c .before .before .entry-at .ensures) (c .enum-told4 .given .1)
+
 pub find-spec : {M : Type 1} → statement M
 find-spec =
     tie.close
@@ -44,7 +50,9 @@ find-spec =
     enum-known-k
     enum-told-2
     enum-told-3
+    enum-told-4
     returns
     returns-2
     returns-3
-    returns-4)
+    returns-4
+    returns-5)

@@ -2,7 +2,6 @@
 use mathlib.Core.Path.{_≡_, sym, _∙_, ap}
 use mathlib.Core.Bool.{Bool, true, false, cond}
 use lib.Dec.{eqb}
-use borrow.Author.Needs.{needs}
 use borrow.Author.Tests.{eq-eqb, ne-eqb, not-true, not-false}
 use Rattle.tape.specs.declared.Spot.{Spot}
 use Rattle.tape.specs.WalkSteps.{spotBelow}
@@ -12,6 +11,7 @@ use Rattle.tape.specs.Answers.{StorePart, placeOf}
 use Rattle.tape.specs.Steps.{counted, FindsBlock}
 use Rattle.tape.proofs.Keeping.{Present, present}
 use Rattle.tape.proofs.Blocks.{placeFrom, place-letters, place-index, place-data, place-found, finds}
+use borrow.Author.Needs.{needs}
 use Rattle.tape.proofs.find_block.Statement.{statement}
 use Rattle.tape.proofs.find_block.Tie as tie
 
@@ -112,6 +112,9 @@ enum-known-from c = search needs
 enum-told-3 : tie.Need-enum-told-3
 enum-told-3 c = search needs
 
+enum-told-4 : tie.Need-enum-told-4
+enum-told-4 c = search needs
+
 numbered-requires-2 : tie.Need-numbered-requires-2
 numbered-requires-2 c κs =
     let p = data-present (c .before) in
@@ -122,8 +125,11 @@ numbered-requires-2 c κs =
 enum-known-from-2 : tie.Need-enum-known-from-2
 enum-known-from-2 c = search needs
 
-enum-told-4 : tie.Need-enum-told-4
-enum-told-4 c = search needs
+enum-told-5 : tie.Need-enum-told-5
+enum-told-5 c = search needs
+
+enum-told-6 : tie.Need-enum-told-6
+enum-told-6 c = search needs
 
 returns-4 : tie.Need-returns-4
 returns-4 c = found (c .before .before .before .before .before) true _ (eq-eqb _ _ (c .before .before .before .before .if2 .taken)) (sym (c .before .from .given .1) ∙ c .before .before .before .numbered .ensures)
@@ -132,10 +138,16 @@ returns-5 : tie.Need-returns-5
 returns-5 c = found (c .before .before .before .before) true _ (eq-eqb _ _ (c .before .before .before .if2 .taken)) (sym (c .enum-told3 .given .1) ∙ c .before .before .numbered .ensures)
 
 returns-6 : tie.Need-returns-6
-returns-6 c = found (c .before .before .before .before .before) false _ (ne-eqb _ _ (c .before .before .before .before .if2 .left)) (sym (c .before .from2 .given .1) ∙ c .before .before .before .numbered2 .ensures)
+returns-6 c = found (c .before .before .before .before) true _ (eq-eqb _ _ (c .before .before .before .if2 .taken)) (sym (c .enum-told4 .given .1) ∙ c .before .before .numbered .ensures)
 
 returns-7 : tie.Need-returns-7
-returns-7 c = found (c .before .before .before .before) false _ (ne-eqb _ _ (c .before .before .before .if2 .left)) (sym (c .enum-told4 .given .1) ∙ c .before .before .numbered2 .ensures)
+returns-7 c = found (c .before .before .before .before .before) false _ (ne-eqb _ _ (c .before .before .before .before .if2 .left)) (sym (c .before .from2 .given .1) ∙ c .before .before .before .numbered2 .ensures)
+
+returns-8 : tie.Need-returns-8
+returns-8 c = found (c .before .before .before .before) false _ (ne-eqb _ _ (c .before .before .before .if2 .left)) (sym (c .enum-told5 .given .1) ∙ c .before .before .numbered2 .ensures)
+
+returns-9 : tie.Need-returns-9
+returns-9 c = found (c .before .before .before .before) false _ (ne-eqb _ _ (c .before .before .before .if2 .left)) (sym (c .enum-told6 .given .1) ∙ c .before .before .numbered2 .ensures)
 
 pub find-block-spec : {M : Type 1} → statement M
 find-block-spec =
@@ -154,10 +166,14 @@ find-block-spec =
     numbered-requires
     enum-known-from
     enum-told-3
+    enum-told-4
     numbered-requires-2
     enum-known-from-2
-    enum-told-4
+    enum-told-5
+    enum-told-6
     returns-4
     returns-5
     returns-6
-    returns-7)
+    returns-7
+    returns-8
+    returns-9)

@@ -91,6 +91,31 @@ loop-again-2 c =
       l .inv .4 ∙ ap (totalsFrom (l .elements) (l .bytes)) (left-on (c .before .before .before .before .before .before .before .before .args .list .now) (l .elements) (l .at) (search needs) q) ∙ totals-more (l .elements) (l .bytes) _ _,
     )
 
+enum-known-next-2 : tie.Need-enum-known-next-2 Inv-loop μ-loop
+enum-known-next-2 c = search needs
+
+add-elements-3 : tie.Need-add-elements-3 Inv-loop μ-loop
+add-elements-3 c = search needs
+
+loop-less-3 : tie.Need-loop-less-3 Inv-loop μ-loop
+loop-less-3 c =
+    let l = c .before .before .before .before .before .before .loop in
+    let q = sym (c .before .before .before .entry-at .ensures) ∙ c .before .next2 .given .1 in
+    let b = lies-as (c .before .before .before .before .before .before .before .before .args .list .now) (l .at) q in
+    search needs
+
+loop-again-3 : tie.Need-loop-again-3 Inv-loop μ-loop
+loop-again-3 c =
+    let l = c .before .before .before .before .before .before .loop in
+    let q = sym (c .before .before .before .entry-at .ensures) ∙ c .before .next2 .given .1 in
+    let b = lies-as (c .before .before .before .before .before .before .before .before .args .list .now) (l .at) q in (
+      search needs,
+      search needs,
+      search needs,
+      search needs,
+      l .inv .4 ∙ ap (totalsFrom (l .elements) (l .bytes)) (left-on (c .before .before .before .before .before .before .before .before .args .list .now) (l .elements) (l .at) (search needs) q) ∙ totals-more (l .elements) (l .bytes) _ _ ∙ rw add-zero,
+    )
+
 enum-told : tie.Need-enum-told Inv-loop μ-loop
 enum-told c = search needs
 
@@ -132,6 +157,10 @@ sum-up-spec =
     add-bytes
     loop-less-2
     loop-again-2
+    enum-known-next-2
+    add-elements-3
+    loop-less-3
+    loop-again-3
     enum-told
     returns-2
     enum-told-2

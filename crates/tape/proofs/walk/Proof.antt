@@ -69,6 +69,26 @@ loop-again-2 c =
       l .inv .3 ∙ reach-step (c .before .before .before .before .before .before .before .args .list .now) (l .at) (l .store) (l .left) (c .before .before .before .before .loop-test .taken) q,
     )
 
+enum-known-next-2 : tie.Need-enum-known-next-2 Inv-loop μ-loop
+enum-known-next-2 c = search needs
+
+sub-left-3 : tie.Need-sub-left-3 Inv-loop μ-loop
+sub-left-3 c = search needs
+
+loop-less-3 : tie.Need-loop-less-3 Inv-loop μ-loop
+loop-less-3 c = search needs
+
+loop-again-3 : tie.Need-loop-again-3 Inv-loop μ-loop
+loop-again-3 c =
+    let l = c .before .before .before .before .before .loop in
+    let q = sym (c .before .before .before .entry-at .ensures) ∙ c .before .next2 .given .1 in
+    let b = lies-as (c .before .before .before .before .before .before .before .args .list .now) (l .at) q in (
+      search needs,
+      search needs,
+      search needs,
+      l .inv .3 ∙ reach-step (c .before .before .before .before .before .before .before .args .list .now) (l .at) (l .store) (l .left) (c .before .before .before .before .loop-test .taken) q,
+    )
+
 enum-told : tie.Need-enum-told Inv-loop μ-loop
 enum-told c = search needs
 
@@ -107,6 +127,10 @@ walk-spec =
     sub-left-2
     loop-less-2
     loop-again-2
+    enum-known-next-2
+    sub-left-3
+    loop-less-3
+    loop-again-3
     enum-told
     returns
     enum-told-2
