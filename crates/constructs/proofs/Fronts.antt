@@ -2,13 +2,14 @@
 use mathlib.Core.Path.{_≡_, refl, sym, ap, subst, _∙_}
 use mathlib.Core.Logic.{_⊎_, inl, inr}
 use mathlib.Core.Bool.{Bool, true, false, not, cond}
-use mathlib.Core.List.{List, [], _∷_, _++_}
+use mathlib.Core.List.{List, [], _∷_}
+use mathlib.Core.Option.{Option, none}
 use Prim.Native.Nat.{ℕ, zero, suc, _+_, _≤_, _<_}
 use native.Mathlib.Omega.{arith}
 use lib.ListN.{length, take}
 use lib.Dec.{ltb, eqb}
-use Rattle.tape.specs.Tape.{Element, mark, block}
-use Rattle.constructs.specs.Constructs.{Construct, Run, labels, dataRun, indexRun, defect, pastLabel, runAfter, closedBy, Scan, scanStep, scan, scanStart, standing, dataLengthsFrom}
+use Rattle.tape.specs.Tape.{Element, mark, block, unreadable}
+use Rattle.constructs.specs.Constructs.{Construct, Run, labels, dataRun, indexRun, defect, pastLabel, withBytes, runAfter, closedBy, Scan, scanStep, scan, scanStart, standing, dataLengthsFrom}
 use Rattle.constructs.specs.Steps.{Suffix, here, there}
 use Rattle.constructs.proofs.Suffixes.{suffix-trans, nil-suffix}
 
@@ -26,6 +27,7 @@ closes n (labels k) cs e = inl refl
 closes n dataRun cs e = inl refl
 closes n (indexRun f t s) cs mark = closes-if n (eqb f n) _ cs refl
 closes n (indexRun f t s) cs (block x) = inl refl
+closes n (indexRun f t s) cs unreadable = inl refl
 closes n defect cs e = inl refl
 
 closes-suffix : (n : ℕ) (cs cs′ : List Construct) → Closes n cs cs′ → Suffix cs cs′
@@ -104,6 +106,7 @@ dataLengthsFrom-front (suc n) (suc k) p (e ∷ es) = ap {B = List ℕ} (λ r. 0 
 dataLengthsFrom-front (suc n) zero p (mark ∷ es) = ap {B = List ℕ} (λ r. 0 ∷ r) (dataLengthsFrom-front n zero (not p) es)
 dataLengthsFrom-front (suc n) zero true (block x ∷ es) = ap {B = List ℕ} (λ r. length x ∷ r) (dataLengthsFrom-front n zero true es)
 dataLengthsFrom-front (suc n) zero false (block x ∷ es) = ap {B = List ℕ} (λ r. 0 ∷ r) (dataLengthsFrom-front n zero false es)
+dataLengthsFrom-front (suc n) zero p (unreadable ∷ es) = ap {B = List ℕ} (λ r. 0 ∷ r) (dataLengthsFrom-front n zero p es)
 
 -- constructs, the last one first, that stand apart from each other and below n
 abbrev pub Below : ℕ → List Construct → Type 0
@@ -130,12 +133,12 @@ sane-data : (n : ℕ) (b : Bool) (cs : List Construct) → Below n cs → Sane n
 sane-data n true cs w = w
 sane-data n false cs w = w
 
-sane-mark : (n f : ℕ) (b : Bool) (t : List ℕ) (cs : List Construct) → eqb f n ≡ b → f ≤ n → Below f cs
+sane-mark : (n f : ℕ) (b : Bool) (t : Option (List ℕ)) (cs : List Construct) → eqb f n ≡ b → f ≤ n → Below f cs
     → Sane (suc n) (cond b defect dataRun) (cond b cs (record { first = f; end = suc n; text = t } ∷ cs))
 sane-mark n f true t cs e h w = below-le f (suc n) cs (omega arith) w
 sane-mark n f false t cs e h w = (omega arith, omega arith, w)
 
-sane-block : (n f : ℕ) (b₁ b₂ s : Bool) (t : List ℕ) (cs : List Construct) → f ≤ n → Below f cs
+sane-block : (n f : ℕ) (b₁ b₂ s : Bool) (t : Option (List ℕ)) (cs : List Construct) → f ≤ n → Below f cs
     → Sane (suc n) (cond b₁ defect (cond b₂ defect (indexRun f t s))) cs
 sane-block n f true b₂ s t cs h w = below-le f (suc n) cs (omega arith) w
 sane-block n f false true s t cs h w = below-le f (suc n) cs (omega arith) w
@@ -146,8 +149,10 @@ unfolding runAfter closedBy
 sane-step b n (labels k) cs e w = sane-pastLabel (suc n) k cs (below-le n (suc n) cs (omega arith) w)
 sane-step b n dataRun cs mark w = (omega arith, below-le n (suc n) cs (omega arith) w)
 sane-step b n dataRun cs (block x) w = sane-data (suc n) (ltb b (length x)) cs (below-le n (suc n) cs (omega arith) w)
+sane-step b n dataRun cs unreadable w = below-le n (suc n) cs (omega arith) w
 sane-step b n (indexRun f t s) cs mark w = sane-mark n f (eqb f n) t cs refl (w .0) (w .1)
-sane-step b n (indexRun f t s) cs (block x) w = sane-block n f s (ltb b (length x)) (ltb (length x) b) (t ++ x) cs (w .0) (w .1)
+sane-step b n (indexRun f t s) cs (block x) w = sane-block n f s (ltb b (length x)) (ltb (length x) b) (withBytes t x) cs (w .0) (w .1)
+sane-step b n (indexRun f t s) cs unreadable w = sane-block n f s false false none cs (w .0) (w .1)
 sane-step b n defect cs e w = below-le n (suc n) cs (omega arith) w
 
 below-of : (n : ℕ) (m : Run) (cs : List Construct) → Sane n m cs → Below n cs

@@ -10,9 +10,9 @@ use lib.Seq.{sets, length-sets, take-all}
 use lib.Dec.{eqb}
 use borrow.Author.Tests.{ne-eqb}
 use Rattle.slices.proofs.Booleans.{split}
-use Rattle.tape.specs.Tape.{Element, mark, block, Tape, list, Encodes}
+use Rattle.tape.specs.Tape.{Element, mark, block, unreadable, Tape, list, Encodes}
 use Rattle.tape.proofs.Encoding.{one-tape}
-use Rattle.tape.proofs.Elements.{MarkAt, BlockAt}
+use Rattle.tape.proofs.Elements.{ElementAt, BlockAt}
 use Rattle.tape.proofs.Passing.{drop-next}
 use Rattle.tape.specs.Steps.{Encoded}
 use Rattle.constructs.specs.Constructs.{dataLengths, dataLengthsFrom}
@@ -30,6 +30,11 @@ unfolding dataLengthsFrom
 lengths-block zero true x t = refl
 lengths-block zero false x t = refl
 lengths-block (suc k) even x t = let e : suc k - 1 ≡ k = omega arith in simp (ne-eqb (suc k) 0 (λ q. omega arith), e)
+
+lengths-unreadable : (k : ℕ) (even : Bool) (t : Tape) → dataLengthsFrom k even (unreadable ∷ t) ≡ 0 ∷ dataLengthsFrom (labelsAfter k) even t
+unfolding dataLengthsFrom
+lengths-unreadable zero even t = refl
+lengths-unreadable (suc k) even t = let e : suc k - 1 ≡ k = omega arith in simp (ne-eqb (suc k) 0 (λ q. omega arith), e)
 
 -- the walk is at element at, which stands at a place of the list
 pub record LengthsAt (l s : List ℕ) (count : ℕ) (T table : List ℕ) (place at k : ℕ) (even : Bool) : Type 0 where
@@ -64,13 +69,16 @@ module _ {l s : List ℕ} {count : ℕ} {T table : List ℕ} {place at k : ℕ} 
         holds = rw (m .holds, add-one at) (set-next T (dataLengths (m .tape)) at v (dataLengthsFrom k′ even′ t) r);
       }
 
-  pub lengths-past-mark : {next : ℕ} → MarkAt l next (m .tape) at → LengthsAt l s count T (set table at 0) next (at + 1) (labelsAfter k) (evenAfter k even)
+  pub lengths-past-mark : {next : ℕ} → ElementAt mark l next (m .tape) at → LengthsAt l s count T (set table at 0) next (at + 1) (labelsAfter k) (evenAfter k even)
   lengths-past-mark {next} w = lengths-next next 0 (labelsAfter k) (evenAfter k even) mark (w .rest) (w .is) (w .left) (lengths-mark k even (w .rest))
 
   pub lengths-past-block : {next n : ℕ} → BlockAt l next n (m .tape) at → LengthsAt l s count T (set table at (dataLength k even n)) next (at + 1) (labelsAfter k) even
   lengths-past-block {next} {n} w =
       rw (w .size)
       (lengths-next next (dataLength k even (length (w .bytes))) (labelsAfter k) even (block (w .bytes)) (w .rest) (w .is) (w .left) (lengths-block k even (w .bytes) (w .rest)))
+
+  pub lengths-past-unreadable : {next : ℕ} → ElementAt unreadable l next (m .tape) at → LengthsAt l s count T (set table at 0) next (at + 1) (labelsAfter k) even
+  lengths-past-unreadable {next} w = lengths-next next 0 (labelsAfter k) even unreadable (w .rest) (w .is) (w .left) (lengths-unreadable k even (w .rest))
 
 pub length-lengths : (k : ℕ) (even : Bool) (t : Tape) → length (dataLengthsFrom k even t) ≡ length t
 unfolding dataLengthsFrom
@@ -79,6 +87,7 @@ length-lengths (suc k) even (e ∷ t) = ap suc (length-lengths k even t)
 length-lengths zero even (mark ∷ t) = ap suc (length-lengths zero (not even) t)
 length-lengths zero true (block x ∷ t) = ap suc (length-lengths zero true t)
 length-lengths zero false (block x ∷ t) = ap suc (length-lengths zero false t)
+length-lengths zero even (unreadable ∷ t) = ap suc (length-lengths zero even t)
 
 pub lengths-end : {l s : List ℕ} {count : ℕ} {T table : List ℕ} {place at k : ℕ} {even : Bool}
     → LengthsAt l s count T table place at k even → count ≤ at → PutsLengths l s T table

@@ -13,7 +13,7 @@ use Rattle.refusals.specs.declared.Refusal.{Refusal}
 use Rattle.refusals.specs.declared.Refusal.the-variants as refusal
 use Rattle.refusals.specs.Refusals.{refused}
 use Rattle.tape.specs.declared.ListChecked.the-variants as checked
-use Rattle.tape.specs.Tape.{Tape, mark, block, store, content}
+use Rattle.tape.specs.Tape.{Tape, mark, block, unreadable, store, content}
 use Rattle.tape.specs.Answers.{elementCount}
 use Rattle.tape.proofs.Keeping.{Present, absent}
 use Rattle.constructs.specs.Constructs.{dataLengths, dataLengthsFrom}
@@ -131,6 +131,7 @@ sum-lengths (suc k) even (e ∷ t) = omega (arith, sum-lengths k even t, length-
 sum-lengths zero even (mark ∷ t) = omega (arith, sum-lengths zero (not even) t)
 sum-lengths zero true (block x ∷ t) = omega (arith, sum-lengths zero true t, length-append x (store t))
 sum-lengths zero false (block x ∷ t) = omega (arith, sum-lengths zero false t, length-append x (store t))
+sum-lengths zero even (unreadable ∷ t) = omega (arith, sum-lengths zero even t)
 
 -- a table with lengths at its front: its front is the lengths, and behind them it is as it was
 module _ (T : List ℕ) (l s : List ℕ) (count : ℕ) (p : Present l s count) (room : count ≤ length T) where

@@ -3,24 +3,25 @@
 use mathlib.Core.Path.{_≡_, refl, sym, _∙_, ap, subst}
 use mathlib.Core.Bool.{Bool, true, false, cond}
 use mathlib.Core.List.{List, [], _∷_, _++_}
+use mathlib.Core.Option.{Option, none, some}
 use Prim.Native.Nat.{ℕ, zero, suc, _+_, _-_, _*_, _≤_, _<_}
 use native.Mathlib.Nat.{add-zero, zero-add}
 use native.Mathlib.Numerals.{add-one}
 use native.Mathlib.Omega.{arith}
 use lib.Dec.{ltb, eqb}
-use lib.ListN.{length, take, drop, length-append, length-take}
+use lib.ListN.{length, take, drop, length-append}
 use lib.Seq.{sets}
 use borrow.Author.Tests.{eqb-false, ne-eqb}
 use Rattle.slices.proofs.Booleans.{split}
 use Rattle.tape.proofs.Passing.{take-next, length-taken, bytes-within}
-use Rattle.tape.specs.Tape.{Element, mark, block, Tape, store}
+use Rattle.tape.specs.Tape.{Element, mark, block, unreadable, Tape, store}
 use Rattle.tape.specs.Answers.{bytesBefore}
 use Rattle.constructs.proofs.Sequences.{sets-append}
 use Rattle.constructs.specs.declared.Phase.{Phase}
 use Rattle.constructs.specs.declared.Phase.the-variants.{Labels, Data, Index, Defect}
-use Rattle.constructs.specs.Constructs.{Construct, Run, labels, dataRun, indexRun, defect, pastLabel, runAfter, closedBy, Scan, scanStep, scan, scanStart, standing}
-use Rattle.constructs.specs.PhaseSteps.{pastLabels, afterMark, afterBlock, closedCount, closedTable, Roomy}
-use Rattle.constructs.specs.Tables.{constructEntry, constructEntries}
+use Rattle.constructs.specs.Constructs.{Construct, Run, labels, dataRun, indexRun, defect, pastLabel, withBytes, runAfter, closedBy, Scan, scanStep, scan, scanStart, standing}
+use Rattle.constructs.specs.PhaseSteps.{pastLabels, afterMark, afterBlock, afterUnreadable, closedCount, closedTable, Roomy}
+use Rattle.constructs.specs.Tables.{isHoled, textEnd, constructEntry, constructEntries}
 
 -- the scan of the first n elements
 abbrev pub scanned : ℕ → Tape → ℕ → Scan
@@ -47,7 +48,7 @@ module _ (B : ℕ) (t : Tape) (n : ℕ) (e : Element) (rest : Tape) (d : drop n 
 abbrev pub phaseOf : Tape → Run → Phase
 phaseOf t (labels k) = Labels k
 phaseOf t dataRun = Data
-phaseOf t (indexRun f x short) = Index f (bytesBefore t f) short
+phaseOf t (indexRun f x short) = Index f (bytesBefore t f) short (isHoled x)
 phaseOf t defect = Defect
 
 past-phase : (t : Tape) (k : ℕ) → pastLabels k ≡ phaseOf t (pastLabel k)
@@ -66,14 +67,26 @@ phase-mark B t n off dataRun h = rw (add-one n, h)
 phase-mark B t n off (indexRun f x short) h = phase-if t (eqb f n) defect dataRun
 phase-mark B t n off defect h = refl
 
+holed-still : (y : Option (List ℕ)) (x : List ℕ) → isHoled (withBytes y x) ≡ isHoled y
+holed-still none x = refl
+holed-still (some y) x = refl
+
 pub phase-block : (B : ℕ) (t : Tape) (n : ℕ) (r : Run) (x : List ℕ) → afterBlock (phaseOf t r) B (length x) ≡ phaseOf t (runAfter B n r (block x))
 unfolding runAfter
 phase-block B t n (labels k) x = past-phase t k
 phase-block B t n dataRun x = phase-if t (ltb B (length x)) defect dataRun
 phase-block B t n (indexRun f y short) x =
-    ap (cond short Defect) (phase-if t (ltb B (length x)) defect (indexRun f (y ++ x) (ltb (length x) B)))
-    ∙ phase-if t short defect (cond (ltb B (length x)) defect (indexRun f (y ++ x) (ltb (length x) B)))
+    rw (← holed-still y x)
+    (ap (cond short Defect) (phase-if t (ltb B (length x)) defect (indexRun f (withBytes y x) (ltb (length x) B)))
+    ∙ phase-if t short defect (cond (ltb B (length x)) defect (indexRun f (withBytes y x) (ltb (length x) B))))
 phase-block B t n defect x = refl
+
+pub phase-unreadable : (B : ℕ) (t : Tape) (n : ℕ) (r : Run) → afterUnreadable (phaseOf t r) ≡ phaseOf t (runAfter B n r unreadable)
+unfolding runAfter
+phase-unreadable B t n (labels k) = past-phase t k
+phase-unreadable B t n dataRun = refl
+phase-unreadable B t n (indexRun f y short) = phase-if t short defect (indexRun f none false)
+phase-unreadable B t n defect = refl
 
 pub count-mark : (t : Tape) (n : ℕ) (r : Run) (cs : List Construct) → closedCount (length cs) (phaseOf t r) n ≡ length (closedBy n r cs mark)
 unfolding closedBy
@@ -84,12 +97,15 @@ count-mark t n (indexRun f x short) cs =
     (λ e. refl) (λ e. add-one (length cs))
 count-mark t n defect cs = refl
 
-pub done-block : (n : ℕ) (r : Run) (cs : List Construct) (x : List ℕ) → closedBy n r cs (block x) ≡ cs
+-- a mark alone closes a run
+pub done-still : (n : ℕ) (r : Run) (cs : List Construct) (e : Element) → (e ≡ mark → ⊥) → closedBy n r cs e ≡ cs
 unfolding closedBy
-done-block n (labels k) cs x = refl
-done-block n dataRun cs x = refl
-done-block n (indexRun f y short) cs x = refl
-done-block n defect cs x = refl
+done-still n (labels k) cs e h = refl
+done-still n dataRun cs e h = refl
+done-still n (indexRun f y short) cs mark h = absurd (h refl)
+done-still n (indexRun f y short) cs (block x) h = refl
+done-still n (indexRun f y short) cs unreadable h = refl
+done-still n defect cs e h = refl
 
 pub length-entries : (t : Tape) (cs : List Construct) → length (constructEntries t cs) ≡ length cs * 4
 unfolding constructEntries
@@ -112,7 +128,7 @@ table-mark T t n off (labels k) cs h = refl
 table-mark T t n off dataRun cs h = refl
 table-mark T t n off (indexRun f x short) cs h =
     split
-    (λ b. cond b (sets T 0 (constructEntries t cs)) (sets (sets T 0 (constructEntries t cs)) (length cs * 4) (f ∷ (n + 1) ∷ bytesBefore t f ∷ off ∷ []))
+    (λ b. cond b (sets T 0 (constructEntries t cs)) (sets (sets T 0 (constructEntries t cs)) (length cs * 4) (f ∷ (n + 1) ∷ bytesBefore t f ∷ textEnd (isHoled x) (bytesBefore t f) off ∷ []))
     ≡ sets T 0 (constructEntries t (cond b cs (record { first = f; end = suc n; text = x } ∷ cs))))
     (eqb f n) (λ e. refl)
     (λ e. let w : suc n - 1 ≡ n = omega arith in
@@ -137,12 +153,15 @@ unfolding runAfter closedBy
 room-step B n (labels k) cs e w = room-past n k cs (w .0) (w .1)
 room-step B n dataRun cs mark w = (omega arith, omega arith)
 room-step B n dataRun cs (block x) w = split (λ b. RoomIn (suc n) (cond b defect dataRun) cs) (ltb B (length x)) (λ e. omega arith) (λ e. omega arith)
+room-step B n dataRun cs unreadable w = omega arith
 room-step B n (indexRun f x short) cs mark w =
     split (λ b. eqb f n ≡ b → RoomIn (suc n) (cond b defect dataRun) (cond b cs (record { first = f; end = suc n; text = x } ∷ cs))) (eqb f n)
     (λ e q. omega arith) (λ e q. let u : f ≡ n → ⊥ = eqb-false f n q in omega arith) refl
 room-step B n (indexRun f y short) cs (block x) w =
-    split (λ b. RoomIn (suc n) (cond b defect (cond (ltb B (length x)) defect (indexRun f (y ++ x) (ltb (length x) B)))) cs) short (λ e. omega arith)
-    (λ e. split (λ b. RoomIn (suc n) (cond b defect (indexRun f (y ++ x) (ltb (length x) B))) cs) (ltb B (length x)) (λ u. omega arith) (λ u. (w .0, omega arith)))
+    split (λ b. RoomIn (suc n) (cond b defect (cond (ltb B (length x)) defect (indexRun f (withBytes y x) (ltb (length x) B)))) cs) short (λ e. omega arith)
+    (λ e. split (λ b. RoomIn (suc n) (cond b defect (indexRun f (withBytes y x) (ltb (length x) B))) cs) (ltb B (length x)) (λ u. omega arith) (λ u. (w .0, omega arith)))
+room-step B n (indexRun f y short) cs unreadable w =
+    split (λ b. RoomIn (suc n) (cond b defect (indexRun f none false)) cs) short (λ e. omega arith) (λ e. (w .0, omega arith))
 room-step B n defect cs e w = omega arith
 
 room-scan : (B : ℕ) (s : Scan) (t : Tape) → RoomIn (s .at) (s .run) (s .done) → RoomIn (scan B s t .at) (scan B s t .run) (scan B s t .done)
@@ -166,7 +185,13 @@ roomy : (t : Tape) (n off : ℕ) (r : Run) (cs : List Construct) → n < 65536 �
 roomy t n off (labels k) cs h b o w = tt
 roomy t n off dataRun cs h b o w = tt
 roomy t n off (indexRun f x short) cs h b o w =
-    record { few = omega arith; inFirst = omega arith; inEnd = omega arith; inFrom = omega (arith, bytes-within t f); inTo = omega arith }
+    record {
+      few = omega arith;
+      inFirst = omega arith;
+      inEnd = omega arith;
+      inFrom = omega (arith, bytes-within t f);
+      inTo = split (λ a. cond a (bytesBefore t f) off ≤ 16777216) (isHoled x) (λ e. omega (arith, bytes-within t f)) (λ e. omega arith);
+    }
 roomy t n off defect cs h b o w = tt
 
 module _ (B : ℕ) (t : Tape) (n : ℕ) (e : Element) (rest : Tape) (d : drop n t ≡ e ∷ rest) where

@@ -14,7 +14,8 @@ use tape::ListChecked;
 ghost use Rattle.tape.specs.Tape.{maxElements};
 ghost use Rattle.tape.specs.Steps.{Encoded};
 ghost use Rattle.constructs.specs.TableSteps.{FindsConstructs, ScansPartition, boundsIn};
-ghost use Rattle.constructs.specs.PhaseSteps.{pastLabels, afterMark, afterBlock, closedCount, closedTable, Roomy, FitsTable};
+ghost use Rattle.constructs.specs.Tables.{textEnd};
+ghost use Rattle.constructs.specs.PhaseSteps.{pastLabels, afterMark, afterBlock, afterUnreadable, closedCount, closedTable, Roomy, FitsTable};
 
 // The most standing constructs of a partition, and the numbers of a table of them, four for each.
 pub const CONSTRUCTS: usize = 21845;
@@ -22,7 +23,8 @@ pub const CONSTRUCTS: usize = 21845;
 pub const NUMBERS: usize = 87380;
 
 // Where the next element stands: among the four of the labels, so many after it there; in a data run; in an index run, with its first
-// element, where its bytes begin in the store, and whether a short block was met; behind the first defect.
+// element, where its bytes begin in the store, whether the block before was short, and whether an unreadable block was met; behind the
+// first defect.
 enum Phase {
     Labels(usize),
     Data,
@@ -30,6 +32,7 @@ enum Phase {
         first: usize,
         from: usize,
         short: bool,
+        holed: bool,
     },
     Defect,
 }
@@ -45,11 +48,13 @@ fn after_mark(phase: Phase, at: usize, off: usize) -> Phase
             first: at + 1,
             from: off,
             short: false,
+            holed: false,
         },
         Phase::Index {
             first,
             from: _,
             short: _,
+            holed: _,
         } => {
             if first == at {
                 Phase::Defect
@@ -77,7 +82,12 @@ fn after_block(phase: Phase, size: usize, n: usize) -> Phase
     match phase {
         Phase::Labels(k) => past_label(k),
         Phase::Data => { if size < n { Phase::Defect } else { Phase::Data } }
-        Phase::Index { first, from, short } => {
+        Phase::Index {
+            first,
+            from,
+            short,
+            holed,
+        } => {
             if short {
                 return Phase::Defect;
             }
@@ -88,6 +98,34 @@ fn after_block(phase: Phase, size: usize, n: usize) -> Phase
                 first: first,
                 from: from,
                 short: n < size,
+                holed: holed,
+            }
+        }
+        Phase::Defect => Phase::Defect,
+    }
+}
+
+// The phase behind an unreadable block.
+fn after_unreadable(phase: Phase) -> Phase
+    ensures { λ r. ⌜ r ≡ afterUnreadable phase ⌝ }
+{
+    match phase {
+        Phase::Labels(k) => past_label(k),
+        Phase::Data => Phase::Data,
+        Phase::Index {
+            first,
+            from,
+            short,
+            holed: _,
+        } => {
+            if short {
+                return Phase::Defect; // the short block was not the last
+            }
+            Phase::Index {
+                first: first,
+                from: from,
+                short: false,
+                holed: true,
             }
         }
         Phase::Defect => Phase::Defect,
@@ -106,6 +144,14 @@ fn enter(table: &mut [u32; NUMBERS], n: usize, first: usize, end: usize, from: u
     table[k + 3] = to as u32;
 }
 
+// Where the text of an index run ends in the store, which begins at from and whose blocks end at off: an empty text with an unreadable
+// block in the run.
+fn text_end(holed: bool, from: usize, off: usize) -> usize
+    ensures { λ r. ⌜ r ≡ textEnd holed from off ⌝ }
+{
+    if holed { from } else { off }
+}
+
 // Puts the construct that a mark, element at, closes into the table behind the n that are there; the number that are there then.
 fn close(table: &mut [u32; NUMBERS], n: usize, phase: Phase, at: usize, off: usize) -> usize
     requires { ⌜ Roomy n phase at off ⌝ }
@@ -118,11 +164,12 @@ fn close(table: &mut [u32; NUMBERS], n: usize, phase: Phase, at: usize, off: usi
             first,
             from,
             short: _,
+            holed,
         } => {
             if first == at {
                 return n;
             }
-            enter(table, n, first, at + 1, from, off);
+            enter(table, n, first, at + 1, from, text_end(holed, from, off));
             n + 1
         }
         Phase::Defect => n,
@@ -153,6 +200,11 @@ fn fill(list: &[u8], store: &[u8], count: usize, size: usize, table: &mut [u32; 
                 place = next;
                 at += 1;
             }
+            Entry::Unreadable(next) => {
+                phase = after_unreadable(phase);
+                place = next;
+                at += 1;
+            }
             Entry::End => {
                 return n;
             }
@@ -171,7 +223,7 @@ pub enum Scanned {
 }
 
 // Puts the standing constructs of a partition into a table, four numbers for each: its first block, the elements through its closing
-// mark, and where its text begins and ends in the store.
+// mark, and where its text begins and ends in the store, the same place where it has an unreadable block.
 pub fn scan(list: &[u8], store: &[u8], block_size: usize, table: &mut [u32; NUMBERS]) -> Scanned
     ensures { λ r. ⌜ ScansPartition «block_size» (now (list .entry)) (now (store .entry)) (now (table .entry)) (now (table .exit)) r ⌝ }
 {
@@ -187,7 +239,8 @@ pub fn scan(list: &[u8], store: &[u8], block_size: usize, table: &mut [u32; NUMB
     }
 }
 
-// Where a construct lies: its first block, the elements through its closing mark, and where its text begins and ends in the store.
+// Where a construct lies: its first block, the elements through its closing mark, and where its text begins and ends in the store, the
+// same place where it has an unreadable block.
 pub struct Bounds {
     pub first: BlockNumber,
     pub end: usize,

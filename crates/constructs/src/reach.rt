@@ -79,6 +79,12 @@ fn put_lengths(list: &[u8], store: &[u8], count: usize, table: &mut [u32])
                 place = next;
                 at += 1;
             }
+            Entry::Unreadable(next) => {
+                table[at] = 0;
+                labels = labels_after(labels);
+                place = next;
+                at += 1;
+            }
             Entry::End => {
                 return;
             }

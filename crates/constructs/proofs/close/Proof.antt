@@ -1,5 +1,5 @@
 -- `constructs::close` meets its contract: only an index run that is not empty is closed.
-use mathlib.Core.Path.{refl, subst}
+use mathlib.Core.Path.{refl, _∙_, subst}
 use borrow.Author.Tests.{eq-eqb, ne-eqb}
 use Rattle.constructs.specs.declared.Phase.{Phase}
 use Rattle.constructs.specs.PhaseSteps.{Roomy}
@@ -24,12 +24,15 @@ add-enter c =
     let room = (subst (λ (p : Phase). Roomy (c .before .before .before .before .before .args .n) p (c .before .before .before .before .before .args .at) (c .before .before .before .before .before .args .off)) (c .before .before .before .phase .given .1) (c .before .before .before .before .before .pre)) in
     search needs
 
+text-end-requires : tie.Need-text-end-requires
+text-end-requires c κs = search needs
+
 enter-requires : tie.Need-enter-requires
-enter-requires c κs = (subst (λ (p : Phase). Roomy (c .before .before .before .before .before .args .n) p (c .before .before .before .before .before .args .at) (c .before .before .before .before .before .args .off)) (c .before .before .before .phase .given .1) (c .before .before .before .before .before .pre))
+enter-requires c κs = rw (c .text-end .ensures) (subst (λ (p : Phase). Roomy (c .before .before .before .before .before .before .args .n) p (c .before .before .before .before .before .before .args .at) (c .before .before .before .before .before .before .args .off)) (c .before .before .before .before .phase .given .1) (c .before .before .before .before .before .before .pre))
 
 add-result : tie.Need-add-result
 add-result c =
-    let room = (subst (λ (p : Phase). Roomy (c .before .before .before .before .before .before .args .n) p (c .before .before .before .before .before .before .args .at) (c .before .before .before .before .before .before .args .off)) (c .before .before .before .before .phase .given .1) (c .before .before .before .before .before .before .pre)) in
+    let room = (subst (λ (p : Phase). Roomy (c .before .before .before .before .before .before .before .args .n) p (c .before .before .before .before .before .before .before .args .at) (c .before .before .before .before .before .before .before .args .off)) (c .before .before .before .before .before .phase .given .1) (c .before .before .before .before .before .before .before .pre)) in
     search needs
 
 enum-told-3 : tie.Need-enum-told-3
@@ -42,7 +45,7 @@ returns-3 : tie.Need-returns-3
 returns-3 c = search needs
 
 returns-4 : tie.Need-returns-4
-returns-4 c = rw (c .before .before .before .before .phase .given .1, ne-eqb _ _ (c .before .before .if1 .left)) (refl, c .enter .ensures)
+returns-4 c = rw (c .before .before .before .before .before .phase .given .1, ne-eqb _ _ (c .before .before .before .if1 .left)) (refl, c .enter .ensures ∙ rw (c .before .text-end .ensures))
 
 returns-5 : tie.Need-returns-5
 returns-5 c = search needs
@@ -56,6 +59,7 @@ close-spec =
     enum-known-phase
     returns
     add-enter
+    text-end-requires
     enter-requires
     add-result
     enum-told-3

@@ -3,7 +3,7 @@ use mathlib.Core.Path.{sym, _∙_}
 use Prim.Native.Nat.{_+_, _-_, _≤_}
 use native.Mathlib.Omega.{arith}
 use Rattle.tape.proofs.Elements.{says-at}
-use Rattle.constructs.proofs.Filling.{Matched, matched-start, matched-mark, matched-block, matched-end, roomy-mark, bytes-bound}
+use Rattle.constructs.proofs.Filling.{Matched, matched-start, matched-mark, matched-block, matched-unreadable, matched-end, roomy-mark, bytes-bound}
 use borrow.Author.Needs.{needs}
 use Rattle.constructs.proofs.fill.Statement.{statement}
 use Rattle.constructs.proofs.fill.Tie as tie
@@ -72,6 +72,26 @@ loop-again-2 c =
     let m = matched-block (c .before .before .before .before .before .before .loop .inv) (c .before .before .before .before .before .loop-test .taken) (says-at (c .before .before .before .before .before .before .before .before .before .args .list .now) (c .before .before .before .before .before .before .loop .place) (c .before .before .before .before .before .before .loop .inv .tape) (c .before .before .before .before .before .before .loop .at) (c .before .before .before .before .before .before .loop .inv .encodes .blocks) (c .before .before .before .before .before .before .loop .inv .left) (let all = c .before .before .before .before .before .before .loop .inv .counted in let more = c .before .before .before .before .before .loop-test .taken in omega arith) (sym (c .before .before .before .before .entry-at .ensures) ∙ c .before .before .k .given .1)) in
     rw (c .after-block .ensures) m
 
+enum-known-next-2 : tie.Need-enum-known-next-2 Inv-loop μ-loop
+enum-known-next-2 c = search needs
+
+after-unreadable-requires : tie.Need-after-unreadable-requires Inv-loop μ-loop
+after-unreadable-requires c κs = search needs
+
+add-at-3 : tie.Need-add-at-3 Inv-loop μ-loop
+add-at-3 c =
+    let few = c .before .before .before .before .before .before .loop .inv .encodes .elements in
+    let all = c .before .before .before .before .before .before .loop .inv .counted in
+    search needs
+
+loop-less-3 : tie.Need-loop-less-3 Inv-loop μ-loop
+loop-less-3 c = omega arith
+
+loop-again-3 : tie.Need-loop-again-3 Inv-loop μ-loop
+loop-again-3 c =
+    let m = matched-unreadable (c .before .before .before .before .before .before .loop .inv) (c .before .before .before .before .before .loop-test .taken) (says-at (c .before .before .before .before .before .before .before .before .before .args .list .now) (c .before .before .before .before .before .before .loop .place) (c .before .before .before .before .before .before .loop .inv .tape) (c .before .before .before .before .before .before .loop .at) (c .before .before .before .before .before .before .loop .inv .encodes .blocks) (c .before .before .before .before .before .before .loop .inv .left) (let all = c .before .before .before .before .before .before .loop .inv .counted in let more = c .before .before .before .before .before .loop-test .taken in omega arith) (sym (c .before .before .before .before .entry-at .ensures) ∙ c .before .before .next2 .given .1)) in
+    rw (c .after-unreadable .ensures) m
+
 enum-told : tie.Need-enum-told Inv-loop μ-loop
 enum-told c = search needs
 
@@ -107,6 +127,11 @@ fill-spec =
     add-at-2
     loop-less-2
     loop-again-2
+    enum-known-next-2
+    after-unreadable-requires
+    add-at-3
+    loop-less-3
+    loop-again-3
     enum-told
     returns
     enum-told-2

@@ -4,7 +4,7 @@ use Prim.Native.Nat.{_-_}
 use native.Mathlib.Omega.{arith}
 use Rattle.tape.proofs.Entries.{lies-as}
 use Rattle.tape.proofs.Elements.{says-at}
-use Rattle.constructs.proofs.Lengths.{LengthsAt, lengths-start, lengths-past-mark, lengths-past-block, lengths-end, lengths-kept, length-at-most}
+use Rattle.constructs.proofs.Lengths.{LengthsAt, lengths-start, lengths-past-mark, lengths-past-block, lengths-past-unreadable, lengths-end, lengths-kept, length-at-most}
 use borrow.Author.Needs.{needs}
 use Rattle.constructs.proofs.reach.put_lengths.Statement.{statement}
 use Rattle.constructs.proofs.reach.put_lengths.Tie as tie
@@ -110,6 +110,44 @@ loop-again-2 c =
     let m = lengths-past-block (c .before .before .before .before .before .before .before .loop .inv) (c .before .before .before .before .before .before .loop-test .taken) (says-at (c .before .before .before .before .before .before .before .before .before .before .before .args .list .now) (c .before .before .before .before .before .before .before .loop .place) (c .before .before .before .before .before .before .before .loop .inv .tape) (c .before .before .before .before .before .before .before .loop .at) (c .before .before .before .before .before .before .before .loop .inv .encodes .blocks) (c .before .before .before .before .before .before .before .loop .inv .left) (let all = c .before .before .before .before .before .before .before .loop .inv .counted in let more = c .before .before .before .before .before .before .loop-test .taken in omega arith) (sym (c .before .before .before .before .before .entry-at .ensures) ∙ c .before .before .before .n .given .1)) in
     rw (c .before .data-length .ensures, c .labels-after2 .ensures) m
 
+enum-known-next-2 : tie.Need-enum-known-next-2 Inv-loop μ-loop
+enum-known-next-2 c = search needs
+
+mul-table-3 : tie.Need-mul-table-3 Inv-loop μ-loop
+mul-table-3 c =
+    let few = c .before .before .before .before .before .loop .inv .encodes .elements in
+    let all = c .before .before .before .before .before .loop .inv .counted in
+    let kept = lengths-kept (c .before .before .before .before .before .loop .inv) in
+    let room = c .before .before .before .before .before .loop .inv .room in
+    search needs
+
+slice-write-table-3 : tie.Need-slice-write-table-3 Inv-loop μ-loop
+slice-write-table-3 c =
+    let few = c .before .before .before .before .before .loop .inv .encodes .elements in
+    let all = c .before .before .before .before .before .loop .inv .counted in
+    let kept = lengths-kept (c .before .before .before .before .before .loop .inv) in
+    let room = c .before .before .before .before .before .loop .inv .room in
+    search needs
+
+labels-after-requires-3 : tie.Need-labels-after-requires-3 Inv-loop μ-loop
+labels-after-requires-3 c κs = search needs
+
+add-at-3 : tie.Need-add-at-3 Inv-loop μ-loop
+add-at-3 c =
+    let few = c .before .before .before .before .before .before .loop .inv .encodes .elements in
+    let all = c .before .before .before .before .before .before .loop .inv .counted in
+    let kept = lengths-kept (c .before .before .before .before .before .before .loop .inv) in
+    let room = c .before .before .before .before .before .before .loop .inv .room in
+    search needs
+
+loop-less-3 : tie.Need-loop-less-3 Inv-loop μ-loop
+loop-less-3 c = omega arith
+
+loop-again-3 : tie.Need-loop-again-3 Inv-loop μ-loop
+loop-again-3 c =
+    let m = lengths-past-unreadable (c .before .before .before .before .before .before .loop .inv) (c .before .before .before .before .before .loop-test .taken) (says-at (c .before .before .before .before .before .before .before .before .before .before .args .list .now) (c .before .before .before .before .before .before .loop .place) (c .before .before .before .before .before .before .loop .inv .tape) (c .before .before .before .before .before .before .loop .at) (c .before .before .before .before .before .before .loop .inv .encodes .blocks) (c .before .before .before .before .before .before .loop .inv .left) (let all = c .before .before .before .before .before .before .loop .inv .counted in let more = c .before .before .before .before .before .loop-test .taken in omega arith) (sym (c .before .before .before .before .entry-at .ensures) ∙ c .before .before .next2 .given .1)) in
+    rw (c .labels-after3 .ensures) m
+
 enum-told : tie.Need-enum-told Inv-loop μ-loop
 enum-told c = search needs
 
@@ -159,6 +197,13 @@ put-lengths-spec =
     add-at-2
     loop-less-2
     loop-again-2
+    enum-known-next-2
+    mul-table-3
+    slice-write-table-3
+    labels-after-requires-3
+    add-at-3
+    loop-less-3
+    loop-again-3
     enum-told
     same-length
     returns
