@@ -40,12 +40,12 @@ SaysIndex s x out = SaysHeader s (summary x) out
 -- seventeen numbers say where a construct lies and what its index says: its first block, the elements through its closing mark, where its text begins
 -- in the store s and its length; then the thirteen of its index, whose places are in that text
 pub record SaysConstruct (s : List ℕ) (c : Indexed) (out : List ℕ) : Type 0 where
-  pub first : getD out 0 0 ≡ c .construct .first
-  pub end : getD out 1 0 ≡ c .construct .end
+  pub first : getD out 0 0 ≡ c .first
+  pub end : getD out 1 0 ≡ c .end
   pub from : getD out 2 0 ≡ c .from
-  pub length : getD out 3 0 ≡ lib.ListN.length (c .construct .text)
-  pub text : TellsPart s out 2 (c .construct .text)
-  pub header : SaysHeader (c .construct .text) (c .summary) (drop 4 out)
+  pub length : getD out 3 0 ≡ lib.ListN.length (c .text)
+  pub text : TellsPart s out 2 (c .text)
+  pub header : SaysHeader (c .text) (c .summary) (drop 4 out)
 
 module _ {A : Type 0} where
   -- how many there are

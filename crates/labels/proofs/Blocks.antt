@@ -7,7 +7,7 @@ use native.Mathlib.Omega.{arith}
 use lib.ListN.{length, take, drop, length-append}
 use lib.Seq.{take-append-seam, drop-append-seam}
 use Rattle.slices.proofs.Booleans.{split}
-use Rattle.tape.specs.Tape.{mark, block, Tape, store, content, Encodes}
+use Rattle.tape.specs.Tape.{mark, block, unreadable, Tape, store, content, Encodes}
 use Rattle.labels.specs.declared.Laid.the-variants.{Blocks, Otherwise}
 use Rattle.labels.specs.Labels.{isLaid, bytesAt}
 use Rattle.labels.specs.Steps.{layoutOf}
@@ -21,12 +21,16 @@ record FourElements (t : Tape) : Type 0 where
 four-elements : (t : Tape) → isLaid t ≡ true → FourElements t
 four-elements [] e = absurd (false≢true e)
 four-elements (mark ∷ t) e = absurd (false≢true e)
+four-elements (unreadable ∷ t) e = absurd (false≢true e)
 four-elements (block x ∷ []) e = absurd (false≢true e)
 four-elements (block x ∷ block y ∷ t) e = absurd (false≢true e)
+four-elements (block x ∷ unreadable ∷ t) e = absurd (false≢true e)
 four-elements (block x ∷ mark ∷ []) e = absurd (false≢true e)
 four-elements (block x ∷ mark ∷ mark ∷ t) e = absurd (false≢true e)
+four-elements (block x ∷ mark ∷ unreadable ∷ t) e = absurd (false≢true e)
 four-elements (block x ∷ mark ∷ block y ∷ []) e = absurd (false≢true e)
 four-elements (block x ∷ mark ∷ block y ∷ block z ∷ t) e = absurd (false≢true e)
+four-elements (block x ∷ mark ∷ block y ∷ unreadable ∷ t) e = absurd (false≢true e)
 four-elements (block x ∷ mark ∷ block y ∷ mark ∷ t) e = record { vol1 = x; text = y; rest = t; is = refl }
 
 -- a tape whose store is s, laid out, with n bytes in block 0 and m in block 2

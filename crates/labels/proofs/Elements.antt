@@ -6,9 +6,9 @@ use Prim.Native.Nat.{ℕ, _+_}
 use native.Mathlib.Omega.{arith}
 use lib.ListN.{length, drop, getElem?}
 use Rattle.slices.proofs.Booleans.{and-left, and-right}
-use Rattle.tape.specs.Tape.{mark, block, content, Tape, markCell, blockCell, list, lawfulTape, isBlockLength, Encodes}
+use Rattle.tape.specs.Tape.{mark, block, unreadable, content, Tape, markCell, blockCell, unreadableCell, list, lawfulTape, isBlockLength, Encodes}
 use Rattle.tape.specs.ReadingSteps.{entryAt}
-use Rattle.tape.specs.declared.Entry.the-variants.{Mark, Block, End}
+use Rattle.tape.specs.declared.Entry.the-variants.{Mark, Block, Unreadable, End}
 use Rattle.tape.proofs.Walking.{entry-here, entry-none, next-here}
 use Rattle.labels.specs.declared.Step.the-variants.{Past, Other}
 use Rattle.labels.specs.declared.Laid.the-variants.{Blocks, Otherwise}
@@ -66,9 +66,14 @@ module _ {l : List ℕ} {at : ℕ} where
   block-here {x} {t} w =
       entry-here l at (blockCell (length x)) (list t) (and-left (isBlockLength (length x)) (lawfulTape t) (w .legal)) (w .there)
 
+  unreadable-here : {t : Tape} → Stands l at (unreadable ∷ t) → entryAt l at ≡ Unreadable (at + 1)
+  unfolding list
+  unreadable-here {t} w = entry-here l at unreadableCell (list t) refl (w .there)
+
   block-first : (t : Tape) → Stands l at t → (n next : ℕ) → pastBlock (entryAt l at) ≡ Past n next → BlockFirst l t n next
   block-first [] w n next e = no-step n next (sym (ap pastBlock (none-here w)) ∙ e)
   block-first (mark ∷ t) w n next e = no-step n next (sym (ap pastBlock (mark-here w)) ∙ e)
+  block-first (unreadable ∷ t) w n next e = no-step n next (sym (ap pastBlock (unreadable-here w)) ∙ e)
   block-first (block x ∷ t) w n next e =
       let z : Past (length x) (at + 5) ≡ Past n next = sym (ap pastBlock (block-here w)) ∙ e in
       let k : at + 5 ≡ next = cc in
@@ -77,11 +82,13 @@ module _ {l : List ℕ} {at : ℕ} where
   block-not : (t : Tape) → Stands l at t → pastBlock (entryAt l at) ≡ Other → isBlock (getElem? t 0) ≡ false
   block-not [] w e = refl
   block-not (mark ∷ t) w e = refl
+  block-not (unreadable ∷ t) w e = refl
   block-not (block x ∷ t) w e = no-step (length x) (at + 5) (sym e ∙ ap pastBlock (block-here w))
 
   mark-first : (t : Tape) → Stands l at t → (n next : ℕ) → pastMark (entryAt l at) ≡ Past n next → MarkFirst l t next
   mark-first [] w n next e = no-step n next (sym (ap pastMark (none-here w)) ∙ e)
   mark-first (block x ∷ t) w n next e = no-step n next (sym (ap pastMark (block-here w)) ∙ e)
+  mark-first (unreadable ∷ t) w n next e = no-step n next (sym (ap pastMark (unreadable-here w)) ∙ e)
   mark-first (mark ∷ t) w n next e =
       let z : Past 0 (at + 1) ≡ Past n next = sym (ap pastMark (mark-here w)) ∙ e in
       let k : at + 1 ≡ next = cc in
@@ -90,6 +97,7 @@ module _ {l : List ℕ} {at : ℕ} where
   mark-not : (t : Tape) → Stands l at t → pastMark (entryAt l at) ≡ Other → isMark (getElem? t 0) ≡ false
   mark-not [] w e = refl
   mark-not (block x ∷ t) w e = refl
+  mark-not (unreadable ∷ t) w e = refl
   mark-not (mark ∷ t) w e = no-step 0 (at + 1) (sym e ∙ ap pastMark (mark-here w))
 
 four-laid : {x y : List ℕ} {t u v w z : Tape} → t ≡ block x ∷ u → u ≡ mark ∷ v → v ≡ block y ∷ w → w ≡ mark ∷ z → Blocks (length x) (length y) ≡ layoutOf t

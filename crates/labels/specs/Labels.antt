@@ -7,7 +7,7 @@ use Prim.Native.Nat.{ℕ}
 use lib.ListN.{getElem?}
 use Rattle.refusals.specs.Refusals.{Answer, answer, require, andThen}
 use Rattle.refusals.specs.declared.Refusal.the-variants.{Layout, Foreign}
-use Rattle.tape.specs.Tape.{Element, mark, block, content, Tape}
+use Rattle.tape.specs.Tape.{Element, mark, block, unreadable, content, Tape}
 use Rattle.tape.specs.Answers.{tapeIn}
 use Rattle.label.specs.Label.{Label, labelOf}
 use Rattle.vol1.specs.Vol1.{vol1Of}
@@ -17,13 +17,15 @@ abbrev pub isMark : Option Element → Bool
 isMark none = false
 isMark (some mark) = true
 isMark (some (block x)) = false
+isMark (some unreadable) = false
 
 abbrev pub isBlock : Option Element → Bool
 isBlock none = false
 isBlock (some mark) = false
 isBlock (some (block x)) = true
+isBlock (some unreadable) = false
 
--- 9: elements 0 to 3 are block, mark, block, mark
+-- 9: elements 0 to 3 are block, mark, block, mark, no block of them unreadable (02, Item 7)
 abbrev pub isLaid : Tape → Bool
 isLaid t = isBlock (getElem? t 0) && isMark (getElem? t 1) && isBlock (getElem? t 2) && isMark (getElem? t 3)
 

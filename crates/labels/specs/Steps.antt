@@ -23,6 +23,7 @@ use Rattle.labels.specs.Places.{spanMoved, placesOn}
 abbrev pub pastBlock : Entry → Step
 pastBlock (entry.Mark next) = Other
 pastBlock (entry.Block n next) = Past n next
+pastBlock (entry.Unreadable next) = Other
 pastBlock entry.End = Other
 pastBlock entry.Bad = Other
 
@@ -30,6 +31,7 @@ pastBlock entry.Bad = Other
 abbrev pub pastMark : Entry → Step
 pastMark (entry.Mark next) = Past 0 next
 pastMark (entry.Block n next) = Other
+pastMark (entry.Unreadable next) = Other
 pastMark entry.End = Other
 pastMark entry.Bad = Other
 

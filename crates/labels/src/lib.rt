@@ -24,6 +24,7 @@ fn past_block(list: &[u8], at: usize) -> Step
     match tape::entry_at(list, at) {
         Entry::Mark(_) => Step::Other,
         Entry::Block(n, next) => Step::Past(n, next),
+        Entry::Unreadable(_) => Step::Other,
         Entry::End => Step::Other,
         Entry::Bad => Step::Other,
     }
@@ -35,6 +36,7 @@ fn past_mark(list: &[u8], at: usize) -> Step
     match tape::entry_at(list, at) {
         Entry::Mark(next) => Step::Past(0, next),
         Entry::Block(_, _) => Step::Other,
+        Entry::Unreadable(_) => Step::Other,
         Entry::End => Step::Other,
         Entry::Bad => Step::Other,
     }

@@ -8,7 +8,7 @@ use native.Mathlib.Omega.{arith}
 use lib.ListN.{length, drop}
 use Rattle.constructs.specs.Constructs.{Construct}
 use Rattle.constructs.specs.Steps.{Suffix, here, there}
-use Rattle.verdict.specs.Verdict.{Volume, chained, chainBreak, Cut}
+use Rattle.verdict.specs.Verdict.{Volume, readIndex, chained, chainBreak, Cut}
 use Rattle.verdict.specs.Rescue.{target, through, chain, attempt, cutAmong}
 use Rattle.verdict.specs.Steps.{firsts}
 
@@ -64,11 +64,11 @@ module _ (v : Volume) where
 
   -- the search goes on where a construct is no cut, and ends where it is
   pub search-on : (li ld : List ℕ) (ds : List Construct) (c : Construct) (cs : List Construct)
-      → attempt v li ld c cs (through (target (v .read (v .indexLetter) (c .first) (c .text))) ds) ≡ none → cutAmong v li ld ds (c ∷ cs) ≡ cutAmong v li ld ds cs
+      → attempt v li ld c cs (through (target (readIndex v c)) ds) ≡ none → cutAmong v li ld ds (c ∷ cs) ≡ cutAmong v li ld ds cs
   unfolding cutAmong
   search-on li ld ds c cs e = rw e
 
   pub search-found : (li ld : List ℕ) (ds : List Construct) (c : Construct) (cs : List Construct) (a : Cut)
-      → attempt v li ld c cs (through (target (v .read (v .indexLetter) (c .first) (c .text))) ds) ≡ some a → cutAmong v li ld ds (c ∷ cs) ≡ some a
+      → attempt v li ld c cs (through (target (readIndex v c)) ds) ≡ some a → cutAmong v li ld ds (c ∷ cs) ≡ some a
   unfolding cutAmong
   search-found li ld ds c cs a e = rw e

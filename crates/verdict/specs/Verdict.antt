@@ -66,11 +66,16 @@ endsWith t [] = false
 endsWith t (c ∷ cs) = eqb (c .end) (length t)
 
 module _ (v : Volume) where
+  -- the index of a partition that begins at a block; without a text, with an unreadable block in its run, it is not sound (02, Item 7)
+  abbrev pub readText : ℕ → ℕ → Option (List ℕ) → Option IndexLinks
+  readText letter first none = none
+  readText letter first (some x) = v .read letter first x
+
   abbrev pub readIndex : Construct → Option IndexLinks
-  readIndex c = v .read (v .indexLetter) (c .first) (c .text)
+  readIndex c = readText (v .indexLetter) (c .first) (c .text)
 
   abbrev pub readData : Construct → Option IndexLinks
-  readData c = v .read (v .dataLetter) (c .first) (c .text)
+  readData c = readText (v .dataLetter) (c .first) (c .text)
 
   -- an extent lies on the tape, given the lengths of both partitions' data blocks
   unfoldable pub lies : List ℕ → List ℕ → Row → Bool

@@ -1,23 +1,41 @@
 -- The link of an index, and when it joins a construct of the data partition.
 use mathlib.Core.Path.{_≡_, refl, ap}
 use mathlib.Core.Bool.{true, false}
-use mathlib.Core.List.{List}
+use mathlib.Core.List.{List, []}
 use mathlib.Core.Option.{Option, none, some}
 use Prim.Native.Nat.{ℕ}
 use native.Mathlib.Omega.{arith}
 use lib.Dec.{leb, eqb}
 use Rattle.refusals.specs.declared.Refusal.{Refusal}
-use Rattle.refusals.specs.Refusals.{Answer, refused, answer}
+use Rattle.refusals.specs.declared.Refusal.the-variants.{Caller, TooMany}
+use Rattle.refusals.specs.Refusals.{Answer, refused, answer, require}
 use Rattle.quantities.specs.Addresses.{Address}
 use Rattle.constructs.specs.Constructs.{Construct}
 use Rattle.index.specs.Index as text
 use Rattle.index.specs.Steps.{means, backOf}
 use Rattle.index.specs.declared.read.Header.{Header}
 use Rattle.index.specs.declared.read.Read.the-variants.{Found, Refused}
-use Rattle.verdict.specs.Verdict.{IndexLinks, Volume, follows}
-use Rattle.volume.specs.Volume.{soundly}
-use Rattle.volume.specs.Steps.{linkOf, briefLink, joined}
+use Rattle.index_values.specs.Tests.{Given}
+use Rattle.slices.proofs.Booleans.{split}
+use Rattle.xml.specs.CheckSteps.{requireForm, inForm, form, formRun, ended}
+use Rattle.elements.specs.Reading.{forestAt}
+use Rattle.verdict.specs.Verdict.{IndexLinks, Volume, readText, follows}
+use Rattle.volume.specs.Volume.{soundly, volumeWith}
+use Rattle.volume.specs.Steps.{linkOf, briefLink, joined, textBytes}
 use Rattle.volume.specs.declared.sound.Brief.{Brief}
+
+-- an empty text is no index
+no-text : (g : Given) (letter block : ℕ) → soundly (text.indexOf g letter block []) ≡ none
+unfolding text.indexOf inForm form formRun ended
+no-text g letter block =
+    split
+    (λ b. soundly (require b Caller (require (leb 0 text.maxText) TooMany (requireForm [] (text.rootRead g letter block (forestAt [] 38))))) ≡ none)
+    (text.callerRight g letter) (λ e. refl) (λ e. refl)
+
+-- so a construct without a text is read as its empty one is
+pub read-bytes : (g : Given) (letter first : ℕ) (o : Option (List ℕ)) → soundly (text.indexOf g letter first (textBytes o)) ≡ readText (volumeWith g) letter first o
+read-bytes g letter first none = no-text g letter first
+read-bytes g letter first (some x) = refl
 
 abbrev summaryGeneration : Answer text.Summary → ℕ
 summaryGeneration (refused r) = 0

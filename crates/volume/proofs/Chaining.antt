@@ -14,7 +14,7 @@ use Rattle.constructs.specs.TableSteps.{boundsIn}
 use Rattle.constructs.specs.declared.Bounds.{Bounds}
 use Rattle.constructs.specs.Steps.{Suffix, here, there}
 use Rattle.constructs.proofs.Suffixes.{suffix-length, suffix-trans, nil-suffix}
-use Rattle.verdict.specs.Verdict.{IndexLinks, Volume, isNone, readData, follows, beginsChain, chained, chainBreak}
+use Rattle.verdict.specs.Verdict.{IndexLinks, Volume, isNone, readText, readData, follows, beginsChain, chained, chainBreak}
 use Rattle.verdict.specs.Rescue.{generationOf}
 use Rattle.verdict.proofs.Chains.{orElse-none, unless-none}
 use Rattle.slices.proofs.Booleans.{split}
@@ -26,7 +26,7 @@ use Rattle.volume.specs.Volume.{soundly, volumeWith}
 use Rattle.volume.specs.Steps.{Link, linkOf, briefLink, joined, boundsText, Located, Listed, lastGeneration, Links, LinksAt, Generations, Chains, ChainsOf}
 use Rattle.volume.specs.declared.sound.Brief.{Brief}
 use Rattle.volume.specs.declared.chains.Linked.{Linked}
-use Rattle.volume.proofs.Briefs.{joined-follows}
+use Rattle.volume.proofs.Briefs.{read-bytes, joined-follows}
 
 abbrev linkGeneration : Option Link → ℕ
 linkGeneration none = 0
@@ -105,9 +105,10 @@ module _ (v : Volume) where
 
 -- what is read of a construct at its place in the store
 pub link-located : (g : Given) (s : List ℕ) (letter : ℕ) (p : Bounds) (t : List ℕ) (b : Brief) → t ≡ boundsText s p → briefLink b ≡ linkOf (soundly (indexOf g letter (p .first .0) t))
-    → (c : Construct) → Located s p c → briefLink b ≡ linkOf (volumeWith g .read letter (c .first) (c .text))
+    → (c : Construct) → Located s p c → briefLink b ≡ linkOf (readText (volumeWith g) letter (c .first) (c .text))
 link-located g s letter p t b f r c w =
     r ∙ ap (λ (x : ℕ). linkOf (soundly (indexOf g letter x t))) (w .first) ∙ ap (λ (x : List ℕ). linkOf (soundly (indexOf g letter (c .first) x))) (f ∙ w .text)
+    ∙ ap linkOf (read-bytes g letter (c .first) (c .text))
 
 -- construct k lies at the place that the table has for it
 pub located-at : (s table : List ℕ) (k : ℕ) (p : Bounds) (c : Construct) (cs : List Construct) → p ≡ boundsIn table k → Located s (boundsIn table (length cs)) c → length cs ≡ k → Located s p c
@@ -116,7 +117,7 @@ located-at s table k p c cs e l n = subst (λ (x : Bounds). Located s x c) (sym 
 pub link-placed : (g : Given) (s table : List ℕ) (letter k : ℕ) (p : Bounds) (t : List ℕ) (b : Brief) → p ≡ boundsIn table k → t ≡ boundsText s p
     → briefLink b ≡ linkOf (soundly (indexOf g letter (p .first .0) t))
     → (c : Construct) (cs : List Construct) → Located s (boundsIn table (length cs)) c → length cs ≡ k
-    → briefLink b ≡ linkOf (volumeWith g .read letter (c .first) (c .text))
+    → briefLink b ≡ linkOf (readText (volumeWith g) letter (c .first) (c .text))
 link-placed g s table letter k p t b e f r c cs l n = link-located g s letter p t b f r c (located-at s table k p c cs e l n)
 
 module _ (v : Volume) (s table : List ℕ) (k before : ℕ) (b : Brief)

@@ -2,13 +2,14 @@
 use mathlib.Core.Path.{_≡_, refl, sym, ap, subst, _∙_}
 use mathlib.Core.Bool.{true, false}
 use mathlib.Core.List.{List, [], _∷_}
-use Prim.Native.Nat.{ℕ, _-_, _≤_, _<_}
+use mathlib.Core.Option.{Option, none, some}
+use Prim.Native.Nat.{ℕ, _≤_, _<_}
 use native.Mathlib.Omega.{arith}
 use borrow.Author.Tests.{eq-eqb, ne-eqb}
 use lib.ListN.{length}
 use Rattle.refusals.specs.declared.Refusal.{Refusal}
-use Rattle.refusals.specs.declared.Refusal.the-variants.{Caller, Missing}
-use Rattle.refusals.specs.Refusals.{Answer, refused, answer, require, andThen}
+use Rattle.refusals.specs.declared.Refusal.the-variants.{Caller, Missing, Unreadable}
+use Rattle.refusals.specs.Refusals.{Answer, refused, answer, require, andThen, orRefuse}
 use Rattle.tape.specs.Tape.{Tape}
 use Rattle.tape.specs.Answers.{tapeIn, bytesBefore}
 use Rattle.tape.proofs.Encoding.{Bytes}
@@ -19,7 +20,6 @@ use Rattle.constructs.specs.declared.Bounds.{Bounds}
 use Rattle.constructs.specs.declared.Scanned.{Scanned}
 use Rattle.constructs.specs.Steps.{Suffix, here, there}
 use Rattle.constructs.proofs.Suffixes.{suffix-length, nil-suffix}
-use Rattle.elements.specs.Reading.{Spans}
 use Rattle.index.specs.Index.{Summary, summaryOf, callerRight, indexOf}
 use Rattle.index.specs.Places.{updateTimePlace}
 use Rattle.index.specs.Steps.{summaryIn, Definite, ReadsIndex}
@@ -29,11 +29,11 @@ use Rattle.index.specs.declared.read.Read.the-variants as readIs
 use Rattle.verdict.specs.Steps.{firsts}
 use Rattle.volume.specs.Steps.{boundsText, boundsOf}
 use Rattle.volume.specs.Chosen.{Indexed, constructAt, readAt, chosenIn}
-use Rattle.volume.specs.ChosenSteps.{Chooses, ReadsPlace}
+use Rattle.volume.specs.ChosenSteps.{Chooses, TextAt, ReadsPlace}
 use Rattle.volume.specs.declared.chosen.Chosen.{Chosen}
 use Rattle.volume.specs.declared.chosen.Chosen.the-variants as chosenIs
 use Rattle.volume.proofs.Chaining.{next-first, firsts-length}
-use Rattle.volume.proofs.Partitions.{lists-of, spot-of, spot-spans}
+use Rattle.volume.proofs.Partitions.{lists-of, spot-of, spot-text}
 use Rattle.volume.proofs.Answering.{read-tape}
 
 at-missing : (k : ℕ) (ds : List Construct) → length ds ≤ k → constructAt k ds ≡ refused Missing
@@ -50,41 +50,62 @@ at-suffix k {c} {cs} {ds = d ∷ ds} (here q) n =
     rw (eq-eqb (length ds) k (ap length (sym y) ∙ n), ← z)
 at-suffix k {c} {cs} {ds = d ∷ ds} (there s) n = rw (ne-eqb (length ds) k (λ e. omega (arith, suffix-length s))) (at-suffix k s n)
 
-module _ (g : Given) (letter : ℕ) (s : List ℕ) (p : Bounds) (x : List ℕ) (is-text : x ≡ boundsText s p) where
-  index-at : (t : Tape) (c : Construct) → p ≡ boundsOf t c → boundsText s p ≡ c .text → indexOf g letter (p .first .0) x ≡ indexOf g letter (c .first) (c .text)
-  index-at t c at e = ap (λ (n : ℕ). indexOf g letter n x) (ap (λ (q : Bounds). q .first .0) at) ∙ ap (indexOf g letter (c .first)) (is-text ∙ e)
+-- what is read of a construct by its text
+abbrev readFrom : Given → ℕ → Tape → Construct → Option (List ℕ) → Answer Indexed
+readFrom g letter t c o =
+    orRefuse o Unreadable (λ x.
+    andThen (summaryOf (indexOf g letter (c .first) x)) (λ y. answer (record { first = c .first; end = c .end; from = bytesBefore t (c .first); text = x; summary = y })))
+
+-- a construct whose spot is empty has an unreadable block
+pub place-unreadable : (g : Given) (letter : ℕ) (s : List ℕ) (p : Bounds) → p .from ≡ p .to → ReadsPlace g letter s p (chosenIs.Refused Unreadable)
+place-unreadable g letter s p same t c at lies = go (c .text) lies
+  where
+    go : (o : Option (List ℕ)) → TextAt s p o → Chooses s (readFrom g letter t c o) (chosenIs.Refused Unreadable)
+    go none w = record { answers = refl; inside = tt }
+    go (some x) w = let apart = w .1 in absurd (omega arith)
+
+module _ (g : Given) (letter : ℕ) (s : List ℕ) (p : Bounds) (x : List ℕ) (is-text : x ≡ boundsText s p) (apart : p .from ≡ p .to → ⊥) where
+  index-at : (t : Tape) (c : Construct) (z : List ℕ) → p ≡ boundsOf t c → boundsText s p ≡ z → indexOf g letter (p .first .0) x ≡ indexOf g letter (c .first) z
+  index-at t c z at e = ap (λ (n : ℕ). indexOf g letter n x) (ap (λ (q : Bounds). q .first .0) at) ∙ ap (indexOf g letter (c .first)) (is-text ∙ e)
 
   pub place-found : (h : Header) → ReadsIndex x (indexOf g letter (p .first .0) x) (readIs.Found h) → ReadsPlace g letter s p (chosenIs.Found p h)
-  place-found h w t c at lies =
-      let q : answer (summaryIn (boundsText s p) h) ≡ summaryOf (indexOf g letter (c .first) (c .text))
-      = ap (λ (y : List ℕ). answer (summaryIn y h)) (sym is-text) ∙ w .answers ∙ ap summaryOf (index-at t c at (lies .part)) in
-      let at-first : p .first .0 ≡ c .first = ap (λ (q : Bounds). q .first .0) at in
-      let at-end : p .end ≡ c .end = ap (λ (q : Bounds). q .end) at in
-      let at-from : p .from ≡ bytesBefore t (c .first) = ap (λ (q : Bounds). q .from) at in
-      record {
-        answers =
-            ap
-            (λ (a : Answer Summary).
-            andThen a (λ y. answer (record { construct = record { first = p .first .0; end = p .end; text = boundsText s p }; from = p .from; summary = y })))
-            q
-            ∙ same at-first at-end (lies .part) at-from;
-        inside = record { text = lies .inside; header = subst (λ (y : List ℕ). Definite y (updateTimePlace y) h) is-text (w .header) };
-      }
+  place-found h w t c at lies = go (c .text) lies
     where
-      same : {first end from : ℕ} {text : List ℕ} → first ≡ c .first → end ≡ c .end → text ≡ c .text → from ≡ bytesBefore t (c .first)
-          → andThen (summaryOf (indexOf g letter (c .first) (c .text)))
-          (λ y. answer (record { construct = record { first = first; end = end; text = text }; from = from; summary = y }))
-          ≡ readAt g letter t c
+      same : {first end from : ℕ} {text z : List ℕ} → first ≡ c .first → end ≡ c .end → text ≡ z → from ≡ bytesBefore t (c .first)
+          → andThen (summaryOf (indexOf g letter (c .first) z)) (λ y. answer (record { first = first; end = end; from = from; text = text; summary = y })) ≡ readFrom g letter t c (some z)
       same a b d e = rw (a, b, d, e)
 
+      go : (o : Option (List ℕ)) → TextAt s p o → Chooses s (readFrom g letter t c o) (chosenIs.Found p h)
+      go none lies = absurd (apart lies)
+      go (some z) lies =
+          let q : answer (summaryIn (boundsText s p) h) ≡ summaryOf (indexOf g letter (c .first) z)
+          = ap (λ (y : List ℕ). answer (summaryIn y h)) (sym is-text) ∙ w .answers ∙ ap summaryOf (index-at t c z at (lies .0 .part)) in
+          let at-first : p .first .0 ≡ c .first = ap (λ (q : Bounds). q .first .0) at in
+          let at-end : p .end ≡ c .end = ap (λ (q : Bounds). q .end) at in
+          let at-from : p .from ≡ bytesBefore t (c .first) = ap (λ (q : Bounds). q .from) at in
+          record {
+            answers =
+                ap
+                (λ (a : Answer Summary).
+                andThen a (λ y. answer (record { first = p .first .0; end = p .end; from = p .from; text = boundsText s p; summary = y })))
+                q
+                ∙ same at-first at-end (lies .0 .part) at-from;
+            inside = record { text = lies .0 .inside; header = subst (λ (y : List ℕ). Definite y (updateTimePlace y) h) is-text (w .header) };
+          }
+
   pub place-refused : (r : Refusal) → ReadsIndex x (indexOf g letter (p .first .0) x) (readIs.Refused r) → ReadsPlace g letter s p (chosenIs.Refused r)
-  place-refused r w t c at lies =
-      record {
-        answers =
-            ap (λ (a : Answer Summary). andThen a (λ y. answer (record { construct = c; from = bytesBefore t (c .first); summary = y })))
-            (w .answers ∙ ap summaryOf (index-at t c at (lies .part)));
-        inside = tt;
-      }
+  place-refused r w t c at lies = go (c .text) lies
+    where
+      go : (o : Option (List ℕ)) → TextAt s p o → Chooses s (readFrom g letter t c o) (chosenIs.Refused r)
+      go none lies = absurd (apart lies)
+      go (some z) lies =
+          record {
+            answers =
+                ap
+                (λ (a : Answer Summary). andThen a (λ y. answer (record { first = c .first; end = c .end; from = bytesBefore t (c .first); text = z; summary = y })))
+                (w .answers ∙ ap summaryOf (index-at t c z at (lies .0 .part)));
+            inside = tt;
+          }
 
 module _ (g : Given) (letter k : ℕ) (l s : List ℕ) where
   pub chosen-caller : callerRight g letter ≡ false → Chooses s (chosenIn g letter k l s) (chosenIs.Refused Caller)
@@ -128,6 +149,6 @@ module _ (g : Given) (letter k : ℕ) (l s : List ℕ) where
           let q : p ≡ boundsOf (t .0) (x .0)
           = at ∙ ap (boundsIn after) (sym m) ∙ ap (λ (y : List ℕ). boundsIn y (length (firsts k (standing (g .blockSize) (t .0))))) table
           ∙ spot-of (g .blockSize) l s (t .0) en before room (x .0) (firsts k (standing (g .blockSize) (t .0))) (x .2) in
-          let lies : Spans s (p .from) (p .to - p .from) (x .0 .text)
-          = subst (λ (y : Bounds). Spans s (y .from) (y .to - y .from) (x .0 .text)) (sym q) (spot-spans (g .blockSize) l s (t .0) en (x .0) (firsts k (standing (g .blockSize) (t .0))) (x .2)) in
+          let lies : TextAt s p (x .0 .text)
+          = subst (λ (y : Bounds). TextAt s y (x .0 .text)) (sym q) (spot-text (g .blockSize) l s (t .0) en (x .0) (firsts k (standing (g .blockSize) (t .0))) (x .2)) in
           subst (λ (y : Answer Indexed). Chooses s y r) (sym (rw (right, t .1, at-suffix k (x .2) m))) (d (t .0) (x .0) q lies)

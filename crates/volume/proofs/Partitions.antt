@@ -2,6 +2,7 @@
 use mathlib.Core.Path.{_≡_, refl, sym, ap, subst, _∙_}
 use mathlib.Core.Bool.{Bool, true, false}
 use mathlib.Core.List.{List, [], _∷_, _++_}
+use mathlib.Core.Option.{Option, none, some}
 use Prim.Native.Nat.{ℕ, _+_, _-_, _*_, _≤_, _<_}
 use native.Mathlib.Omega.{arith}
 use borrow.Author.Tests.{lt-leb, le-leb, ne-eqb}
@@ -16,9 +17,8 @@ use Rattle.tape.specs.Steps.{counted}
 use Rattle.tape.specs.declared.ListChecked.{ListChecked}
 use Rattle.tape.proofs.Encoding.{read-encoded}
 use Rattle.tape.proofs.Passing.{bytes-within}
-use Rattle.elements.specs.Reading.{Spans}
 use Rattle.constructs.specs.Constructs.{Construct, standing, dataLengths}
-use Rattle.constructs.specs.Tables.{tableAfter}
+use Rattle.constructs.specs.Tables.{isHoled, textEnd, tableAfter}
 use Rattle.constructs.specs.TableSteps.{boundsIn, ScansPartition, scannedCount}
 use Rattle.constructs.specs.ReachSteps.{reaches, Reaches, reachAfter}
 use Rattle.constructs.specs.declared.Bounds.{Bounds}
@@ -26,11 +26,12 @@ use Rattle.constructs.specs.declared.Scanned.{Scanned}
 use Rattle.constructs.specs.Steps.{Suffix, here}
 use Rattle.constructs.proofs.Suffixes.{suffix-length, suffix-trans}
 use Rattle.constructs.proofs.Scanning.{standing-few}
-use Rattle.constructs.proofs.Texts.{table-at, text-at, texts-standing}
+use Rattle.constructs.proofs.Texts.{table-at, TextIs, text-at, texts-standing, text-apart}
 use Rattle.constructs.proofs.Fronts.{Below, below-first}
 use Rattle.verdict.specs.Verdict.{endsWith}
 use Rattle.verdict.specs.Rescue.{through}
-use Rattle.volume.specs.Steps.{boundsOf, Located, Listed, ListsOf, ReachesOf, EndsAt, FillsOf}
+use Rattle.volume.specs.Steps.{boundsText, boundsOf, textBytes, Located, Listed, ListsOf, ReachesOf, EndsAt, FillsOf}
+use Rattle.volume.specs.ChosenSteps.{TextAt}
 
 same-answer : {A : Type 0} (a b : A) → answer a ≡ answer b → a ≡ b
 same-answer a b e = cc
@@ -38,6 +39,10 @@ same-answer a b e = cc
 -- a list and a store that encode a tape are read as it
 pub tape-read : {l s : List ℕ} {t : Tape} → Encodes l s t → tapeIn l s ≡ answer t
 tape-read e = ap orRefused (read-encoded e)
+
+text-bytes : (s : List ℕ) (p : Bounds) (o : Option (List ℕ)) → TextAt s p o → boundsText s p ≡ textBytes o
+text-bytes s p none w = let z : p .to - p .from ≡ 0 = omega (arith, w) in rw z
+text-bytes s p (some x) w = w .0 .part
 
 module _ (B : ℕ) (l s : List ℕ) (t : Tape) (e : Encodes l s t) where
   few : length (standing B t) ≤ 21845
@@ -54,19 +59,27 @@ module _ (B : ℕ) (l s : List ℕ) (t : Tape) (e : Encodes l s t) where
       let a : getD (tableAfter B T (answer t)) (length cs * 4) 0 ≡ c .first = ap (λ (x : ℕ). getD (tableAfter B T (answer t)) x 0) z ∙ at 0 (omega arith) in
       rw (lt-leb 21845 (length cs) k, a, at 1 (omega arith), at 2 (omega arith), at 3 (omega arith))
 
+  text-from : (first end : ℕ) (o : Option (List ℕ)) → TextIs t first (end - 1) o → first < end - 1
+      → TextAt s
+      (record { first = record { 0 = first }; end = end; from = bytesBefore t first; to = textEnd (isHoled o) (bytesBefore t first) (bytesBefore t (end - 1)) })
+      o
+  text-from first end none w h = refl
+  text-from first end (some x) w h = (
+    record {
+      part = ap (λ (y : List ℕ). take (bytesBefore t (end - 1) - bytesBefore t first) (drop (bytesBefore t first) y)) (e .stores) ∙ sym (w .0);
+      inside = omega (arith, bytes-within t first, bytes-within t (end - 1), ap length (e .stores));
+    },
+    text-apart t first (end - 1) x w h,
+  )
+
   -- its text lies there in the store
-  pub spot-spans : (c : Construct) (cs : List Construct) → Suffix (c ∷ cs) (standing B t)
-      → Spans s (bytesBefore t (c .first)) (bytesBefore t (c .end - 1) - bytesBefore t (c .first)) (c .text)
-  spot-spans c cs suf =
-      let x : c .text ≡ take (bytesBefore t (c .end - 1) - bytesBefore t (c .first)) (drop (bytesBefore t (c .first)) (store t)) = text-at t suf (texts-standing B t) in
-      record {
-        part = ap (λ (y : List ℕ). take (bytesBefore t (c .end - 1) - bytesBefore t (c .first)) (drop (bytesBefore t (c .first)) y)) (e .stores) ∙ sym x;
-        inside = omega (arith, bytes-within t (c .first), bytes-within t (c .end - 1), ap length (e .stores));
-      }
+  pub spot-text : (c : Construct) (cs : List Construct) → Suffix (c ∷ cs) (standing B t) → TextAt s (boundsOf t c) (c .text)
+  spot-text c cs suf = let w = text-at t suf (texts-standing B t (e .blocks)) in text-from (c .first) (c .end) (c .text) (w .is) (w .blocks)
 
   listed : (T : List ℕ) → length T ≡ 87380 → Listed s (tableAfter B T (answer t)) (standing B t)
   listed T n c cs suf =
-      subst (λ (q : Bounds). Located s q c) (sym (spot-of T n c cs suf)) (record { first = refl; end = refl; text = spot-spans c cs suf .part })
+      subst (λ (q : Bounds). Located s q c) (sym (spot-of T n c cs suf))
+      (record { first = refl; end = refl; text = text-bytes s (boundsOf t c) (c .text) (spot-text c cs suf) })
 
 -- a scan for constructs that answers n
 pub lists-of : (B : ℕ) (l s before after : List ℕ) (r : Scanned) (n : ℕ) → ScansPartition B l s before after r → scannedCount r ≡ answer n → ListsOf B l s before after n

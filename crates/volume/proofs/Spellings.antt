@@ -5,8 +5,8 @@ use mathlib.Core.Bool.{Bool, true}
 use mathlib.Core.List.{List}
 use mathlib.Core.Option.{Option}
 use Prim.Native.Nat.{ℕ}
-use Rattle.refusals.specs.Refusals.{Answer, answer, require, andThen}
-use Rattle.refusals.specs.declared.Refusal.the-variants.{Caller}
+use Rattle.refusals.specs.Refusals.{Answer, answer, require, andThen, orRefuse}
+use Rattle.refusals.specs.declared.Refusal.the-variants.{Caller, Unreadable}
 use Rattle.tape.specs.Tape.{Tape}
 use Rattle.tape.specs.Answers.{tapeIn, bytesBefore}
 use Rattle.constructs.specs.Constructs.{Construct, standing}
@@ -33,8 +33,11 @@ module _ (u w : List ℕ) (e : sameUuid u w ≡ true) (indexLetter dataLetter bl
   read-respelled : (letter : ℕ) (t : Tape) → readAt (withUuid u) letter t ≡ readAt (withUuid w) letter t
   read-respelled letter t =
       fun-ext (λ (c : Construct).
-      ap (λ (x : Answer Summary). andThen x (λ y. answer (record { construct = c; from = bytesBefore t (c .first); summary = y })))
-      (ap summaryOf (index-respelled u w e indexLetter dataLetter blockSize letter (c .first) (c .text))))
+      ap
+      (λ (read : List ℕ → Answer Summary).
+      orRefuse (c .text) Unreadable (λ x.
+      andThen (read x) (λ y. answer (record { first = c .first; end = c .end; from = bytesBefore t (c .first); text = x; summary = y }))))
+      (fun-ext (λ (x : List ℕ). ap summaryOf (index-respelled u w e indexLetter dataLetter blockSize letter (c .first) x))))
 
   pub chosen-respelled : (letter k : ℕ) (l s : List ℕ) → chosenIn (withUuid u) letter k l s ≡ chosenIn (withUuid w) letter k l s
   unfolding chosenIn

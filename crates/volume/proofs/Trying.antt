@@ -27,6 +27,7 @@ use Rattle.volume.specs.declared.sound.Brief.{Brief}
 use Rattle.volume.specs.declared.lost.Lost.{Lost}
 use Rattle.volume.specs.declared.search.FoundCut.{FoundCut}
 use Rattle.volume.specs.declared.search.Tried.the-variants.{Fits, Fails}
+use Rattle.volume.proofs.Briefs.{read-bytes}
 use Rattle.volume.proofs.Chaining.{link-placed, located-at, next-first, firsts-none, firsts-length, joined-sound}
 use Rattle.volume.proofs.Searching.{Partner, partner, try-nowhere, try-apart, try-lost, try-fits, try-cut}
 use Rattle.volume.proofs.Extents.{lost-same}
@@ -45,7 +46,8 @@ pub lost-located : (u : List ℕ) (w : Partitions) (is ds : List ℕ) (li ld ri 
 lost-located u w is ds li ld ri rd here there t b c d is-text reads p q hi hd fi fd lost l s =
     let x = sound-answer (indexOf (given u w) (w .«index_letter») (here .first .0) t) b reads s in
     let o : soundly (indexOf (given u w) (w .«index_letter») (here .first .0) t) ≡ readIndex (volumeWith (given u w)) c
-    = ap (λ (y : ℕ). soundly (indexOf (given u w) (w .«index_letter») y t)) (p .first) ∙ ap (λ (y : List ℕ). soundly (indexOf (given u w) (w .«index_letter») (c .first) y)) (is-text ∙ p .text) in
+    = ap (λ (y : ℕ). soundly (indexOf (given u w) (w .«index_letter») y t)) (p .first) ∙ ap (λ (y : List ℕ). soundly (indexOf (given u w) (w .«index_letter») (c .first) y)) (is-text ∙ p .text)
+    ∙ read-bytes (given u w) (w .«index_letter») (c .first) (c .text) in
     let z = lost-same (given u w) w li ld ri rd (here .end) (there .end) (w .«index_letter») (here .first .0) t (x .0) hi hd
     (subst (λ (y : ℕ). y ≤ length li) (sym (p .end)) fi) (subst (λ (y : ℕ). y ≤ length ld) (sym (q .end)) fd) refl refl refl (x .1) in
     sym (l (given u w) (w .«index_letter») (here .first .0) (x .0) (x .1) ∙ z

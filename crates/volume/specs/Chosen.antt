@@ -1,11 +1,11 @@
--- The index of a partition by its construct's number (01, Refusal numbers: 14, 1, 2, then its text).
+-- The index of a partition by its construct's number (01, Refusal numbers; 02, Item 7: 14, 1, 2, 19, then its text).
 use mathlib.Core.Bool.{cond}
 use mathlib.Core.List.{List, [], _∷_}
 use Prim.Native.Nat.{ℕ}
 use lib.Dec.{eqb}
 use lib.ListN.{length}
-use Rattle.refusals.specs.declared.Refusal.the-variants.{Caller, Missing}
-use Rattle.refusals.specs.Refusals.{Answer, refused, answer, require, andThen}
+use Rattle.refusals.specs.declared.Refusal.the-variants.{Caller, Missing, Unreadable}
+use Rattle.refusals.specs.Refusals.{Answer, refused, answer, require, andThen, orRefuse}
 use Rattle.tape.specs.Tape.{Tape}
 use Rattle.tape.specs.Answers.{tapeIn, bytesBefore}
 use Rattle.constructs.specs.Constructs.{Construct, standing}
@@ -17,15 +17,20 @@ unfoldable pub constructAt : ℕ → List Construct → Answer Construct
 constructAt k [] = refused Missing
 constructAt k (c ∷ cs) = cond (eqb (length cs) k) (answer c) (constructAt k cs)
 
--- a construct, where its text begins in the store, and the summary of its index
+-- a construct that has a text, where that begins in the store, and the summary of its index
 pub record Indexed : Type 0 where
-  pub construct : Construct
+  pub first : ℕ
+  pub end : ℕ
   pub from : ℕ
+  pub text : List ℕ
   pub summary : Summary
 
+-- 19 without a text
 abbrev pub readAt : Given → ℕ → Tape → Construct → Answer Indexed
 readAt g letter t c =
-    andThen (summaryOf (indexOf g letter (c .first) (c .text))) (λ x. answer (record { construct = c; from = bytesBefore t (c .first); summary = x }))
+    orRefuse (c .text) Unreadable (λ x.
+    andThen (summaryOf (indexOf g letter (c .first) x)) (λ y.
+    answer (record { first = c .first; end = c .end; from = bytesBefore t (c .first); text = x; summary = y })))
 
 unfoldable pub chosenIn : Given → ℕ → ℕ → List ℕ → List ℕ → Answer Indexed
 chosenIn g letter k l s =

@@ -1,7 +1,8 @@
 -- What reading an index by its construct's number owes.
 use mathlib.Core.Path.{_≡_}
 use mathlib.Core.List.{List}
-use Prim.Native.Nat.{ℕ, _-_}
+use mathlib.Core.Option.{Option, none, some}
+use Prim.Native.Nat.{ℕ, _-_, _<_}
 use Rattle.refusals.specs.Refusals.{Answer, refused, answer}
 use Rattle.tape.specs.Tape.{Tape}
 use Rattle.elements.specs.Reading.{Inside, Spans}
@@ -19,7 +20,7 @@ use Rattle.volume.specs.Chosen.{Indexed, readAt}
 -- a construct that was found at a spot of a store, and its header
 abbrev pub indexedIn : List ℕ → Bounds → Header → Indexed
 indexedIn s p h =
-    record { construct = record { first = p .first .0; end = p .end; text = boundsText s p }; from = p .from; summary = summaryIn (boundsText s p) h }
+    record { first = p .first .0; end = p .end; from = p .from; text = boundsText s p; summary = summaryIn (boundsText s p) h }
 
 abbrev pub chosenBy : List ℕ → Chosen → Answer Indexed
 chosenBy s (chosenIs.Found p h) = answer (indexedIn s p h)
@@ -38,7 +39,12 @@ pub record Chooses (s : List ℕ) (a : Answer Indexed) (r : Chosen) : Type 0 whe
   pub answers : chosenBy s r ≡ a
   pub inside : liesInStore s r
 
+-- a construct's text at its spot of a store, where it has one, and it is not empty; else the spot is
+abbrev pub TextAt : List ℕ → Bounds → Option (List ℕ) → Type 0
+TextAt s p none = p .from ≡ p .to
+TextAt s p (some x) = Spans s (p .from) (p .to - p .from) x × (p .from < p .to)
+
 -- the index at the spot of a construct
 abbrev pub ReadsPlace : Given → ℕ → List ℕ → Bounds → Chosen → Type 0
 ReadsPlace g letter s p r =
-    (t : Tape) (c : Construct) → p ≡ boundsOf t c → Spans s (p .from) (p .to - p .from) (c .text) → Chooses s (readAt g letter t c) r
+    (t : Tape) (c : Construct) → p ≡ boundsOf t c → TextAt s p (c .text) → Chooses s (readAt g letter t c) r

@@ -17,6 +17,7 @@ use Rattle.index_values.specs.declared.tests.Partitions.{Partitions}
 use Rattle.tape.specs.Tape.{Tape, Encodes, maxElements}
 use Rattle.tape.specs.Answers.{bytesBefore}
 use Rattle.constructs.specs.Constructs.{Construct, standing, dataLengths}
+use Rattle.constructs.specs.Tables.{isHoled, textEnd}
 use Rattle.constructs.specs.TableSteps.{boundsIn, tableLength}
 use Rattle.constructs.specs.ReachSteps.{reaches, liesBy}
 use Rattle.constructs.specs.declared.Bounds.{Bounds}
@@ -41,15 +42,26 @@ use Rattle.volume.specs.Answers.{cutIs}
 abbrev pub boundsText : List ℕ → Bounds → List ℕ
 boundsText s p = take (p .to - p .from) (drop (p .from) s)
 
--- the spot of a construct of a tape: its text begins behind the bytes of the blocks before it, and ends before its closing mark
+-- the spot of a construct of a tape: its text begins behind the bytes of the blocks before it, and ends before its closing mark, or is empty
 abbrev pub boundsOf : Tape → Construct → Bounds
-boundsOf t c = record { first = record { 0 = c .first }; end = c .end; from = bytesBefore t (c .first); to = bytesBefore t (c .end - 1) }
+boundsOf t c =
+    record {
+      first = record { 0 = c .first };
+      end = c .end;
+      from = bytesBefore t (c .first);
+      to = textEnd (isHoled (c .text)) (bytesBefore t (c .first)) (bytesBefore t (c .end - 1));
+    }
+
+-- the bytes that are read as a construct's text
+abbrev pub textBytes : Option (List ℕ) → List ℕ
+textBytes none = []
+textBytes (some x) = x
 
 -- a construct lies at a spot of the store
 pub record Located (s : List ℕ) (p : Bounds) (c : Construct) : Type 0 where
   pub first : p .first .0 ≡ c .first
   pub end : p .end ≡ c .end
-  pub text : boundsText s p ≡ c .text
+  pub text : boundsText s p ≡ textBytes (c .text)
 
 -- a table tells where each construct of a list, the last one first, lies
 abbrev pub Listed : List ℕ → List ℕ → List Construct → Type 0

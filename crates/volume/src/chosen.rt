@@ -21,6 +21,9 @@ pub enum Chosen {
 fn read_place(store: &[u8], uuid: &[u8], volume: Partitions, letter: u8, place: Bounds) -> Chosen
     ensures { λ r. ⌜ ReadsPlace (given (now (uuid .entry)) volume) letter (now (store .entry)) place r ⌝ }
 {
+    if place.from == place.to {
+        return Chosen::Refused(Refusal::Unreadable);
+    }
     let text = sound::text_at(store, place);
     match index::read_index(text, uuid, volume, letter, place.first) {
         Read::Found(h) => Chosen::Found(place, h),
