@@ -13,10 +13,10 @@ use Rattle.refusals.specs.Refusals.{answer}
 use Rattle.slices.specs.Slices.{within, every, same}
 use Rattle.slices.specs.Words.{bytes}
 use Rattle.slices.proofs.Booleans.{and-left, and-right}
-use Rattle.tape.specs.Tape.{Tape, Element, mark, block}
+use Rattle.tape.specs.Tape.{Tape, Element, mark, block, unreadable}
 use Rattle.ansi_labels.specs.Labels.{isLabel, isNumbered, labelNumber, isVolume, isHeader2, isTrailer, blockCount, isData}
 use Rattle.ansi.specs.Layout.{TapeFile}
-use Rattle.ansi.specs.ReadingSteps.{Stage, start, volume, header, headers, blocks, trailer, second, trailers, between, done, Step, go, found, stop, passing, opening, closing, readStep, ending, follow, readRun}
+use Rattle.ansi.specs.ReadingSteps.{Stage, start, volume, header, headers, blocks, trailer, second, trailers, between, done, Step, go, found, stop, passing, opening, closing, atMark, atBlock, readStep, ending, follow, readRun}
 use Rattle.ansi_labels.proofs.Tests.{label-length}
 use Rattle.ansi.proofs.Counts.{counted, counted-trailer, counted-count, trailerOf, trailer-label, trailer-5-54, trailer-61-80}
 
@@ -62,27 +62,37 @@ module _ (n : ℕ) where
       (λ e. either (eqb (blockCount x) m) (λ f. LiveAt.goes second tt) (LiveAt.halts BlockCount))
       (either (isLabel (bytes "EOV1") x) (λ f. LiveAt.halts EndOfVolume) (LiveAt.halts Labels))
 
+mark-live : (n : ℕ) (σ : Stage) → Live n σ → LiveAt (suc n) (atMark n σ)
+unfolding atMark
+mark-live n start l = LiveAt.halts Labels
+mark-live n (volume k) l = LiveAt.halts Labels
+mark-live n (header h) l = LiveAt.halts Labels
+mark-live n (headers h g k) l = LiveAt.finds _ (blocks h 0) (l .0, omega arith)
+mark-live n (blocks h m) l = LiveAt.goes (trailer h m) (l .0, omega arith)
+mark-live n (trailer h m) l = LiveAt.halts Labels
+mark-live n second l = LiveAt.halts Labels
+mark-live n (trailers k) l = LiveAt.goes between tt
+mark-live n between l = LiveAt.goes done tt
+mark-live n done l = LiveAt.halts Labels
+
+block-live : (n : ℕ) (σ : Stage) (x : List ℕ) → Live n σ → LiveAt (suc n) (atBlock σ x)
+unfolding atBlock
+block-live n start x l = either (suc n) (isVolume x) (λ e. LiveAt.goes (volume 2) tt) (LiveAt.halts Labels)
+block-live n (volume k) x l = passing-live (suc n) (bytes "VOL") (bytes "UVL") k x volume (λ i h. tt) tt (opening-live (suc n) x)
+block-live n (header h) x l = either (suc n) (isHeader2 x) (λ e. LiveAt.goes (headers h x 3) (l, e)) (LiveAt.halts Labels)
+block-live n (headers h g k) x l = passing-live (suc n) (bytes "HDR") (bytes "UHL") k x (headers h g) (λ i b. l) l (LiveAt.halts Labels)
+block-live n (blocks h m) x l = either (suc n) (isData x) (λ e. LiveAt.goes (blocks h (suc m)) (l .0, omega arith)) (LiveAt.halts Labels)
+block-live n (trailer h m) x l = closing-live (suc n) h m x
+block-live n second x l = either (suc n) (isLabel (bytes "EOF2") x) (λ e. LiveAt.goes (trailers 3) (omega arith)) (LiveAt.halts Labels)
+block-live n (trailers k) x l = passing-live (suc n) (bytes "EOF") (bytes "UTL") k x trailers (λ i b. omega arith) (omega arith) (LiveAt.halts Labels)
+block-live n between x l = opening-live (suc n) x
+block-live n done x l = LiveAt.halts Labels
+
 pub step-live : (n : ℕ) (σ : Stage) (e : Element) → Live n σ → LiveAt (suc n) (readStep n σ e)
 unfolding readStep
-step-live n start mark l = LiveAt.halts Labels
-step-live n start (block x) l = either (suc n) (isVolume x) (λ e. LiveAt.goes (volume 2) tt) (LiveAt.halts Labels)
-step-live n (volume k) mark l = LiveAt.halts Labels
-step-live n (volume k) (block x) l = passing-live (suc n) (bytes "VOL") (bytes "UVL") k x volume (λ i h. tt) tt (opening-live (suc n) x)
-step-live n (header h) mark l = LiveAt.halts Labels
-step-live n (header h) (block x) l = either (suc n) (isHeader2 x) (λ e. LiveAt.goes (headers h x 3) (l, e)) (LiveAt.halts Labels)
-step-live n (headers h g k) mark l = LiveAt.finds _ (blocks h 0) (l .0, omega arith)
-step-live n (headers h g k) (block x) l = passing-live (suc n) (bytes "HDR") (bytes "UHL") k x (headers h g) (λ i b. l) l (LiveAt.halts Labels)
-step-live n (blocks h m) mark l = LiveAt.goes (trailer h m) (l .0, omega arith)
-step-live n (blocks h m) (block x) l = either (suc n) (isData x) (λ e. LiveAt.goes (blocks h (suc m)) (l .0, omega arith)) (LiveAt.halts Labels)
-step-live n (trailer h m) mark l = LiveAt.halts Labels
-step-live n (trailer h m) (block x) l = closing-live (suc n) h m x
-step-live n second mark l = LiveAt.halts Labels
-step-live n second (block x) l = either (suc n) (isLabel (bytes "EOF2") x) (λ e. LiveAt.goes (trailers 3) (omega arith)) (LiveAt.halts Labels)
-step-live n (trailers k) mark l = LiveAt.goes between tt
-step-live n (trailers k) (block x) l = passing-live (suc n) (bytes "EOF") (bytes "UTL") k x trailers (λ i b. omega arith) (omega arith) (LiveAt.halts Labels)
-step-live n between mark l = LiveAt.goes done tt
-step-live n between (block x) l = opening-live (suc n) x
-step-live n done e l = LiveAt.halts Labels
+step-live n σ mark l = mark-live n σ l
+step-live n σ (block x) l = block-live n σ x l
+step-live n σ unreadable l = LiveAt.halts Labels
 
 -- some tape ends a layout from here
 abbrev pub Ends : ℕ → Stage → Type 0
@@ -134,15 +144,15 @@ unfolding readRun ending
 ends-done n = ([], [], refl)
 
 ends-between : (n : ℕ) → Ends n between
-unfolding readStep
+unfolding readStep atMark atBlock
 ends-between n = ends-go n between done mark refl (ends-done (suc n))
 
 ends-trailers : (n k : ℕ) → Ends n (trailers k)
-unfolding readStep
+unfolding readStep atMark atBlock
 ends-trailers n k = ends-go n (trailers k) between mark refl (ends-between (suc n))
 
 pub ends-second : (n : ℕ) → Ends n second
-unfolding readStep
+unfolding readStep atMark atBlock
 ends-second n = ends-go n second (trailers 3) (block eof2) (rw eof2-is) (ends-trailers (suc n) 3)
 
 -- an EOF1 with the right count ends the data
@@ -170,27 +180,27 @@ module _ (h : List ℕ) (m : ℕ) (e : isLabel (bytes "HDR1") h ≡ true) (small
 
 module _ (h : List ℕ) (e : isLabel (bytes "HDR1") h ≡ true) where
   ends-trailer : (n m : ℕ) → m < 1000000 → Ends n (trailer h m)
-  unfolding readStep
+  unfolding readStep atMark atBlock
   ends-trailer n m s = ends-go n (trailer h m) second (block (eof1 h m)) (eof1-closes h m e s) (ends-second (suc n))
 
   ends-blocks : (n m : ℕ) → m < 1000000 → Ends n (blocks h m)
-  unfolding readStep
+  unfolding readStep atMark atBlock
   ends-blocks n m s = ends-go n (blocks h m) (trailer h m) mark refl (ends-trailer (suc n) m s)
 
   ends-headers : (n : ℕ) (g : List ℕ) (k : ℕ) → Ends n (headers h g k)
-  unfolding readStep
+  unfolding readStep atMark atBlock
   ends-headers n g k = ends-found n (headers h g k) (blocks h 0) _ mark refl (ends-blocks (suc n) 0 (omega arith))
 
   ends-header : (n : ℕ) → Ends n (header h)
-  unfolding readStep
+  unfolding readStep atMark atBlock
   ends-header n = ends-go n (header h) (headers h hdr2 3) (block hdr2) (rw hdr2-is) (ends-headers (suc n) hdr2 3)
 
 ends-volume : (n k : ℕ) → Ends n (volume k)
-unfolding readStep passing opening isNumbered isLabel hdr1 blank bytes same
+unfolding readStep atMark atBlock passing opening isNumbered isLabel hdr1 blank bytes same
 ends-volume n k = ends-go n (volume k) (header hdr1) (block hdr1) refl (ends-header hdr1 hdr1-is (suc n))
 
 pub ends : (n : ℕ) (σ : Stage) → n < 1000000 → Live n σ → Ends n σ
-unfolding readStep
+unfolding readStep atMark atBlock
 ends n start s l = ends-go n start (volume 2) (block vol1) (rw vol1-is) (ends-volume (suc n) 2)
 ends n (volume k) s l = ends-volume n k
 ends n (header h) s l = ends-header h l n

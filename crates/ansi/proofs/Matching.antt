@@ -16,12 +16,12 @@ use Rattle.slices.specs.Slices.{written}
 use Rattle.slices.specs.Words.{bytes}
 use Rattle.slices.proofs.Writing.{length-written, written-nil}
 use Rattle.writing.specs.Steps.{AddsAtMost}
-use Rattle.tape.specs.Tape.{Tape, Element, mark, block, list, store, content, Encodes}
+use Rattle.tape.specs.Tape.{Tape, Element, mark, block, unreadable, list, store, content, Encodes}
 use Rattle.tape.specs.Answers.{bytesBefore}
 use Rattle.tape.specs.Steps.{Encoded}
 use Rattle.tape.specs.declared.Entry.{Entry}
 use Rattle.tape.specs.ReadingSteps.{entryAt}
-use Rattle.tape.proofs.Elements.{MarkAt, BlockAt, Says, says-at}
+use Rattle.tape.proofs.Elements.{ElementAt, BlockAt, Says, says-at}
 use Rattle.tape.proofs.Encoding.{one-tape}
 use Rattle.tape.proofs.Passing.{take-next, drop-next, bytes-next, bytes-within, drop-store}
 use Rattle.ansi.specs.declared.Walked.{Walked}
@@ -29,7 +29,7 @@ use Rattle.ansi.specs.declared.phases.Phase.{Phase}
 use Rattle.ansi.specs.declared.phases.Phase.the-variants as phase
 use Rattle.ansi_labels.specs.Labels.{isLabel, isNumbered, labelNumber, isVolume, isHeader2, isTrailer, blockCount, isData}
 use Rattle.ansi.specs.Layout.{TapeFile}
-use Rattle.ansi.specs.ReadingSteps.{Stage, start, volume, header, headers, blocks, trailer, second, trailers, between, done, Step, go, found, stop, passing, opening, closing, readStep, ending, readRun, ansiOf, passedOn, passedFrom, frontOf}
+use Rattle.ansi.specs.ReadingSteps.{Stage, start, volume, header, headers, blocks, trailer, second, trailers, between, done, Step, go, found, stop, passing, opening, closing, atMark, atBlock, readStep, ending, readRun, ansiOf, passedOn, passedFrom, frontOf}
 use Rattle.ansi.specs.PhaseSteps.{stageOf, blockStep, markStep, unfiled, known, knownAt, Small}
 use Rattle.ansi.specs.Answers.{fileBytes, allBytes}
 use Rattle.ansi.specs.Steps.{AllRead, Stopped, WalkedAs, Walks, rowsLength, atEnd}
@@ -72,32 +72,42 @@ opening-spends : (k : ℕ) (x : List ℕ) → 5 ≤ k → Spends k (opening x)
 unfolding opening
 opening-spends k x h = either k (isLabel (bytes "HDR1") x) (go (header x)) (stop Labels) h tt
 
-step-spends : (n : ℕ) (σ : Stage) (e : Element) → Live n σ → Spends (suc (spent σ)) (readStep n σ e)
-unfolding readStep closing
-step-spends n start mark l = tt
-step-spends n start (block x) l = either 4 (isVolume x) (go (volume 2)) (stop Labels) (omega arith) tt
-step-spends n (volume k) mark l = tt
-step-spends n (volume k) (block x) l = passing-spends 5 (bytes "VOL") (bytes "UVL") k x volume (opening x) (λ i. omega arith) (opening-spends 5 x (omega arith))
-step-spends n (header h) mark l = tt
-step-spends n (header h) (block x) l = either 6 (isHeader2 x) (go (headers h x 3)) (stop Labels) (omega arith) tt
-step-spends n (headers h g k) mark l = (omega arith, file-length h g (suc n) (label-length (bytes "HDR1") h (l .0)) (header2-length g (l .1)))
-step-spends n (headers h g k) (block x) l = passing-spends 7 (bytes "HDR") (bytes "UHL") k x (headers h g) (stop Labels) (λ i. omega arith) tt
-step-spends n (blocks h m) mark l = omega arith
-step-spends n (blocks h m) (block x) l = either 1 (isData x) (go (blocks h (suc m))) (stop Labels) (omega arith) tt
-step-spends n (trailer h m) mark l = tt
-step-spends n (trailer h m) (block x) l =
+mark-spends : (n : ℕ) (σ : Stage) → Live n σ → Spends (suc (spent σ)) (atMark n σ)
+unfolding atMark
+mark-spends n start l = tt
+mark-spends n (volume k) l = tt
+mark-spends n (header h) l = tt
+mark-spends n (headers h g k) l = (omega arith, file-length h g (suc n) (label-length (bytes "HDR1") h (l .0)) (header2-length g (l .1)))
+mark-spends n (blocks h m) l = omega arith
+mark-spends n (trailer h m) l = tt
+mark-spends n second l = tt
+mark-spends n (trailers k) l = omega arith
+mark-spends n between l = omega arith
+mark-spends n done l = tt
+
+block-spends : (n : ℕ) (σ : Stage) (x : List ℕ) → Live n σ → Spends (suc (spent σ)) (atBlock σ x)
+unfolding atBlock closing
+block-spends n start x l = either 4 (isVolume x) (go (volume 2)) (stop Labels) (omega arith) tt
+block-spends n (volume k) x l = passing-spends 5 (bytes "VOL") (bytes "UVL") k x volume (opening x) (λ i. omega arith) (opening-spends 5 x (omega arith))
+block-spends n (header h) x l = either 6 (isHeader2 x) (go (headers h x 3)) (stop Labels) (omega arith) tt
+block-spends n (headers h g k) x l = passing-spends 7 (bytes "HDR") (bytes "UHL") k x (headers h g) (stop Labels) (λ i. omega arith) tt
+block-spends n (blocks h m) x l = either 1 (isData x) (go (blocks h (suc m))) (stop Labels) (omega arith) tt
+block-spends n (trailer h m) x l =
     either 2 (isTrailer h x) _ _ (either 2 (eqb (blockCount x) m) (go second) _ (omega arith) tt) (either 2 (isLabel (bytes "EOV1") x) _ _ tt tt)
-step-spends n second mark l = tt
-step-spends n second (block x) l = either 3 (isLabel (bytes "EOF2") x) (go (trailers 3)) (stop Labels) (omega arith) tt
-step-spends n (trailers k) mark l = omega arith
-step-spends n (trailers k) (block x) l = passing-spends 4 (bytes "EOF") (bytes "UTL") k x trailers (stop Labels) (λ i. omega arith) tt
-step-spends n between mark l = omega arith
-step-spends n between (block x) l = opening-spends 5 x (omega arith)
-step-spends n done e l = tt
+block-spends n second x l = either 3 (isLabel (bytes "EOF2") x) (go (trailers 3)) (stop Labels) (omega arith) tt
+block-spends n (trailers k) x l = passing-spends 4 (bytes "EOF") (bytes "UTL") k x trailers (stop Labels) (λ i. omega arith) tt
+block-spends n between x l = opening-spends 5 x (omega arith)
+block-spends n done x l = tt
+
+step-spends : (n : ℕ) (σ : Stage) (e : Element) → Live n σ → Spends (suc (spent σ)) (readStep n σ e)
+unfolding readStep
+step-spends n σ mark l = mark-spends n σ l
+step-spends n σ (block x) l = block-spends n σ x l
+step-spends n σ unreadable l = tt
 
 -- an element's number matters to the file that a mark makes known, and to nothing else
-pub mark-step : (n : ℕ) (σ : Stage) → unfiled (readStep n σ mark) ≡ unfiled (readStep 0 σ mark)
-unfolding readStep
+pub mark-step : (n : ℕ) (σ : Stage) → unfiled (atMark n σ) ≡ unfiled (atMark 0 σ)
+unfolding atMark
 mark-step n start = refl
 mark-step n (volume k) = refl
 mark-step n (header h) = refl
@@ -108,19 +118,6 @@ mark-step n second = refl
 mark-step n (trailers k) = refl
 mark-step n between = refl
 mark-step n done = refl
-
-pub block-step : (n : ℕ) (σ : Stage) (x : List ℕ) → readStep n σ (block x) ≡ readStep 0 σ (block x)
-unfolding readStep
-block-step n start x = refl
-block-step n (volume k) x = refl
-block-step n (header h) x = refl
-block-step n (headers h g k) x = refl
-block-step n (blocks h m) x = refl
-block-step n (trailer h m) x = refl
-block-step n second x = refl
-block-step n (trailers k) x = refl
-block-step n between x = refl
-block-step n done x = refl
 
 -- a step that goes on: what it spends, the size of its file, and what holds behind it
 record Goes (n : ℕ) (s : Step) (υ : Stage) (k : ℕ) : Type 0 where
@@ -218,9 +215,9 @@ module _ {l s : List ℕ} {count : ℕ} {b rows : List ℕ} {place at off end : 
   room : length (allBytes (m .files)) + 36 ≤ length b
   room = omega (arith, m .few, m .sized, m .big, m .counted, m .encodes .elements)
 
-  pub matched-mark : {next : ℕ} (q : Phase) {rows′ : List ℕ} {end′ : ℕ} → MarkAt l next (m .tape) at → go (stageOf s q) ≡ markStep s p
+  pub matched-mark : {next : ℕ} (q : Phase) {rows′ : List ℕ} {end′ : ℕ} → ElementAt mark l next (m .tape) at → go (stageOf s q) ≡ markStep s p
       → AddsAtMost 36 rows end (allBytes (knownAt s at p)) rows′ end′ → Matched l s count b rows′ next (at + 1) off end′ q
-  unfolding content
+  unfolding content readStep
   matched-mark {next} q {rows′} {end′} k z a =
       let v = allBytes (m .files) in
       let w = allBytes (knownAt s at p) in
@@ -241,7 +238,8 @@ module _ {l s : List ℕ} {count : ℕ} {b rows : List ℕ} {place at off end : 
       ∙ take-append-seam x (store (w .rest))
 
   step-here : {next k : ℕ} (w : BlockAt l next k (m .tape) at) → blockStep s p off k ≡ readStep at (stageOf s p) (block (w .bytes))
-  step-here w = ap (λ (x : List ℕ). readStep 0 (stageOf s p) (block x)) (block-here w) ∙ sym (block-step at (stageOf s p) (w .bytes))
+  unfolding readStep
+  step-here w = ap (atBlock (stageOf s p)) (block-here w)
 
   pub matched-block : {next k : ℕ} (q : Phase) → BlockAt l next k (m .tape) at → go (stageOf s q) ≡ blockStep s p off k
       → Matched l s count b rows next (at + 1) (off + k) end q
@@ -266,13 +264,18 @@ module _ {l s : List ℕ} {count : ℕ} {b rows : List ℕ} {place at off end : 
         passed = ap (λ (x : Tape). passedFrom x 0 start) u ∙ reach-passed (e ∷ rest) (m .reach) ∙ rw z;
       }
 
-  pub stopped-mark : {next : ℕ} (r : Refusal) → MarkAt l next (m .tape) at → stop r ≡ markStep s p → (t : Tape) → Encodes l s t → Stopped t r at
+  pub stopped-mark : {next : ℕ} (r : Refusal) → ElementAt mark l next (m .tape) at → stop r ≡ markStep s p → (t : Tape) → Encodes l s t → Stopped t r at
+  unfolding readStep
   stopped-mark r k z = stopped-here mark (k .rest) r (k .is) (by (readStep at (stageOf s p) mark) (mark-step at (stageOf s p) ∙ sym z))
     where
       by : (y : Step) → unfiled y ≡ stop r → y ≡ stop r
       by (go σ) e = e
       by (found f σ) e = let x : _≡_ {A = ℕ} 0 1 = cc in absurd (omega arith)
       by (stop q) e = e
+
+  pub stopped-unreadable : {next : ℕ} → ElementAt unreadable l next (m .tape) at → (t : Tape) → Encodes l s t → Stopped t Labels at
+  unfolding readStep
+  stopped-unreadable k = stopped-here unreadable (k .rest) Labels (k .is) refl
 
   pub stopped-block : {next k : ℕ} (r : Refusal) → BlockAt l next k (m .tape) at → stop r ≡ blockStep s p off k
       → (t : Tape) → Encodes l s t → Stopped t r at

@@ -22,7 +22,7 @@ use Rattle.digits.specs.Decimal.{isDigit}
 use Rattle.ansi_labels.specs.Labels.{labelPart, isLabel, isTrailer, blockCount, isData}
 use Rattle.ansi.specs.Layout.{TapeFile, Layout}
 use Rattle.ansi.specs.Places.{Begins, CouldStand, LongestFront, IsEndOfVolume, IsOtherCount, RefusalAt, Refuses, TapeMeans}
-use Rattle.ansi.specs.ReadingSteps.{Stage, start, blocks, trailer, second, Step, go, found, stop, wrong, closing, readStep, follow, readRun, ansiOf, passedOn, passedFrom, frontOf}
+use Rattle.ansi.specs.ReadingSteps.{Stage, start, blocks, trailer, second, Step, go, found, stop, wrong, closing, atMark, atBlock, readStep, follow, readRun, ansiOf, passedOn, passedFrom, frontOf}
 use Rattle.ansi_labels.proofs.Tests.{label-length, label-word, other-word}
 use Rattle.ansi.proofs.Counts.{same-5-54, same-word, counted, counted-front, counted-back, counted-trailer, counted-count}
 use Rattle.ansi.proofs.Live.{Live, ends, ends-second, closes, eof1, eof1-trailer, eof1-closes}
@@ -95,14 +95,14 @@ closing-eof h m x e q = by (eqb (blockCount x) m) (rw e at q)
 
 -- where a block y with the word EOF1 can stand, a label EOV1 is data or 17
 not-16-eov : (n : ℕ) (x y : List ℕ) {τ : Stage} → isLabel (bytes "EOV1") x ≡ true → EofAt y τ → readStep n τ (block x) ≡ wrong → ⊥
-unfolding readStep
+unfolding readStep atMark atBlock
 not-16-eov n x y e (EofAt.in-data h m) q = go-not-wrong (blocks h (suc m)) (rw (label-data (bytes "EOV1") x e) at q)
 not-16-eov n x y e (EofAt.in-place h m f) q = 17-not-wrong (sym (closing-eov h m x e) ∙ q)
 
 -- and a label EOF1 that differs in its digits alone is data or 18
 not-16-eof : (n : ℕ) (x y : List ℕ) {τ : Stage} → isLabel (bytes "EOF1") x ≡ true → every isDigit (labelPart 55 60 x) ≡ true
     → labelPart 1 54 y ≡ labelPart 1 54 x → labelPart 61 80 y ≡ labelPart 61 80 x → EofAt y τ → readStep n τ (block x) ≡ wrong → ⊥
-unfolding readStep
+unfolding readStep atMark atBlock
 not-16-eof n x y e d f b (EofAt.in-data h m) q = go-not-wrong (blocks h (suc m)) (rw (label-data (bytes "EOF1") x e) at q)
 not-16-eof n x y e d f b (EofAt.in-place h m g) q =
     let p = trailer-parts h y g in
@@ -148,7 +148,7 @@ module _ (front : Tape) (m : ℕ) (τ : Stage) (fs : List TapeFile) (reach : Rea
 -- 17 and 18 are given behind the data blocks
 module _ (front : Tape) (m : ℕ) (fs : List TapeFile) (small : m < 1000000) where
   trailer-here : {τ : Stage} (e : Element) (t : Tape) (r : Refusal) → Reach front 0 start m τ fs → Live m τ → AtTrailer τ e r → RefusalAt (front ++ (e ∷ t)) (length front) r
-  unfolding readStep
+  unfolding readStep atMark atBlock
   trailer-here e t r reach live (AtTrailer.volume-ends h k x f) =
       let s : k < 1000000 = omega arith in
       RefusalAt.end-of-volume record {

@@ -3,14 +3,13 @@ use mathlib.Core.Bool.{cond}
 use mathlib.Core.List.{List, [], _∷_}
 use Prim.Native.Nat.{ℕ, suc, _<_}
 use lib.ListN.{take, drop}
-use Rattle.tape.specs.Tape.{mark, block}
 use Rattle.ansi.specs.declared.phases.Phase.{Phase}
 use Rattle.ansi.specs.declared.phases.Phase.the-variants as phase
 use Rattle.ansi.specs.declared.phases.PhaseNext.{PhaseNext}
 use Rattle.ansi.specs.declared.phases.PhaseNext.the-variants as nextIs
 use Rattle.ansi_labels.specs.Labels.{isLabel, isNumbered, labelNumber}
 use Rattle.ansi.specs.Layout.{TapeFile}
-use Rattle.ansi.specs.ReadingSteps.{Stage, start, volume, header, headers, blocks, trailer, second, trailers, between, done, Step, go, found, stop, readStep}
+use Rattle.ansi.specs.ReadingSteps.{Stage, start, volume, header, headers, blocks, trailer, second, trailers, between, done, Step, go, found, stop, atMark, atBlock}
 
 -- the label that begins at a place of the store
 abbrev pub labelAt : List ℕ → ℕ → List ℕ
@@ -41,11 +40,11 @@ unfiled (stop r) = stop r
 
 -- what the block of so many bytes that begins at a place of the store does in a phase
 abbrev pub blockStep : List ℕ → Phase → ℕ → ℕ → Step
-blockStep s p from len = readStep 0 (stageOf s p) (block (take len (drop from s)))
+blockStep s p from len = atBlock (stageOf s p) (take len (drop from s))
 
 -- what a mark does, without the file that it may make known
 abbrev pub markStep : List ℕ → Phase → Step
-markStep s p = unfiled (readStep 0 (stageOf s p) mark)
+markStep s p = unfiled (atMark 0 (stageOf s p))
 
 -- the number from which on optional labels may follow behind the block x; 0 where it is none of them
 unfoldable pub passedTo : List ℕ → List ℕ → ℕ → List ℕ → ℕ
@@ -59,7 +58,7 @@ known (stop r) = []
 
 -- the file that a mark, element n, makes known
 abbrev pub knownAt : List ℕ → ℕ → Phase → List TapeFile
-knownAt s n p = known (readStep n (stageOf s p) mark)
+knownAt s n p = known (atMark n (stageOf s p))
 
 -- the data blocks counted so far leave room for one more
 abbrev pub Small : Phase → Type 0

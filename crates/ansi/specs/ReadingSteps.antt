@@ -7,7 +7,7 @@ use Rattle.refusals.specs.declared.Refusal.{Refusal}
 use Rattle.refusals.specs.declared.Refusal.the-variants.{Labels, EndOfVolume, BlockCount}
 use Rattle.refusals.specs.Refusals.{Answer, refused, answer, andThen}
 use Rattle.slices.specs.Words.{bytes}
-use Rattle.tape.specs.Tape.{Element, Tape, mark, block}
+use Rattle.tape.specs.Tape.{Element, Tape, mark, block, unreadable}
 use Rattle.ansi_labels.specs.Labels.{isLabel, labelNumber, isNumbered, isVolume, isHeader2, isTrailer, blockCount, isData}
 use Rattle.ansi.specs.Layout.{TapeFile, tapeFileOf}
 
@@ -48,27 +48,37 @@ unfoldable pub closing : List ℕ → ℕ → List ℕ → Step
 closing h n x =
     cond (isTrailer h x) (cond (eqb (blockCount x) n) (go second) (stop BlockCount)) (cond (isLabel (bytes "EOV1") x) (stop EndOfVolume) wrong)
 
--- element n
+-- what a mark does, element n
+unfoldable pub atMark : ℕ → Stage → Step
+atMark n start = wrong
+atMark n (volume k) = wrong
+atMark n (header h) = wrong
+atMark n (headers h g k) = found (tapeFileOf h g (suc n)) (blocks h 0)
+atMark n (blocks h m) = go (trailer h m)
+atMark n (trailer h m) = wrong
+atMark n second = wrong
+atMark n (trailers k) = go between
+atMark n between = go done
+atMark n done = wrong
+
+-- what a block does
+unfoldable pub atBlock : Stage → List ℕ → Step
+atBlock start x = cond (isVolume x) (go (volume 2)) wrong
+atBlock (volume k) x = passing (bytes "VOL") (bytes "UVL") k x volume (opening x)
+atBlock (header h) x = cond (isHeader2 x) (go (headers h x 3)) wrong
+atBlock (headers h g k) x = passing (bytes "HDR") (bytes "UHL") k x (headers h g) wrong
+atBlock (blocks h m) x = cond (isData x) (go (blocks h (suc m))) wrong
+atBlock (trailer h m) x = closing h m x
+atBlock second x = cond (isLabel (bytes "EOF2") x) (go (trailers 3)) wrong
+atBlock (trailers k) x = passing (bytes "EOF") (bytes "UTL") k x trailers wrong
+atBlock between x = opening x
+atBlock done x = wrong
+
+-- what element n does; an unreadable block can stand nowhere (02, Item 7)
 unfoldable pub readStep : ℕ → Stage → Element → Step
-readStep n start mark = wrong
-readStep n start (block x) = cond (isVolume x) (go (volume 2)) wrong
-readStep n (volume k) mark = wrong
-readStep n (volume k) (block x) = passing (bytes "VOL") (bytes "UVL") k x volume (opening x)
-readStep n (header h) mark = wrong
-readStep n (header h) (block x) = cond (isHeader2 x) (go (headers h x 3)) wrong
-readStep n (headers h g k) mark = found (tapeFileOf h g (suc n)) (blocks h 0)
-readStep n (headers h g k) (block x) = passing (bytes "HDR") (bytes "UHL") k x (headers h g) wrong
-readStep n (blocks h m) mark = go (trailer h m)
-readStep n (blocks h m) (block x) = cond (isData x) (go (blocks h (suc m))) wrong
-readStep n (trailer h m) mark = wrong
-readStep n (trailer h m) (block x) = closing h m x
-readStep n second mark = wrong
-readStep n second (block x) = cond (isLabel (bytes "EOF2") x) (go (trailers 3)) wrong
-readStep n (trailers k) mark = go between
-readStep n (trailers k) (block x) = passing (bytes "EOF") (bytes "UTL") k x trailers wrong
-readStep n between mark = go done
-readStep n between (block x) = opening x
-readStep n done e = wrong
+readStep n σ mark = atMark n σ
+readStep n σ (block x) = atBlock σ x
+readStep n σ unreadable = wrong
 
 -- where the tape ends
 unfoldable pub ending : Stage → Answer (List TapeFile)

@@ -100,6 +100,7 @@ fn walk(list: &[u8], store: &[u8], count: usize, out: &mut [u8]) -> Walked
                     PhaseNext::Stop(r) => return Walked::Refused(r, at),
                 }
             }
+            Entry::Unreadable(_) => return Walked::Refused(Refusal::Labels, at),
             Entry::End => return Walked::Refused(Refusal::List, at),
             Entry::Bad => return Walked::Refused(Refusal::List, at),
         }

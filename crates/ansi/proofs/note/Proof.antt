@@ -5,7 +5,7 @@ use Prim.Native.Nat.{ℕ, suc, _+_}
 use native.Mathlib.Numerals.{add-one}
 use Rattle.writing.proofs.Pieces.{the-same}
 use Rattle.ansi.specs.Layout.{tapeFileOf}
-use Rattle.ansi.specs.ReadingSteps.{readStep}
+use Rattle.ansi.specs.ReadingSteps.{atMark}
 use Rattle.ansi.specs.PhaseSteps.{labelAt}
 use Rattle.ansi.specs.Answers.{fileBytes}
 use Rattle.ansi.proofs.FileBytes.{one-file, none-added}
@@ -56,22 +56,22 @@ enum-told-9 : tie.Need-enum-told-9
 enum-told-9 c = search needs
 
 returns : tie.Need-returns
-unfolding readStep
+unfolding atMark
 returns c = rw (c .enum-told .given .1) (none-added (c .before .before .before .before .args .out .now) (c .before .before .before .before .args .end))
 
 returns-2 : tie.Need-returns-2
-unfolding readStep
+unfolding atMark
 returns-2 c = rw (c .enum-told2 .given .1) (none-added (c .before .before .before .before .args .out .now) (c .before .before .before .before .args .end))
 
 returns-3 : tie.Need-returns-3
-unfolding readStep
+unfolding atMark
 returns-3 c = rw (c .enum-told3 .given .1) (none-added (c .before .before .before .before .args .out .now) (c .before .before .before .before .args .end))
 
 same-length : tie.Need-same-length
 same-length c = search needs
 
 returns-4 : tie.Need-returns-4
-unfolding readStep
+unfolding atMark
 returns-4 c =
     let a = c .before .before .before .before .before .before .before .before .before .before .before .args in
     let h = c .before .before .before .before .before .before .before .phase .given .0 .0 in
@@ -84,27 +84,27 @@ returns-4 c =
     (c .before .before .add-file .ensures))
 
 returns-5 : tie.Need-returns-5
-unfolding readStep
+unfolding atMark
 returns-5 c = rw (c .enum-told4 .given .1) (none-added (c .before .before .before .before .args .out .now) (c .before .before .before .before .args .end))
 
 returns-6 : tie.Need-returns-6
-unfolding readStep
+unfolding atMark
 returns-6 c = rw (c .enum-told5 .given .1) (none-added (c .before .before .before .before .args .out .now) (c .before .before .before .before .args .end))
 
 returns-7 : tie.Need-returns-7
-unfolding readStep
+unfolding atMark
 returns-7 c = rw (c .enum-told6 .given .1) (none-added (c .before .before .before .before .args .out .now) (c .before .before .before .before .args .end))
 
 returns-8 : tie.Need-returns-8
-unfolding readStep
+unfolding atMark
 returns-8 c = rw (c .enum-told7 .given .1) (none-added (c .before .before .before .before .args .out .now) (c .before .before .before .before .args .end))
 
 returns-9 : tie.Need-returns-9
-unfolding readStep
+unfolding atMark
 returns-9 c = rw (c .enum-told8 .given .1) (none-added (c .before .before .before .before .args .out .now) (c .before .before .before .before .args .end))
 
 returns-10 : tie.Need-returns-10
-unfolding readStep
+unfolding atMark
 returns-10 c = rw (c .enum-told9 .given .1) (none-added (c .before .before .before .before .args .out .now) (c .before .before .before .before .args .end))
 
 pub note-spec : {M : Type 1} → statement M

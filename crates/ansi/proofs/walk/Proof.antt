@@ -3,7 +3,7 @@ use mathlib.Core.Path.{sym, _∙_, ap}
 use Prim.Native.Nat.{_-_}
 use native.Mathlib.Omega.{arith}
 use Rattle.ansi.specs.PhaseSteps.{stepOf}
-use Rattle.ansi.proofs.Matching.{Matched, matched-start, says-here, at-small, matched-mark, matched-block, stopped-mark, stopped-block, small, bytes-bound, rows-kept, matched-end}
+use Rattle.ansi.proofs.Matching.{Matched, matched-start, says-here, at-small, matched-mark, matched-block, stopped-mark, stopped-block, stopped-unreadable, small, bytes-bound, rows-kept, matched-end}
 use borrow.Author.Needs.{needs}
 use Rattle.ansi.proofs.walk.Statement.{statement}
 use Rattle.ansi.proofs.walk.Tie as tie
@@ -87,7 +87,7 @@ same-length-3 : tie.Need-same-length-3 Inv-loop μ-loop
 same-length-3 c = let k = rows-kept (c .before .before .before .before .loop .inv) in search needs
 
 returns-3 : tie.Need-returns-3 Inv-loop μ-loop
-returns-3 c = absurd (says-here (c .before .before .before .before .loop .inv) (c .before .before .before .loop-test .taken) (sym (c .before .before .entry-at .ensures) ∙ c .enum-told .given .1))
+returns-3 c = stopped-unreadable (c .before .before .before .before .loop .inv) (c .before .before .before .loop-test .taken) (says-here (c .before .before .before .before .loop .inv) (c .before .before .before .loop-test .taken) (sym (c .before .before .entry-at .ensures) ∙ c .enum-told .given .1))
 
 enum-told-2 : tie.Need-enum-told-2 Inv-loop μ-loop
 enum-told-2 c = search needs
@@ -98,14 +98,23 @@ same-length-4 c = let k = rows-kept (c .before .before .before .before .loop .in
 returns-4 : tie.Need-returns-4 Inv-loop μ-loop
 returns-4 c = absurd (says-here (c .before .before .before .before .loop .inv) (c .before .before .before .loop-test .taken) (sym (c .before .before .entry-at .ensures) ∙ c .enum-told2 .given .1))
 
+enum-told-3 : tie.Need-enum-told-3 Inv-loop μ-loop
+enum-told-3 c = search needs
+
+same-length-5 : tie.Need-same-length-5 Inv-loop μ-loop
+same-length-5 c = let k = rows-kept (c .before .before .before .before .loop .inv) in search needs
+
+returns-5 : tie.Need-returns-5 Inv-loop μ-loop
+returns-5 c = absurd (says-here (c .before .before .before .before .loop .inv) (c .before .before .before .loop-test .taken) (sym (c .before .before .entry-at .ensures) ∙ c .enum-told3 .given .1))
+
 at-end-requires : tie.Need-at-end-requires Inv-loop μ-loop
 at-end-requires c κs = search needs
 
-same-length-5 : tie.Need-same-length-5 Inv-loop μ-loop
-same-length-5 c = let k = rows-kept (c .before .before .loop .inv) in search needs
+same-length-6 : tie.Need-same-length-6 Inv-loop μ-loop
+same-length-6 c = let k = rows-kept (c .before .before .loop .inv) in search needs
 
-returns-5 : tie.Need-returns-5 Inv-loop μ-loop
-returns-5 c = matched-end (c .at-end .result) (c .before .before .loop .inv) (c .before .loop-test .left) (c .at-end .ensures)
+returns-6 : tie.Need-returns-6 Inv-loop μ-loop
+returns-6 c = matched-end (c .at-end .result) (c .before .before .loop .inv) (c .before .loop-test .left) (c .at-end .ensures)
 
 pub walk-spec : {M : Type 1} → statement M
 walk-spec =
@@ -141,6 +150,9 @@ walk-spec =
     enum-told-2
     same-length-4
     returns-4
-    at-end-requires
+    enum-told-3
     same-length-5
-    returns-5)
+    returns-5
+    at-end-requires
+    same-length-6
+    returns-6)

@@ -1,5 +1,5 @@
 -- `after_block` meets its contract.
-use Rattle.ansi.specs.ReadingSteps.{readStep}
+use Rattle.ansi.specs.ReadingSteps.{atBlock}
 use borrow.Author.Needs.{needs}
 use Rattle.ansi.proofs.phases.after_block.Statement.{statement}
 use Rattle.ansi.proofs.phases.after_block.Tie as tie
@@ -62,43 +62,43 @@ enum-told-4 : tie.Need-enum-told-4
 enum-told-4 c = search needs
 
 returns : tie.Need-returns
-unfolding readStep
+unfolding atBlock
 returns c = rw (c .before .enum-told .given .1) (c .in-start .ensures)
 
 returns-2 : tie.Need-returns-2
-unfolding readStep
+unfolding atBlock
 returns-2 c = rw (c .before .before .phase .given .1) (c .in-volume .ensures)
 
 returns-3 : tie.Need-returns-3
-unfolding readStep
+unfolding atBlock
 returns-3 c = rw (c .before .before .phase2 .given .1) (c .in-header .ensures)
 
 returns-4 : tie.Need-returns-4
-unfolding readStep
+unfolding atBlock
 returns-4 c = rw (c .before .before .phase3 .given .1) (c .in-headers .ensures)
 
 returns-5 : tie.Need-returns-5
-unfolding readStep
+unfolding atBlock
 returns-5 c = rw (c .before .before .phase4 .given .1) (c .in-blocks .ensures)
 
 returns-6 : tie.Need-returns-6
-unfolding readStep
+unfolding atBlock
 returns-6 c = rw (c .before .before .phase5 .given .1) (c .in-trailer .ensures)
 
 returns-7 : tie.Need-returns-7
-unfolding readStep
+unfolding atBlock
 returns-7 c = rw (c .before .enum-told2 .given .1) (c .in-second .ensures)
 
 returns-8 : tie.Need-returns-8
-unfolding readStep
+unfolding atBlock
 returns-8 c = rw (c .before .before .phase6 .given .1) (c .in-trailers .ensures)
 
 returns-9 : tie.Need-returns-9
-unfolding readStep
+unfolding atBlock
 returns-9 c = rw (c .before .enum-told3 .given .1) (c .begin-file .ensures)
 
 returns-10 : tie.Need-returns-10
-unfolding readStep
+unfolding atBlock
 returns-10 c = rw (c .enum-told4 .given .1)
 
 pub after-block-spec : {M : Type 1} → statement M

@@ -1,5 +1,5 @@
 -- `after_mark` meets its contract.
-use Rattle.ansi.specs.ReadingSteps.{readStep}
+use Rattle.ansi.specs.ReadingSteps.{atMark}
 use borrow.Author.Needs.{needs}
 use Rattle.ansi.proofs.phases.after_mark.Statement.{statement}
 use Rattle.ansi.proofs.phases.after_mark.Tie as tie
@@ -35,43 +35,43 @@ enum-told-8 : tie.Need-enum-told-8
 enum-told-8 c = search needs
 
 returns : tie.Need-returns
-unfolding readStep
+unfolding atMark
 returns c = rw (c .enum-told .given .1)
 
 returns-2 : tie.Need-returns-2
-unfolding readStep
+unfolding atMark
 returns-2 c = rw (c .enum-told2 .given .1)
 
 returns-3 : tie.Need-returns-3
-unfolding readStep
+unfolding atMark
 returns-3 c = rw (c .enum-told3 .given .1)
 
 returns-4 : tie.Need-returns-4
-unfolding readStep
+unfolding atMark
 returns-4 c = rw (c .before .phase .given .1)
 
 returns-5 : tie.Need-returns-5
-unfolding readStep
+unfolding atMark
 returns-5 c = rw (c .before .phase2 .given .1)
 
 returns-6 : tie.Need-returns-6
-unfolding readStep
+unfolding atMark
 returns-6 c = rw (c .enum-told4 .given .1)
 
 returns-7 : tie.Need-returns-7
-unfolding readStep
+unfolding atMark
 returns-7 c = rw (c .enum-told5 .given .1)
 
 returns-8 : tie.Need-returns-8
-unfolding readStep
+unfolding atMark
 returns-8 c = rw (c .enum-told6 .given .1)
 
 returns-9 : tie.Need-returns-9
-unfolding readStep
+unfolding atMark
 returns-9 c = rw (c .enum-told7 .given .1)
 
 returns-10 : tie.Need-returns-10
-unfolding readStep
+unfolding atMark
 returns-10 c = rw (c .enum-told8 .given .1)
 
 pub after-mark-spec : {M : Type 1} → statement M

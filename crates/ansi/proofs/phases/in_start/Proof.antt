@@ -2,7 +2,7 @@
 use borrow.Author.Tests.{not-true, not-false}
 use mathlib.Core.Path.{sym, ap, _∙_}
 use Rattle.ansi_labels.specs.Labels.{isVolume}
-use Rattle.ansi.specs.ReadingSteps.{readStep}
+use Rattle.ansi.specs.ReadingSteps.{atBlock}
 use borrow.Author.Needs.{needs}
 use Rattle.ansi.proofs.phases.in_start.Statement.{statement}
 use Rattle.ansi.proofs.phases.in_start.Tie as tie
@@ -14,11 +14,11 @@ is-volume-requires : tie.Need-is-volume-requires
 is-volume-requires c κs = search needs
 
 returns : tie.Need-returns
-unfolding readStep
+unfolding atBlock
 returns c = rw (ap (isVolume) (sym (c .before .before .part .ensures)) ∙ sym (c .before .is-volume .ensures) ∙ not-true _ (c .if1 .taken))
 
 returns-2 : tie.Need-returns-2
-unfolding readStep
+unfolding atBlock
 returns-2 c = rw (ap (isVolume) (sym (c .before .before .part .ensures)) ∙ sym (c .before .is-volume .ensures) ∙ not-false _ (c .if1 .left))
 
 pub in-start-spec : {M : Type 1} → statement M
