@@ -87,4 +87,5 @@ fn run(path: &[u8], kind: u64) {
 fn main() {
     run(b"vectors", 0);
     run(b"places", 1);
+    run(b"unreadable", 1);
 }

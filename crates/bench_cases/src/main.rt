@@ -43,4 +43,6 @@ fn main() {
     run(b"own");
     run(b"spellings");
     run(b"numbers");
+    run(b"kinds");
+    run(b"unreadable");
 }

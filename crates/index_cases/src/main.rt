@@ -462,6 +462,8 @@ fn main() {
     run(b"numbers", 0);
     run(b"number_spellings", 0);
     run(b"constructs", 2);
+    run(b"construct_kinds", 2);
+    run(b"construct_unreadable", 2);
     let good = entries(3999, 6) + entries(4095, 6) + entries(4096, 15);
     case_files::report(b"entries", good, 3);
     // A text too long is refused before its bytes are looked at.

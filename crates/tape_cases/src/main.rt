@@ -189,4 +189,9 @@ fn main() {
     run(b"keep", 1);
     run(b"block", 2);
     run(b"block_own", 2);
+    run(b"check_unreadable", 0);
+    run(b"keep_kinds", 1);
+    run(b"keep_unreadable", 1);
+    run(b"block_kinds", 2);
+    run(b"block_unreadable", 2);
 }
