@@ -157,7 +157,7 @@ impl<'a> Reader<'a> {
     }
 
     fn first_trailer(&mut self, header: &[u8], blocks: usize) -> Result<(), Wrong> {
-        // A mark or the end is as wrong as a block of no bytes.
+        // A mark, an unreadable block or the end is as wrong as a block of no bytes.
         let block = self.next_block().unwrap_or(&[]);
         judge_first_trailer(block, header, blocks).map_err(|refusal| self.wrong(refusal))?;
         self.at += 1;
@@ -202,6 +202,7 @@ impl<'a> Reader<'a> {
         Ok(())
     }
 
+    /// None where a mark, an unreadable block or the tape's end is next.
     fn next_block(&self) -> Option<&'a [u8]> {
         self.tape.block(self.at as u64).ok()
     }
@@ -221,53 +222,54 @@ impl<'a> Reader<'a> {
 #[cfg(test)]
 mod tests {
     use super::*;
+    use crate::random::TapeElement::{self, Block, Mark, Unreadable};
     use crate::random::TapeSide;
 
     /// A label that begins so, filled up with spaces.
-    fn label(text: &str) -> Option<Vec<u8>> {
-        Some(format!("{text:80}").into_bytes())
+    fn label(text: &str) -> TapeElement {
+        Block(format!("{text:80}").into_bytes())
     }
 
-    fn data(length: usize) -> Option<Vec<u8>> {
-        Some(vec![b'd'; length])
+    fn data(length: usize) -> TapeElement {
+        Block(vec![b'd'; length])
     }
 
-    fn volume_label(version: char) -> Option<Vec<u8>> {
+    fn volume_label(version: char) -> TapeElement {
         label(&format!("{:79}{version}", "VOL1ULTRIX"))
     }
 
     /// HDR1 or EOF1 of a file with this ID and count.
-    fn first_label(word: &str, id: &str, count: &str) -> Option<Vec<u8>> {
+    fn first_label(word: &str, id: &str, count: &str) -> TapeElement {
         label(&format!(
             "{word}{id:17}00000100010001000100026320 99366 {count:6}DECULTRIX0001"
         ))
     }
 
     /// A file of its own labels, and so many data blocks.
-    fn file(id: &str, blocks: usize) -> Vec<Option<Vec<u8>>> {
+    fn file(id: &str, blocks: usize) -> Vec<TapeElement> {
         let mut elements = vec![
             first_label("HDR1", id, "000000"),
             label("HDR2D0204800512"),
-            None,
+            Mark,
         ];
         elements.extend(vec![data(18); blocks]);
         elements.extend([
-            None,
+            Mark,
             first_label("EOF1", id, &format!("{blocks:06}")),
             label("EOF2D0204800512"),
-            None,
+            Mark,
         ]);
         elements
     }
 
     /// A tape of one file with two data blocks: VOL1 0, HDR1 1, HDR2 2, marks 3 and
     /// 6, EOF1 7, EOF2 8, marks 9 and 10.
-    fn plain() -> Vec<Option<Vec<u8>>> {
-        [vec![volume_label('3')], file("A", 2), vec![None]].concat()
+    fn plain() -> Vec<TapeElement> {
+        [vec![volume_label('3')], file("A", 2), vec![Mark]].concat()
     }
 
     /// The numbers of the files' elements, or the refusal with its place.
-    fn judged(elements: Vec<Option<Vec<u8>>>) -> Result<Vec<usize>, (u64, usize)> {
+    fn judged(elements: Vec<TapeElement>) -> Result<Vec<usize>, (u64, usize)> {
         let tape = TapeSide { elements };
         let (list, store) = (tape.list(), tape.store());
         let side = Side {
@@ -289,7 +291,7 @@ mod tests {
     }
 
     /// The plain tape with the element at a place replaced by others.
-    fn with(at: usize, others: Vec<Option<Vec<u8>>>) -> Result<Vec<usize>, (u64, usize)> {
+    fn with(at: usize, others: Vec<TapeElement>) -> Result<Vec<usize>, (u64, usize)> {
         let mut elements = plain();
         elements.splice(at..at + 1, others);
         judged(elements)
@@ -298,7 +300,7 @@ mod tests {
     /// The plain tape with a byte of the label at a place changed, counted from 1.
     fn with_byte(at: usize, byte: usize, value: u8) -> Result<Vec<usize>, (u64, usize)> {
         let mut changed = plain()[at].clone();
-        changed.as_mut().unwrap()[byte - 1] = value;
+        changed.bytes_mut().unwrap()[byte - 1] = value;
         with(at, vec![changed])
     }
 
@@ -336,7 +338,7 @@ mod tests {
             file("A", 0),
             file("B", 3),
             file("C", 0),
-            vec![None],
+            vec![Mark],
         ]
         .concat();
         assert_eq!(judged(tape), Ok(vec![4, 11, 21]));
@@ -406,10 +408,10 @@ mod tests {
         for at in [0, 1, 2, 7, 8] {
             for length in [79, 81] {
                 let mut changed = plain()[at].clone();
-                changed.as_mut().unwrap().resize(length, b'3');
+                changed.bytes_mut().unwrap().resize(length, b'3');
                 assert_eq!(with(at, vec![changed]), Err((16, at)));
             }
-            assert_eq!(with(at, vec![None]), Err((16, at)));
+            assert_eq!(with(at, vec![Mark]), Err((16, at)));
             assert_eq!(with(at, vec![]), Err((16, at)));
         }
     }
@@ -437,7 +439,7 @@ mod tests {
         for byte in (5..=54).chain(61..=80) {
             assert_eq!(with_byte(7, byte, b'#'), Err((16, 7)));
             let mut changed = first_label("EOF1", "A", "000009");
-            changed.as_mut().unwrap()[byte - 1] = b'#';
+            changed.bytes_mut().unwrap()[byte - 1] = b'#';
             assert_eq!(with(7, vec![changed]), Err((16, 7)));
         }
         // A data block less, and one more.
@@ -458,19 +460,36 @@ mod tests {
         }
         for length in [79, 81] {
             let mut changed = eov1();
-            changed.as_mut().unwrap().resize(length, b' ');
+            changed.bytes_mut().unwrap().resize(length, b' ');
             assert_eq!(with(7, vec![changed]), Err((16, 7)));
         }
+    }
+
+    #[test]
+    fn unreadable_block_is_wrong_wherever_it_stands() {
+        for at in 0..plain().len() {
+            assert_eq!(with(at, vec![Unreadable]), Err((16, at)));
+            assert_eq!(
+                with(at, vec![Unreadable, plain()[at].clone()]),
+                Err((16, at))
+            );
+        }
+        assert_eq!(judged([plain(), vec![Unreadable]].concat()), Err((16, 11)));
+        // Behind a place that is wrong already it changes nothing.
+        let eov1 = first_label("EOV1", "A", "000002");
+        assert_eq!(with(7, vec![eov1, Unreadable]), Err((17, 7)));
+        let other_count = first_label("EOF1", "A", "000001");
+        assert_eq!(with(7, vec![other_count, Unreadable]), Err((18, 7)));
     }
 
     #[test]
     fn one_file_or_more_and_a_last_mark() {
         assert_eq!(judged(vec![]), Err((16, 0)));
         assert_eq!(judged(vec![volume_label('3')]), Err((16, 1)));
-        assert_eq!(judged(vec![volume_label('3'), None]), Err((16, 1)));
+        assert_eq!(judged(vec![volume_label('3'), Mark]), Err((16, 1)));
         assert_eq!(with(10, vec![]), Err((16, 10)));
-        assert_eq!(with(10, vec![None, None]), Err((16, 11)));
-        assert_eq!(with(10, vec![None, label("HDR1")]), Err((16, 11)));
+        assert_eq!(with(10, vec![Mark, Mark]), Err((16, 11)));
+        assert_eq!(with(10, vec![Mark, label("HDR1")]), Err((16, 11)));
         assert_eq!(with(10, vec![label("HDR1")]), Err((16, 11)));
         for length in 0..11 {
             assert_eq!(judged(plain()[..length].to_vec()), Err((16, length)));
@@ -485,7 +504,7 @@ mod tests {
         assert_eq!(judged(elements.clone()), Err((18, 7)));
         elements[2] = label("HDR2U0204800512");
         assert_eq!(judged(elements.clone()), Err((16, 2)));
-        let second = [&elements[1..], &[None]].concat();
+        let second = [&elements[1..], &[Mark]].concat();
         let mut both = plain();
         both[7] = label("EOV1");
         assert_eq!(judged([both, second].concat()), Err((17, 7)));

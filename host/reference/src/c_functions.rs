@@ -166,12 +166,14 @@ fn construct_rows(tape: &Partition, block_size: u64) -> Vec<[u32; 4]> {
         .iter()
         .map(|construct| {
             let text = tape.blocks(construct.first_block, construct.last_block);
-            let start = offset(tape.store, text) as u32;
+            let begin = tape.stored_before(construct.first_block);
+            // Without a text the row ends where it begins.
+            let end = begin + text.map_or(0, <[u8]>::len);
             [
                 construct.first_block as u32,
                 construct.closing_mark as u32 + 1,
-                start,
-                start + text.len() as u32,
+                begin as u32,
+                end as u32,
             ]
         })
         .collect()
@@ -489,7 +491,9 @@ pub unsafe extern "C" fn reference_index(
     let read = volume::index_of_construct(side, &label, letter, number);
     let numbers = read.map(|(index, construct)| {
         let tape = side.read().expect("the list was read");
-        let text = tape.blocks(construct.first_block, construct.last_block);
+        let text = tape
+            .blocks(construct.first_block, construct.last_block)
+            .expect("the text was read");
         let place = [
             construct.first_block as u64,
             construct.closing_mark as u64 + 1,

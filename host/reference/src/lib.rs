@@ -57,6 +57,8 @@ pub enum Refusal {
     EndOfVolume = 17,
     /// EOF1's block count is not that of the data blocks present.
     BlockCount = 18,
+    /// A block that the drive couldn't read, or an index with one in it.
+    Unreadable = 19,
 }
 
 impl Refusal {

@@ -395,10 +395,35 @@ pub fn label_text(random: &mut Random, label: &Label) -> Vec<u8> {
 
 // ---- Tapes ----
 
-/// A partition being written: `None` is a file mark.
+/// An element being written, or one that the drive couldn't read back.
+#[derive(Clone, Debug, PartialEq, Eq)]
+pub enum TapeElement {
+    Mark,
+    Block(Vec<u8>),
+    Unreadable,
+}
+
+impl TapeElement {
+    /// A block's bytes, as far as they are known.
+    pub fn bytes(&self) -> Option<&Vec<u8>> {
+        match self {
+            TapeElement::Block(bytes) => Some(bytes),
+            TapeElement::Mark | TapeElement::Unreadable => None,
+        }
+    }
+
+    pub fn bytes_mut(&mut self) -> Option<&mut Vec<u8>> {
+        match self {
+            TapeElement::Block(bytes) => Some(bytes),
+            TapeElement::Mark | TapeElement::Unreadable => None,
+        }
+    }
+}
+
+/// A partition being written.
 #[derive(Clone, Debug, Default, PartialEq, Eq)]
 pub struct TapeSide {
-    pub elements: Vec<Option<Vec<u8>>>,
+    pub elements: Vec<TapeElement>,
 }
 
 impl TapeSide {
@@ -406,26 +431,32 @@ impl TapeSide {
         let mut list = Vec::new();
         for element in &self.elements {
             match element {
-                None => list.push(1),
-                Some(bytes) => {
+                TapeElement::Mark => list.push(1),
+                TapeElement::Block(bytes) => {
                     list.push(2);
                     list.extend_from_slice(&(bytes.len() as u32).to_be_bytes());
                 }
+                TapeElement::Unreadable => list.push(3),
             }
         }
         list
     }
 
     pub fn store(&self) -> Vec<u8> {
-        self.elements.iter().flatten().flatten().copied().collect()
+        let blocks = self.elements.iter().filter_map(TapeElement::bytes);
+        blocks.flatten().copied().collect()
     }
 
     pub fn mark(&mut self) {
-        self.elements.push(None);
+        self.elements.push(TapeElement::Mark);
     }
 
     pub fn block(&mut self, bytes: Vec<u8>) {
-        self.elements.push(Some(bytes));
+        self.elements.push(TapeElement::Block(bytes));
+    }
+
+    pub fn unreadable(&mut self) {
+        self.elements.push(TapeElement::Unreadable);
     }
 
     /// A label construct.
@@ -942,9 +973,9 @@ impl Writer<'_> {
             0 => {
                 elements.remove(at);
             }
-            1 => elements.retain(Option::is_none),
-            2 => elements.insert(at, None),
-            3 => elements.insert(at, Some(vec![b'x'; 7])),
+            1 => elements.retain(|element| *element == TapeElement::Mark),
+            2 => elements.insert(at, TapeElement::Mark),
+            3 => elements.insert(at, TapeElement::Block(vec![b'x'; 7])),
             _ => elements.truncate(at),
         }
     }
@@ -1047,14 +1078,14 @@ fn damage_elements(random: &mut Random, side: &mut TapeSide) {
             let again = elements[at].clone();
             elements.insert(at, again);
         }
-        4 => elements.insert(at, None),
-        5 => elements.push(Some(vec![b'y'; 1 + random.below(50)])),
+        4 => elements.insert(at, TapeElement::Mark),
+        5 => elements.push(TapeElement::Block(vec![b'y'; 1 + random.below(50)])),
         6 => {
             let other = labels + random.below(elements.len() - labels);
             elements.swap(at, other);
         }
         _ => {
-            if let Some(bytes) = &mut elements[at] {
+            if let Some(bytes) = elements[at].bytes_mut() {
                 damage_text(random, bytes);
                 if bytes.is_empty() {
                     bytes.push(0);

@@ -5,7 +5,7 @@
 #![allow(clippy::ptr_arg)]
 
 use crate::ansi;
-use crate::random::{damage_bytes, Random, TapeSide};
+use crate::random::{damage_bytes, Random, TapeElement, TapeSide};
 
 /// What is asked of the reader: a list, a store, and how many bytes are lent.
 #[derive(Clone, Debug, PartialEq, Eq)]
@@ -62,10 +62,10 @@ pub enum Role {
     Mark,
 }
 
-/// A tape being written; `None` is a mark.
+/// A tape being written.
 #[derive(Clone, Debug, Default)]
 pub struct Tape {
-    elements: Vec<(Role, Option<Vec<u8>>)>,
+    elements: Vec<(Role, TapeElement)>,
 }
 
 impl Tape {
@@ -81,11 +81,11 @@ impl Tape {
     }
 
     fn block(&mut self, role: Role, bytes: Vec<u8>) {
-        self.elements.push((role, Some(bytes)));
+        self.elements.push((role, TapeElement::Block(bytes)));
     }
 
     fn mark(&mut self) {
-        self.elements.push((Role::Mark, None));
+        self.elements.push((Role::Mark, TapeElement::Mark));
     }
 
     /// The places of elements in one of these roles.
@@ -109,9 +109,9 @@ impl Tape {
         with: impl Fn(&mut Random, &mut Vec<u8>),
     ) {
         if let Some(at) = self.place(random, roles) {
-            let (role, block) = &mut self.elements[at];
+            let (role, element) = &mut self.elements[at];
             let least = if *role == Role::Data { 1 } else { 80 };
-            if let Some(bytes) = block.as_mut().filter(|bytes| bytes.len() >= least) {
+            if let Some(bytes) = element.bytes_mut().filter(|bytes| bytes.len() >= least) {
                 with(random, bytes);
             }
         }
@@ -377,7 +377,8 @@ fn stray_label(random: &mut Random, tape: &mut Tape) {
     if let Some(at) = tape.place(random, &[place]) {
         let word = random.pick(&["VOL9", "UVL1", "HDR9", "UHL1", "EOF9", "UTL1"]);
         let bytes = label(random, word);
-        tape.elements.insert(at, (Role::Numbered, Some(bytes)));
+        tape.elements
+            .insert(at, (Role::Numbered, TapeElement::Block(bytes)));
     }
 }
 
@@ -412,13 +413,13 @@ fn damage_elements(random: &mut Random, tape: &mut Tape) {
         0 => {
             elements.remove(at);
         }
-        1 => elements.insert(at, (Role::Mark, None)),
+        1 => elements.insert(at, (Role::Mark, TapeElement::Mark)),
         2 => {
             let again = elements[other].clone();
             elements.insert(at, again);
         }
         3 => elements.swap(at, other),
-        _ => elements[at] = (Role::Mark, None),
+        _ => elements[at] = (Role::Mark, TapeElement::Mark),
     }
 }
 

@@ -9,6 +9,7 @@ pub const MAX_STORE: usize = 16_777_216;
 
 const MARK: u8 = 1;
 const BLOCK: u8 = 2;
+const UNREADABLE: u8 = 3;
 
 #[derive(Clone, Copy, Debug, PartialEq, Eq)]
 pub enum Element {
@@ -18,13 +19,15 @@ pub enum Element {
         start: usize,
         length: usize,
     },
+    /// A block that the drive couldn't read: none of its bytes are known, nor how many.
+    Unreadable,
 }
 
 impl Element {
     /// How many bytes the element takes in the list.
     fn list_length(self) -> usize {
         match self {
-            Element::FileMark => 1,
+            Element::FileMark | Element::Unreadable => 1,
             Element::Block { .. } => 5,
         }
     }
@@ -32,7 +35,7 @@ impl Element {
     /// How many bytes the element takes in the store.
     fn store_length(self) -> usize {
         match self {
-            Element::FileMark => 0,
+            Element::FileMark | Element::Unreadable => 0,
             Element::Block { length, .. } => length,
         }
     }
@@ -71,6 +74,10 @@ impl<'a> Partition<'a> {
                     stored += length;
                     rest = &body[4..];
                 }
+                UNREADABLE => {
+                    elements.push(Element::Unreadable);
+                    rest = body;
+                }
                 _ => return Err(Refusal::List),
             }
         }
@@ -87,37 +94,42 @@ impl<'a> Partition<'a> {
     pub fn keep(&self, n: usize) -> Partition<'a> {
         let elements = self.elements[..n.min(self.elements.len())].to_vec();
         let list_length: usize = elements.iter().map(|e| e.list_length()).sum();
-        let store_length: usize = elements.iter().map(|e| e.store_length()).sum();
         Partition {
             list: &self.list[..list_length],
-            store: &self.store[..store_length],
+            store: &self.store[..self.stored_before(elements.len())],
             elements,
         }
     }
 
-    /// The bytes of element `number`; refusal 2 for a file mark or a missing number.
+    /// How many bytes of the store belong to the elements before `number`.
+    pub fn stored_before(&self, number: usize) -> usize {
+        let before = self.elements[..number].iter();
+        before.map(|element| element.store_length()).sum()
+    }
+
+    /// The bytes of element `number`; refusal 2 for a file mark or a missing number,
+    /// 19 for an unreadable block.
     pub fn block(&self, number: u64) -> Result<&'a [u8], Refusal> {
         let element = usize::try_from(number)
             .ok()
             .and_then(|n| self.elements.get(n));
         match element {
             Some(&Element::Block { start, length }) => Ok(&self.store[start..start + length]),
-            _ => Err(Refusal::Missing),
+            Some(Element::Unreadable) => Err(Refusal::Unreadable),
+            Some(Element::FileMark) | None => Err(Refusal::Missing),
         }
     }
 
-    /// The part of the store from block `first` to block `last`.
-    pub fn blocks(&self, first: usize, last: usize) -> &'a [u8] {
-        match (self.elements[first], self.elements[last]) {
-            (
-                Element::Block { start, .. },
-                Element::Block {
-                    start: last_start,
-                    length,
-                },
-            ) => &self.store[start..last_start + length],
-            _ => panic!("blocks() is asked from block to block"),
-        }
+    /// The part of the store from block `first` to block `last`; none where one of
+    /// the blocks is unreadable.
+    pub fn blocks(&self, first: usize, last: usize) -> Option<&'a [u8]> {
+        let run = &self.elements[first..=last];
+        assert!(
+            !run.contains(&Element::FileMark),
+            "blocks() is asked within a run"
+        );
+        let is_whole = !run.contains(&Element::Unreadable);
+        is_whole.then(|| &self.store[self.stored_before(first)..self.stored_before(last + 1)])
     }
 }
 
@@ -232,7 +244,8 @@ mod tests {
     #[test]
     fn faults_of_the_list() {
         assert_eq!(check(&[0], &[]), Err(Refusal::List));
-        assert_eq!(check(&[3], &[]), Err(Refusal::List));
+        assert_eq!(check(&[4], &[]), Err(Refusal::List));
+        assert_eq!(check(&[255], &[]), Err(Refusal::List));
         assert_eq!(check(&[2, 0, 0, 0], &[]), Err(Refusal::List));
         assert_eq!(check(&[2, 0, 0, 0, 0], &[]), Err(Refusal::List));
         assert_eq!(check(&[2, 0, 0, 0, 1], &[9]), Ok(1));
@@ -246,9 +259,23 @@ mod tests {
     }
 
     #[test]
+    fn unreadable_block_is_one_list_byte_and_no_store_byte() {
+        assert_eq!(check(&[3], &[]), Ok(1));
+        assert_eq!(check(&[3], &[7]), Err(Refusal::List));
+        // No body: what follows is the next element's kind.
+        assert_eq!(check(&[3, 0, 0, 0, 1], &[9]), Err(Refusal::List));
+        assert_eq!(check(&[3, 1, 3, 3], &[]), Ok(4));
+        assert_eq!(check(&[3, 2, 0, 0, 0, 1, 3], &[9]), Ok(3));
+        assert_eq!(check(&[3, 2, 0, 0, 0], &[]), Err(Refusal::List));
+    }
+
+    #[test]
     fn bounds_of_list_and_store() {
-        assert_eq!(check(&vec![1; MAX_ELEMENTS], &[]), Ok(MAX_ELEMENTS));
-        assert_eq!(check(&vec![1; MAX_ELEMENTS + 1], &[]), Err(Refusal::List));
+        for kind in [MARK, UNREADABLE] {
+            assert_eq!(check(&vec![kind; MAX_ELEMENTS], &[]), Ok(MAX_ELEMENTS));
+            let more = vec![kind; MAX_ELEMENTS + 1];
+            assert_eq!(check(&more, &[]), Err(Refusal::List));
+        }
         let full = block_entry(MAX_BLOCK as u32).repeat(16);
         assert_eq!(check(&full, &vec![0; MAX_STORE]), Ok(16));
         let over = [full, block_entry(1)].concat();
@@ -269,13 +296,41 @@ mod tests {
     }
 
     #[test]
+    fn keeping_an_unreadable_block_takes_no_store_byte() {
+        let list = [&[3][..], &block_entry(3), &[3, 3, 1], &block_entry(2)].concat();
+        let store = b"abcde";
+        for (n, list_length, store_length) in [
+            (0, 0, 0),
+            (1, 1, 0),
+            (2, 6, 3),
+            (3, 7, 3),
+            (4, 8, 3),
+            (5, 9, 3),
+            (6, 14, 5),
+        ] {
+            let kept = (&list[..list_length], &store[..store_length], n as usize);
+            assert_eq!(keep(&list, store, n), Ok(kept));
+        }
+    }
+
+    #[test]
     fn keeping_twice_keeps_the_smaller() {
-        let list = [&block_entry(1)[..], &[1], &block_entry(3), &[1, 1], &block_entry(2)].concat();
+        let list = [
+            &block_entry(1)[..],
+            &[1, 3],
+            &block_entry(3),
+            &[3, 1, 1],
+            &block_entry(2),
+        ]
+        .concat();
         let store = b"abcdef";
-        for m in 0..8 {
+        for m in 0..10 {
             let (list_front, store_front, _) = keep(&list, store, m).unwrap();
-            for n in 0..8 {
-                assert_eq!(keep(list_front, store_front, n), keep(&list, store, m.min(n)));
+            for n in 0..10 {
+                assert_eq!(
+                    keep(list_front, store_front, n),
+                    keep(&list, store, m.min(n))
+                );
             }
         }
     }
@@ -323,5 +378,45 @@ mod tests {
             data: b'b',
         };
         assert_eq!(block(index, data, capital, b'b', 1), Err(Refusal::Argument));
+    }
+
+    #[test]
+    fn unreadable_block_is_refused_behind_all_else() {
+        let list = [&[3, 1][..], &block_entry(2), &[3]].concat();
+        let side = Side {
+            list: &list,
+            store: b"ix",
+        };
+        let broken = Side {
+            list: &[9],
+            store: b"",
+        };
+        let letters = Letters {
+            index: b'a',
+            data: b'b',
+        };
+        let ask = |letter: u8, number: u64| block(side, side, letters, letter, number);
+        for letter in *b"ab" {
+            assert_eq!(ask(letter, 0), Err(Refusal::Unreadable));
+            assert_eq!(ask(letter, 1), Err(Refusal::Missing));
+            assert_eq!(ask(letter, 2), Ok(&b"ix"[..]));
+            assert_eq!(ask(letter, 3), Err(Refusal::Unreadable));
+            assert_eq!(ask(letter, 4), Err(Refusal::Missing));
+        }
+        assert_eq!(ask(b'c', 0), Err(Refusal::Argument));
+        assert_eq!(block(side, broken, letters, b'a', 0), Err(Refusal::List));
+    }
+
+    #[test]
+    fn run_with_an_unreadable_block_has_no_bytes() {
+        let list = [&block_entry(1)[..], &block_entry(2), &[3], &block_entry(3)].concat();
+        let tape = Partition::read(&list, b"abcdef").unwrap();
+        assert_eq!(tape.blocks(0, 1), Some(&b"abc"[..]));
+        assert_eq!(tape.blocks(3, 3), Some(&b"def"[..]));
+        for (first, last) in [(0, 2), (0, 3), (2, 2), (2, 3)] {
+            assert_eq!(tape.blocks(first, last), None);
+        }
+        let stored: Vec<usize> = (0..=4).map(|at| tape.stored_before(at)).collect();
+        assert_eq!(stored, [0, 1, 3, 3, 6]);
     }
 }

@@ -76,54 +76,78 @@ pub struct Layout {
     /// The element where the first defect shows.
     pub first_defect: Option<usize>,
     /// The element numbers of data blocks in rising order, by the parity of marks
-    /// also after a defect.
+    /// also after a defect; unreadable ones among them.
     pub data_blocks: Vec<usize>,
 }
 
+/// A block of a run: its element number, and its length where it was read.
+type RunBlock = (usize, Option<u64>);
+
+impl Layout {
+    fn defect_at(&mut self, number: usize) {
+        self.first_defect.get_or_insert(number);
+    }
+
+    /// The index run that this mark closes.
+    fn close(&mut self, run: &[RunBlock], mark: usize) {
+        let (Some((first, _)), Some((last, _))) = (run.first(), run.last()) else {
+            return self.defect_at(mark);
+        };
+        if self.first_defect.is_none() {
+            self.standing.push(Construct {
+                first_block: *first,
+                last_block: *last,
+                closing_mark: mark,
+            });
+        }
+    }
+}
+
 /// Walks the runs. A block shorter than the block size in an index run becomes a
-/// defect at the block that follows it.
+/// defect at the block that follows it, unreadable or not.
 pub fn layout(partition: &Partition, block_size: u64) -> Layout {
     let mut layout = Layout {
         standing: Vec::new(),
         first_defect: None,
         data_blocks: Vec::new(),
     };
-    // The blocks of the index run that is open, if one is.
-    let mut index_run: Option<Vec<(usize, u64)>> = None;
+    // The index run that is open, if one is.
+    let mut index_run: Option<Vec<RunBlock>> = None;
     for (number, element) in partition.elements.iter().enumerate().skip(4) {
-        let mut defect = false;
-        match (element, &mut index_run) {
-            (Element::Block { length, .. }, None) => {
-                layout.data_blocks.push(number);
-                defect = *length as u64 > block_size;
-            }
-            (Element::Block { length, .. }, Some(run)) => {
-                let follows_short = run.last().is_some_and(|(_, before)| *before != block_size);
-                defect = *length as u64 > block_size || follows_short;
-                run.push((number, *length as u64));
-            }
-            (Element::FileMark, None) => index_run = Some(Vec::new()),
-            (Element::FileMark, Some(run)) => {
-                match (run.first(), run.last()) {
-                    (Some((first, _)), Some((last, _))) => {
-                        if layout.first_defect.is_none() {
-                            layout.standing.push(Construct {
-                                first_block: *first,
-                                last_block: *last,
-                                closing_mark: number,
-                            });
-                        }
-                    }
-                    _ => defect = true,
+        let length = match element {
+            Element::Block { length, .. } => Some(*length as u64),
+            Element::Unreadable => None,
+            Element::FileMark => {
+                match index_run.take() {
+                    None => index_run = Some(Vec::new()),
+                    Some(run) => layout.close(&run, number),
                 }
-                index_run = None;
+                continue;
             }
+        };
+        if length.is_some_and(|length| length > block_size) {
+            layout.defect_at(number);
         }
-        if defect && layout.first_defect.is_none() {
-            layout.first_defect = Some(number);
+        match &mut index_run {
+            None => layout.data_blocks.push(number),
+            Some(run) => {
+                if ends_short(run, block_size) {
+                    layout.defect_at(number);
+                }
+                run.push((number, length));
+            }
         }
     }
     layout
+}
+
+/// Whether the run's last block is known not to be full; an unreadable one may
+/// have been.
+fn ends_short(run: &[RunBlock], block_size: u64) -> bool {
+    match run.last() {
+        Some((_, Some(length))) => *length != block_size,
+        Some((_, None)) | None => false,
+    }
 }
 
 /// Whether the last element is the closing mark of a standing construct.
@@ -134,14 +158,16 @@ fn ends_with_construct(partition: &Partition, layout: &Layout) -> bool {
         .is_some_and(|construct| construct.closing_mark + 1 == partition.elements.len())
 }
 
-/// The text of a construct's index, read at its place.
+/// The text of a construct's index, read at its place; refusal 19 where it has none.
 fn read_construct(
     partition: &Partition,
     label: &Label,
     letter: u8,
     construct: &Construct,
 ) -> Result<Index, Refusal> {
-    let text = partition.blocks(construct.first_block, construct.last_block);
+    let text = partition
+        .blocks(construct.first_block, construct.last_block)
+        .ok_or(Refusal::Unreadable)?;
     index::read(text, label, construct_place(letter, construct))
 }
 
@@ -173,8 +199,8 @@ pub fn index_of_construct(
 
 // ---- Extents on the tape ----
 
-/// Whether the row's bytes are on this partition: its blocks are data blocks, all
-/// but the last full, the last long enough.
+/// Whether the row's bytes are on this partition: its blocks are data blocks that
+/// were read, all but the last full, the last long enough.
 pub fn lies_on(row: &Row, partition: &Partition, layout: &Layout, block_size: u64) -> bool {
     let last = row.last_block(block_size);
     if last >= partition.elements.len() as u128 {
@@ -183,7 +209,7 @@ pub fn lies_on(row: &Row, partition: &Partition, layout: &Layout, block_size: u6
     (row.start_block as usize..=last as usize).all(|number| {
         let length = match partition.elements[number] {
             Element::Block { length, .. } => length as u128,
-            Element::FileMark => return false,
+            Element::FileMark | Element::Unreadable => return false,
         };
         layout.data_blocks.binary_search(&number).is_ok()
             && if number as u128 == last {

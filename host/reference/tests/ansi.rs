@@ -2,14 +2,13 @@
 //! layout says of fronts and of other labels in their place, and the vectors.
 
 use reference::ansi::{self, FILE};
+use reference::random::TapeElement::{self, Block, Mark, Unreadable};
 use reference::random::{Random, TapeSide};
-use reference::tape::Side;
+use reference::tape::{self, Side};
 use reference::{random_ansi, Refusal};
 use std::collections::BTreeMap;
 
-type Element = Option<Vec<u8>>;
-
-fn is_laid_out(elements: Vec<Element>) -> bool {
+fn is_laid_out(elements: Vec<TapeElement>) -> bool {
     let tape = TapeSide { elements };
     let (list, store) = (tape.list(), tape.store());
     let side = Side {
@@ -19,30 +18,31 @@ fn is_laid_out(elements: Vec<Element>) -> bool {
     ansi::files(&side.read().unwrap()).is_ok()
 }
 
-fn is_label(element: &Element, word: &str) -> bool {
+fn is_label(element: &TapeElement, word: &str) -> bool {
     element
-        .as_ref()
+        .bytes()
         .is_some_and(|bytes| bytes.len() == 80 && bytes.starts_with(word.as_bytes()))
 }
 
 /// A label of spaces behind the text.
-fn label(text: &str) -> Element {
-    Some(format!("{text:80}").into_bytes())
+fn label(text: &str) -> TapeElement {
+    Block(format!("{text:80}").into_bytes())
 }
 
 /// EOF1 for a HDR1 and so many data blocks.
-fn first_trailer(header: &Element, blocks: usize) -> Element {
-    let mut bytes = header.clone().unwrap();
+fn first_trailer(header: &TapeElement, blocks: usize) -> TapeElement {
+    let mut bytes = header.bytes().unwrap().clone();
     bytes[..4].copy_from_slice(b"EOF1");
     bytes[54..60].copy_from_slice(format!("{blocks:06}").as_bytes());
-    Some(bytes)
+    Block(bytes)
 }
 
 /// Every EOF1 that could be due behind a front: of any HDR1, with any of its runs of blocks.
-fn first_trailers(front: &[Element]) -> Vec<Element> {
+fn first_trailers(front: &[TapeElement]) -> Vec<TapeElement> {
     let fresh = label("HDR1");
     let headers = front.iter().filter(|element| is_label(element, "HDR1"));
-    let runs: Vec<usize> = front.split(Option::is_none).map(<[_]>::len).collect();
+    let is_mark = |element: &TapeElement| *element == Mark;
+    let runs: Vec<usize> = front.split(is_mark).map(<[_]>::len).collect();
     let counts = runs.iter().rev().take(2).chain([&0]);
     headers
         .chain([&fresh])
@@ -51,26 +51,26 @@ fn first_trailers(front: &[Element]) -> Vec<Element> {
 }
 
 /// Whether some tape in the layout begins so, by trying every rest of a plain one.
-fn begins(front: &[Element]) -> bool {
+fn begins(front: &[TapeElement]) -> bool {
     first_trailers(front).into_iter().any(|trailer| {
         let plain = [
             label(&format!("{:79}3", "VOL1")),
             label("HDR1"),
             label("HDR2F0000000000"),
-            None,
-            None,
+            Mark,
+            Mark,
             trailer,
             label("EOF2"),
-            None,
-            None,
+            Mark,
+            Mark,
         ];
         (0..=plain.len()).any(|from| is_laid_out([front, &plain[from..]].concat()))
     })
 }
 
 /// The refusal of the element behind a front, from the layout alone.
-fn refusal_behind(front: &[Element], element: Option<&Element>) -> Refusal {
-    let could_stand = |other: &Element| begins(&[front, std::slice::from_ref(other)].concat());
+fn refusal_behind(front: &[TapeElement], element: Option<&TapeElement>) -> Refusal {
+    let could_stand = |other: &TapeElement| begins(&[front, std::slice::from_ref(other)].concat());
     let Some(element) = element else {
         return Refusal::AnsiLabels;
     };
@@ -78,13 +78,13 @@ fn refusal_behind(front: &[Element], element: Option<&Element>) -> Refusal {
         return Refusal::EndOfVolume;
     }
     let has_digits = is_label(element, "EOF1")
-        && element.as_ref().unwrap()[54..60]
+        && element.bytes().unwrap()[54..60]
             .iter()
             .all(u8::is_ascii_digit);
-    let with_digits = |digits: &Element| {
-        let mut other = element.clone().unwrap();
-        other[54..60].copy_from_slice(&digits.as_ref().unwrap()[54..60]);
-        Some(other)
+    let with_digits = |digits: &TapeElement| {
+        let mut other = element.bytes().unwrap().clone();
+        other[54..60].copy_from_slice(&digits.bytes().unwrap()[54..60]);
+        Block(other)
     };
     let is_count = has_digits
         && first_trailers(front)
@@ -97,14 +97,14 @@ fn refusal_behind(front: &[Element], element: Option<&Element>) -> Refusal {
 }
 
 /// The elements of a list that is well formed.
-fn elements_of(side: Side) -> Option<Vec<Element>> {
+fn elements_of(side: Side) -> Option<Vec<TapeElement>> {
     let tape = side.read().ok()?;
-    let numbers = 0..tape.elements.len() as u64;
-    Some(
-        numbers
-            .map(|at| tape.block(at).ok().map(<[u8]>::to_vec))
-            .collect(),
-    )
+    let element = |element: &tape::Element| match *element {
+        tape::Element::FileMark => Mark,
+        tape::Element::Block { start, length } => Block(side.store[start..start + length].to_vec()),
+        tape::Element::Unreadable => Unreadable,
+    };
+    Some(tape.elements.iter().map(element).collect())
 }
 
 #[test]
@@ -129,11 +129,11 @@ fn tapes_in_the_layout_are_read() {
         assert_eq!(ansi::place(given), Ok(side.elements.len()));
         for file in buffer[..length].chunks(FILE) {
             let element = u64::from_be_bytes(file[28..].try_into().unwrap()) as usize;
-            assert_eq!(side.elements[element - 1], None);
+            assert_eq!(side.elements[element - 1], Mark);
             let header = side.elements[..element]
                 .iter()
                 .rev()
-                .flatten()
+                .filter_map(TapeElement::bytes)
                 .find(|bytes| bytes.starts_with(b"HDR1"))
                 .unwrap();
             assert_eq!(file[..17], header[4..21]);

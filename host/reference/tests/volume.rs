@@ -3,6 +3,7 @@
 
 use reference::index::Place;
 use reference::label::Label;
+use reference::random::TapeElement::{Block, Unreadable};
 use reference::random::{TapeSide, VolumeFiles};
 use reference::tape::{Letters, Partition};
 use reference::values::Version;
@@ -209,17 +210,17 @@ fn label_refusals_in_volume_order() {
     assert_eq!(refusal(&index, &data), None);
     // Faults of the data side, each giving an earlier refusal than the one before.
     let mut data = data;
-    data.elements[2] = Some(label_text(b'a'));
+    data.elements[2] = Block(label_text(b'a'));
     assert_eq!(refusal(&index, &data), Some(Refusal::Disagreement));
-    data.elements[2] = Some(b"x".to_vec());
+    data.elements[2] = Block(b"x".to_vec());
     assert_eq!(refusal(&index, &data), Some(Refusal::Form));
-    data.elements[2] = Some(vec![b'x'; 4097]);
+    data.elements[2] = Block(vec![b'x'; 4097]);
     assert_eq!(refusal(&index, &data), Some(Refusal::TooLong));
-    data.elements[0] = Some(b"VOL1".to_vec());
+    data.elements[0] = Block(b"VOL1".to_vec());
     assert_eq!(refusal(&index, &data), Some(Refusal::Vol1));
-    data.elements[1] = Some(b"x".to_vec());
+    data.elements[1] = Block(b"x".to_vec());
     assert_eq!(refusal(&index, &data), Some(Refusal::LabelConstruct));
-    data.elements[1] = Some(vec![]);
+    data.elements[1] = Block(vec![]);
     assert_eq!(refusal(&index, &data), Some(Refusal::List));
 }
 
@@ -230,14 +231,14 @@ fn index_side_goes_first() {
         let files = VolumeFiles::of(index, data);
         check_labels(files.index(), files.data()).err()
     };
-    index.elements[2] = Some(b"x".to_vec());
-    data.elements[2] = Some(vec![b'x'; 4097]);
+    index.elements[2] = Block(b"x".to_vec());
+    data.elements[2] = Block(vec![b'x'; 4097]);
     assert_eq!(refusal(&index, &data), Some(Refusal::Form));
     // VOL1 of the data side comes before the label text of the index side.
-    data.elements[0] = Some(b"VOL1".to_vec());
+    data.elements[0] = Block(b"VOL1".to_vec());
     assert_eq!(refusal(&index, &data), Some(Refusal::Vol1));
     // The data side's elements come before the index side's VOL1.
-    index.elements[0] = Some(b"VOL1".to_vec());
+    index.elements[0] = Block(b"VOL1".to_vec());
     data.elements.truncate(3);
     assert_eq!(refusal(&index, &data), Some(Refusal::LabelConstruct));
 }
@@ -253,26 +254,35 @@ fn swapped_sides_disagree() {
 fn labels_agree_by_value() {
     let (index, mut data) = fresh();
     let text = String::from_utf8(label_text(b'b')).unwrap();
-    data.elements[2] = Some(
+    data.elements[2] = Block(
         text.replace("<compression>true", "<compression>1")
             .into_bytes(),
     );
     assert_eq!(verdict(&index, &data), Ok(Verdict::Consistent));
-    data.elements[2] = Some(text.replace("2.0.1", "2.0.2").into_bytes());
+    data.elements[2] = Block(text.replace("2.0.1", "2.0.2").into_bytes());
     assert_eq!(verdict(&index, &data), Err(Refusal::Disagreement));
 }
 
 // ---- Constructs ----
 
-/// Lengths of blocks after a label construct; 0 is a mark.
-fn layout_of(lengths: &[usize]) -> volume::Layout {
+/// Stands for an unreadable block among lengths of blocks.
+const LOST: usize = usize::MAX;
+
+/// A label construct, then blocks of these lengths; 0 is a mark.
+fn side_of(lengths: &[usize]) -> TapeSide {
     let mut side = labelled(b'a');
     for length in lengths {
-        match length {
+        match *length {
             0 => side.mark(),
-            length => side.block(vec![b'x'; *length]),
+            LOST => side.unreadable(),
+            length => side.block(vec![b'x'; length]),
         }
     }
+    side
+}
+
+fn layout_of(lengths: &[usize]) -> volume::Layout {
+    let side = side_of(lengths);
     let (list, store) = (side.list(), side.store());
     layout(&Partition::read(&list, &store).unwrap(), B)
 }
@@ -379,6 +389,242 @@ fn index_over_several_blocks() {
         answer(&index, &data),
         "verdict consistent\ncut 0 0 keep 9 7 generation 1\n"
     );
+}
+
+// ---- Unreadable blocks ----
+
+#[test]
+fn unreadable_block_in_a_label_construct() {
+    let (index, data) = fresh();
+    for at in 0..4 {
+        let (mut lost_index, mut lost_data) = (index.clone(), data.clone());
+        lost_index.elements[at] = Unreadable;
+        lost_data.elements[at] = Unreadable;
+        for (index, data) in [(&lost_index, &data), (&index, &lost_data)] {
+            assert_eq!(verdict(index, data), Err(Refusal::LabelConstruct));
+            assert_eq!(rescue(index, data), Err(Refusal::LabelConstruct));
+        }
+    }
+    // Before the other side's VOL1, and behind its list.
+    let mut lost = data.clone();
+    lost.elements[0] = Unreadable;
+    let mut wrong = index.clone();
+    wrong.elements[0] = Block(b"VOL1".to_vec());
+    assert_eq!(verdict(&wrong, &lost), Err(Refusal::LabelConstruct));
+    wrong.block(vec![]);
+    assert_eq!(verdict(&wrong, &lost), Err(Refusal::List));
+}
+
+#[test]
+fn unreadable_blocks_in_data_runs_are_no_defect() {
+    let found = layout_of(&[LOST, 5, LOST, LOST, 0, 9, 0, LOST, 0, 9, 0]);
+    assert_eq!(found.standing, [construct(9, 9), construct(13, 13)]);
+    assert_eq!(found.data_blocks, [4, 5, 6, 7, 11]);
+    assert_eq!(found.first_defect, None);
+    assert_eq!(layout_of(&[LOST, 4097]).first_defect, Some(5));
+}
+
+#[test]
+fn unreadable_blocks_in_an_index_run_that_stands() {
+    for run in [
+        &[LOST][..],
+        &[LOST, LOST, LOST],
+        &[LOST, 9],
+        &[LOST, 4096],
+        &[4096, LOST],
+        &[4096, LOST, 4096, 9],
+        &[4096, LOST, LOST, 9],
+        &[LOST, 4096, LOST],
+    ] {
+        let last = 4 + run.len();
+        let found = layout_of(&[&[0][..], run, &[0, 0, 9, 0]].concat());
+        let next = construct(last + 3, last + 3);
+        assert_eq!(found.standing, [construct(5, last), next], "{run:?}");
+        assert_eq!(found.first_defect, None, "{run:?}");
+        assert_eq!(found.data_blocks, [], "{run:?}");
+    }
+    assert_eq!(layout_of(&[0, LOST]).standing, []);
+}
+
+#[test]
+fn defects_beside_unreadable_blocks() {
+    for (run, defect) in [
+        (&[9, LOST][..], 6),
+        (&[4095, LOST], 6),
+        (&[4096, 9, LOST, LOST], 7),
+        (&[LOST, 9, LOST], 7),
+        (&[LOST, 9, 4096], 7),
+        (&[LOST, 9, 9], 7),
+        (&[4096, LOST, 9, 9], 8),
+        (&[LOST, 4097], 6),
+        (&[4097, LOST], 5),
+    ] {
+        for closed in [&[][..], &[0]] {
+            let found = layout_of(&[&[0][..], run, closed].concat());
+            assert_eq!(found.standing, [], "{run:?}");
+            assert_eq!(found.first_defect, Some(defect), "{run:?}");
+        }
+    }
+}
+
+/// The rows that C is handed.
+fn construct_rows(lengths: &[usize]) -> Vec<[u32; 4]> {
+    let side = side_of(lengths);
+    let (list, store) = (side.list(), side.store());
+    let (mut table, mut count) = (vec![7; 40], [9]);
+    let refusal = unsafe {
+        reference::c_functions::reference_constructs(
+            list.as_ptr(),
+            list.len(),
+            store.as_ptr(),
+            store.len(),
+            B,
+            table.as_mut_ptr(),
+            count.as_mut_ptr(),
+        )
+    };
+    assert_eq!(refusal, 0);
+    let (rows, rest) = table.split_at(4 * count[0] as usize);
+    assert!(rest.iter().all(|number| *number == 7));
+    rows.chunks(4).map(|row| row.try_into().unwrap()).collect()
+}
+
+#[test]
+fn row_of_a_construct_without_a_text_ends_where_it_begins() {
+    let labels = labelled(b'a').store().len() as u32;
+    let found = construct_rows(&[
+        5, LOST, 0, LOST, 0, 4096, 0, 4096, LOST, 9, 0, 0, 7, 0, 0, LOST, 4096, 0, 0, 1, 0,
+    ]);
+    let begins = [5, 4101, 8206, 8213, 12309].map(|begin| labels + begin);
+    assert_eq!(
+        found,
+        [
+            [7, 9, begins[0], begins[0]],
+            [11, 15, begins[1], begins[1]],
+            [16, 18, begins[2], begins[2] + 7],
+            [19, 22, begins[3], begins[3]],
+            [23, 25, begins[4], begins[4] + 1],
+        ]
+    );
+}
+
+/// The fresh volume's index side with its index in three full blocks, and an
+/// unreadable one behind so many of them.
+fn index_in_blocks(before: usize) -> TapeSide {
+    let mut side = labelled(b'a');
+    let text = index_text('a', 5, 1, Some(('b', 5)), &[]);
+    // Spaces behind the root element make the last block full too.
+    let text = format!("{text:12288}");
+    side.index(text.as_bytes(), B);
+    side.elements.insert(5 + before, Unreadable);
+    side
+}
+
+#[test]
+fn index_is_not_read_round_an_unreadable_block() {
+    let (whole, data) = fresh();
+    for before in 0..=3 {
+        let index = index_in_blocks(before);
+        let files = VolumeFiles::of(&index, &data);
+        let ask = |letter: u8, number: u64| {
+            volume::index_of_construct(files.index(), &label(b'a'), letter, number)
+        };
+        assert_eq!(ask(b'a', 0), Err(Refusal::Unreadable));
+        // Before the place, which is another here.
+        assert_eq!(ask(b'b', 0), Err(Refusal::Unreadable));
+        assert_eq!(ask(b'a', 1), Err(Refusal::Missing));
+        assert_eq!(ask(b'c', 0), Err(Refusal::Argument));
+        assert_eq!(verdict(&index, &data), broken(4, 0));
+        assert_eq!(rescue(&index, &data), Err(Refusal::NoCut));
+    }
+    let mut readable = index_in_blocks(0);
+    readable.elements.remove(5);
+    assert_eq!(verdict(&readable, &data), Ok(Verdict::Consistent));
+    let mut alone = whole.clone();
+    alone.elements[5] = Unreadable;
+    assert_eq!(verdict(&alone, &data), broken(4, 0));
+}
+
+#[test]
+fn unreadable_data_index_ends_the_chain() {
+    let (mut index, mut data) = fresh();
+    let second = write_index(&mut data, 'b', 2, Some(('b', 5)), &[]);
+    write_index(&mut index, 'a', 2, Some(('b', second)), &[]);
+    let third = write_index(&mut data, 'b', 3, Some(('b', second)), &[]);
+    write_index(&mut index, 'a', 3, Some(('b', third)), &[]);
+    assert_eq!(rescue(&index, &data), cut(2, 2, 13, 13, 3));
+    for (number, kept) in [
+        (0, Err(Refusal::NoCut)),
+        (1, cut(0, 0, 7, 7, 1)),
+        (2, cut(1, 1, 10, 10, 2)),
+    ] {
+        let mut lost = data.clone();
+        lost.elements[5 + 3 * number] = Unreadable;
+        assert_eq!(verdict(&index, &lost), broken(3, number as u64));
+        assert_eq!(rescue(&index, &lost), kept);
+    }
+}
+
+#[test]
+fn earlier_index_of_the_index_partition_may_be_unreadable() {
+    let (mut index, data) = fresh();
+    write_index(&mut index, 'a', 1, Some(('b', 5)), &[]);
+    index.elements[5] = Unreadable;
+    assert_eq!(verdict(&index, &data), Ok(Verdict::Consistent));
+    assert_eq!(rescue(&index, &data), cut(1, 0, 10, 7, 1));
+    // One behind, whose number the index construct's counts.
+    index.mark();
+    index.unreadable();
+    index.mark();
+    assert_eq!(verdict(&index, &data), broken(4, 2));
+    assert_eq!(rescue(&index, &data), cut(1, 0, 10, 7, 1));
+    index.unreadable();
+    assert_eq!(verdict(&index, &data), broken(1, 0));
+    assert_eq!(rescue(&index, &data), cut(1, 0, 10, 7, 1));
+}
+
+#[test]
+fn unreadable_block_keeps_the_numbers_behind_it() {
+    // The file lies behind an unreadable block, and so do the indexes.
+    let mut index = labelled(b'a');
+    let mut data = labelled(b'b');
+    data.unreadable();
+    data.block(vec![9; 10]);
+    index.unreadable();
+    let at = write_index(&mut data, 'b', 1, None, &[]);
+    assert_eq!(at, 7);
+    write_index(&mut index, 'a', 1, Some(('b', at)), &[('b', 5, 0, 10)]);
+    assert_eq!(verdict(&index, &data), Ok(Verdict::Consistent));
+    assert_eq!(rescue(&index, &data), cut(0, 0, 8, 9, 1));
+}
+
+#[test]
+fn extent_on_an_unreadable_block_is_not_on_the_tape() {
+    // Data blocks 4 (full), 5 (unreadable), 6 (full), 7 (100 bytes).
+    let with_row = |row: Row| {
+        let mut index = labelled(b'a');
+        let mut data = labelled(b'b');
+        data.block(vec![1; 4096]);
+        data.unreadable();
+        data.block(vec![2; 4096]);
+        data.block(vec![3; 100]);
+        let at = write_index(&mut data, 'b', 1, None, &[]);
+        write_index(&mut index, 'a', 1, Some(('b', at)), &[row]);
+        verdict(&index, &data)
+    };
+    for row in [('b', 4, 0, 4096), ('b', 6, 0, 4196), ('b', 7, 99, 1)] {
+        assert_eq!(with_row(row), Ok(Verdict::Consistent), "{row:?}");
+    }
+    for row in [
+        ('b', 4, 0, 4097),
+        ('b', 4, 4095, 2),
+        ('b', 4, 0, 8193),
+        ('b', 5, 0, 1),
+        ('b', 5, 0, 4096),
+        ('b', 5, 4095, 2),
+    ] {
+        assert_eq!(with_row(row), broken(5, 0), "{row:?}");
+    }
 }
 
 // ---- Verdict ----
