@@ -1,8 +1,9 @@
 //! Random input for tests in C: what `random` makes from a seed, as buffers.
 
 use crate::label::Label;
-use crate::random::{self, Random};
+use crate::random::{self, Random, VolumeFiles};
 use crate::random_ansi;
+use crate::tape::Element;
 use std::ptr;
 
 /// Buffers and numbers of one case; which is which, each function says.
@@ -73,6 +74,24 @@ fn label_letters(label: &Label) -> [u64; 3] {
     ]
 }
 
+/// The number of an element that is there or nearly; where blocks are unreadable,
+/// as often one of them.
+fn element_number(random: &mut Random, files: &VolumeFiles, bound: usize) -> u64 {
+    let sides = [files.index(), files.data()];
+    let tapes = sides.iter().filter_map(|side| side.read().ok());
+    let lost: Vec<usize> = tapes
+        .flat_map(|tape| {
+            let numbered = tape.elements.into_iter().enumerate();
+            numbered.filter(|(_, element)| *element == Element::Unreadable)
+        })
+        .map(|(number, _)| number)
+        .collect();
+    match lost.is_empty() || random.one_in(2) {
+        true => random.below(bound) as u64,
+        false => lost[random.below(lost.len())] as u64,
+    }
+}
+
 /// A volume, often damaged. Bytes: index list, index store, data list, data
 /// store. Numbers: two that are small, for elements and constructs; then any.
 #[no_mangle]
@@ -83,8 +102,8 @@ pub extern "C" fn random_volume(seed: u64) -> Case {
         _ => random::damaged_volume(&mut random),
     };
     let numbers = [
-        random.below(12) as u64,
-        random.below(40) as u64,
+        element_number(&mut random, &files, 12),
+        element_number(&mut random, &files, 40),
         random.draw(),
     ];
     let buffers = vec![

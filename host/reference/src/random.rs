@@ -820,6 +820,10 @@ struct Writer<'a> {
     data_indexes: Vec<Place>,
     /// One in how many chances something unlawful is written; 0 for never.
     faults: usize,
+    /// One in how many data blocks and indexes are not read back whole; 0 for none.
+    lost: usize,
+    /// Whether the index being written is the index partition's last.
+    is_last: bool,
     /// Indexes of the index partition point at any of the data partition's. Each
     /// can still end a consistent cut, so several cuts compete.
     any_back_pointer: bool,
@@ -828,6 +832,10 @@ struct Writer<'a> {
 impl Writer<'_> {
     fn fault(&mut self) -> bool {
         self.faults > 0 && self.random.one_in(self.faults)
+    }
+
+    fn is_lost(&mut self) -> bool {
+        self.lost > 0 && self.random.one_in(self.lost)
     }
 
     fn side(&mut self, letter: u8) -> &mut TapeSide {
@@ -875,12 +883,19 @@ impl Writer<'_> {
             }
             let number = self.side(letter).elements.len() as u64;
             let byte = self.random.draw() as u8;
-            self.side(letter).block(vec![byte; length as usize]);
-            self.blocks.push(DataBlock {
-                letter,
-                number,
-                length,
-            });
+            let is_lost = self.is_lost();
+            match is_lost {
+                true => self.side(letter).unreadable(),
+                false => self.side(letter).block(vec![byte; length as usize]),
+            }
+            // An extent on a lost block is a fault of the volume.
+            if !is_lost || (self.faults > 0 && self.random.one_in(3)) {
+                self.blocks.push(DataBlock {
+                    letter,
+                    number,
+                    length,
+                });
+            }
         }
         self.blocks
             .sort_by_key(|block| (block.letter, block.number));
@@ -930,10 +945,20 @@ impl Writer<'_> {
         if self.fault() {
             damage_text(self.random, &mut text);
         }
+        // White space that fills the last block: an unreadable one behind it is no defect.
+        if label.block_size <= 5_000 && self.random.one_in(10) {
+            text.resize(text.len().next_multiple_of(label.block_size as usize), b' ');
+        }
         let mut construct = TapeSide::default();
         construct.index(&text, label.block_size);
         if self.fault() {
             self.spoil_construct(&mut construct);
+        }
+        // Without faults only an index that no verdict asks for may be lost.
+        let is_asked_for = on_data || self.is_last;
+        if self.is_lost() && (!is_asked_for || (self.faults > 0 && self.random.one_in(2))) {
+            let may_spoil = self.faults > 0;
+            lose_block(self.random, &mut construct.elements, may_spoil);
         }
         self.side(letter).elements.append(&mut construct.elements);
         if on_data {
@@ -993,6 +1018,7 @@ pub fn tape(random: &mut Random, faults: usize) -> (TapeSide, TapeSide, Label) {
     let vol1 = vol1(random);
     let generation = generation(random);
     let any_back_pointer = faults > 0 && random.one_in(3);
+    let lost = *random.pick(&[&0, &0, &0, &0, &5, &10]);
     let mut writer = Writer {
         random,
         label: label.clone(),
@@ -1002,6 +1028,8 @@ pub fn tape(random: &mut Random, faults: usize) -> (TapeSide, TapeSide, Label) {
         generation,
         data_indexes: Vec::new(),
         faults,
+        lost,
+        is_last: false,
         any_back_pointer,
     };
     writer.write_labels(&vol1, &label);
@@ -1022,6 +1050,7 @@ pub fn tape(random: &mut Random, faults: usize) -> (TapeSide, TapeSide, Label) {
         writer.write_index(letter);
     }
     if !writer.fault() {
+        writer.is_last = true;
         writer.write_data(letters.index);
         writer.write_index(letters.index);
     }
@@ -1056,6 +1085,27 @@ pub fn damaged_volume(random: &mut Random) -> VolumeFiles {
 
 // ---- Damage ----
 
+/// A block that the drive couldn't read: one of these elements' blocks, all of
+/// them, one more before it, or one behind it. That is a defect where it is short.
+fn lose_block(random: &mut Random, elements: &mut Vec<TapeElement>, may_spoil: bool) {
+    let is_block = |at: &usize| elements[*at].bytes().is_some();
+    let blocks: Vec<usize> = (0..elements.len()).filter(is_block).collect();
+    if blocks.is_empty() {
+        return;
+    }
+    let at = blocks[random.below(blocks.len())];
+    match random.below(6) {
+        0 => elements.insert(at, TapeElement::Unreadable),
+        1 if may_spoil => elements.insert(at + 1, TapeElement::Unreadable),
+        2 => {
+            for at in blocks {
+                elements[at] = TapeElement::Unreadable;
+            }
+        }
+        _ => elements[at] = TapeElement::Unreadable,
+    }
+}
+
 /// Changes elements of a tape, list and store together.
 fn damage_elements(random: &mut Random, side: &mut TapeSide) {
     let elements = &mut side.elements;
@@ -1069,8 +1119,16 @@ fn damage_elements(random: &mut Random, side: &mut TapeSide) {
         0
     };
     let at = labels + random.below(elements.len() - labels);
-    match random.below(8) {
+    match random.below(11) {
         0 | 1 => elements.truncate(at),
+        8 => elements[at] = TapeElement::Unreadable,
+        9 => elements.insert(at, TapeElement::Unreadable),
+        10 => {
+            // What the drive still counts behind a tear.
+            let counted = at + 1 + random.below(3);
+            elements.truncate(at);
+            elements.resize(counted, TapeElement::Unreadable);
+        }
         2 => {
             elements.remove(at);
         }

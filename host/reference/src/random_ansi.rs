@@ -228,11 +228,11 @@ const LABELS: [Role; 7] = [
 
 /// Something that is wrong, or nearly.
 pub fn damage(random: &mut Random, tape: &mut Tape) {
-    match random.below(20) {
+    match random.below(23) {
         0 | 1 => damage_trailer(random, tape),
         2 | 3 => tape.change(random, &[Role::FirstTrailer], other_count),
         4 => drop_or_add_data(random, tape),
-        5..=7 => end_of_volume(random, tape),
+        5..=7 | 21 => end_of_volume(random, tape),
         8 => tape.change(random, &LABELS, other_word),
         9 => tape.change(random, &LABELS, other_length),
         10 => tape.change(random, &[Role::Data], other_data_length),
@@ -242,6 +242,7 @@ pub fn damage(random: &mut Random, tape: &mut Tape) {
         15 => damage_elements(random, tape),
         16 => few_elements(random, tape),
         17 | 18 => stray_label(random, tape),
+        19 | 20 => lose_block(random, tape),
         _ => tape.change(random, &LABELS, |random, bytes| {
             bytes[random.below(80)] = random.draw() as u8;
         }),
@@ -423,6 +424,17 @@ fn damage_elements(random: &mut Random, tape: &mut Tape) {
     }
 }
 
+/// A block that the drive couldn't read, or one more.
+fn lose_block(random: &mut Random, tape: &mut Tape) {
+    let at = random.below(tape.elements.len() + 1);
+    match tape.elements.get_mut(at) {
+        Some((_, element)) if random.one_in(2) => *element = TapeElement::Unreadable,
+        _ => tape
+            .elements
+            .insert(at, (Role::Data, TapeElement::Unreadable)),
+    }
+}
+
 /// No files, or nothing at all.
 fn few_elements(random: &mut Random, tape: &mut Tape) {
     let first = tape.places(&[Role::FirstHeader]).first().copied();
@@ -440,7 +452,7 @@ fn damage_list(random: &mut Random, list: &mut Vec<u8>, store: &mut Vec<u8>) {
         1 => {
             store.pop();
         }
-        2 => list.push(*random.pick(&[&0, &3, &2, &255])),
+        2 => list.push(*random.pick(&[&0, &4, &2, &255])),
         3 => list.extend([2, 0, 0, 0, 0]),
         4 => damage_bytes(random, list),
         _ => damage_bytes(random, store),

@@ -2,7 +2,8 @@
 
 use reference::index::Place;
 use reference::random::{self, Random, VolumeFiles};
-use reference::volume::{self, Verdict};
+use reference::tape::{Element, Partition};
+use reference::volume::{self, Layout, Verdict};
 use reference::{extents, index, label, program, xml, Refusal};
 use std::collections::BTreeSet;
 
@@ -159,7 +160,7 @@ fn arbitrary_bytes_are_refused_without_panic() {
                 .map(|_| alphabet[random.below(alphabet.len())])
                 .collect()
         };
-        let list = bytes(&mut random, &[0, 1, 1, 2, 2, 3]);
+        let list = bytes(&mut random, &[0, 1, 1, 2, 2, 3, 3, 4]);
         let other = bytes(&mut random, &[0, 1, 1, 2, 0, 0, 0, 1]);
         let store = bytes(&mut random, &[1, 2, 3]);
         let files = VolumeFiles {
@@ -199,6 +200,7 @@ fn byte_map_gives_a_place_or_a_refusal() {
 #[test]
 fn written_volumes_are_consistent_and_kept_whole() {
     let mut random = Random::new(6);
+    let mut places = BTreeSet::new();
     for case in 0..500 {
         let files = random::volume(&mut random);
         assert_eq!(
@@ -207,12 +209,86 @@ fn written_volumes_are_consistent_and_kept_whole() {
             "case {case}"
         );
         let cut = volume::rescue(files.index(), files.data()).unwrap();
-        let all = |side: reference::tape::Side| side.read().unwrap().elements.len() as u64;
+        let tapes = [files.index(), files.data()].map(|side| side.read().unwrap());
+        let all = |tape: &Partition| tape.elements.len() as u64;
         assert_eq!(
             (cut.index_kept, cut.data_kept),
-            (all(files.index()), all(files.data()))
+            (all(&tapes[0]), all(&tapes[1]))
         );
+        let labels = volume::check_labels(files.index(), files.data()).unwrap();
+        for tape in &tapes {
+            let layout = volume::layout(tape, labels.index.label.block_size);
+            lost_places(tape, &layout, &mut places);
+        }
     }
+    // Also with blocks lost that the verdict doesn't ask for.
+    let expected = ["alone", "data run", "first", "last", "within"];
+    assert_eq!(places, BTreeSet::from(expected));
+}
+
+/// Adds the places in which unreadable blocks stand on a partition.
+fn lost_places(tape: &Partition, layout: &Layout, found: &mut BTreeSet<&'static str>) {
+    let is_lost = |at: &usize| tape.elements[*at] == Element::Unreadable;
+    if (0..tape.elements.len().min(4)).any(|at| is_lost(&at)) {
+        found.insert("labels");
+    }
+    if layout.data_blocks.iter().any(is_lost) {
+        found.insert("data run");
+    }
+    if layout.first_defect.as_ref().is_some_and(is_lost) {
+        found.insert("behind a short block");
+    }
+    for construct in &layout.standing {
+        let (first, last) = (construct.first_block, construct.last_block);
+        if first == last && is_lost(&first) {
+            found.insert("alone");
+        } else if is_lost(&first) {
+            found.insert("first");
+        } else if is_lost(&last) {
+            found.insert("last");
+        } else if (first..=last).any(|at| is_lost(&at)) {
+            found.insert("within");
+        }
+    }
+}
+
+/// Most volumes have no unreadable block, many have some in every place, and many
+/// of these have a cut.
+#[test]
+fn unreadable_blocks_are_frequent() {
+    const CASES: usize = 4_000;
+    let mut random = Random::new(9);
+    let (mut with, mut cut) = (0, 0);
+    let mut places = BTreeSet::new();
+    for _ in 0..CASES {
+        let files = random::damaged_volume(&mut random);
+        let (Ok(index), Ok(data)) = (files.index().read(), files.data().read()) else {
+            continue;
+        };
+        let has_lost = [&index, &data].map(|tape| tape.elements.contains(&Element::Unreadable));
+        if has_lost == [false, false] {
+            continue;
+        }
+        with += 1;
+        cut += usize::from(volume::rescue(files.index(), files.data()).is_ok());
+        for tape in [&index, &data] {
+            // By the block size that most have, also where the labels are lost.
+            lost_places(tape, &volume::layout(tape, 4_096), &mut places);
+        }
+    }
+    println!("{with} of {CASES}, {cut} with a cut");
+    assert!(with * 5 >= CASES && with * 2 <= CASES);
+    assert!(cut * 4 >= with);
+    let expected = [
+        "alone",
+        "behind a short block",
+        "data run",
+        "first",
+        "labels",
+        "last",
+        "within",
+    ];
+    assert_eq!(places, BTreeSet::from(expected));
 }
 
 #[test]
