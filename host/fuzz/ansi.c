@@ -1,5 +1,5 @@
 /* A list and a store as an ANSI labelled tape: its files, where it leaves the layout, and what its fronts owe it. */
-#include "fuzz.h"
+#include "lists.h"
 
 #define TAPE(tape) SLICE((tape)->list), SLICE((tape)->store)
 
@@ -137,6 +137,18 @@ static void try_without_last(const struct tape *tape, uint64_t elements)
     must(judge(&front) == KLAPOUZEN_BAD_ANSI_LABELS && place_of(&front) == elements - 1);
 }
 
+/* An unreadable block instead of element n, or behind the last: wrong where it stands, but behind a place that is. */
+static void try_lost(const struct tape *tape, uint64_t elements, uint64_t n, uint64_t place, uint64_t refusal)
+{
+    if (n == elements && elements == KLAPOUZEN_MAX_ELEMENTS)
+        return;
+    struct own_side side = lose(&tape->list, &tape->store, n);
+    struct tape lost = { side.list, side.store };
+    must(place_of(&lost) == (n < place ? n : place));
+    must(judge(&lost) == (n <= place ? KLAPOUZEN_BAD_ANSI_LABELS : refusal));
+    free_side(&side);
+}
+
 int LLVMFuzzerTestOneInput(const uint8_t *input, size_t size)
 {
     struct slice rest = { input, size };
@@ -152,6 +164,7 @@ int LLVMFuzzerTestOneInput(const uint8_t *input, size_t size)
         return 0;
     must(refusal == 0 || (refusal >= KLAPOUZEN_BAD_ANSI_LABELS && refusal <= KLAPOUZEN_WRONG_BLOCK_COUNT));
     try_place(&tape, elements[0], refusal);
+    try_lost(&tape, elements[0], room % (elements[0] + 1), place[0], refusal);
     if (refusal == 0)
         try_without_last(&tape, elements[0]);
     return 0;

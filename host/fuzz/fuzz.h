@@ -90,7 +90,7 @@ static inline uint64_t *fill(uint64_t *out, size_t count)
 /* A refusal is a number of klapouzen.h, and leaves all outputs zero. `what` tells calls apart. */
 static inline uint64_t answered(unsigned what, uint64_t refusal, const uint64_t *out, size_t count)
 {
-    must(refusal <= KLAPOUZEN_WRONG_BLOCK_COUNT);
+    must(refusal <= KLAPOUZEN_UNREADABLE_BLOCK);
     saw(what, refusal);
     for (size_t i = 0; i < count; i++) {
         must(refusal == 0 || out[i] == 0);

@@ -98,7 +98,7 @@ static void change(struct buffer *input)
 {
     static const char *const pieces[] = {
         "<a/>", "<a>", "</a>", "&amp;", "&", "]]>", "<!--", "<![CDATA[", "'", "\"", "18446744073709551615", "0",
-        "007", "\xc3\xa9", "\xed\xa0\x80", "<file>", "</file>", "<extent>", "\1", "\2", "/", " ",
+        "007", "\xc3\xa9", "\xed\xa0\x80", "<file>", "</file>", "<extent>", "\1", "\2", "\3", "\1\3\1", "/", " ",
         "EOF1", "EOV1", "EOF3", "HDR1", "HDR3", "UHL", "000001",
     };
     size_t from = below(input->length + 1), to = from + below(9);

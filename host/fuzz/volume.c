@@ -1,5 +1,5 @@
 /* Four slices as a volume: every volume function, and what their answers owe each other. */
-#include "fuzz.h"
+#include "lists.h"
 
 #define SIDE(volume, side) SLICE((volume)->parts[2 * (side)]), SLICE((volume)->parts[2 * (side) + 1])
 #define VOLUME(volume) SIDE(volume, 0), SIDE(volume, 1)
@@ -21,6 +21,34 @@ static void try_again(const struct volume *volume, int side, uint64_t m, uint64_
     must(memcmp(again, once, sizeof once) == 0);
 }
 
+/* To the mark that closes an index run: is there an unreadable block in it? No block but the last is short. */
+static int walk_run(struct walk *walk, uint64_t block_size)
+{
+    int is_lost = 0, kind;
+    while ((kind = next_kind(walk)) == BLOCK || kind == UNREADABLE) {
+        uint64_t length = next_length(walk);
+        is_lost |= kind == UNREADABLE;
+        walk_on(walk);
+        must(length <= block_size && (kind == UNREADABLE || length == block_size || next_kind(walk) == MARK));
+    }
+    must(kind == MARK);
+    return is_lost;
+}
+
+/* Each row is as the list says: its text is from its first block to its mark, or none with an unreadable block. */
+static void try_rows(const struct slice *list, uint64_t block_size, uint64_t rows)
+{
+    struct walk walk = walk_to(list, 0);
+    for (const uint32_t *row = table; row < table + KLAPOUZEN_CONSTRUCT * rows; row += KLAPOUZEN_CONSTRUCT) {
+        while (walk.element < row[KLAPOUZEN_CONSTRUCT_FIRST_BLOCK])
+            walk_on(&walk);
+        must(row[KLAPOUZEN_CONSTRUCT_BEGIN] == walk.stored && next_kind(&walk) != MARK);
+        int is_lost = walk_run(&walk, block_size);
+        must(row[KLAPOUZEN_CONSTRUCT_KEPT] == walk.element + 1);
+        must(row[KLAPOUZEN_CONSTRUCT_END] == (is_lost ? row[KLAPOUZEN_CONSTRUCT_BEGIN] : walk.stored));
+    }
+}
+
 /* Keeping fewer elements keeps fewer bytes, and the kept front is well formed. */
 static void try_list(const struct volume *volume, int side, uint64_t n)
 {
@@ -28,7 +56,8 @@ static void try_list(const struct volume *volume, int side, uint64_t n)
     const struct slice *list = &volume->parts[2 * side], *store = &volume->parts[2 * side + 1];
     uint64_t refusal = ANSWERED(klapouzen_check_list(SIDE(volume, side), FILLED(all)), all);
     must(ANSWERED(klapouzen_keep(SIDE(volume, side), n, FILLED(kept)), kept) == refusal);
-    must(ANSWERED(klapouzen_constructs(SIDE(volume, side), 4096, table, FILLED(standing)), standing) == refusal);
+    must(ANSWERED(klapouzen_constructs(SIDE(volume, side), KLAPOUZEN_MIN_BLOCK_SIZE, table, FILLED(standing)), standing)
+         == refusal);
     if (refusal != 0)
         return;
     must(kept[0] <= list->length && kept[1] <= store->length);
@@ -37,11 +66,25 @@ static void try_list(const struct volume *volume, int side, uint64_t n)
     const uint64_t numbers[] = { n / 2, n, all[0] - 1, UINT64_MAX };
     for (int i = 0; i < 16; i++)
         try_again(volume, side, numbers[i / 4], numbers[i % 4]);
-    for (uint64_t i = 0; i < standing[0]; i++) {
-        const uint32_t *row = table + KLAPOUZEN_CONSTRUCT * i;
-        must(row[KLAPOUZEN_CONSTRUCT_BEGIN] < row[KLAPOUZEN_CONSTRUCT_END]
-             && row[KLAPOUZEN_CONSTRUCT_END] <= store->length && row[KLAPOUZEN_CONSTRUCT_KEPT] <= all[0]);
+    try_rows(list, KLAPOUZEN_MIN_BLOCK_SIZE, standing[0]);
+}
+
+/* A block asked for by its number: where the list has it, 2 for a mark or nothing, 19 for an unreadable one. */
+static void try_block(const struct volume *volume, int side, uint64_t n)
+{
+    uint64_t block[KLAPOUZEN_BLOCK], count[1];
+    uint64_t refusal
+        = ANSWERED(klapouzen_block(VOLUME(volume), 'a', 'b', side == 0 ? 'a' : 'b', n, FILLED(block)), block);
+    if (klapouzen_check_list(SIDE(volume, 0), count) != 0 || klapouzen_check_list(SIDE(volume, 1), count) != 0) {
+        must(refusal == KLAPOUZEN_BAD_LIST);
+        return;
     }
+    struct walk walk = walk_to(&volume->parts[2 * side], n);
+    int kind = next_kind(&walk);
+    must(refusal == (kind == BLOCK ? 0 : kind == UNREADABLE ? KLAPOUZEN_UNREADABLE_BLOCK : KLAPOUZEN_MISSING));
+    if (refusal == 0)
+        must(block[KLAPOUZEN_BLOCK_SIDE] == (uint64_t)side && block[KLAPOUZEN_BLOCK_OFFSET] == walk.stored
+             && block[KLAPOUZEN_BLOCK_LENGTH] == next_length(&walk));
 }
 
 /* The fronts of a cut. */
@@ -71,7 +114,7 @@ static void try_cut(const struct volume *volume, const uint64_t cut[KLAPOUZEN_CU
     must(drops == !is_consistent);
 }
 
-/* The index of a construct says what is read of the text where the table has it. */
+/* The index of a construct says what is read of the text where the table has it; without a text it is refused 19. */
 static void try_indexes(const struct volume *volume, int side, const uint64_t label[KLAPOUZEN_LABEL])
 {
     uint64_t standing[1], index[KLAPOUZEN_CHOSEN], header[KLAPOUZEN_INDEX];
@@ -86,6 +129,9 @@ static void try_indexes(const struct volume *volume, int side, const uint64_t la
         const uint32_t *row = table + KLAPOUZEN_CONSTRUCT * i;
         uint32_t begin = row[KLAPOUZEN_CONSTRUCT_BEGIN], length = row[KLAPOUZEN_CONSTRUCT_END] - begin;
         uint64_t refusal = ANSWERED(klapouzen_index(SIDE(volume, side), GIVEN, i, FILLED(index)), index);
+        must((refusal == KLAPOUZEN_UNREADABLE_BLOCK) == (length == 0));
+        if (length == 0)
+            continue;
         must(klapouzen_read_index(store + begin, length, GIVEN, row[KLAPOUZEN_CONSTRUCT_FIRST_BLOCK], FILLED(header))
              == refusal);
         if (refusal != 0)
@@ -128,7 +174,99 @@ static void try_spelling(const struct volume *volume, int side, const uint64_t v
     free(bytes);
 }
 
-static void try_volume(const struct volume *volume)
+/* ---- Blocks that are lost ---- */
+
+/* What is said of a volume whose labels agree. */
+struct said {
+    uint64_t verdict[KLAPOUZEN_BREAK], no_cut, cut[KLAPOUZEN_CUT];
+};
+
+/* Of the volume with an unreadable block in the place of an element of a side, or behind its last. */
+static uint64_t said_without(const struct volume *volume, int side, uint64_t element, struct said *said)
+{
+    struct volume other = *volume;
+    struct own_side lost = lose(&volume->parts[2 * side], &volume->parts[2 * side + 1], element);
+    other.parts[2 * side] = lost.list;
+    other.parts[2 * side + 1] = lost.store;
+    uint64_t refusal = ANSWERED(klapouzen_verdict(VOLUME(&other), FILLED(said->verdict)), said->verdict);
+    said->no_cut = ANSWERED(klapouzen_rescue(VOLUME(&other), FILLED(said->cut)), said->cut);
+    free_side(&lost);
+    return refusal;
+}
+
+/* A block of a standing construct: all constructs stand as before, and this one's index is not sound. */
+static void try_lost_index(int side, uint64_t construct, int is_last, const struct said *before,
+                           const struct said *after)
+{
+    uint64_t which = side == 1 ? 3 : 4;
+    const uint64_t *was = before->verdict, *is = after->verdict;
+    int is_before = was[0] != 0 && (was[0] < which || (was[0] == which && was[1] < construct));
+    if (is_before || (side == 0 && !is_last))
+        must(memcmp(was, is, sizeof before->verdict) == 0);
+    else
+        must(is[0] == which && is[1] == construct);
+    if (before->no_cut != 0)
+        return;
+    int is_kept = side == 1 ? construct <= before->cut[KLAPOUZEN_CUT_DATA_CONSTRUCT]
+                            : construct == before->cut[KLAPOUZEN_CUT_INDEX_CONSTRUCT];
+    if (is_kept)
+        must(after->no_cut != 0
+             || after->cut[KLAPOUZEN_CUT_INDEX_CONSTRUCT] < before->cut[KLAPOUZEN_CUT_INDEX_CONSTRUCT]);
+    else
+        must(after->no_cut == 0 && memcmp(before->cut, after->cut, sizeof before->cut) == 0);
+}
+
+/* A data block: only files can be lost with it. */
+static void try_lost_data(const struct said *before, const struct said *after)
+{
+    const uint64_t *was = before->verdict, *is = after->verdict;
+    if (was[0] == 0)
+        must(is[0] == 0 || is[0] == 5);
+    else
+        must(is[0] == was[0] && (was[0] == 5 ? is[1] <= was[1] : is[1] == was[1]));
+}
+
+/* A block before the last standing construct's end, where there is no defect. */
+static void try_lost_block(const struct volume *volume, int side, uint64_t element, uint64_t standing,
+                           const struct said *before)
+{
+    struct said after;
+    uint64_t construct = 0;
+    struct walk walk = walk_to(&volume->parts[2 * side], element);
+    if (next_kind(&walk) != BLOCK)
+        return;
+    must(said_without(volume, side, element, &after) == 0);
+    must(before->no_cut == 0 || after.no_cut == before->no_cut);
+    must(after.no_cut != 0
+         || after.cut[KLAPOUZEN_CUT_INDEX_CONSTRUCT] <= before->cut[KLAPOUZEN_CUT_INDEX_CONSTRUCT]);
+    while (table[KLAPOUZEN_CONSTRUCT * construct + KLAPOUZEN_CONSTRUCT_KEPT] <= element)
+        construct++;
+    if (element >= table[KLAPOUZEN_CONSTRUCT * construct + KLAPOUZEN_CONSTRUCT_FIRST_BLOCK])
+        try_lost_index(side, construct, construct == standing - 1, before, &after);
+    else
+        try_lost_data(before, &after);
+}
+
+/* An element of the labels, a block behind them, and one more behind all. */
+static void try_lost(const struct volume *volume, int side, uint64_t n, uint64_t block_size, const struct said *before)
+{
+    struct said after;
+    uint64_t standing[1], elements[1];
+    must(said_without(volume, side, n % 4, &after) == KLAPOUZEN_NO_LABELS && after.no_cut == KLAPOUZEN_NO_LABELS);
+    must(klapouzen_constructs(SIDE(volume, side), block_size, table, standing) == 0);
+    if (standing[0] > 0) {
+        uint64_t kept = table[KLAPOUZEN_CONSTRUCT * (standing[0] - 1) + KLAPOUZEN_CONSTRUCT_KEPT];
+        try_lost_block(volume, side, 4 + n % (kept - 4), standing[0], before);
+    }
+    must(klapouzen_check_list(SIDE(volume, side), elements) == 0);
+    if (elements[0] == KLAPOUZEN_MAX_ELEMENTS)
+        return;
+    must(said_without(volume, side, elements[0], &after) == 0);
+    must(after.verdict[0] == (before->verdict[0] == 1 || side == 0 ? 1 : 2) && after.verdict[1] == 0);
+    must(after.no_cut == before->no_cut && memcmp(after.cut, before->cut, sizeof after.cut) == 0);
+}
+
+static void try_volume(const struct volume *volume, uint64_t n)
 {
     uint64_t label[KLAPOUZEN_LABEL], verdict[KLAPOUZEN_BREAK], cut[KLAPOUZEN_CUT];
     uint64_t refusal = judged(ANSWERED(klapouzen_check_labels(VOLUME(volume), FILLED(label)), label));
@@ -141,6 +279,10 @@ static void try_volume(const struct volume *volume)
         try_indexes(volume, 1, label);
         try_spelling(volume, 0, verdict, no_cut, cut);
         try_spelling(volume, 1, verdict, no_cut, cut);
+        struct said before = { { verdict[0], verdict[1] }, no_cut, { 0 } };
+        memcpy(before.cut, cut, sizeof cut);
+        try_lost(volume, 0, n, label[KLAPOUZEN_LABEL_BLOCK_SIZE], &before);
+        try_lost(volume, 1, n, label[KLAPOUZEN_LABEL_BLOCK_SIZE], &before);
     }
     if (no_cut == 0)
         try_cut(volume, cut, verdict[0] == 0);
@@ -149,15 +291,14 @@ static void try_volume(const struct volume *volume)
 int LLVMFuzzerTestOneInput(const uint8_t *input, size_t size)
 {
     struct slice rest = { input, size };
-    uint64_t block[KLAPOUZEN_BLOCK], n = take_number(&rest, 1);
+    uint64_t n = take_number(&rest, 1);
     struct volume volume;
     for (int i = 0; i < 4; i++)
         volume.parts[i] = take_slice(&rest);
     try_list(&volume, 0, n);
     try_list(&volume, 1, n);
-    if (ANSWERED(klapouzen_block(VOLUME(&volume), 'a', 'b', n % 2 ? 'a' : 'b', n, FILLED(block)), block) == 0)
-        must(block[KLAPOUZEN_BLOCK_OFFSET] + block[KLAPOUZEN_BLOCK_LENGTH]
-             <= volume.parts[2 * block[KLAPOUZEN_BLOCK_SIDE] + 1].length);
-    try_volume(&volume);
+    try_block(&volume, 0, n);
+    try_block(&volume, 1, n);
+    try_volume(&volume, n);
     return 0;
 }
