@@ -69,13 +69,31 @@ static void drop(struct slice slice)
 
 static void refusal_texts(void)
 {
-    for (uint64_t number = 0; number <= KLAPOUZEN_WRONG_BLOCK_COUNT; number++)
+    for (uint64_t number = 0; number <= KLAPOUZEN_UNREADABLE_BLOCK; number++)
         expect("a refusal without a text", strlen(klapouzen_refusal_text(number)) > 0, true);
-    expect("no refusal", strlen(klapouzen_refusal_text(KLAPOUZEN_WRONG_BLOCK_COUNT + 1)), 0);
+    expect("no refusal", strlen(klapouzen_refusal_text(KLAPOUZEN_UNREADABLE_BLOCK + 1)), 0);
     expect("no refusal", strlen(klapouzen_refusal_text(UINT64_MAX)), 0);
 }
 
 /* ---- The smallest ---- */
+
+/* Of one byte: a mark, an unreadable block, or no element. */
+static void smallest_elements(void)
+{
+    for (int kind = 0; kind < 256; kind++) {
+        uint8_t list[1] = { (uint8_t)kind };
+        uint64_t wanted = kind == 1 || kind == 3 ? 0 : 1;
+        expect("a list of a byte", klapouzen_check_list(list, 1, NONE, filled()), wanted);
+        expect("its count", out[0], wanted == 0 ? 1 : 0);
+        expect("a byte in its store", klapouzen_check_list(list, 1, list, 1, filled()), 1);
+        expect("its fronts", klapouzen_keep(list, 1, NONE, 1, filled()), wanted);
+        expect("of the list", out[KLAPOUZEN_KEPT_LIST], wanted == 0 ? 1 : 0);
+        expect("of the store", out[KLAPOUZEN_KEPT_STORE], 0);
+        expect("its block", klapouzen_block(list, 1, NONE, NONE, NONE, 'a', 'b', 'a', 0, filled()),
+               wanted == 1 ? 1 : kind == 1 ? 2 : 19);
+        expect_zeros("its place", KLAPOUZEN_BLOCK);
+    }
+}
 
 static void smallest_lists(void)
 {
@@ -172,13 +190,22 @@ static void keep_again(const char *what, struct slice list, struct slice store, 
     expect(what, out[KLAPOUZEN_KEPT_STORE], store_kept);
 }
 
-static void list_of(const char *what, uint64_t blocks, size_t length, uint64_t marks, uint64_t wanted)
+/* A block that the drive couldn't read. */
+static void lost_block(struct tape *tape)
+{
+    put_byte(&tape->list, 3, 1);
+    tape->elements++;
+}
+
+static void list_of(const char *what, uint64_t blocks, size_t length, uint64_t marks, uint64_t lost, uint64_t wanted)
 {
     struct tape tape = { 0 };
     for (uint64_t i = 0; i < blocks; i++)
         tape_filled_block(&tape, 'x', length);
     for (uint64_t i = 0; i < marks; i++)
         tape_mark(&tape);
+    for (uint64_t i = 0; i < lost; i++)
+        lost_block(&tape);
     struct slice list = guarded(&tape.list), store = guarded(&tape.store);
     expect(what, klapouzen_check_list(SLICE(list), SLICE(store), filled()), wanted);
     expect(what, out[0], wanted == 0 ? tape.elements : 0);
@@ -193,24 +220,31 @@ static void list_of(const char *what, uint64_t blocks, size_t length, uint64_t m
 
 static void largest_lists(void)
 {
-    list_of("65,536 marks", 0, 0, 65536, 0);
-    list_of("65,537 marks", 0, 0, 65537, 1);
-    list_of("65,536 blocks, 16 MiB", 65536, 256, 0, 0);
-    list_of("65,537 blocks", 65537, 1, 0, 1);
-    list_of("16 blocks of 1 MiB", 16, 1048576, 0, 0);
-    list_of("17 blocks of 1 MiB", 17, 1048576, 0, 1);
-    list_of("a block of 1 MiB and a byte", 1, 1048577, 0, 1);
+    list_of("65,536 marks", 0, 0, 65536, 0, 0);
+    list_of("65,537 marks", 0, 0, 65537, 0, 1);
+    list_of("65,536 blocks, 16 MiB", 65536, 256, 0, 0, 0);
+    list_of("65,537 blocks", 65537, 1, 0, 0, 1);
+    list_of("16 blocks of 1 MiB", 16, 1048576, 0, 0, 0);
+    list_of("17 blocks of 1 MiB", 17, 1048576, 0, 0, 1);
+    list_of("a block of 1 MiB and a byte", 1, 1048577, 0, 0, 1);
+    list_of("65,536 unreadable blocks", 0, 0, 0, 65536, 0);
+    list_of("65,537 unreadable blocks", 0, 0, 0, 65537, 1);
+    list_of("65,536 elements of three kinds, 16 MiB", 16, 1048576, 32760, 32760, 0);
+    list_of("65,537 elements of three kinds", 16, 1048576, 32760, 32761, 1);
 }
 
-/* As many constructs as a list can hold, each with an index of a byte. */
-static void most_constructs(void)
+/* As many constructs as a list can hold, each with an index of a byte or with an unreadable block. */
+static void most_constructs(bool lost)
 {
     struct tape tape = { 0 };
     for (int i = 0; i < 4; i++)
         tape_mark(&tape);
     while (tape.elements + 3 <= KLAPOUZEN_MAX_ELEMENTS) {
         tape_mark(&tape);
-        tape_filled_block(&tape, 'x', 1);
+        if (lost)
+            lost_block(&tape);
+        else
+            tape_filled_block(&tape, 'x', 1);
         tape_mark(&tape);
     }
     struct slice list = guarded(&tape.list), store = guarded(&tape.store);
@@ -221,9 +255,12 @@ static void most_constructs(void)
     const uint32_t *last = room + (size_t)KLAPOUZEN_CONSTRUCT * 21843;
     expect("the last's first block", last[KLAPOUZEN_CONSTRUCT_FIRST_BLOCK], 65534);
     expect("its elements", last[KLAPOUZEN_CONSTRUCT_KEPT], 65536);
-    expect("its text's end", last[KLAPOUZEN_CONSTRUCT_END], 21844);
+    expect("its text's begin", last[KLAPOUZEN_CONSTRUCT_BEGIN], lost ? 0 : 21843);
+    expect("its text's end", last[KLAPOUZEN_CONSTRUCT_END], lost ? 0 : 21844);
     expect("the table's rest", last[KLAPOUZEN_CONSTRUCT], 0xa5a5a5a5);
-    expect("the last index", klapouzen_index(SLICE(list), SLICE(store), GIVEN, 'a', 21843, filled()), 4);
+    expect("the last index", klapouzen_index(SLICE(list), SLICE(store), GIVEN, 'a', 21843, filled()),
+           lost ? 19 : 4);
+    expect_zeros("its header", KLAPOUZEN_CHOSEN);
     expect("one more", klapouzen_index(SLICE(list), SLICE(store), GIVEN, 'a', 21844, filled()), 2);
     guarded_free(room, sizeof table);
     drop(list);
@@ -481,15 +518,18 @@ static void largest_indexes(void)
 
 /* ---- The largest volume ---- */
 
-/* 65,536 elements on each side and a store of nearly 16 MiB. */
-static void largest_volume(void)
+/* 65,536 elements on each side, and a store of nearly 16 MiB or none of its data blocks readable. */
+static void largest_volume(bool lost)
 {
     struct sample sample;
     sample_begin(&sample, 4096);
     for (int side = 1; side >= 0; side--) {
         struct tape *tape = &sample.sides[side];
         while (tape->elements + 3 < KLAPOUZEN_MAX_ELEMENTS)
-            tape_filled_block(tape, 'x', 255);
+            if (lost)
+                lost_block(tape);
+            else
+                tape_filled_block(tape, 'x', 255);
         sample_empty_index(&sample, side);
     }
     struct slice parts[4] = { guarded(&sample.sides[0].list), guarded(&sample.sides[0].store),
@@ -500,11 +540,37 @@ static void largest_volume(void)
     expect("break", out[KLAPOUZEN_BREAK_WHICH], 0);
     expect("rescue", klapouzen_rescue(PARTS, filled()), 0);
     expect("kept", out[KLAPOUZEN_CUT_DATA_KEPT], KLAPOUZEN_MAX_ELEMENTS);
+    expect("data block", klapouzen_block(PARTS, 'a', 'b', 'b', 65532, filled()), lost ? 19 : 0);
     expect("block", klapouzen_block(PARTS, 'a', 'b', 'b', 65534, filled()), 0);
     expect("mark", klapouzen_block(PARTS, 'a', 'b', 'b', 65535, filled()), 2);
     expect("past", klapouzen_block(PARTS, 'a', 'b', 'b', 65536, filled()), 2);
     for (int i = 0; i < 4; i++)
         drop(parts[i]);
+}
+
+/* An index of as many unreadable blocks as a side has room for: it stands, and nothing is known of it. */
+static void largest_lost_index(void)
+{
+    struct sample sample;
+    sample_begin(&sample, 4096);
+    struct tape *data = &sample.sides[1];
+    tape_mark(data);
+    while (data->elements + 1 < KLAPOUZEN_MAX_ELEMENTS)
+        lost_block(data);
+    tape_mark(data);
+    sample_empty_index(&sample, 0);
+    expect("its constructs", klapouzen_constructs(TAPE(*data), 4096, table, filled()), 0);
+    expect("their count", out[0], 1);
+    expect("its first block", table[KLAPOUZEN_CONSTRUCT_FIRST_BLOCK], 5);
+    expect("its elements", table[KLAPOUZEN_CONSTRUCT_KEPT], KLAPOUZEN_MAX_ELEMENTS);
+    expect("its begin", table[KLAPOUZEN_CONSTRUCT_BEGIN], data->store.length);
+    expect("its end", table[KLAPOUZEN_CONSTRUCT_END], data->store.length);
+    expect("the index", klapouzen_index(TAPE(*data), GIVEN, 'b', 0, filled()), 19);
+    expect("verdict", klapouzen_verdict(SAMPLE(&sample), filled()), 0);
+    expect("break", out[KLAPOUZEN_BREAK_WHICH], 3);
+    expect("its construct", out[KLAPOUZEN_BREAK_NUMBER], 0);
+    expect("rescue", klapouzen_rescue(SAMPLE(&sample), filled()), 13);
+    sample_free(&sample);
 }
 
 /* ---- ANSI labelled tapes ---- */
@@ -593,10 +659,31 @@ static void most_ansi_blocks(void)
     expect_ansi("another count", &tape, 18, 65532, 0);
 }
 
+/* The last of the most data blocks can't be read, or no element of the longest tape can. */
+static void lost_ansi_blocks(void)
+{
+    enum { BLOCKS = KLAPOUZEN_MAX_ELEMENTS - 9, LAST = 3 * 5 + 1 + 5 * (BLOCKS - 1) };
+    struct tape tape;
+    ansi_begin(&tape);
+    ansi_file(&tape, 1, BLOCKS, 18);
+    ansi_end(&tape);
+    tape.list.bytes[LAST] = 3;
+    memmove(tape.list.bytes + LAST + 1, tape.list.bytes + LAST + 5, tape.list.length - LAST - 5);
+    tape.list.length -= 4;
+    memmove(tape.store.bytes + 3 * 80, tape.store.bytes + 3 * 80 + 18, tape.store.length - 3 * 80 - 18);
+    tape.store.length -= 18;
+    expect_ansi("the last data block unreadable", &tape, 16, 65530, 0);
+    tape = (struct tape){ 0 };
+    while (tape.elements < KLAPOUZEN_MAX_ELEMENTS)
+        lost_block(&tape);
+    expect_ansi("65,536 unreadable blocks", &tape, 16, 0, 0);
+}
+
 static void largest_ansi(void)
 {
     most_ansi_files();
     most_ansi_blocks();
+    lost_ansi_blocks();
     ansi_blocks("no data blocks", 0, 0, 0, 9);
     ansi_blocks("data blocks of 17 bytes", 1, 17, 16, 4);
     ansi_blocks("data blocks of 18 bytes", 1, 18, 0, 10);
@@ -609,15 +696,19 @@ static void largest_ansi(void)
 int main(void)
 {
     refusal_texts();
+    smallest_elements();
     smallest_lists();
     smallest_texts();
     smallest_indexes();
     smallest_ansi();
     largest_lists();
-    most_constructs();
+    most_constructs(false);
+    most_constructs(true);
     largest_texts();
     largest_indexes();
-    largest_volume();
+    largest_volume(false);
+    largest_volume(true);
+    largest_lost_index();
     largest_ansi();
     return failures > 0;
 }

@@ -40,7 +40,7 @@ static const struct functions sides[2] = {
 
 /* ---- Answers ---- */
 
-enum { NUMBERS = 20, LENT = 4096, ROWS = 256, REFUSALS = KLAPOUZEN_WRONG_BLOCK_COUNT + 1 };
+enum { NUMBERS = 20, LENT = 4096, ROWS = 256, REFUSALS = KLAPOUZEN_UNREADABLE_BLOCK + 1 };
 
 struct answer {
     uint64_t refusal;
@@ -443,6 +443,20 @@ static void ansi_place_vector(const struct random_case *vector)
         guarded_free(parts[i].start, parts[i].length);
 }
 
+/* So many cases meet every refusal; fewer say nothing of the generator. */
+enum { ENOUGH = 1000 };
+
+static uint64_t print_refusals(uint64_t cases)
+{
+    uint64_t never = 0;
+    for (int i = 0; i < REFUSALS; i++) {
+        printf(" %d:%" PRIu64, i, refusals[i]);
+        never += refusals[i] == 0;
+    }
+    putchar('\n');
+    return cases < ENOUGH ? 0 : never;
+}
+
 int main(int count, char **words)
 {
     uint64_t cases = count > 1 ? strtoull(words[1], NULL, 10) : 10000;
@@ -461,8 +475,5 @@ int main(int count, char **words)
     }
     printf("%" PRIu64 " cases, %" PRIu64 " vectors, %" PRIu64 " calls, %" PRIu64 " differences; answers by refusal:",
            cases, vectors, calls, differences);
-    for (int i = 0; i < REFUSALS; i++)
-        printf(" %d:%" PRIu64, i, refusals[i]);
-    putchar('\n');
-    return differences > 0;
+    return print_refusals(cases) > 0 || differences > 0;
 }

@@ -1,7 +1,7 @@
 /*
  * What a caller gives outside its rule: 14, once for each cause that klapouzen.h
- * names, and once with nothing wrong. After every refusal all outputs are zero, and
- * no byte of a buffer is changed.
+ * names, and once with nothing wrong; and 19, which comes after it. After every
+ * refusal all outputs are zero, and no byte of a buffer is changed.
  */
 #include <ctype.h>
 #include <inttypes.h>
@@ -101,6 +101,46 @@ static void read_with(const struct volume_given *v)
            klapouzen_index(NONE, NONE, WORD(v->uuid), v->index, v->data, v->size, v->letter, 0, out), missing,
            KLAPOUZEN_CHOSEN);
 #undef TEXT
+}
+
+/* Four marks for the labels, an unreadable block, a mark, another one as an index, a mark. */
+static const uint8_t lost[] = { 1, 1, 1, 1, 3, 1, 3, 1 };
+
+#define LOST lost, sizeof lost, NONE
+#define LOST_AND_MORE lost, sizeof lost, lost, 1
+
+/* 19 comes behind 14, 1 and 2. */
+static void lose_with(const struct volume_given *v)
+{
+    int is_volume = v->refusal == 0;
+#define GIVEN WORD(v->uuid), v->index, v->data, v->size, v->letter
+    expect("index of an unreadable block", v->what, klapouzen_index(LOST, GIVEN, 0, out), is_volume ? 19 : 14,
+           KLAPOUZEN_CHOSEN);
+    expect("index, bad list", v->what, klapouzen_index(LOST_AND_MORE, GIVEN, 0, out), is_volume ? 1 : 14,
+           KLAPOUZEN_CHOSEN);
+    expect("index, missing", v->what, klapouzen_index(LOST, GIVEN, 1, out), is_volume ? 2 : 14, KLAPOUZEN_CHOSEN);
+#undef GIVEN
+}
+
+static void block_with(uint8_t letter, uint64_t number, uint64_t wanted)
+{
+    expect("block", "unreadable ones", klapouzen_block(LOST, LOST, 'a', 'b', letter, number, out), wanted,
+           KLAPOUZEN_BLOCK);
+    uint64_t refusal = wanted == 14 ? 14 : KLAPOUZEN_BAD_LIST;
+    expect("block", "the index side's list", klapouzen_block(LOST_AND_MORE, LOST, 'a', 'b', letter, number, out),
+           refusal, KLAPOUZEN_BLOCK);
+    expect("block", "the data side's list", klapouzen_block(LOST, LOST_AND_MORE, 'a', 'b', letter, number, out),
+           refusal, KLAPOUZEN_BLOCK);
+}
+
+static void blocks_with(void)
+{
+    for (uint64_t number = 0; number <= sizeof lost; number++) {
+        uint64_t wanted = number == 4 || number == 6 ? KLAPOUZEN_UNREADABLE_BLOCK : KLAPOUZEN_MISSING;
+        block_with('a', number, wanted);
+        block_with('b', number, wanted);
+        block_with('c', number, 14);
+    }
 }
 
 /* Each byte in each place of a UUID, of no index and of one: no digit, a digit of either case, or another one. */
@@ -227,6 +267,9 @@ static void ansi_with(void)
     memset(label, 0xff, sizeof label);
     read_ansi("nothing", NONE, NONE, KLAPOUZEN_BAD_ANSI_LABELS);
     read_ansi("a mark", (const uint8_t *)"\1", 1, NONE, KLAPOUZEN_BAD_ANSI_LABELS);
+    read_ansi("an unreadable block", (const uint8_t *)"\3", 1, NONE, KLAPOUZEN_BAD_ANSI_LABELS);
+    read_ansi("an unreadable block with bytes", (const uint8_t *)"\3", 1, label, sizeof label, KLAPOUZEN_BAD_LIST);
+    read_ansi("another kind", (const uint8_t *)"\4", 1, NONE, KLAPOUZEN_BAD_LIST);
     read_ansi("a block", block, sizeof block, label, sizeof label, KLAPOUZEN_BAD_ANSI_LABELS);
     read_ansi("a block without bytes", block, sizeof block, NONE, KLAPOUZEN_BAD_LIST);
     read_ansi("bytes without a block", NONE, label, sizeof label, KLAPOUZEN_BAD_LIST);
@@ -239,9 +282,11 @@ int main(void)
     fill();
     ansi_with();
     digits_with();
+    blocks_with();
     for (size_t i = 0; i < sizeof volumes / sizeof volumes[0]; i++) {
         read_with(&volumes[i]);
         find_with(&volumes[i]);
+        lose_with(&volumes[i]);
     }
     for (size_t i = 0; i < sizeof vol1s / sizeof vol1s[0]; i++)
         expect("write_vol1", vol1s[i].what,

@@ -67,12 +67,20 @@ static void put_deepest_construct(int side)
     sample_index(&volume, side, &index);
 }
 
-/* Many constructs on both sides, the last ones with the deepest index. */
+static void put_unreadable(struct tape *tape)
+{
+    put_byte(&tape->list, 3, 1);
+    tape->elements++;
+}
+
+/* Many constructs on both sides, the last ones with the deepest index; unreadable blocks where nothing needs them. */
 static void make_volume(void)
 {
     sample_begin(&volume, 4096);
     for (int i = 0; i < CONSTRUCTS - 1; i++) {
         tape_filled_block(&volume.sides[1], 'x', 4096);
+        put_unreadable(&volume.sides[1]);
+        put_unreadable(&volume.sides[0]);
         volume.generation++;
         sample_unmount(&volume);
     }
@@ -99,6 +107,7 @@ static void call_lists(void)
     answered(klapouzen_check_list(TAPE(*data), out));
     answered(klapouzen_keep(TAPE(*data), 1000, out));
     answered(klapouzen_block(SAMPLE(&volume), 'a', 'b', 'b', 4, out));
+    must(klapouzen_block(SAMPLE(&volume), 'a', 'b', 'b', 5, out) == KLAPOUZEN_UNREADABLE_BLOCK);
     answered(klapouzen_constructs(TAPE(*data), 4096, table, out));
 }
 
