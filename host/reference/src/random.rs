@@ -945,25 +945,31 @@ impl Writer<'_> {
         if self.fault() {
             damage_text(self.random, &mut text);
         }
-        // White space that fills the last block: an unreadable one behind it is no defect.
-        if label.block_size <= 5_000 && self.random.one_in(10) {
-            text.resize(text.len().next_multiple_of(label.block_size as usize), b' ');
-        }
-        let mut construct = TapeSide::default();
-        construct.index(&text, label.block_size);
-        if self.fault() {
-            self.spoil_construct(&mut construct);
-        }
-        // Without faults only an index that no verdict asks for may be lost.
-        let is_asked_for = on_data || self.is_last;
-        if self.is_lost() && (!is_asked_for || (self.faults > 0 && self.random.one_in(2))) {
-            let may_spoil = self.faults > 0;
-            lose_block(self.random, &mut construct.elements, may_spoil);
-        }
+        let mut construct = self.construct_of(text, on_data || self.is_last);
         self.side(letter).elements.append(&mut construct.elements);
         if on_data {
             self.data_indexes.push(place);
         }
+    }
+
+    /// The construct of a text, as it is read back. Without faults it is whole where
+    /// a verdict asks for it.
+    fn construct_of(&mut self, mut text: Vec<u8>, is_asked_for: bool) -> TapeSide {
+        let block_size = self.label.block_size;
+        // White space that fills the last block: an unreadable one behind it is no defect.
+        if block_size <= 5_000 && self.random.one_in(10) {
+            text.resize(text.len().next_multiple_of(block_size as usize), b' ');
+        }
+        let mut construct = TapeSide::default();
+        construct.index(&text, block_size);
+        if self.fault() {
+            self.spoil_construct(&mut construct);
+        }
+        if self.is_lost() && (!is_asked_for || (self.faults > 0 && self.random.one_in(2))) {
+            let may_spoil = self.faults > 0;
+            lose_block(self.random, &mut construct.elements, may_spoil);
+        }
+        construct
     }
 
     fn spoil_header(&mut self, header: &mut Header) {
