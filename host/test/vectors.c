@@ -241,6 +241,8 @@ static const struct vector_file {
     { VOLUMES, CASES, "../crates/bench_cases/data/vectors", read_volume },
     { VOLUMES, CASES, "../crates/bench_cases/data/spellings", read_volume },
     { VOLUMES, CASES, "../crates/bench_cases/data/numbers", read_volume },
+    { VOLUMES, CASES, "../crates/bench_cases/data/kinds", read_volume },
+    { VOLUMES, CASES, "../crates/bench_cases/data/unreadable", read_volume },
     { LABELS, CASES, "../crates/label_cases/data/read_vectors", read_label },
     { LABELS, CASES, "../crates/label_cases/data/read_example", read_label },
     { LABELS, CASES, "../crates/label_cases/data/read_structure", read_label },
@@ -264,6 +266,7 @@ static const struct vector_file {
     { TEXTS, LINES, "../crates/xml_cases/data/vectors", read_text_line },
     { ANSI_TAPES, CASES, "../crates/ansi_cases/data/vectors", read_ansi },
     { ANSI_PLACES, CASES, "../crates/ansi_cases/data/places", read_ansi_place },
+    { ANSI_PLACES, CASES, "../crates/ansi_cases/data/unreadable", read_ansi_place },
 };
 
 static void each_of_file(const struct vector_file *from, void (*use)(const struct random_case *vector))

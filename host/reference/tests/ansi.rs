@@ -228,9 +228,8 @@ fn data(name: &str) -> Vec<u8> {
 }
 
 /// List and store; the refusal where there is room enough, and the place.
-#[test]
-fn places_are_answered() {
-    let whole = data("places");
+fn check_places(name: &str) {
+    let whole = data(name);
     let mut file = CaseFile(&whole);
     for case in 0..file.number() {
         let (list, store) = (file.bytes(), file.bytes());
@@ -249,6 +248,12 @@ fn places_are_answered() {
         assert_eq!(ansi::place(side).unwrap_or(0) as u64, place, "case {case}");
     }
     assert!(file.0.is_empty());
+}
+
+#[test]
+fn places_are_answered() {
+    check_places("places");
+    check_places("unreadable");
 }
 
 /// List, store and lent buffer; the refusal, the files and the buffer after.
