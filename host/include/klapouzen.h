@@ -4,10 +4,12 @@
  * An LTFS volume has two partitions, the index partition and the data partition,
  * each with a letter of its own, a to z (in numbers: its ASCII code). A partition
  * that was read to disk is a list and a store. The list has an element for each
- * file mark, a byte 1, and for each block, a byte 2 and four bytes of length,
- * high byte first. The store holds the blocks' bytes in the same order with
- * nothing between. An element's number is its place in the list, from 0; file
- * marks count too. Every block number below is such a number.
+ * file mark, a byte 1; for each block, a byte 2 and four bytes of length, high
+ * byte first; and for each unreadable block, one that the drive could not read, a
+ * byte 3 and nothing more. The store holds the blocks' bytes in the same order
+ * with nothing between, and nothing of an unreadable block. An element's number
+ * is its place in the list, from 0; file marks and unreadable blocks count too.
+ * Every block number below is such a number.
  *
  * A partition's first four elements are its labels: the VOL1 block, a mark, the
  * block with the LTFS label, a mark. Data and indexes follow in turns: a run of
@@ -18,6 +20,13 @@
  * block, a block of an index that is shorter than the block size and not its
  * last. Constructs that are closed before the first defect stand; they are
  * numbered from 0 on each partition.
+ *
+ * An unreadable block may stand in any run of blocks and is no defect there: how
+ * long it was is not known, so it is taken for neither too long nor too short.
+ * It is a block of its index, so that an index of unreadable blocks alone is not
+ * without a block, and a short block before it is not the last. A construct with
+ * an unreadable block stands and has its number, but no text: its index can't be
+ * sound, whatever its other blocks hold.
  *
  * A volume has a UUID, 8-4-4-4-12 hex digits, which both labels and every index
  * of it spell. Two UUIDs are the same when the 16 bytes that they spell are the
@@ -108,7 +117,8 @@ enum klapouzen_refusal {
     KLAPOUZEN_TOO_LONG = 15,
     KLAPOUZEN_BAD_ANSI_LABELS = 16,
     KLAPOUZEN_END_OF_VOLUME = 17,
-    KLAPOUZEN_WRONG_BLOCK_COUNT = 18
+    KLAPOUZEN_WRONG_BLOCK_COUNT = 18,
+    KLAPOUZEN_UNREADABLE_BLOCK = 19
 };
 
 /* A refusal's text in a few words; an empty one for a number that is none. */
@@ -133,7 +143,8 @@ static inline const char *klapouzen_refusal_text(uint64_t refusal)
         "text too long, or too many entries or extents",
         "not an ANSI labelled tape: its layout or a label is wrong",
         "a file that goes on on another tape: EOV1 in the place of EOF1",
-        "EOF1's block count is not that of the data blocks present"
+        "EOF1's block count is not that of the data blocks present",
+        "an unreadable block"
     };
     return refusal < sizeof texts / sizeof texts[0] ? texts[refusal] : "";
 }
@@ -142,7 +153,7 @@ static inline const char *klapouzen_refusal_text(uint64_t refusal)
 
 /*
  * Checks a list with its store. *count: the number of elements.
- * Refusals: 1 (another byte than 1 and 2 where an element begins, an element
+ * Refusals: 1 (another byte than 1, 2 and 3 where an element begins, an element
  * that is cut off, a block of no bytes, or more of anything than the bounds
  * above; or the blocks' lengths do not add up to the store's).
  */
@@ -170,7 +181,7 @@ uint64_t klapouzen_keep(const uint8_t *list, size_t list_length,
  * Where the block with this element number lies on the partition `letter`.
  * Refusals: 14 (index_letter or data_letter outside a to z, or both the same;
  * `letter` neither of them), 1 (index side first), 2 (a mark, or no such
- * element).
+ * element), 19 (an unreadable block).
  */
 enum klapouzen_block_place {
     KLAPOUZEN_BLOCK_SIDE,   /* 0: in index_store, 1: in data_store */
@@ -192,6 +203,11 @@ uint64_t klapouzen_block(const uint8_t *index_list, size_t index_list_length,
  * row of KLAPOUZEN_CONSTRUCT numbers at the front of the table, the first one's
  * first; the rest of the table is unchanged. It has room for the 21,845 rows
  * that a list of the most elements can need, and must have it for every list.
+ * A construct with an unreadable block has no text: its begin and its end are the
+ * same, how many bytes of the store stand before its first block, and no other
+ * row has them the same. What was read of such an index is not handed out, since
+ * it might be a lawful text that says something else. klapouzen_index answers 19
+ * for it; klapouzen_read_index, given the row's empty text, 4.
  * Refusals: 14 (block_size outside 4,096 to 1,048,576), 1.
  */
 enum klapouzen_construct_row {
@@ -305,8 +321,9 @@ uint64_t klapouzen_write_label(uint8_t *buffer, size_t buffer_length,
  * what klapouzen_read_label says of the index partition's label, but offsets
  * count from the beginning of index_store. The data partition's label may spell
  * the same UUID differently.
- * Refusals: 1, 9, 3, those of klapouzen_read_label, each of these four steps on
- * the index side first; then 8 (the two disagree).
+ * Refusals: 1, 9 (also for an unreadable block among the first four elements), 3,
+ * those of klapouzen_read_label, each of these four steps on the index side
+ * first; then 8 (the two disagree).
  */
 uint64_t klapouzen_check_labels(const uint8_t *index_list, size_t index_list_length,
                                 const uint8_t *index_store, size_t index_store_length,
@@ -435,8 +452,8 @@ uint64_t klapouzen_read_all_rows(const uint8_t *text, size_t length,
  * that the generation is out[KLAPOUZEN_CHOSEN_HEADER +
  * KLAPOUZEN_INDEX_GENERATION]. The offset of the text counts from the store's
  * beginning, that of the time, KLAPOUZEN_INDEX_TIME, from the text's.
- * Refusals: 14 (as klapouzen_read_index), 1, 2 (no such construct), then those
- * of klapouzen_read_index.
+ * Refusals: 14 (as klapouzen_read_index), 1, 2 (no such construct), 19 (one with
+ * an unreadable block), then those of klapouzen_read_index.
  */
 enum klapouzen_chosen {
     KLAPOUZEN_CHOSEN_FIRST_BLOCK, /* element number of its first block */
@@ -458,7 +475,8 @@ uint64_t klapouzen_index(const uint8_t *list, size_t list_length,
  * Where the byte at a position of a file is, by the file's rows, its length and
  * the block size. A byte in no row is a zero that is not stored: all of out is
  * 0. rows_length counts numbers. What is on the tape is not looked at:
- * klapouzen_block says whether there is such a block, and how long it is.
+ * klapouzen_block says whether there is such a block, whether it was read, and
+ * how long it is.
  * Refusals: 14 (block_size outside 4,096 to 1,048,576, a row's letter outside a
  * to z, or rows_length no multiple of KLAPOUZEN_ROW), 15 (over 1,024 rows), 11
  * (a row without bytes, one that begins behind its first block or ends behind
@@ -490,7 +508,7 @@ uint64_t klapouzen_byte_at(const uint64_t *rows, size_t rows_length,
  *   4  the index partition's last index is not sound, does not point back at
  *      the data partition's last, or has a lower generation
  *   5  an extent of a file of that index does not lie on the tape: one of its
- *      blocks is no data block, or too short for it
+ *      blocks is no data block, unreadable, or too short for it
  * Refusals: those of klapouzen_check_labels.
  */
 enum klapouzen_break {
@@ -550,7 +568,8 @@ uint64_t klapouzen_rescue(const uint8_t *index_list, size_t index_list_length,
  * Refusals: 1; then the one of the first element that can't stand where it does,
  * or of a tape that ends too early: 17 (an EOV1 label in the place of EOF1), 18
  * (an EOF1 label with all right but the number in its six digits), 16 (any other
- * cause); then 10 (buffer_length is below KLAPOUZEN_ANSI_FILE times the files).
+ * cause: an unreadable block can stand nowhere in the layout); then 10
+ * (buffer_length is below KLAPOUZEN_ANSI_FILE times the files).
  */
 enum klapouzen_ansi_file {
     KLAPOUZEN_ANSI_ID = 0,             /* the file ID, 17 bytes, any */
