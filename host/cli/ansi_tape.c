@@ -14,7 +14,7 @@ static void read_elements(struct ansi_tape *tape, const struct side *side)
     tape->elements = allocate(tape->count * sizeof *tape->elements);
     for (uint64_t i = 0; i < tape->count; i++) {
         struct element next = take_element(&list);
-        tape->elements[i].is_mark = next.is_mark;
+        tape->elements[i].kind = next.kind;
         tape->elements[i].block = part_of(side->store, at, next.length);
         at += next.length;
     }
@@ -25,7 +25,7 @@ static uint64_t whole_files_end(const struct ansi_tape *tape)
 {
     uint64_t marks = 0, end = 0;
     for (uint64_t i = 0; i < tape->place; i++)
-        if (tape->elements[i].is_mark && ++marks % 3 == 0)
+        if (tape->elements[i].kind == MARK && ++marks % 3 == 0)
             end = i + 1;
     return end;
 }
@@ -64,10 +64,21 @@ void ansi_close(struct ansi_tape *tape)
     free(tape->rows);
 }
 
+/* An LTFS volume begins with a VOL1 too, but has no HDR1. */
+static bool is_unreadable_behind_header(const struct ansi_tape *tape)
+{
+    if (tape->place >= tape->count || tape->elements[tape->place].kind != UNREADABLE_BLOCK)
+        return false;
+    for (uint64_t i = 0; i < tape->place; i++)
+        if (begins_with(tape->elements[i].block, "HDR1"))
+            return true;
+    return false;
+}
+
 bool is_labelled(const struct ansi_tape *tape)
 {
     return tape->refusal == 0 || tape->refusal == KLAPOUZEN_END_OF_VOLUME
-        || tape->refusal == KLAPOUZEN_WRONG_BLOCK_COUNT;
+        || tape->refusal == KLAPOUZEN_WRONG_BLOCK_COUNT || is_unreadable_behind_header(tape);
 }
 
 /* ---- Labels ---- */
@@ -138,7 +149,7 @@ struct ansi_file ansi_file(const struct ansi_tape *tape, uint64_t number)
         .record_length = number_in((struct bytes){ row + KLAPOUZEN_ANSI_RECORD_LENGTH, 5 }),
         .element = first_element(row),
     };
-    for (uint64_t i = file.element; !tape->elements[i].is_mark; i++) {
+    for (uint64_t i = file.element; tape->elements[i].kind != MARK; i++) {
         file.blocks++;
         file.bytes += tape->elements[i].block.length;
     }
@@ -164,9 +175,9 @@ static struct labels labels_of(const struct ansi_tape *tape, uint64_t number)
     struct ansi_file file = ansi_file(tape, number);
     struct labels labels = { 0 };
     const struct ansi_element *elements = tape->elements;
-    for (uint64_t i = file.element - 1; i > 0 && !elements[i - 1].is_mark; i--)
+    for (uint64_t i = file.element - 1; i > 0 && elements[i - 1].kind != MARK; i--)
         note_label(labels.headers, "HDR", elements[i - 1].block);
-    for (uint64_t i = file.element + file.blocks + 1; !elements[i].is_mark; i++)
+    for (uint64_t i = file.element + file.blocks + 1; elements[i].kind != MARK; i++)
         note_label(labels.trailers, "EOF", elements[i].block);
     return labels;
 }

@@ -8,9 +8,9 @@
 
 #include "volume.h"
 
-/* An element: a mark, or a block and its bytes. */
+/* An element and the bytes of its block, which are none but of a block that was read. */
 struct ansi_element {
-    bool is_mark;
+    enum element_kind kind;
     struct bytes block;
 };
 
@@ -26,7 +26,7 @@ struct ansi_tape {
 void ansi_open(struct ansi_tape *tape, const struct side *side);
 void ansi_close(struct ansi_tape *tape);
 
-/* Whether it is plainly such a tape: before an EOV1 or a wrong count all labels are right. */
+/* Whether it is plainly such a tape: all labels are right before an EOV1, a wrong count, or an unreadable block behind a HDR1. */
 bool is_labelled(const struct ansi_tape *tape);
 
 /* ---- Labels ---- */

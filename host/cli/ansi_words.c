@@ -53,9 +53,9 @@ static enum state state_behind(enum state state, const struct ansi_element *elem
     case HEADER_LABELS:
     case DATA_BLOCKS:
     case TRAILER_LABELS:
-        return element->is_mark ? state + 1 : state;
+        return element->kind == MARK ? state + 1 : state;
     case TRAILER_MARK:
-        return element->is_mark ? LAST_MARK : HDR1;
+        return element->kind == MARK ? LAST_MARK : HDR1;
     case LAST_MARK:
         return LAST_MARK;
     default:
@@ -68,7 +68,7 @@ static struct walk walk_to_place(const struct ansi_tape *tape)
     struct walk walk = { .state = NOTHING };
     for (uint64_t i = 0; i < tape->place; i++) {
         const struct ansi_element *element = &tape->elements[i];
-        if (walk.state == DATA_BLOCKS && !element->is_mark)
+        if (walk.state == DATA_BLOCKS && element->kind == BLOCK)
             walk.blocks++;
         walk.state = state_behind(walk.state, element);
         walk.before = element->block;
@@ -117,8 +117,10 @@ static bool is_known(struct bytes block)
 static void put_element(FILE *out, const struct ansi_element *element)
 {
     struct bytes block = element->block;
-    if (element->is_mark) {
+    if (element->kind == MARK) {
         fputs("a mark", out);
+    } else if (element->kind == UNREADABLE_BLOCK) {
+        fputs("an unreadable block", out);
     } else if (block.length == ANSI_LABEL && is_known(block)) {
         put_name(out, block);
     } else {
@@ -349,9 +351,9 @@ static bool put_wrong(FILE *out, const struct ansi_tape *tape, const struct walk
     struct bytes block = element->block;
     if (walk->state == LAST_MARK)
         return put_behind(out, tape);
-    if (walk->state == DATA_BLOCKS)
-        return !element->is_mark && put_data_block(out, block.length);
-    if (element->is_mark || !could_begin(walk->state, block))
+    if (walk->state == DATA_BLOCKS && element->kind != UNREADABLE_BLOCK)
+        return element->kind == BLOCK && put_data_block(out, block.length);
+    if (element->kind != BLOCK || !could_begin(walk->state, block))
         return put_expected(out, walk->state, element);
     if (block.length == ANSI_LABEL)
         return put_label(out, tape, walk, element);

@@ -7,9 +7,12 @@
 void assess_lists(const struct volume *volume, struct assessment *found)
 {
     *found = (struct assessment){ 0 };
-    for (int side = INDEX; side <= DATA; side++)
-        found->malformed[side] =
-            klapouzen_check_list(SIDE(&volume->sides[side]), &found->elements[side]) != 0;
+    for (int side = INDEX; side <= DATA; side++) {
+        const struct side *tape = &volume->sides[side];
+        found->malformed[side] = klapouzen_check_list(SIDE(tape), &found->elements[side]) != 0;
+        if (!found->malformed[side])
+            found->unreadable[side] = count_unreadable(tape->list);
+    }
 }
 
 void assess(const struct volume *volume, struct assessment *found)
@@ -25,6 +28,11 @@ void assess(const struct volume *volume, struct assessment *found)
 bool is_consistent(const struct assessment *found)
 {
     return found->refusal == 0 && found->verdict[KLAPOUZEN_BREAK_WHICH] == 0;
+}
+
+bool has_unreadable(const struct assessment *found)
+{
+    return found->unreadable[INDEX] > 0 || found->unreadable[DATA] > 0;
 }
 
 uint64_t kept_elements(const struct assessment *found, int side)
@@ -75,4 +83,20 @@ void print_cut(FILE *out, const struct assessment *found)
     const uint64_t kept[] = { kept_elements(found, INDEX), kept_elements(found, DATA) };
     print_kept(out, kept, found->elements);
     fprintf(out, ", generation %" PRIu64, found->cut[KLAPOUZEN_CUT_GENERATION]);
+}
+
+void print_unreadable_blocks(FILE *out, const struct assessment *found)
+{
+    static const char *const sides[] = { " on the index side", " on the data side" };
+    bool is_first = true;
+    for (int side = INDEX; side <= DATA; side++) {
+        if (found->unreadable[side] == 0)
+            continue;
+        if (is_first)
+            print_counted(out, found->unreadable[side], "unreadable block", "unreadable blocks");
+        else
+            fprintf(out, ", %s", grouped(found->unreadable[side]));
+        fputs(sides[side], out);
+        is_first = false;
+    }
 }

@@ -10,16 +10,19 @@ struct assessment {
     uint64_t verdict[KLAPOUZEN_BREAK];
     bool has_cut;
     uint64_t cut[KLAPOUZEN_CUT];
-    uint64_t elements[2]; /* of each list */
-    bool malformed[2];    /* the list: there are 0 then */
+    uint64_t elements[2];   /* of each list */
+    uint64_t unreadable[2]; /* how many of them are unreadable blocks */
+    bool malformed[2];      /* the list: there are 0 then */
 };
 
 void assess(const struct volume *volume, struct assessment *found);
 
-/* Only how many elements the lists have, and whether they are malformed. */
+/* Only what the lists say: whether they are malformed, and how many elements and unreadable blocks they have. */
 void assess_lists(const struct volume *volume, struct assessment *found);
 
 bool is_consistent(const struct assessment *found);
+
+bool has_unreadable(const struct assessment *found);
 
 /* Elements kept of a side by the cut; all where there is none. */
 uint64_t kept_elements(const struct assessment *found, int side);
@@ -35,5 +38,8 @@ void print_cut(FILE *out, const struct assessment *found);
 
 /* The same after other words: "cut keeps .." or "no cut leaves a consistent volume". */
 void print_cut_clause(FILE *out, const struct assessment *found);
+
+/* "1 unreadable block on the index side, 2 on the data side", where there are any. */
+void print_unreadable_blocks(FILE *out, const struct assessment *found);
 
 #endif

@@ -16,7 +16,8 @@ static const char help[] =
     "The UUID is printed as the index partition's label spells it; labels and indexes that\n"
     "spell it with capitals or without are of one volume all the same.\n"
     "An ANSI labelled tape on the index side is refused as no LTFS volume, but named: see\n"
-    "klapouzen ansi.\n"
+    "klapouzen ansi. Blocks that the drive could not read are counted for each side; a\n"
+    "cartridge can be consistent all the same, where nothing that counts is on them.\n"
     "\n"
     "  --json  one object a line, and no summary\n"
     "  --help  this text\n"
@@ -63,6 +64,11 @@ static void print_line(const struct volume *volume, const struct assessment *fou
         fputs("; ", stdout);
         print_cut_clause(stdout, found);
         fputs(has_two_spellings(&found->label) ? "; its labels spell the UUID differently" : "", stdout);
+    }
+    if (has_unreadable(found)) {
+        printf("; %s", colour_code(stdout, RED));
+        print_unreadable_blocks(stdout, found);
+        fputs(colour_code(stdout, PLAIN), stdout);
     }
     putchar('\n');
 }
@@ -114,18 +120,25 @@ static void print_json_verdict(const struct assessment *found)
     fputs("\"}", stdout);
 }
 
-/* Of each list; null where it is malformed. */
-static void print_json_elements(const struct assessment *found)
+/* A number of each list; null where the list is malformed. */
+static void print_json_sides(const struct assessment *found, const char *key, const uint64_t numbers[2])
 {
-    static const char *const keys[] = { ",\"elements\":{\"index\":", ",\"data\":" };
+    static const char *const names[] = { "{\"index\":", ",\"data\":" };
+    printf(",\"%s\":", key);
     for (int side = INDEX; side <= DATA; side++) {
-        fputs(keys[side], stdout);
+        fputs(names[side], stdout);
         if (found->malformed[side])
             fputs("null", stdout);
         else
-            printf("%" PRIu64, found->elements[side]);
+            printf("%" PRIu64, numbers[side]);
     }
     putchar('}');
+}
+
+static void print_json_elements(const struct assessment *found)
+{
+    print_json_sides(found, "elements", found->elements);
+    print_json_sides(found, "unreadable_blocks", found->unreadable);
 }
 
 static void print_json_cut(const struct assessment *found)
@@ -171,7 +184,13 @@ static void print_unreadable(const char *folder)
 
 /* ---- The command ---- */
 
-static enum outcome check_one(const char *folder, bool json)
+/* How many cartridges came to each outcome, and how many have unreadable blocks, which is no outcome. */
+struct tally {
+    int outcomes[OUTCOMES];
+    int holed;
+};
+
+static enum outcome check_one(const char *folder, bool json, struct tally *tally)
 {
     struct volume volume;
     struct assessment found;
@@ -183,13 +202,15 @@ static enum outcome check_one(const char *folder, bool json)
     assess(&volume, &found);
     clear_progress();
     (json ? print_object : print_line)(&volume, &found);
+    tally->holed += has_unreadable(&found);
     enum outcome outcome = outcome_of(&volume, &found);
     volume_close(&volume);
     return outcome;
 }
 
-static void print_summary(const int counts[OUTCOMES], int all)
+static void print_summary(const struct tally *tally, int all)
 {
+    const int *counts = tally->outcomes;
     int labelled = counts[LABELLED];
     printf("%d cartridge%s: %d consistent, %d to cut, %d without a cut, %d refused, %d unreadable",
            all, all == 1 ? "" : "s", counts[CONSISTENT], counts[CUTTABLE], counts[NO_CUT],
@@ -197,6 +218,8 @@ static void print_summary(const int counts[OUTCOMES], int all)
     if (labelled > 0)
         printf("; %d of the refused %s", labelled,
                labelled == 1 ? "is an ANSI labelled tape" : "are ANSI labelled tapes");
+    if (tally->holed > 0)
+        printf("; %d of all with unreadable blocks", tally->holed);
     putchar('\n');
 }
 
@@ -209,15 +232,15 @@ int run_check(struct words *words)
         return status;
     if (words->count == 0)
         return bad_use(help, "no folder given", "");
-    int counts[OUTCOMES] = { 0 };
+    struct tally tally = { .holed = 0 };
     for (int i = 0; i < words->count; i++) {
         show_progress(i, words->count);
-        counts[check_one(words->words[i], json)]++;
+        tally.outcomes[check_one(words->words[i], json, &tally)]++;
     }
     clear_progress();
     if (!json)
-        print_summary(counts, words->count);
-    if (counts[UNREADABLE] > 0)
+        print_summary(&tally, words->count);
+    if (tally.outcomes[UNREADABLE] > 0)
         return FAILED;
-    return counts[CONSISTENT] == words->count ? DONE : NOT_SO;
+    return tally.outcomes[CONSISTENT] == words->count ? DONE : NOT_SO;
 }

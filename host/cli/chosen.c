@@ -26,7 +26,7 @@ static uint64_t read_construct(const struct volume *volume, const struct constru
         return KLAPOUZEN_MISSING;
     const uint32_t *row = construct_row(standing, chosen->construct);
     chosen->place = construct_place(volume, &chosen->label, chosen->side, row);
-    return klapouzen_read_index(INDEX_AT(&chosen->label, &chosen->place), chosen->header);
+    return read_index_at(&chosen->label, &chosen->place, chosen->header);
 }
 
 int choose_index(const struct volume *volume, const struct choice *choice, struct chosen *chosen)

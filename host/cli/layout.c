@@ -6,12 +6,17 @@
 
 /* ---- Segments ---- */
 
+/* Room for one more in an array of so many, which grows by doubling. */
+static void *room_for(void *start, size_t count, size_t size)
+{
+    if ((count & (count - 1)) != 0)
+        return start;
+    return reallocate(start, (count == 0 ? 1 : 2 * count) * size);
+}
+
 static struct segment *add_segment(struct layout *layout, enum kind kind, uint64_t first)
 {
-    if ((layout->count & (layout->count - 1)) == 0) {
-        size_t room = layout->count == 0 ? 1 : 2 * layout->count;
-        layout->segments = reallocate(layout->segments, room * sizeof *layout->segments);
-    }
+    layout->segments = room_for(layout->segments, layout->count, sizeof *layout->segments);
     struct segment *segment = &layout->segments[layout->count++];
     *segment = (struct segment){ .kind = kind, .first = first };
     return segment;
@@ -26,48 +31,71 @@ static struct segment *segment_for(struct layout *layout, struct element element
         return last != NULL ? last : add_segment(layout, LABELS, number);
     if (last->kind == INDEX_RUN && !last->is_closed)
         return last;
-    if (element.is_mark)
+    if (element.kind == MARK)
         return add_segment(layout, INDEX_RUN, number);
     return last->kind == DATA_RUN ? last : add_segment(layout, DATA_RUN, number);
 }
 
-/* The defect that an element makes in its segment, if it makes one. */
+/*
+ * The defect that an element makes in its segment, if it makes one. An unreadable block makes none: only the short
+ * block before it does.
+ */
 static const char *defect_of(const struct segment *segment, struct element element,
-                             uint64_t length_before, uint64_t block_size)
+                             struct element before, uint64_t block_size)
 {
     if (segment->kind == LABELS)
         return NULL;
-    if (!element.is_mark && element.length > block_size)
+    if (element.length > block_size)
         return "a block longer than the block size";
     if (segment->kind != INDEX_RUN || segment->elements == 0)
         return NULL;
-    if (element.is_mark)
+    if (element.kind == MARK)
         return segment->blocks == 0 ? "an empty index run" : NULL;
-    if (segment->blocks > 0 && length_before != block_size)
+    if (before.kind == BLOCK && before.length != block_size)
         return "a short block before the last of an index run";
     return NULL;
 }
 
-static void add_element(struct segment *segment, struct element element)
+/* The next element, an unreadable block, to the stretch that it goes on, or to a new one. */
+static void add_unreadable(struct layout *layout, struct segment *segment)
 {
-    segment->is_closed = segment->kind == INDEX_RUN && element.is_mark && segment->elements > 0;
-    segment->elements++;
-    segment->blocks += !element.is_mark;
-    segment->bytes += element.length;
+    size_t count = layout->stretch_count;
+    struct stretch *last = segment->stretches > 0 ? &layout->stretches[count - 1] : NULL;
+    layout->unreadable++;
+    segment->unreadable++;
+    if (last != NULL && last->first + last->blocks == layout->elements) {
+        last->blocks++;
+        return;
+    }
+    if (segment->stretches++ == 0)
+        segment->first_stretch = count;
+    layout->stretches = room_for(layout->stretches, count, sizeof *layout->stretches);
+    layout->stretches[layout->stretch_count++] = (struct stretch){ layout->elements, 1 };
 }
 
-static void walk(struct layout *layout, struct bytes list, uint64_t block_size)
+static void add_element(struct layout *layout, struct segment *segment, struct element element)
 {
-    uint64_t length_before = 0;
+    bool is_mark = element.kind == MARK;
+    if (element.kind == UNREADABLE_BLOCK)
+        add_unreadable(layout, segment);
+    segment->is_closed = segment->kind == INDEX_RUN && is_mark && segment->elements > 0;
+    segment->elements++;
+    segment->blocks += !is_mark;
+    segment->bytes += element.length;
+    layout->elements++;
+}
+
+static void walk(struct layout *layout, struct bytes list)
+{
+    struct element before = { .kind = MARK };
     while (list.length > 0) {
         struct element element = take_element(&list);
         struct segment *segment = segment_for(layout, element);
-        const char *what = defect_of(segment, element, length_before, block_size);
+        const char *what = defect_of(segment, element, before, layout->block_size);
         if (what != NULL && layout->defect.what == NULL)
             layout->defect = (struct defect){ what, layout->elements };
-        add_element(segment, element);
-        length_before = element.length;
-        layout->elements++;
+        add_element(layout, segment, element);
+        before = element;
     }
 }
 
@@ -77,7 +105,7 @@ static void read_segment(struct segment *segment, const struct volume *volume,
                          const struct label *label, int side, const uint32_t *row)
 {
     struct place place = construct_place(volume, label, side, row);
-    segment->refusal = klapouzen_read_index(INDEX_AT(label, &place), segment->header);
+    segment->refusal = read_index_at(label, &place, segment->header);
 }
 
 static void read_standing(struct layout *layout, const struct volume *volume,
@@ -103,11 +131,14 @@ void layout_read(struct layout *layout, const struct volume *volume,
                  const struct assessment *found, int side)
 {
     uint64_t count;
-    *layout = (struct layout){ .has_labels = found->refusal == 0 };
+    bool has_labels = found->refusal == 0;
+    *layout = (struct layout){
+        .has_labels = has_labels,
+        .block_size = has_labels ? found->label.block_size : KLAPOUZEN_MAX_BLOCK_SIZE,
+    };
     if (klapouzen_check_list(SIDE(&volume->sides[side]), &count) != 0)
         return;
-    walk(layout, volume->sides[side].list,
-         layout->has_labels ? found->label.block_size : KLAPOUZEN_MAX_BLOCK);
+    walk(layout, volume->sides[side].list);
     if (layout->has_labels)
         read_standing(layout, volume, &found->label, side);
 }
@@ -115,6 +146,7 @@ void layout_read(struct layout *layout, const struct volume *volume,
 void layout_free(struct layout *layout)
 {
     free(layout->segments);
+    free(layout->stretches);
 }
 
 /* ---- Asking a layout ---- */
@@ -129,6 +161,23 @@ enum look look_of(const struct segment *segment)
     default:
         return segment->stands && segment->refusal == 0 ? LOOKS_INDEX : LOOKS_UNSOUND;
     }
+}
+
+uint64_t bytes_on_tape(const struct layout *layout, const struct segment *segment)
+{
+    return segment->bytes + segment->unreadable * layout->block_size;
+}
+
+uint64_t unreadable_between(const struct layout *layout, uint64_t from, uint64_t to)
+{
+    uint64_t count = 0;
+    for (size_t i = 0; i < layout->stretch_count; i++) {
+        const struct stretch *stretch = &layout->stretches[i];
+        uint64_t end = stretch->first + stretch->blocks;
+        uint64_t first = stretch->first > from ? stretch->first : from, last = end < to ? end : to;
+        count += first < last ? last - first : 0;
+    }
+    return count;
 }
 
 bool is_within(const struct segment *segment, uint64_t element)

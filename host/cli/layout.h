@@ -1,7 +1,7 @@
 /*
  * What a partition holds, for drawing: the label construct, data runs and index
- * runs, the first defect. Which constructs stand, and what their indexes say,
- * the library answers.
+ * runs, unreadable blocks, the first defect. Which constructs stand, and what
+ * their indexes say, the library answers.
  */
 #ifndef LAYOUT_H
 #define LAYOUT_H
@@ -13,7 +13,9 @@ enum kind { LABELS, DATA_RUN, INDEX_RUN };
 struct segment {
     enum kind kind;
     uint64_t first, elements; /* an index run's marks are its own */
-    uint64_t blocks, bytes;
+    uint64_t blocks, bytes;   /* the unreadable blocks too; the bytes are those of the store */
+    uint64_t unreadable;      /* how many of the blocks are */
+    size_t first_stretch, stretches; /* of unreadable blocks, in the layout */
     bool is_closed;           /* an index run with its closing mark */
     bool stands;
     uint64_t construct;       /* its number where it stands */
@@ -31,10 +33,18 @@ struct defect {
     uint64_t element;
 };
 
+/* Unreadable blocks next to each other in one segment. */
+struct stretch {
+    uint64_t first, blocks;
+};
+
 struct layout {
     struct segment *segments;
     size_t count;
-    uint64_t elements;
+    struct stretch *stretches; /* of all segments, by rising number */
+    size_t stretch_count;
+    uint64_t elements, unreadable;
+    uint64_t block_size; /* the largest that is allowed where the labels were refused */
     bool has_labels; /* that agree: without them no construct stands */
     struct defect defect;
 };
@@ -46,6 +56,12 @@ struct layout {
 void layout_read(struct layout *layout, const struct volume *volume,
                  const struct assessment *found, int side);
 void layout_free(struct layout *layout);
+
+/* The bytes of a segment as they were on tape, an unreadable block taken for a full one. */
+uint64_t bytes_on_tape(const struct layout *layout, const struct segment *segment);
+
+/* How many unreadable blocks are among the elements from..to, the last not included. */
+uint64_t unreadable_between(const struct layout *layout, uint64_t from, uint64_t to);
 
 /* Whether a segment has the element. */
 bool is_within(const struct segment *segment, uint64_t element);

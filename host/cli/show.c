@@ -12,11 +12,13 @@ static const char help[] =
     "usage: klapouzen show [--all] [--svg FILE] DIR\n"
     "\n"
     "Draws both partitions of a cartridge: labels, data runs, index constructs with\n"
-    "generation and back pointer, the first defect, and where the cut falls.\n"
-    "In the bars L is a label construct, = data, I a sound index, ? an index run with\n"
-    "none, ! the first defect; what a cut would drop is in small letters or -.\n"
+    "generation and back pointer, unreadable blocks, the first defect, and where the cut\n"
+    "falls. In the bars L is a label construct, = data, I a sound index, ? an index run\n"
+    "with none, X an unreadable block, ! the first defect; what a cut would drop is in\n"
+    "small letters or -.\n"
     "\n"
-    "  --all       every run, also where there are many\n"
+    "  --all       every run, and every stretch of unreadable blocks, also where there\n"
+    "              are many\n"
     "  --svg FILE  also writes the map as a picture to a new file\n"
     "  --help      this text\n"
     "\n"
@@ -27,8 +29,8 @@ static const char help[] =
 
 enum { BAR = 72 };
 
-/* The first defect is drawn over whatever it lies in. */
-enum { LOOKS_DEFECT = LOOKS_UNSOUND + 1 };
+/* Unreadable blocks are drawn over the run that they lie in, and the first defect over everything. */
+enum { LOOKS_UNREADABLE = LOOKS_UNSOUND + 1, LOOKS_DEFECT };
 
 static const struct mark {
     char kept, dropped;
@@ -36,7 +38,7 @@ static const struct mark {
 } marks[] = {
     [LOOKS_DATA] = { '=', '-', BLUE },      [LOOKS_LABELS] = { 'L', 'l', CYAN },
     [LOOKS_INDEX] = { 'I', 'i', GREEN },    [LOOKS_UNSOUND] = { '?', '?', YELLOW },
-    [LOOKS_DEFECT] = { '!', '!', RED },
+    [LOOKS_UNREADABLE] = { 'X', 'x', ON_RED }, [LOOKS_DEFECT] = { '!', '!', RED },
 };
 
 /* Sets the colour of a mark; what is dropped has it too, dimmed. */
@@ -58,7 +60,9 @@ static int look_between(const struct layout *layout, uint64_t from, uint64_t to)
     }
     bool defect = layout->defect.what != NULL && layout->defect.element >= from
         && layout->defect.element < to;
-    return defect ? LOOKS_DEFECT : (int)highest;
+    if (defect)
+        return LOOKS_DEFECT;
+    return unreadable_between(layout, from, to) > 0 ? LOOKS_UNREADABLE : (int)highest;
 }
 
 static void print_bar(const struct layout *layout, uint64_t kept)
@@ -85,6 +89,10 @@ static void print_index(const struct segment *segment)
     if (segment->refusal != 0) {
         printf("%srefused %" PRIu64 "%s: %s", colour_code(stdout, RED), segment->refusal,
                colour_code(stdout, PLAIN), klapouzen_refusal_text(segment->refusal));
+        if (segment->refusal == KLAPOUZEN_UNREADABLE_BLOCK) {
+            printf(", %s of ", grouped(segment->unreadable));
+            print_counted(stdout, segment->blocks, "block", "blocks");
+        }
         return;
     }
     printf("generation %" PRIu64 ", ", header[KLAPOUZEN_INDEX_GENERATION]);
@@ -102,6 +110,8 @@ static void print_blocks(const char *what, const struct segment *segment)
     printf("%-9s  ", what);
     print_counted(stdout, segment->blocks, "block", "blocks");
     fputs(", ", stdout);
+    if (segment->unreadable > 0)
+        printf("%s unreadable, ", grouped(segment->unreadable));
     print_counted(stdout, segment->bytes, "byte", "bytes");
 }
 
@@ -132,12 +142,35 @@ static void print_range(uint64_t first, uint64_t elements)
     printf("  %11s  ", range);
 }
 
-static void print_segment(const struct layout *layout, const struct segment *segment, bool is_kept)
+enum { FEW_STRETCHES = 8 };
+
+/* The unreadable blocks of a run: where there are many stretches of them, the first ones. */
+static void print_stretches(const struct layout *layout, const struct segment *segment, bool all)
+{
+    uint64_t left = segment->unreadable;
+    for (size_t i = 0; i < segment->stretches && (all || i < FEW_STRETCHES); i++) {
+        const struct stretch *stretch = &layout->stretches[segment->first_stretch + i];
+        print_range(stretch->first, stretch->blocks);
+        printf("%sunreadable%s ", colour_code(stdout, ON_RED), colour_code(stdout, PLAIN));
+        print_counted(stdout, stretch->blocks, "block", "blocks");
+        putchar('\n');
+        left -= stretch->blocks;
+    }
+    if (left == 0)
+        return;
+    printf("%s  %11s  unreadable ", colour_code(stdout, DIM), "...");
+    print_counted(stdout, left, "block", "blocks");
+    printf(" more; --all shows them%s\n", colour_code(stdout, PLAIN));
+}
+
+static void print_segment(const struct layout *layout, const struct segment *segment, bool is_kept,
+                          bool all)
 {
     set_colour(&marks[look_of(segment)], is_kept);
     print_range(segment->first, segment->elements);
     print_what(layout, segment);
     printf("%s\n", colour_code(stdout, PLAIN));
+    print_stretches(layout, segment, all);
     if (layout->defect.what != NULL && is_within(segment, layout->defect.element))
         printf("%s  %11" PRIu64 "  defect     %s%s\n", colour_code(stdout, RED),
                layout->defect.element, layout->defect.what, colour_code(stdout, PLAIN));
@@ -175,8 +208,10 @@ static bool is_shown(const struct layout *layout, size_t i, uint64_t kept, bool 
 static size_t print_left_out(const struct layout *layout, size_t i, uint64_t kept)
 {
     size_t count = 0, unsound = 0;
+    uint64_t unreadable = 0;
     while (i + count < layout->count && !is_shown(layout, i + count, kept, false)) {
         unsound += look_of(&layout->segments[i + count]) == LOOKS_UNSOUND;
+        unreadable += layout->segments[i + count].unreadable;
         count++;
     }
     printf("%s  %11s  ", colour_code(stdout, DIM), "...");
@@ -184,6 +219,10 @@ static size_t print_left_out(const struct layout *layout, size_t i, uint64_t kep
     fputs(" more", stdout);
     if (unsound > 0)
         printf(", %s of them not sound", grouped(unsound));
+    if (unreadable > 0) {
+        fputs(", ", stdout);
+        print_counted(stdout, unreadable, "unreadable block", "unreadable blocks");
+    }
     printf("; --all shows them%s\n", colour_code(stdout, PLAIN));
     return count;
 }
@@ -201,6 +240,11 @@ static void print_side_head(const struct volume *volume, const struct assessment
     print_counted(stdout, layout->elements, "element", "elements");
     fputs(", ", stdout);
     print_counted(stdout, volume->sides[side].store.length, "byte", "bytes");
+    if (layout->unreadable > 0) {
+        printf(", %s", colour_code(stdout, RED));
+        print_counted(stdout, layout->unreadable, "unreadable block", "unreadable blocks");
+        fputs(colour_code(stdout, PLAIN), stdout);
+    }
     putchar('\n');
 }
 
@@ -211,7 +255,7 @@ static void print_segments(const struct layout *layout, uint64_t kept, bool all)
         if (segment->first == kept)
             print_cut_line(kept, layout->elements);
         if (is_shown(layout, i, kept, all))
-            print_segment(layout, segment, segment->first < kept);
+            print_segment(layout, segment, segment->first < kept, all);
         else
             i += print_left_out(layout, i, kept) - 1;
     }

@@ -16,6 +16,7 @@ enum {
     MARGIN = 28,
     LEFT = 146,   /* where the tracks begin, right of their names */
     TRACK = 46,   /* a track's height */
+    THIN = 2,     /* the least that can be seen of something, and between two things */
     LEGEND = 402, /* its upper row */
     FOLDER = 66   /* columns of a folder's name */
 };
@@ -98,7 +99,7 @@ static const char *class_of(const struct drawn *run)
     return has_look(run, LOOKS_LABELS) ? "labels" : "data";
 }
 
-enum { CAPTION = 48 };
+enum { CAPTION = 64 };
 
 static void caption_of(char text[CAPTION], const struct segment *segment)
 {
@@ -115,6 +116,14 @@ static void caption_of(char text[CAPTION], const struct segment *segment)
         snprintf(text, CAPTION, "gen %" PRIu64, segment->header[KLAPOUZEN_INDEX_GENERATION]);
 }
 
+/* The same with the number of unreadable blocks, for a run that has room for it. */
+static void long_caption_of(char text[CAPTION], const struct segment *segment)
+{
+    char caption[CAPTION];
+    caption_of(caption, segment);
+    snprintf(text, CAPTION, "%.24s, %s unreadable", caption, grouped(segment->unreadable));
+}
+
 static void caption_of_many(char text[CAPTION], const struct track *track, const struct drawn *run)
 {
     size_t sound = count_look(track, run, LOOKS_INDEX), not = count_look(track, run, LOOKS_UNSOUND);
@@ -124,11 +133,16 @@ static void caption_of_many(char text[CAPTION], const struct track *track, const
         snprintf(text, CAPTION, "%s index%s", grouped(sound), sound == 1 ? "" : "es");
 }
 
+static bool has_room_for(const struct drawn *run, const char *text)
+{
+    return run->width >= 6.5 * (double)strlen(text) + 6;
+}
+
 /* A line in the middle of a run, where it has room. */
 static void put_inside(const struct picture *picture, const struct drawn *run, double y,
                        const char *class, const char *text)
 {
-    if (run->width < 6.5 * (double)strlen(text) + 6)
+    if (!has_room_for(run, text))
         return;
     begin_text(picture->out, run->x + run->width / 2, y, class);
     put_text(picture->out, bytes_of(text));
@@ -142,10 +156,14 @@ static void put_captions(const struct picture *picture, int side, const struct d
     uint64_t first = segments[run->first].first;
     uint64_t last = segments[run->end - 1].first + segments[run->end - 1].elements - 1;
     char text[CAPTION];
-    if (only != NULL)
-        caption_of(text, only);
-    else
+    if (only == NULL)
         caption_of_many(text, track, run);
+    else if (only->unreadable > 0)
+        long_caption_of(text, only);
+    else
+        caption_of(text, only);
+    if (only != NULL && !has_room_for(run, text))
+        caption_of(text, only);
     put_inside(picture, run, track_top[side] + TRACK / 2 - 3, "caption", text);
     snprintf(text, sizeof text, first < last ? "%" PRIu64 "-%" PRIu64 : "%" PRIu64, first, last);
     put_inside(picture, run, track_top[side] + TRACK / 2 + 13, "small", text);
@@ -167,7 +185,57 @@ static const struct drawn *first_dropped(const struct track *track)
     return NULL;
 }
 
-/* Runs coloured by what they are, and what the cut drops hatched over them. */
+/* Where a number of elements from a drawn run's first one on end in it. */
+static double place_in(const struct track *track, const struct drawn *run, double elements)
+{
+    const struct segment *first = &track->layout->segments[run->first];
+    const struct segment *last = &track->layout->segments[run->end - 1];
+    return run->x + run->width * elements / (double)(last->first + last->elements - first->first);
+}
+
+/* A bar at a track's upper edge, above its captions, which the next unreadable blocks may widen; none without an end. */
+struct bar {
+    double x, end;
+};
+
+enum { BAR = 11, ABOVE = 3 }; /* its height, and what of it is above the track */
+
+static void put_bar(FILE *out, int side, const struct bar *bar)
+{
+    double width = bar->end - bar->x > THIN ? bar->end - bar->x : THIN;
+    if (bar->end > 0)
+        fprintf(out, "<rect x=\"%.1f\" y=\"%d\" width=\"%.1f\" height=\"%d\" class=\"unreadable\"/>\n",
+                (bar->x + bar->end - width) / 2, track_top[side] - ABOVE, width, BAR);
+}
+
+/* A stretch of unreadable blocks, in its segment: as a bar of its own where it can be told from the one before. */
+static void put_stretch(const struct picture *picture, int side, size_t segment,
+                        const struct stretch *stretch, struct bar *bar)
+{
+    const struct track *track = &picture->tracks[side];
+    const struct drawn *run = drawn_with(track, segment);
+    double before = (double)(stretch->first - track->layout->segments[run->first].first);
+    double x = place_in(track, run, before), end = place_in(track, run, before + (double)stretch->blocks);
+    if (bar->end == 0 || x - bar->end > THIN) {
+        put_bar(picture->out, side, bar);
+        bar->x = x;
+    }
+    bar->end = end;
+}
+
+static void put_unreadable(const struct picture *picture, int side)
+{
+    const struct layout *layout = picture->tracks[side].layout;
+    struct bar bar = { 0, 0 };
+    for (size_t i = 0; i < layout->count; i++) {
+        const struct segment *segment = &layout->segments[i];
+        for (size_t n = 0; n < segment->stretches; n++)
+            put_stretch(picture, side, i, &layout->stretches[segment->first_stretch + n], &bar);
+    }
+    put_bar(picture->out, side, &bar);
+}
+
+/* Runs coloured by what they are, what the cut drops hatched over them, and unreadable blocks over both. */
 static void put_runs(const struct picture *picture, int side)
 {
     const struct track *track = &picture->tracks[side];
@@ -178,6 +246,7 @@ static void put_runs(const struct picture *picture, int side)
     if (dropped != NULL)
         put_box(picture->out, dropped->x, last->x + last->width - dropped->x, track_top[side],
                 "dropped");
+    put_unreadable(picture, side);
     for (size_t i = 0; i < track->count; i++)
         put_captions(picture, side, &track->runs[i]);
 }
@@ -206,7 +275,7 @@ static void put_cut(const struct picture *picture, int side)
     put_note(picture->out, dropped->x, top - 6, note);
 }
 
-/* Where an element lies in its drawn run. */
+/* The middle of an element. */
 static double place_of(const struct track *track, uint64_t element)
 {
     const struct segment *segments = track->layout->segments;
@@ -214,9 +283,7 @@ static double place_of(const struct track *track, uint64_t element)
     while (!is_within(&segments[i], element))
         i++;
     const struct drawn *run = drawn_with(track, i);
-    const struct segment *last = &segments[run->end - 1];
-    uint64_t first = segments[run->first].first, elements = last->first + last->elements - first;
-    return run->x + run->width * ((double)(element - first) + 0.5) / (double)elements;
+    return place_in(track, run, (double)(element - segments[run->first].first) + 0.5);
 }
 
 static void put_defect(const struct picture *picture, int side)
@@ -243,6 +310,11 @@ static void put_track(const struct picture *picture, int side)
     begin_text(picture->out, MARGIN, track_top[side] + TRACK / 2 + 16, "note");
     print_counted(picture->out, track->layout->elements, "element", "elements");
     end_text(picture->out);
+    if (track->layout->unreadable > 0) {
+        begin_text(picture->out, MARGIN, track_top[side] + TRACK / 2 + 32, "note");
+        fprintf(picture->out, "%s unreadable", grouped(track->layout->unreadable));
+        end_text(picture->out);
+    }
     if (track->count > 0)
         put_runs(picture, side);
 }
@@ -313,7 +385,7 @@ static const char style[] =
     ".dropped{fill:url(#hatch);stroke:#57606a;stroke-width:.7;stroke-dasharray:3 3}\n"
     ".cut{stroke:#a40e26;stroke-width:2;stroke-dasharray:5 3;fill:none}\n"
     ".pointer{stroke:#6e7781;stroke-width:1.3;fill:none;marker-end:url(#head)}\n"
-    ".defect{fill:#cf222e}\n"
+    ".defect{fill:#cf222e}.unreadable{fill:#1b1f24}\n"
     "</style>\n";
 
 static const char patterns[] =
@@ -345,7 +417,7 @@ static void put_legend(FILE *out)
         { "labels", "labels" },     { "data", "data run" },      { "index", "sound index" },
         { "unsound", "not sound" }, { "mixed", "indexes and data, too narrow to tell apart" },
         { "cut", "cut" },           { "dropped", "dropped by it" }, { "pointer", "points back to" },
-        { "defect", "first defect" },
+        { "defect", "first defect" }, { "unreadable", "unreadable block" },
     };
     enum { COLUMNS = 5, COLUMN = 160 };
     for (int i = 0; i < (int)(sizeof entries / sizeof entries[0]); i++) {

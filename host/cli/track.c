@@ -9,13 +9,13 @@ enum { NARROW = 5, PIECE = 8, WIDEST_UNIT = 22 };
 
 /* ---- Widths ---- */
 
-/* Units that a segment takes: a data run's by the number of digits of its bytes. */
-static double weight(const struct segment *segment)
+/* Units that a segment takes: a data run's by the number of digits of its bytes, those that were not read too. */
+static double weight(const struct layout *layout, const struct segment *segment)
 {
     if (segment->kind != DATA_RUN)
         return segment->kind == LABELS ? 2.5 : 3.5;
     double units = 1;
-    for (uint64_t bytes = segment->bytes; bytes > 0; bytes /= 8)
+    for (uint64_t bytes = bytes_on_tape(layout, segment); bytes > 0; bytes /= 8)
         units += 0.5;
     return units;
 }
@@ -24,7 +24,7 @@ static double total_weight(const struct layout *layout)
 {
     double total = 0;
     for (size_t i = 0; i < layout->count; i++)
-        total += weight(&layout->segments[i]);
+        total += weight(layout, &layout->segments[i]);
     return total;
 }
 
@@ -90,7 +90,7 @@ void track_read(struct track *track, const struct layout *layout, uint64_t kept,
     *track = (struct track){ .layout = layout };
     for (size_t i = 0; i < layout->count; i++) {
         const struct segment *segment = &layout->segments[i];
-        double width = unit * weight(segment);
+        double width = unit * weight(layout, segment);
         add_segment(track, (struct drawn){
             .first = i,
             .end = i + 1,

@@ -162,12 +162,20 @@ struct bytes part_of(struct bytes whole, uint64_t offset, uint64_t length)
 struct element take_element(struct bytes *list)
 {
     const uint8_t *at = list->start;
-    bool is_mark = at[0] == 1;
-    size_t size = is_mark ? 1 : 5;
-    uint64_t length = is_mark ? 0
-        : (uint64_t)at[1] << 24 | (uint64_t)at[2] << 16 | (uint64_t)at[3] << 8 | at[4];
+    struct element element = { .kind = at[0] };
+    if (element.kind == BLOCK)
+        element.length = (uint64_t)at[1] << 24 | (uint64_t)at[2] << 16 | (uint64_t)at[3] << 8 | at[4];
+    size_t size = element.kind == BLOCK ? 5 : 1;
     *list = part_of(*list, size, list->length - size);
-    return (struct element){ is_mark, length };
+    return element;
+}
+
+uint64_t count_unreadable(struct bytes list)
+{
+    uint64_t count = 0;
+    while (list.length > 0)
+        count += take_element(&list).kind == UNREADABLE_BLOCK;
+    return count;
 }
 
 /* ---- Asking the library ---- */
@@ -249,4 +257,13 @@ struct place construct_place(const struct volume *volume, const struct label *la
         .letter = label->letters[side],
         .block = row[KLAPOUZEN_CONSTRUCT_FIRST_BLOCK],
     };
+}
+
+uint64_t read_index_at(const struct label *label, const struct place *place,
+                       uint64_t header[KLAPOUZEN_INDEX])
+{
+    /* The row of a construct with an unreadable block is told by this alone. */
+    if (place->text.length == 0)
+        return KLAPOUZEN_UNREADABLE_BLOCK;
+    return klapouzen_read_index(INDEX_AT(label, place), header);
 }

@@ -50,13 +50,19 @@ int on_tape(const char *folder, int (*use)(const struct volume *volume, const vo
 /* A part of a slice. */
 struct bytes part_of(struct bytes whole, uint64_t offset, uint64_t length);
 
-/* An element of a list, and its taking off the front of a list that the library took. */
+/* An element of a list: its kind, by the byte that it begins with, and the bytes that the store has of it. */
+enum element_kind { MARK = 1, BLOCK = 2, UNREADABLE_BLOCK = 3 };
+
 struct element {
-    bool is_mark;
-    uint64_t length;
+    enum element_kind kind;
+    uint64_t length; /* 0 but of a block */
 };
 
+/* Takes an element off the front of a list that the library took. */
 struct element take_element(struct bytes *list);
+
+/* How many unreadable blocks such a list has. */
+uint64_t count_unreadable(struct bytes list);
 
 /* The block with this element number on one side; empty where there is none. */
 struct bytes block_of(const struct volume *volume, int side, uint64_t number);
@@ -101,8 +107,12 @@ uint64_t read_constructs(const struct side *side, uint64_t block_size,
 /* A row of the table. */
 const uint32_t *construct_row(const struct constructs *constructs, uint64_t number);
 
-/* The text of a construct, with its place. */
+/* The text of a construct, with its place; empty with an unreadable block in it. */
 struct place construct_place(const struct volume *volume, const struct label *label,
                              int side, const uint32_t *row);
+
+/* The refusal of the index at the place of a construct, or 0 and its header; as klapouzen_index has it. */
+uint64_t read_index_at(const struct label *label, const struct place *place,
+                       uint64_t header[KLAPOUZEN_INDEX]);
 
 #endif

@@ -22,38 +22,61 @@ const char *colour_code(FILE *out, enum colour colour)
         [PLAIN] = "\033[0m",    [BOLD] = "\033[1m",   [DIM] = "\033[2m",
         [RED] = "\033[31m",     [GREEN] = "\033[32m", [YELLOW] = "\033[33m",
         [BLUE] = "\033[34m",    [MAGENTA] = "\033[35m", [CYAN] = "\033[36m",
+        [ON_RED] = "\033[37;41m",
     };
     return takes_colour(out) ? codes[colour] : "";
 }
 
 /* ---- Refusals and verdicts ---- */
 
-static bool lacks_labels(const struct volume *volume, int side)
+enum { LABEL_ELEMENTS = 4 };
+
+/*
+ * Of a list that the library took: the first element that is not as the labels' block, mark, block, mark, and whether
+ * it is an unreadable block; LABEL_ELEMENTS where all four are.
+ */
+static int wrong_label_element(struct bytes list, bool *is_unreadable)
 {
-    /* Blocks at 0 and 2, marks at 1 and 3: the kept fronts grow so. */
-    const struct side *tape = &volume->sides[side];
-    uint64_t kept[KLAPOUZEN_KEPT], count;
-    if (klapouzen_check_list(SIDE(tape), &count) != 0 || count < 4)
-        return true;
-    klapouzen_keep(SIDE(tape), 4, kept);
-    return kept[KLAPOUZEN_KEPT_LIST] != 12 || block_of(volume, side, 0).length == 0
-        || block_of(volume, side, 2).length == 0;
+    static const enum element_kind wanted[LABEL_ELEMENTS] = { BLOCK, MARK, BLOCK, MARK };
+    *is_unreadable = false;
+    for (int i = 0; i < LABEL_ELEMENTS; i++) {
+        if (list.length == 0)
+            return i;
+        enum element_kind kind = take_element(&list).kind;
+        *is_unreadable = kind == UNREADABLE_BLOCK;
+        if (kind != wanted[i])
+            return i;
+    }
+    return LABEL_ELEMENTS;
 }
 
 static bool side_refuses(const struct volume *volume, int side, uint64_t refusal)
 {
     const struct side *tape = &volume->sides[side];
     uint64_t out[KLAPOUZEN_LABEL];
+    bool is_unreadable;
     switch (refusal) {
     case KLAPOUZEN_BAD_LIST:
         return klapouzen_check_list(SIDE(tape), out) == refusal;
     case KLAPOUZEN_NO_LABELS:
-        return lacks_labels(volume, side);
+        return wrong_label_element(tape->list, &is_unreadable) < LABEL_ELEMENTS;
     case KLAPOUZEN_BAD_VOL1:
         return klapouzen_read_vol1(SLICE(block_of(volume, side, 0)), out) == refusal;
     default:
         return klapouzen_read_label(SLICE(block_of(volume, side, 2)), out) == refusal;
     }
+}
+
+/* "data.list", or "data.list, element 2 is unreadable" where that is why there are no labels; until the next call. */
+static const char *list_without_labels(const struct side *side)
+{
+    static char text[64];
+    bool is_unreadable;
+    int element = wrong_label_element(side->list, &is_unreadable);
+    snprintf(text, sizeof text, "%s.list", side->name);
+    if (is_unreadable)
+        snprintf(text, sizeof text, "%s.list, element %d is unreadable", side->name, element);
+    return text;
 }
 
 /* The index side is looked at first, as the library does. */
@@ -69,7 +92,7 @@ struct origin origin_of(const struct volume *volume, uint64_t refusal)
     case KLAPOUZEN_BAD_LIST:
         return (struct origin){ side, index ? "index.list with index.store" : "data.list with data.store" };
     case KLAPOUZEN_NO_LABELS:
-        return (struct origin){ side, index ? "index.list" : "data.list" };
+        return (struct origin){ side, list_without_labels(&volume->sides[index ? INDEX : DATA]) };
     case KLAPOUZEN_BAD_VOL1:
         return (struct origin){ side, index ? "index.store, element 0" : "data.store, element 0" };
     default:

@@ -8,7 +8,7 @@
 
 /* ---- Colour ---- */
 
-enum colour { PLAIN, BOLD, DIM, RED, GREEN, YELLOW, BLUE, MAGENTA, CYAN };
+enum colour { PLAIN, BOLD, DIM, RED, GREEN, YELLOW, BLUE, MAGENTA, CYAN, ON_RED };
 
 /* Colour goes to terminals only, and not where NO_COLOR is set. */
 bool takes_colour(FILE *out);

@@ -203,11 +203,12 @@ uint64_t klapouzen_block(const uint8_t *index_list, size_t index_list_length,
  * row of KLAPOUZEN_CONSTRUCT numbers at the front of the table, the first one's
  * first; the rest of the table is unchanged. It has room for the 21,845 rows
  * that a list of the most elements can need, and must have it for every list.
- * A construct with an unreadable block has no text: its begin and its end are the
- * same, how many bytes of the store stand before its first block, and no other
- * row has them the same. What was read of such an index is not handed out, since
- * it might be a lawful text that says something else. klapouzen_index answers 19
- * for it; klapouzen_read_index, given the row's empty text, 4.
+ * A construct with an unreadable block has no text: its row's begin and end are
+ * both the number of the store's bytes before its first block, where in every
+ * other row the end is behind the begin. What was read of such an index is not
+ * handed out: it might be a lawful text that says something else.
+ * klapouzen_index answers 19 for it; klapouzen_read_index, given the row's empty
+ * text, 4.
  * Refusals: 14 (block_size outside 4,096 to 1,048,576), 1.
  */
 enum klapouzen_construct_row {
@@ -568,8 +569,8 @@ uint64_t klapouzen_rescue(const uint8_t *index_list, size_t index_list_length,
  * Refusals: 1; then the one of the first element that can't stand where it does,
  * or of a tape that ends too early: 17 (an EOV1 label in the place of EOF1), 18
  * (an EOF1 label with all right but the number in its six digits), 16 (any other
- * cause: an unreadable block can stand nowhere in the layout); then 10
- * (buffer_length is below KLAPOUZEN_ANSI_FILE times the files).
+ * cause, an unreadable block wherever it stands); then 10 (buffer_length is below
+ * KLAPOUZEN_ANSI_FILE times the files).
  */
 enum klapouzen_ansi_file {
     KLAPOUZEN_ANSI_ID = 0,             /* the file ID, 17 bytes, any */

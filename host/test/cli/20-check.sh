@@ -10,17 +10,17 @@ says out "keeps 13 + 71 of 13 + 78 elements, generation 4"
 says out "4 cartridges: 1 consistent, 2 to cut, 1 without a cut, 0 refused, 0 unreadable"
 is 1 "$K" check --json torn fresh
 says out '"verdict":"break","break":{"which":2,"number":0,'
-says out '"verdict":"consistent","elements":{"index":7,"data":7},"cut":{'
+says out '"verdict":"consistent","elements":{"index":7,"data":7},"unreadable_blocks":{"index":0,"data":0},"cut":{'
 says out '"cut":{"index_construct":0,"data_construct":0,"index_kept":7,"index_dropped":0,"data_kept":7,"data_dropped":0,"generation":1}}'
-says out '"elements":{"index":7,"data":6},"cut":null}'
+says out '"elements":{"index":7,"data":6},"unreadable_blocks":{"index":0,"data":0},"cut":null}'
 says_not out "cartridge"
 checks=$((checks + 1))
 [ "$(wc -l < out)" -eq 2 ] || fail "not one object a line"
 is_json out
 is 1 "$K" check --json nights defect
 is_json out
-says out '"elements":{"index":13,"data":78},"cut":{"index_construct":2,"data_construct":3,"index_kept":13,"index_dropped":0,"data_kept":71,"data_dropped":7,"generation":4}}'
-says out '"elements":{"index":13,"data":17},"cut":{"index_construct":1,"data_construct":1,"index_kept":10,"index_dropped":3,"data_kept":13,"data_dropped":4,"generation":2}}'
+says out '"elements":{"index":13,"data":78},"unreadable_blocks":{"index":0,"data":0},"cut":{"index_construct":2,"data_construct":3,"index_kept":13,"index_dropped":0,"data_kept":71,"data_dropped":7,"generation":4}}'
+says out '"elements":{"index":13,"data":17},"unreadable_blocks":{"index":0,"data":0},"cut":{"index_construct":1,"data_construct":1,"index_kept":10,"index_dropped":3,"data_kept":13,"data_dropped":4,"generation":2}}'
 cp -r fresh './-odd "name"'
 is 0 "$K" check --json -- '-odd "name"'
 says out '{"folder":"-odd \"name\"",'

@@ -2,7 +2,7 @@
 mkdir empty && touch empty/index.list
 is 1 "$K" check empty
 says out "refused 9: the partition does not begin with block, mark, block, mark (index side: index.list)"
-cp -r fresh bad1 && printf '\003' >> bad1/data.list
+cp -r fresh bad1 && printf '\004' >> bad1/data.list
 is 1 "$K" check bad1
 says out "refused 1: the block list is malformed or does not fit its store (data side: data.list with data.store)"
 cp -r fresh bad3 && printf 'X' | dd of=bad3/data.store conv=notrunc status=none
@@ -12,13 +12,13 @@ cp -r fresh bad4 && printf '?' | dd of=bad4/index.store bs=1 seek=80 conv=notrun
 is 1 "$K" check --json bad4
 says out '"refusal":{"number":4,"text":"the text is not in the XML form","side":"index","file":"index.store, element 2"}'
 is_json out
-says out '"elements":{"index":7,"data":7}}'
-cp -r fresh bad1i && printf '\003' >> bad1i/index.list
+says out '"elements":{"index":7,"data":7},"unreadable_blocks":{"index":0,"data":0}}'
+cp -r fresh bad1i && printf '\004' >> bad1i/index.list
 is 1 "$K" check bad1i
 says out "(index side: index.list with index.store)"
 is 1 "$K" check --json bad1i
 is_json out
-says out '"elements":{"index":null,"data":7}}'
+says out '"elements":{"index":null,"data":7},"unreadable_blocks":{"index":null,"data":0}}'
 cp -r fresh bad3i && printf 'X' | dd of=bad3i/index.store conv=notrunc status=none
 is 1 "$K" check bad3i
 says out "(index side: index.store, element 0)"

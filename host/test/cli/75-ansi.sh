@@ -270,7 +270,7 @@ one_line err
 absent nothing
 
 # No tape, and no ANSI labels.
-cp -r ansi malformed && printf '\003' >> malformed/index.list
+cp -r ansi malformed && printf '\004' >> malformed/index.list
 is 1 "$K" ansi malformed
 says out "refused 1: the block list is malformed or does not fit its store"
 one_line out
@@ -440,7 +440,7 @@ is 0 "$K" cut --keep-index 20 ansi ansi_front
 says out "ansi_front  keeps 20 + 0 of 65 + 0 elements; refused 9: "
 is 1 "$K" ansi ansi_front
 says out "behind element 19, the last: the tape ends too early, EOF1 is missing (file 1, PAYROLL.DAT)"
-cp -r ansi ansi_bad && printf '\003' > ansi_bad/data.list
+cp -r ansi ansi_bad && printf '\004' > ansi_bad/data.list
 is 1 "$K" cut --keep-index 20 ansi_bad nothing
 says err "klapouzen: ansi_bad: refused 1: the block list is malformed or does not fit its store (data side: data.list with data.store)"
 absent nothing
