@@ -297,7 +297,7 @@ static int extract(const char *folder, const struct ansi_tape *tape, const struc
     if (!find_wished(folder, tape, wish, &number))
         return NOT_SO;
     struct extraction extraction = { tape, ansi_file(tape, number) };
-    return write_output(wish->output, write_blocks, &extraction);
+    return write_output(wish->output, NULL, write_blocks, &extraction);
 }
 
 /* ---- The command ---- */

@@ -9,7 +9,8 @@
 enum {
     DONE = 0,
     NOT_SO = 1, /* the tape refuses, or is not consistent */
-    FAILED = 2  /* bad use, a file that can't be read or written */
+    FAILED = 2, /* bad use, a file that can't be read or written */
+    HOLED = 3   /* a file was written, with zeros for what could not be read of it */
 };
 
 /* A line on standard error, after the program's name, in characters that can be seen. */

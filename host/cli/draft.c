@@ -275,3 +275,15 @@ bool draft_finish(struct draft *draft)
     end(draft);
     return done;
 }
+
+bool draft_finish_both(struct draft *first, struct draft *second)
+{
+    if (!draft_finish(first)) {
+        draft_drop(second);
+        return false;
+    }
+    if (draft_finish(second))
+        return true;
+    unlink(first->path);
+    return false;
+}

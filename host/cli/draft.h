@@ -39,6 +39,9 @@ bool draft_add_sides(struct draft *draft, const struct side sides[2]);
 /* Puts the whole draft in its place. On false nothing is left of it, and the reason was said. */
 bool draft_finish(struct draft *draft);
 
+/* The same with two drafts of files, the first one first: both are in their places, or none. */
+bool draft_finish_both(struct draft *first, struct draft *second);
+
 /* Leaves nothing of the draft. */
 void draft_drop(struct draft *draft);
 

@@ -5,22 +5,29 @@
 #include <string.h>
 #include <unistd.h>
 
-#include "chosen.h"
 #include "commands.h"
 #include "common.h"
 #include "output.h"
+#include "pieces.h"
 #include "signals.h"
 #include "words.h"
 
 static const char help[] =
-    "usage: klapouzen extract [--construct N] [--data] [--output OUT] DIR (FILE | --number N)\n"
+    "usage: klapouzen extract [--construct N] [--data] [--holes] [--output OUT] DIR (FILE | --number N)\n"
     "\n"
     "Writes a file's bytes, zeros where nothing is stored. FILE is the file's name where\n"
     "only one file has it; where none has it and it is a number, the file with that number\n"
     "in the list of `klapouzen files`.\n"
     "\n"
+    "Of a file with bytes on unreadable blocks it says which these are, and writes nothing.\n"
+    "\n"
     "  --number N     the file with this number, whatever names there are\n"
     "  --output OUT   to a new file OUT, whole or not at all, and not to standard output\n"
+    "  --holes        such a file too, with zeros for these bytes, so that all others are in\n"
+    "                 their places; and the new file OUT.gaps, a line for each gap: its\n"
+    "                 first byte in the file, how many bytes it has, the partition's letter,\n"
+    "                 and the number of the unreadable block. Without --output the list goes\n"
+    "                 to standard error. A file without gaps is written as without --holes\n"
     CHOICE_HELP
     "  --help         this text\n"
     "\n"
@@ -29,13 +36,16 @@ static const char help[] =
     "written where the stored bytes are more than the space that is free.\n"
     "\n"
     "Exit status: 0 written, 1 refused, no such file, or its bytes are not on the tape,\n"
-    "2 bad use or a file that can't be read or written.\n";
+    "2 bad use or a file that can't be read or written, 3 written with gaps (--holes).\n";
+
+/* What the name of the list of gaps adds to that of the file. */
+#define GAPS ".gaps"
 
 struct extraction {
     const struct volume *volume;
     const struct chosen *chosen;
     uint64_t length; /* of the file */
-    const struct rows *rows;
+    const struct pieces *pieces;
     const struct output *output;
 };
 
@@ -66,7 +76,7 @@ static bool find_file(const struct volume *volume, const struct chosen *chosen, 
     return false;
 }
 
-/* ---- Pieces ---- */
+/* ---- Writing ---- */
 
 static bool write_zeros(FILE *out, uint64_t count)
 {
@@ -81,128 +91,141 @@ static bool write_zeros(FILE *out, uint64_t count)
 }
 
 /* The count is within off_t where gaps are skipped. */
-static int write_gap(const struct extraction *this, uint64_t count)
+static bool write_gap(const struct output *output, uint64_t count)
 {
-    bool done = count == 0
-        || (this->output->skips_gaps ? fseeko(this->output->file, (off_t)count, SEEK_CUR) == 0
-                                     : write_zeros(this->output->file, count));
-    return done ? GO_ON : FAILED;
+    if (count == 0)
+        return true;
+    return output->skips_gaps ? fseeko(output->file, (off_t)count, SEEK_CUR) == 0
+                              : write_zeros(output->file, count);
 }
 
-/*
- * The stored bytes from a place on, to the end of their block at most; empty where none are. What a block has beyond
- * the block size is at no place.
- */
-static struct bytes stored_bytes(const struct extraction *this, const uint64_t place[KLAPOUZEN_BYTE])
+static bool write_piece(const struct output *output, const struct piece *piece)
 {
-    const uint8_t *letters = this->chosen->label.letters;
-    uint64_t block[KLAPOUZEN_BLOCK], offset = place[KLAPOUZEN_BYTE_OFFSET];
-    uint64_t length = this->chosen->label.block_size;
-    uint64_t refusal = klapouzen_block(VOLUME(this->volume), letters[INDEX], letters[DATA],
-                                       (uint8_t)place[KLAPOUZEN_BYTE_LETTER],
-                                       place[KLAPOUZEN_BYTE_BLOCK], block);
-    if (refusal != 0 || offset >= block[KLAPOUZEN_BLOCK_LENGTH])
-        return (struct bytes){ NULL, 0 };
-    if (length > block[KLAPOUZEN_BLOCK_LENGTH])
-        length = block[KLAPOUZEN_BLOCK_LENGTH];
-    struct bytes store = this->volume->sides[block[KLAPOUZEN_BLOCK_SIDE]].store;
-    return part_of(store, block[KLAPOUZEN_BLOCK_OFFSET] + offset, length - offset);
-}
-
-static int not_stored(const struct extraction *this, const uint64_t place[KLAPOUZEN_BYTE],
-                      uint64_t position)
-{
-    int side = place[KLAPOUZEN_BYTE_LETTER] == this->chosen->label.letters[INDEX] ? INDEX : DATA;
-    complain("%s: position %" PRIu64 " of the file is byte %" PRIu64 " of block %" PRIu64
-             ", which is not there (%s side: %s.store)",
-             this->volume->folder, position, place[KLAPOUZEN_BYTE_OFFSET],
-             place[KLAPOUZEN_BYTE_BLOCK], this->volume->sides[side].name,
-             this->volume->sides[side].name);
-    return NOT_SO;
-}
-
-/* Writes what a row has from a position of the file on, as far as it lies in one block, and moves on. */
-static int write_piece(const struct extraction *this, const uint64_t *row, uint64_t *position)
-{
-    uint64_t place[KLAPOUZEN_BYTE];
-    uint64_t left = row[KLAPOUZEN_ROW_FILEOFFSET] + row[KLAPOUZEN_ROW_BYTECOUNT] - *position;
-    /* No other row has this position: the map needs this one alone, whatever the number of rows. */
-    uint64_t refusal = klapouzen_byte_at(row, KLAPOUZEN_ROW, this->length,
-                                         this->chosen->label.block_size, *position, place);
-    if (refusal != 0) {
-        complain_construct(this->volume, this->chosen->side, this->chosen->construct, refusal);
-        return NOT_SO;
-    }
-    struct bytes stored = stored_bytes(this, place);
-    if (stored.length == 0)
-        return not_stored(this, place, *position);
-    if (stored.length > left)
-        stored.length = left;
-    *position += stored.length;
-    bool written = fwrite(stored.start, 1, stored.length, this->output->file) == stored.length;
-    return written && !is_stopped() ? GO_ON : FAILED;
-}
-
-/* Writes the zeros before a row, then the row. */
-static int write_row(const struct extraction *this, const uint64_t *row, uint64_t *position)
-{
-    uint64_t begin = row[KLAPOUZEN_ROW_FILEOFFSET], end = begin + row[KLAPOUZEN_ROW_BYTECOUNT];
-    int status = write_gap(this, begin - *position);
-    *position = begin;
-    while (status == GO_ON && *position < end)
-        status = write_piece(this, row, position);
-    return status;
+    if (is_lost(piece))
+        return write_gap(output, piece->length);
+    struct bytes stored = piece->stored;
+    return fwrite(stored.start, 1, stored.length, output->file) == stored.length && !is_stopped();
 }
 
 /* The file ends where the last gap does. */
-static bool end_file(const struct extraction *this)
+static bool end_file(const struct output *output)
 {
-    FILE *file = this->output->file;
+    FILE *file = output->file;
     if (fflush(file) != 0)
         return false;
-    return !this->output->skips_gaps || ftruncate(fileno(file), ftello(file)) == 0;
+    return !output->skips_gaps || ftruncate(fileno(file), ftello(file)) == 0;
 }
 
-static int write_file(const struct extraction *this)
+/* The pieces, each behind the zeros before it, and the zeros behind the last. */
+static bool write_file(const struct extraction *this)
 {
-    int status = GO_ON;
+    const struct output *output = this->output;
     uint64_t position = 0;
-    for (uint64_t i = 0; status == GO_ON && i < this->rows->count; i++)
-        status = write_row(this, this->rows->numbers + KLAPOUZEN_ROW * i, &position);
-    if (status == GO_ON)
-        status = write_gap(this, this->length - position);
-    if (status == GO_ON && !end_file(this))
-        status = FAILED;
-    if (status == FAILED)
-        complain_output(this->output);
-    return status == GO_ON ? DONE : status;
+    for (size_t i = 0; i < this->pieces->count; i++) {
+        const struct piece *piece = &this->pieces->all[i];
+        if (!write_gap(output, piece->position - position) || !write_piece(output, piece))
+            return false;
+        position = piece->position + piece->length;
+    }
+    return write_gap(output, this->length - position) && end_file(output);
+}
+
+/* ---- Gaps: what is on unreadable blocks ---- */
+
+/* A line for each: first byte, number of bytes, partition, element. */
+static void write_gaps(FILE *out, const struct pieces *pieces)
+{
+    for (size_t i = 0; i < pieces->count; i++) {
+        const struct piece *piece = &pieces->all[i];
+        if (is_lost(piece))
+            fprintf(out, "%" PRIu64 " %" PRIu64 " %c %" PRIu64 "\n", piece->position, piece->length,
+                    piece->letter, piece->block);
+    }
+}
+
+/* "12,288 of 150,000 bytes of the file could not be read", to be freed. */
+static char *lost_words(const struct extraction *this)
+{
+    return format_text("%s of %s bytes of the file could not be read", grouped(this->pieces->lost),
+                       grouped(this->length));
+}
+
+static void complain_gap(const struct extraction *this, const struct piece *piece)
+{
+    bool on_index = piece->letter == this->chosen->label.letters[INDEX];
+    const char *side = this->volume->sides[on_index ? INDEX : DATA].name;
+    complain("%s: position %" PRIu64 " of the file, %s byte%s: block %" PRIu64
+             " is unreadable (%s side: %s.list)",
+             this->volume->folder, piece->position, grouped(piece->length),
+             piece->length == 1 ? "" : "s", piece->block, side, side);
+}
+
+/* Why nothing is written: a line for each gap. */
+static int complain_gaps(const struct extraction *this)
+{
+    for (size_t i = 0; i < this->pieces->count; i++)
+        if (is_lost(&this->pieces->all[i]))
+            complain_gap(this, &this->pieces->all[i]);
+    char *words = lost_words(this);
+    complain("%s: %s; --holes writes the others, and zeros for these", this->volume->folder, words);
+    free(words);
+    return NOT_SO;
+}
+
+/* What was written. Of standard output the list of gaps is told here, since it has no file. */
+static void report_gaps(const struct extraction *this, const char *path)
+{
+    char *words = lost_words(this);
+    if (path != NULL) {
+        complain("%s: %s; %s has zeros for them, and %s" GAPS " lists them", this->volume->folder, words,
+                 path, path);
+    } else {
+        complain("%s: %s; zeros were written for them. Position, bytes, partition, block:",
+                 this->volume->folder, words);
+        write_gaps(stderr, this->pieces);
+    }
+    free(words);
 }
 
 /* ---- Where it goes ---- */
 
-/* How many bytes the output takes of its file system. */
-static uint64_t bytes_to_store(const struct extraction *this)
-{
-    uint64_t stored = 0;
-    for (uint64_t i = 0; i < this->rows->count; i++)
-        stored += this->rows->numbers[KLAPOUZEN_ROW * i + KLAPOUZEN_ROW_BYTECOUNT];
-    return this->output->skips_gaps ? stored : this->length;
-}
-
 static bool fits(const struct extraction *this)
 {
-    if (this->output->is_regular && this->length > INT64_MAX) {
-        complain("%s: %s", this->output->path, strerror(EFBIG));
+    const struct output *output = this->output;
+    if (output->is_regular && this->length > INT64_MAX) {
+        complain("%s: %s", output->path, strerror(EFBIG));
         return false;
     }
-    return has_room(this->output, bytes_to_store(this));
+    return has_room(output, output->skips_gaps ? this->pieces->stored : this->length);
 }
 
 static int write_to(const struct output *output, const void *data)
 {
     struct extraction this = *(const struct extraction *)data;
     this.output = output;
-    return fits(&this) ? write_file(&this) : FAILED;
+    if (!fits(&this))
+        return FAILED;
+    if (!write_file(&this)) {
+        complain_output(output);
+        return FAILED;
+    }
+    if (output->list != NULL)
+        write_gaps(output->list, this.pieces);
+    return DONE;
+}
+
+/* With gaps: the list is in its place before the file is, which so never stands without it. */
+static int write_holed(const struct extraction *this, const char *path)
+{
+    char *list = path != NULL ? format_text("%s" GAPS, path) : NULL;
+    /* A file that is there is said to have gaps, whatever signal comes. */
+    hold_signals();
+    int status = write_output(path, list, write_to, this);
+    if (status == DONE)
+        report_gaps(this, path);
+    release_signals();
+    free(list);
+    return status == DONE ? HOLED : status;
 }
 
 /* ---- The command ---- */
@@ -210,6 +233,7 @@ static int write_to(const struct output *output, const void *data)
 struct wish {
     struct choice choice;
     const char *file, *number, *output; /* the number as given, or NULL */
+    bool holes;
 };
 
 /* The file's number and its numbers; false where there is no such file, which was said. */
@@ -226,11 +250,11 @@ static bool find_wished(const struct volume *volume, const struct chosen *chosen
     return false;
 }
 
-static int by_position(const void *one, const void *other)
+static int write_wished(const struct extraction *extraction, const struct wish *wish)
 {
-    uint64_t first = ((const uint64_t *)one)[KLAPOUZEN_ROW_FILEOFFSET];
-    uint64_t second = ((const uint64_t *)other)[KLAPOUZEN_ROW_FILEOFFSET];
-    return (first > second) - (first < second);
+    if (extraction->pieces->gaps == 0)
+        return write_output(wish->output, NULL, write_to, extraction);
+    return wish->holes ? write_holed(extraction, wish->output) : complain_gaps(extraction);
 }
 
 static int extract(const struct volume *volume, const void *data)
@@ -238,6 +262,7 @@ static int extract(const struct volume *volume, const void *data)
     static struct rows rows;
     const struct wish *wish = data;
     struct chosen chosen;
+    struct pieces pieces;
     uint64_t number, file[KLAPOUZEN_FILE];
     int status = choose_index(volume, &wish->choice, &chosen);
     if (status != GO_ON)
@@ -245,11 +270,14 @@ static int extract(const struct volume *volume, const void *data)
     if (!find_wished(volume, &chosen, wish, &number, file))
         return NOT_SO;
     read_chosen_rows(&chosen, number, file, &rows);
-    qsort(rows.numbers, rows.count, KLAPOUZEN_ROW * sizeof rows.numbers[0], by_position);
+    if (!pieces_read(&pieces, volume, &chosen, file[KLAPOUZEN_FILE_LENGTH], &rows))
+        return NOT_SO;
     struct extraction extraction = {
-        .volume = volume, .chosen = &chosen, .length = file[KLAPOUZEN_FILE_LENGTH], .rows = &rows,
+        .volume = volume, .chosen = &chosen, .length = file[KLAPOUZEN_FILE_LENGTH], .pieces = &pieces,
     };
-    return write_output(wish->output, write_to, &extraction);
+    status = write_wished(&extraction, wish);
+    pieces_free(&pieces);
+    return status;
 }
 
 int run_extract(struct words *words)
@@ -258,7 +286,7 @@ int run_extract(struct words *words)
     uint64_t number;
     const struct option options[] = {
         CHOICE_OPTIONS(wish.choice), { "output", &wish.output, NULL },
-        { "number", &wish.number, NULL }, { NULL, NULL, NULL },
+        { "number", &wish.number, NULL }, { "holes", NULL, &wish.holes }, { NULL, NULL, NULL },
     };
     int status = take_options(words, options, help);
     if (status != GO_ON)

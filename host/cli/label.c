@@ -143,7 +143,6 @@ static int make_front(const struct fields *fields, const char *location, struct 
 
 /* ---- Writing ---- */
 
-/* The first is taken away again where the second can't be put in its place. */
 static bool write_both(char *const paths[2], const struct front *front)
 {
     struct draft drafts[2];
@@ -156,15 +155,7 @@ static bool write_both(char *const paths[2], const struct front *front)
     }
     fwrite(vol1.start, 1, vol1.length, drafts[0].file);
     fwrite(label.start, 1, label.length, drafts[1].file);
-    if (!draft_finish(&drafts[0])) {
-        draft_drop(&drafts[1]);
-        return false;
-    }
-    if (!draft_finish(&drafts[1])) {
-        unlink(paths[0]);
-        return false;
-    }
-    return true;
+    return draft_finish_both(&drafts[0], &drafts[1]);
 }
 
 static int write_files(const struct fields *fields, char *const paths[2])

@@ -44,22 +44,35 @@ static struct output output_to(FILE *file, const char *path)
     return output;
 }
 
-int write_output(const char *path, int (*write)(const struct output *output, const void *data),
-                 const void *data)
+/* Ends the drafts of a file and of its list, which may be NULL. */
+static int end_drafts(struct draft *file, struct draft *list, int status)
 {
-    struct draft draft;
+    if (status == DONE) {
+        bool finished = list != NULL ? draft_finish_both(list, file) : draft_finish(file);
+        return finished ? DONE : FAILED;
+    }
+    draft_drop(file);
+    if (list != NULL)
+        draft_drop(list);
+    return status;
+}
+
+int write_output(const char *path, const char *list_path,
+                 int (*write)(const struct output *output, const void *data), const void *data)
+{
+    struct draft file, list;
     struct output output;
     if (path == NULL) {
         output = output_to(stdout, "standard output");
         return write(&output, data);
     }
-    if (!draft_begin(&draft, path))
+    if (!draft_begin(&file, path))
         return FAILED;
-    output = output_to(draft.file, path);
-    int status = write(&output, data);
-    if (status != DONE)
-        draft_drop(&draft);
-    else if (!draft_finish(&draft))
-        status = FAILED;
-    return status;
+    if (list_path != NULL && !draft_begin(&list, list_path)) {
+        draft_drop(&file);
+        return FAILED;
+    }
+    output = output_to(file.file, path);
+    output.list = list_path != NULL ? list.file : NULL;
+    return end_drafts(&file, list_path != NULL ? &list : NULL, write(&output, data));
 }

@@ -12,7 +12,7 @@ says err "refused 2: no such element, construct, file or file position (index si
 is 2 "$K" files nights --construct x
 is 0 "$K" files sparse --json
 says out '{"file":0,"length":80000,"name":"gaps & <more>","extents":[{"partition":"b","startblock":7,'
-says out '"past the block","extents":[{"partition":"b","startblock":9,"byteoffset":2000,"bytecount":10,"fileoffset":0}]}'
+says out '"past the block","extents":[{"partition":"b","startblock":9,"byteoffset":2000,"bytecount":10,"fileoffset":0,"unreadable_blocks":0}]}'
 is 0 "$K" files many
 says out "1 directory, 2,533 files"
 says out "  2528              10  2528.wav"
