@@ -235,22 +235,13 @@ static void spellings(struct sample *sample)
 static void pad_tape(struct tape *tape)
 {
     struct tape padded = { 0 };
-    const uint8_t *list = tape->list.bytes, *store = tape->store.bytes;
-    for (size_t i = 0; i < tape->list.length; i++) {
-        if (list[i] == 1) {
-            tape_mark(&padded);
-            continue;
-        }
-        size_t length = 0;
-        for (int digit = 0; digit < 4; digit++)
-            length = 256 * length + list[++i];
-        struct buffer block = pad_numbers(store, length);
-        tape_block(&padded, block.bytes, block.length);
+    for (size_t list = 0, store = 0; list < tape->list.length;) {
+        struct element element = take_element(tape, &list, &store);
+        struct buffer block = pad_numbers(element.bytes, element.length);
+        tape_element(&padded, (struct element){ element.kind, block.bytes, block.length });
         buffer_free(&block);
-        store += length;
     }
-    buffer_free(&tape->list);
-    buffer_free(&tape->store);
+    tape_free(tape);
     *tape = padded;
 }
 
@@ -260,6 +251,58 @@ static void padded(struct sample *sample)
     nights(sample);
     pad_tape(&sample->sides[0]);
     pad_tape(&sample->sides[1]);
+}
+
+/* The files of the cartridge of unreadable(): a recording a night, cue sheets without bytes, the jingle of the last night. */
+static void put_recordings(struct sample *sample, int side, const struct run *runs, size_t count)
+{
+    enum { CUES = 8 };
+    struct index_head head = sample_head(sample, side);
+    struct index_text index;
+    index_begin(&index, &head);
+    for (size_t i = 0; i < count; i++) {
+        struct extent extent = { 'b', runs[i].first, 0, runs[i].length, 0 };
+        index_file(&index, runs[i].name, runs[i].length, &extent, 1);
+    }
+    if (count == 3) {
+        struct extent parts[] = {
+            { 'b', runs[2].first + 9, 4000, 300, 0 }, { 'b', runs[2].first, 0, 5000, 1000 },
+        };
+        index_file(&index, "jingle.wav", 6000, parts, 2);
+    }
+    for (int i = 1; i <= CUES; i++) {
+        char name[16];
+        snprintf(name, sizeof name, "%d.cue", i);
+        index_file(&index, name, 0, NULL, 0);
+    }
+    index_end(&index);
+    sample_index(sample, side, &index);
+}
+
+/*
+ * Recordings of three nights, of which the drive could not read some blocks: of the last night one that the jingle
+ * begins in and its neighbour, another one further on, and a block of the third index of the index side that is not its
+ * last one.
+ */
+static void unreadable(struct sample *sample)
+{
+    struct run runs[] = {
+        { "monday.wav", 0, 61000 }, { "tuesday.wav", 0, 9000 }, { "wednesday.wav", 0, 150000 },
+    };
+    uint64_t older = 0;
+    sample_unmount(sample);
+    for (size_t i = 0; i < 3; i++) {
+        sample->generation++;
+        runs[i].first = put_run(sample, (size_t)runs[i].length, (uint8_t)(40 * i));
+        put_recordings(sample, 1, runs, i + 1);
+        if (i == 1)
+            older = sample->sides[0].elements + 1;
+        put_recordings(sample, 0, runs, i + 1);
+    }
+    tape_lose(&sample->sides[0], older);
+    tape_lose(&sample->sides[1], runs[2].first + 9);
+    tape_lose(&sample->sides[1], runs[2].first + 10);
+    tape_lose(&sample->sides[1], runs[2].first + 30);
 }
 
 /* As many generations as the stores have room for; one index is unsound, and the last is of the data side alone. */
@@ -359,7 +402,7 @@ int main(int count, char **words)
         { "extents", extents },
         { "fresh", fresh }, { "torn", torn }, { "nights", nights }, { "defect", defect },
         { "sparse", sparse }, { "long", long_one }, { "many", many }, { "odd", odd },
-        { "spellings", spellings }, { "padded", padded },
+        { "spellings", spellings }, { "padded", padded }, { "unreadable", unreadable },
         { "full", full }, { "ansi", ansi }, { "ansi_worn", ansi_worn },
         { "ansi_many", ansi_many },
     };
@@ -373,7 +416,7 @@ int main(int count, char **words)
         sample_free(&sample);
         return 0;
     }
-    fputs("usage: make_sample fresh|torn|nights|defect|sparse|long|many|extents|odd|spellings|padded|full|ansi|ansi_worn|"
-          "ansi_many DIR\n", stderr);
+    fputs("usage: make_sample fresh|torn|nights|defect|sparse|long|many|extents|odd|spellings|padded|unreadable|full|ansi|"
+          "ansi_worn|ansi_many DIR\n", stderr);
     return 2;
 }

@@ -271,6 +271,12 @@ struct buffer pad_numbers(const uint8_t *text, size_t length)
 
 /* ---- Volumes ---- */
 
+void tape_free(struct tape *tape)
+{
+    buffer_free(&tape->list);
+    buffer_free(&tape->store);
+}
+
 void tape_mark(struct tape *tape)
 {
     put_byte(&tape->list, 1, 1);
@@ -295,6 +301,49 @@ void tape_filled_block(struct tape *tape, uint8_t byte, size_t length)
 {
     list_block(tape, length);
     put_byte(&tape->store, byte, length);
+}
+
+void tape_unreadable_block(struct tape *tape)
+{
+    put_byte(&tape->list, 3, 1);
+    tape->elements++;
+}
+
+struct element take_element(const struct tape *tape, size_t *list, size_t *store)
+{
+    const uint8_t *at = tape->list.bytes + *list;
+    struct element element = { at[0], NULL, 0 };
+    (*list)++;
+    if (element.kind != 2)
+        return element;
+    for (int i = 1; i <= 4; i++)
+        element.length = 256 * element.length + at[i];
+    element.bytes = tape->store.bytes + *store;
+    *list += 4;
+    *store += element.length;
+    return element;
+}
+
+void tape_element(struct tape *tape, struct element element)
+{
+    if (element.kind == 1)
+        tape_mark(tape);
+    else if (element.kind == 3)
+        tape_unreadable_block(tape);
+    else
+        tape_block(tape, element.bytes, element.length);
+}
+
+void tape_lose(struct tape *tape, uint64_t number)
+{
+    struct tape rest = { 0 };
+    for (size_t list = 0, store = 0; list < tape->list.length;) {
+        bool is_lost = rest.elements == number;
+        struct element element = take_element(tape, &list, &store);
+        tape_element(&rest, is_lost ? (struct element){ 3, NULL, 0 } : element);
+    }
+    tape_free(tape);
+    *tape = rest;
 }
 
 static void put_labels(struct tape *tape, uint8_t letter, uint64_t block_size)
@@ -322,10 +371,8 @@ void sample_begin(struct sample *sample, uint64_t block_size)
 
 void sample_free(struct sample *sample)
 {
-    for (int side = 0; side < 2; side++) {
-        buffer_free(&sample->sides[side].list);
-        buffer_free(&sample->sides[side].store);
-    }
+    tape_free(&sample->sides[0]);
+    tape_free(&sample->sides[1]);
 }
 
 static void put_blocks(struct sample *sample, int side, const uint8_t *bytes, size_t length)

@@ -82,9 +82,27 @@ struct sample {
     uint64_t last_data_index; /* 0 where there is none yet */
 };
 
+void tape_free(struct tape *tape);
 void tape_mark(struct tape *tape);
 void tape_block(struct tape *tape, const void *bytes, size_t length);
 void tape_filled_block(struct tape *tape, uint8_t byte, size_t length);
+void tape_unreadable_block(struct tape *tape);
+
+/* An element of a tape: a mark, an unreadable block, or a block with its bytes. */
+struct element {
+    uint8_t kind; /* 1, 3, 2 */
+    const uint8_t *bytes;
+    size_t length;
+};
+
+/* Takes the element at these places of list and store, and moves them behind it. */
+struct element take_element(const struct tape *tape, size_t *list, size_t *store);
+
+/* Puts an element behind the others. */
+void tape_element(struct tape *tape, struct element element);
+
+/* The block with this number as the drive leaves it that could not read it. */
+void tape_lose(struct tape *tape, uint64_t number);
 
 /* A volume with labels and nothing behind them. */
 void sample_begin(struct sample *sample, uint64_t block_size);
