@@ -99,7 +99,7 @@ static const char *class_of(const struct drawn *run)
     return has_look(run, LOOKS_LABELS) ? "labels" : "data";
 }
 
-enum { CAPTION = 64 };
+enum { CAPTION = 48 };
 
 static void caption_of(char text[CAPTION], const struct segment *segment)
 {
@@ -116,14 +116,6 @@ static void caption_of(char text[CAPTION], const struct segment *segment)
         snprintf(text, CAPTION, "gen %" PRIu64, segment->header[KLAPOUZEN_INDEX_GENERATION]);
 }
 
-/* The same with the number of unreadable blocks, for a run that has room for it. */
-static void long_caption_of(char text[CAPTION], const struct segment *segment)
-{
-    char caption[CAPTION];
-    caption_of(caption, segment);
-    snprintf(text, CAPTION, "%.24s, %s unreadable", caption, grouped(segment->unreadable));
-}
-
 static void caption_of_many(char text[CAPTION], const struct track *track, const struct drawn *run)
 {
     size_t sound = count_look(track, run, LOOKS_INDEX), not = count_look(track, run, LOOKS_UNSOUND);
@@ -136,6 +128,14 @@ static void caption_of_many(char text[CAPTION], const struct track *track, const
 static bool has_room_for(const struct drawn *run, const char *text)
 {
     return run->width >= 6.5 * (double)strlen(text) + 6;
+}
+
+/* A data run's unreadable blocks rather than all its blocks, which the numbers of its elements tell, where there is room. */
+static void caption_in(char text[CAPTION], const struct drawn *run, const struct segment *segment)
+{
+    snprintf(text, CAPTION, "%s unreadable", grouped(segment->unreadable));
+    if (segment->kind != DATA_RUN || segment->unreadable == 0 || !has_room_for(run, text))
+        caption_of(text, segment);
 }
 
 /* A line in the middle of a run, where it has room. */
@@ -156,14 +156,10 @@ static void put_captions(const struct picture *picture, int side, const struct d
     uint64_t first = segments[run->first].first;
     uint64_t last = segments[run->end - 1].first + segments[run->end - 1].elements - 1;
     char text[CAPTION];
-    if (only == NULL)
-        caption_of_many(text, track, run);
-    else if (only->unreadable > 0)
-        long_caption_of(text, only);
+    if (only != NULL)
+        caption_in(text, run, only);
     else
-        caption_of(text, only);
-    if (only != NULL && !has_room_for(run, text))
-        caption_of(text, only);
+        caption_of_many(text, track, run);
     put_inside(picture, run, track_top[side] + TRACK / 2 - 3, "caption", text);
     snprintf(text, sizeof text, first < last ? "%" PRIu64 "-%" PRIu64 : "%" PRIu64, first, last);
     put_inside(picture, run, track_top[side] + TRACK / 2 + 13, "small", text);

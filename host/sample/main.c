@@ -22,11 +22,11 @@ static uint8_t *made_bytes(size_t length, uint8_t seed)
     return bytes;
 }
 
-/* A data run of made bytes on the data side; answers its first element. */
-static uint64_t put_run(struct sample *sample, size_t length, uint8_t seed)
+/* A data run of made bytes; answers its first element. */
+static uint64_t put_run(struct sample *sample, int side, size_t length, uint8_t seed)
 {
     uint8_t *bytes = made_bytes(length, seed);
-    uint64_t first = sample_data(sample, 1, bytes, length);
+    uint64_t first = sample_data(sample, side, bytes, length);
     free(bytes);
     return first;
 }
@@ -75,12 +75,12 @@ static void nights(struct sample *sample)
     sample_unmount(sample);
     for (size_t i = 0; i < 3; i++) {
         sample->generation++;
-        runs[i].first = put_run(sample, (size_t)runs[i].length, (uint8_t)(40 * i));
+        runs[i].first = put_run(sample, 1, (size_t)runs[i].length, (uint8_t)(40 * i));
         put_files(sample, 1, runs, i + 1);
         if (i != 1)
             put_files(sample, 0, runs, i + 1);
     }
-    put_run(sample, 20000, 7);
+    put_run(sample, 1, 20000, 7);
     tape_mark(&sample->sides[1]);
     tape_filled_block(&sample->sides[1], '<', 1200);
 }
@@ -90,7 +90,7 @@ static void defect(struct sample *sample)
 {
     sample_unmount(sample);
     sample->generation++;
-    put_run(sample, 12000, 1);
+    put_run(sample, 1, 12000, 1);
     sample_unmount(sample);
     sample->generation++;
     tape_filled_block(&sample->sides[1], 'x', BLOCK_SIZE + 1);
@@ -102,7 +102,7 @@ static void long_one(struct sample *sample)
 {
     for (int i = 0; i < 60; i++) {
         sample->generation++;
-        put_run(sample, 5000, (uint8_t)i);
+        put_run(sample, 1, 5000, (uint8_t)i);
         sample_unmount(sample);
         if (i != 30)
             continue;
@@ -117,7 +117,7 @@ static void sparse(struct sample *sample)
 {
     sample_empty_index(sample, 1);
     sample->generation++;
-    uint64_t first = put_run(sample, 10000, 9);
+    uint64_t first = put_run(sample, 1, 10000, 9);
     sample_empty_index(sample, 1);
     struct index_head head = sample_head(sample, 0);
     struct extent gaps[] = {
@@ -144,7 +144,7 @@ static void extents(struct sample *sample)
 {
     enum { TEXT = 3 * BLOCK_SIZE, ALL = KLAPOUZEN_MAX_ROWS * TEXT };
     static struct extent falling[KLAPOUZEN_MAX_ROWS];
-    uint64_t first = put_run(sample, ALL, 5), terabyte = (uint64_t)1 << 40;
+    uint64_t first = put_run(sample, 1, ALL, 5), terabyte = (uint64_t)1 << 40;
     struct extent few[] = { { 'b', first, 4000, 200, terabyte / 2 }, { 'b', first + 9, 7, 5000, 100 } };
     for (uint64_t i = 0; i < KLAPOUZEN_MAX_ROWS; i++)
         falling[i] = (struct extent){ 'b', first + 3 * (i ^ 5), 0, TEXT, ALL - (i + 1) * TEXT };
@@ -163,7 +163,7 @@ static void extents(struct sample *sample)
 /* As many files as an index has room for; one in sixteen has bytes. */
 static void many(struct sample *sample)
 {
-    uint64_t first = put_run(sample, BLOCK_SIZE, 3);
+    uint64_t first = put_run(sample, 1, BLOCK_SIZE, 3);
     struct extent extent = { 'b', first, 16, 10, 0 };
     struct index_text index;
     sample_empty_index(sample, 1);
@@ -223,7 +223,7 @@ static void respell(struct tape *tape, bool first)
 static void spellings(struct sample *sample)
 {
     for (int i = 0; i < 4; i++) {
-        put_run(sample, 5000, (uint8_t)i);
+        put_run(sample, 1, 5000, (uint8_t)i);
         sample_unmount(sample);
         sample->generation++;
     }
@@ -253,23 +253,22 @@ static void padded(struct sample *sample)
     pad_tape(&sample->sides[1]);
 }
 
-/* The files of the cartridge of unreadable(): a recording a night, cue sheets without bytes, the jingle of the last night. */
-static void put_recordings(struct sample *sample, int side, const struct run *runs, size_t count)
+struct listed {
+    const char *name;
+    uint64_t length;
+    struct extent extents[2];
+    size_t count;
+};
+
+/* An index of these files and of cue sheets without bytes, which make it longer than a block. */
+static void put_listed(struct sample *sample, int side, const struct listed *files, size_t count)
 {
     enum { CUES = 8 };
     struct index_head head = sample_head(sample, side);
     struct index_text index;
     index_begin(&index, &head);
-    for (size_t i = 0; i < count; i++) {
-        struct extent extent = { 'b', runs[i].first, 0, runs[i].length, 0 };
-        index_file(&index, runs[i].name, runs[i].length, &extent, 1);
-    }
-    if (count == 3) {
-        struct extent parts[] = {
-            { 'b', runs[2].first + 9, 4000, 300, 0 }, { 'b', runs[2].first, 0, 5000, 1000 },
-        };
-        index_file(&index, "jingle.wav", 6000, parts, 2);
-    }
+    for (size_t i = 0; i < count; i++)
+        index_file(&index, files[i].name, files[i].length, files[i].extents, files[i].count);
     for (int i = 1; i <= CUES; i++) {
         char name[16];
         snprintf(name, sizeof name, "%d.cue", i);
@@ -280,29 +279,40 @@ static void put_recordings(struct sample *sample, int side, const struct run *ru
 }
 
 /*
- * Recordings of three nights, of which the drive could not read some blocks: of the last night one that the jingle
- * begins in and its neighbour, another one further on, and a block of the third index of the index side that is not its
- * last one.
+ * Recordings of three nights, of which the drive could not read some blocks. On the data side two next to each other in
+ * the last night, where the jingle is too, and one further on; on the index side the first block of the third index, and
+ * the last of the notes.
  */
 static void unreadable(struct sample *sample)
 {
-    struct run runs[] = {
-        { "monday.wav", 0, 61000 }, { "tuesday.wav", 0, 9000 }, { "wednesday.wav", 0, 150000 },
+    enum { NIGHTS = 3, NOTES = 5000, JINGLE = 9 };
+    struct listed files[] = {
+        { .name = "monday.wav", .length = 61000 }, { .name = "tuesday.wav", .length = 9000 },
+        { .name = "wednesday.wav", .length = 150000 }, { .name = "jingle.wav", .length = 6000, .count = 2 },
+        { .name = "notes.txt", .length = NOTES, .count = 1 },
     };
-    uint64_t older = 0;
+    uint64_t older = 0, last = 0, notes = 0;
     sample_unmount(sample);
-    for (size_t i = 0; i < 3; i++) {
+    for (size_t i = 0; i < NIGHTS; i++) {
+        bool is_last = i == NIGHTS - 1;
         sample->generation++;
-        runs[i].first = put_run(sample, (size_t)runs[i].length, (uint8_t)(40 * i));
-        put_recordings(sample, 1, runs, i + 1);
-        if (i == 1)
-            older = sample->sides[0].elements + 1;
-        put_recordings(sample, 0, runs, i + 1);
+        last = put_run(sample, 1, (size_t)files[i].length, (uint8_t)(40 * i));
+        files[i].extents[files[i].count++] = (struct extent){ 'b', last, 0, files[i].length, 0 };
+        if (is_last) {
+            files[3].extents[0] = (struct extent){ 'b', last + JINGLE, 4000, 300, 0 };
+            files[3].extents[1] = (struct extent){ 'b', last, 0, 5000, 1000 };
+            notes = put_run(sample, 0, NOTES, 200);
+            files[4].extents[0] = (struct extent){ 'a', notes, 0, NOTES, 0 };
+        }
+        put_listed(sample, 1, files, is_last ? 5 : i + 1);
+        older = i == 1 ? sample->sides[0].elements + 1 : older;
+        put_listed(sample, 0, files, is_last ? 5 : i + 1);
     }
     tape_lose(&sample->sides[0], older);
-    tape_lose(&sample->sides[1], runs[2].first + 9);
-    tape_lose(&sample->sides[1], runs[2].first + 10);
-    tape_lose(&sample->sides[1], runs[2].first + 30);
+    tape_lose(&sample->sides[0], notes + 1);
+    tape_lose(&sample->sides[1], last + JINGLE);
+    tape_lose(&sample->sides[1], last + JINGLE + 1);
+    tape_lose(&sample->sides[1], last + 30);
 }
 
 /* As many generations as the stores have room for; one index is unsound, and the last is of the data side alone. */

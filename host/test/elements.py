@@ -9,9 +9,12 @@ between, done one after another; N is an element's number:
   label,N,TEXT      a block of 80 bytes before it, the text filled up with spaces
   put,N,FIRST,TEXT  other bytes from this one on, counted from 1; \\xNN is a byte
   size,N,LENGTH     the block cut off or filled up with spaces
+  lose,N            the block as one that could not be read
 """
 import os
 import sys
+
+UNREADABLE = b""
 
 
 def read(folder):
@@ -24,6 +27,9 @@ def read(folder):
         if codes[at] == 1:
             elements.append(None)
             at += 1
+        elif codes[at] == 3:
+            elements.append(UNREADABLE)
+            at += 1
         else:
             length = int.from_bytes(codes[at + 1:at + 5], "big")
             elements.append(store[begin:begin + length])
@@ -32,10 +38,16 @@ def read(folder):
     return elements
 
 
+def code_of(element):
+    if element is None:
+        return b"\1"
+    return b"\3" if element == UNREADABLE else b"\2" + len(element).to_bytes(4, "big")
+
+
 def write(folder, elements):
     os.mkdir(folder)
     with open(os.path.join(folder, "index.list"), "wb") as file:
-        file.write(b"".join(b"\1" if e is None else b"\2" + len(e).to_bytes(4, "big") for e in elements))
+        file.write(b"".join(map(code_of, elements)))
     with open(os.path.join(folder, "index.store"), "wb") as file:
         file.write(b"".join(e for e in elements if e is not None))
 
@@ -59,6 +71,8 @@ def edit(elements, kind, number, *words):
     elif kind == "put":
         first, text = int(words[0]) - 1, as_bytes(words[1])
         elements[at] = elements[at][:first] + text + elements[at][first + len(text):]
+    elif kind == "lose":
+        elements[at] = UNREADABLE
     elif kind == "size":
         elements[at] = elements[at][:int(words[0])].ljust(int(words[0]))
     else:

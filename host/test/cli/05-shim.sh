@@ -23,9 +23,10 @@ one_line() { # FILE: it has one line
     [ "$(wc -l < "$1")" -eq 1 ] || fail "not one line in $1" "$(head -5 "$1")"
 }
 
-# extracted DIR NUMBER FILE: the file has the bytes of the extents, as the test's own reading has them.
+# extracted DIR NUMBER FILE [GAPS [OPTION..]]: the file has the bytes of the extents, as the test's own reading has them, and
+# the list its gaps; in the index that the options choose.
 extracted() {
-    "$K" files "$1" --json > listing
+    "$K" files "$1" --json "${@:5}" > listing
     checks=$((checks + 1))
-    python3 -I -S "$PARTS/../extracted.py" "$1" listing "$2" "$3" > out 2>&1 || fail "$3 is not file $2 of $1" "$(tail -1 out)"
+    python3 -I -S "$PARTS/../extracted.py" "$1" listing "$2" "$3" ${4:+"$4"} > out 2>&1 || fail "$3 is not file $2 of $1" "$(tail -1 out)"
 }

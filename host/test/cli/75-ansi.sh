@@ -179,6 +179,15 @@ wrong 'element 12: HDR1 or the mark that ends the tape is expected, VOL1 stands 
 wrong 'element 65: 1 element stands behind the mark that ends the tape: a mark' mark,65
 wrong 'element 65: 2 elements stand behind the mark that ends the tape: the first is HDR1' label,65,HDR1 mark,66
 
+# An unreadable block, which can stand nowhere.
+wrong 'element 0: VOL1 is expected, an unreadable block stands there' lose,0
+wrong 'element 2: a volume label (VOL2 to VOL9, UVL) or HDR1 is expected, an unreadable block stands there' lose,2
+wrong 'element 3: HDR2 is expected, an unreadable block stands there (file 0, HOSTS)' lose,3
+wrong 'element 7: a data block or a mark is expected, an unreadable block stands there (file 0, HOSTS)' lose,7
+wrong 'element 9: EOF1 is expected, an unreadable block stands there (file 0, HOSTS)' lose,9
+wrong 'element 12: HDR1 or the mark that ends the tape is expected, an unreadable block stands there' lose,12
+wrong 'element 65: 1 element stands behind the mark that ends the tape: an unreadable block' block,65,1 lose,65
+
 # EOF1 and HDR1, field by field; all that differ are named.
 for field in 'file ID:5:21' 'file set ID:22:27' 'file section number:28:31' 'file sequence number:32:35' 'generation number:36:39' \
     'generation version number:40:41' 'creation date:42:47' 'expiration date:48:53' 'implementation ID:61:73' 'reserved part:74:80'; do
@@ -421,6 +430,17 @@ is_so 'tape["ansi"]["files"] == 2 and tape["ansi"]["refusal"] == {"number": 18, 
 edited put,20,1,EOV1
 is 1 "$K" check edited
 says out "edited  an ANSI labelled tape, volume BENCH1, refused 17 at element 20 behind 1 whole file: see klapouzen ansi edited"
+edited lose,17
+is 1 "$K" check edited
+says out "edited  an ANSI labelled tape, volume BENCH1, refused 16 at element 17 behind 1 whole file: see klapouzen ansi edited; 1 unreadable block on the index side"
+is 1 "$K" check edited --json
+is_so 'tape["ansi"]["files"] == 1 and tape["ansi"]["refusal"]["number"] == 16 and tape["unreadable_blocks"] == {"index": 1, "data": 0}'
+is 0 "$K" ansi edited --extract HOSTS
+same out hosts
+# Before a HDR1 it might be any tape.
+edited lose,2
+is 1 "$K" check edited
+says out "edited  refused 9: the partition does not begin with block, mark, block, mark (index side: index.list); 1 unreadable block on the index side"
 edited drop,20
 is 1 "$K" check edited
 says out "edited  refused 9: "

@@ -16,6 +16,9 @@ if command -v script > /dev/null; then
     says out $'\033[2m\033[34m        71-75  data'
     says out $'\033[2m\033[33m        76-77  index run'
     says out $'\033[32m        68-70  index 3'
+    script -qec "'$K' show worn" /dev/null > out < /dev/null
+    says out $'           63  \033[37;41munreadable\033[0m 1 block'
+    says out $'\033[2m\033[37;41mx\033[0m'
     TERM=dumb script -qec "'$K' show nights" /dev/null > out < /dev/null
     says_not out $'\033'
     NO_COLOR=1 script -qec "'$K' show nights" /dev/null > out < /dev/null
