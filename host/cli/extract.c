@@ -218,12 +218,14 @@ static int write_to(const struct output *output, const void *data)
 static int write_holed(const struct extraction *this, const char *path)
 {
     char *list = path != NULL ? format_text("%s" GAPS, path) : NULL;
-    /* A file that is there is said to have gaps, whatever signal comes. */
-    hold_signals();
+    /* A file that is there is said to have gaps, whatever signal comes; but standard output may be a full pipe. */
+    if (list != NULL)
+        hold_signals();
     int status = write_output(path, list, write_to, this);
     if (status == DONE)
         report_gaps(this, path);
-    release_signals();
+    if (list != NULL)
+        release_signals();
     free(list);
     return status == DONE ? HOLED : status;
 }

@@ -403,6 +403,17 @@ done
 stops 2 rename "$K" extract worn --construct 3 wednesday.wav --holes --output stopped
 absent stopped
 absent stopped.gaps
+# A full pipe can be left.
+mkfifo holes_pipe
+exec 9<> holes_pipe
+"$K" extract worn --construct 3 wednesday.wav --holes > holes_pipe 2> /dev/null &
+head -c 1 <&9 > /dev/null
+kill -TERM $!
+wait $! 2> /dev/null
+status=$?
+checks=$((checks + 1))
+[ $status -eq 143 ] || fail "a signal does not end extract --holes at a full pipe"
+exec 9<&-
 no_drafts
 
 # ---- Cut ----
