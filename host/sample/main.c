@@ -236,9 +236,9 @@ static void pad_tape(struct tape *tape)
 {
     struct tape padded = { 0 };
     for (size_t list = 0, store = 0; list < tape->list.length;) {
-        struct element element = take_element(tape, &list, &store);
+        struct tape_element element = tape_take(tape, &list, &store);
         struct buffer block = pad_numbers(element.bytes, element.length);
-        tape_element(&padded, (struct element){ element.kind, block.bytes, block.length });
+        tape_put(&padded, (struct tape_element){ element.kind, block.bytes, block.length });
         buffer_free(&block);
     }
     tape_free(tape);

@@ -309,10 +309,10 @@ void tape_unreadable_block(struct tape *tape)
     tape->elements++;
 }
 
-struct element take_element(const struct tape *tape, size_t *list, size_t *store)
+struct tape_element tape_take(const struct tape *tape, size_t *list, size_t *store)
 {
     const uint8_t *at = tape->list.bytes + *list;
-    struct element element = { at[0], NULL, 0 };
+    struct tape_element element = { at[0], NULL, 0 };
     (*list)++;
     if (element.kind != 2)
         return element;
@@ -324,7 +324,7 @@ struct element take_element(const struct tape *tape, size_t *list, size_t *store
     return element;
 }
 
-void tape_element(struct tape *tape, struct element element)
+void tape_put(struct tape *tape, struct tape_element element)
 {
     if (element.kind == 1)
         tape_mark(tape);
@@ -339,8 +339,8 @@ void tape_lose(struct tape *tape, uint64_t number)
     struct tape rest = { 0 };
     for (size_t list = 0, store = 0; list < tape->list.length;) {
         bool is_lost = rest.elements == number;
-        struct element element = take_element(tape, &list, &store);
-        tape_element(&rest, is_lost ? (struct element){ 3, NULL, 0 } : element);
+        struct tape_element element = tape_take(tape, &list, &store);
+        tape_put(&rest, is_lost ? (struct tape_element){ 3, NULL, 0 } : element);
     }
     tape_free(tape);
     *tape = rest;

@@ -88,18 +88,18 @@ void tape_block(struct tape *tape, const void *bytes, size_t length);
 void tape_filled_block(struct tape *tape, uint8_t byte, size_t length);
 void tape_unreadable_block(struct tape *tape);
 
-/* An element of a tape: a mark, an unreadable block, or a block with its bytes. */
-struct element {
-    uint8_t kind; /* 1, 3, 2 */
+/* An element of a tape: 1 a mark, 2 a block with its bytes, 3 an unreadable block. */
+struct tape_element {
+    uint8_t kind;
     const uint8_t *bytes;
     size_t length;
 };
 
 /* Takes the element at these places of list and store, and moves them behind it. */
-struct element take_element(const struct tape *tape, size_t *list, size_t *store);
+struct tape_element tape_take(const struct tape *tape, size_t *list, size_t *store);
 
 /* Puts an element behind the others. */
-void tape_element(struct tape *tape, struct element element);
+void tape_put(struct tape *tape, struct tape_element element);
 
 /* The block with this number as the drive leaves it that could not read it. */
 void tape_lose(struct tape *tape, uint64_t number);
