@@ -64,6 +64,15 @@ static uint64_t count_named(const struct chosen *chosen, const char *name, uint6
     return found;
 }
 
+/* That no file has what was given, a name or a number; the index is named, since a later one may have it. */
+static bool no_file(const struct volume *volume, const struct chosen *chosen, const char *word,
+                    const char *what)
+{
+    complain("%s: %s: no file has this %s in index %" PRIu64 " of the %s partition", volume->folder, word,
+             what, chosen->construct, volume->sides[chosen->side].name);
+    return false;
+}
+
 /* A number means a file only where none has it as its name. */
 static bool find_file(const struct volume *volume, const struct chosen *chosen, const char *word,
                       uint64_t *number)
@@ -71,8 +80,9 @@ static bool find_file(const struct volume *volume, const struct chosen *chosen, 
     uint64_t named = count_named(chosen, word, number);
     if (named == 1 || (named == 0 && read_number(word, number)))
         return true;
-    complain("%s: %s: %s", volume->folder, word,
-             named == 0 ? "no file has this name" : "several files have this name; give --number");
+    if (named == 0)
+        return no_file(volume, chosen, word, "name");
+    complain("%s: %s: several files have this name; give --number", volume->folder, word);
     return false;
 }
 
@@ -247,9 +257,7 @@ static bool find_wished(const struct volume *volume, const struct chosen *chosen
         return false;
     if (read_chosen_file(chosen, *number, file))
         return true;
-    complain("%s: %s: no file has this number", volume->folder,
-             wish->number != NULL ? wish->number : wish->file);
-    return false;
+    return no_file(volume, chosen, wish->number != NULL ? wish->number : wish->file, "number");
 }
 
 static int write_wished(const struct extraction *extraction, const struct wish *wish)

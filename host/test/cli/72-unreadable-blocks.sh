@@ -254,6 +254,12 @@ says out '"startblock":42,"byteoffset":4000,"bytecount":300,"fileoffset":0,"unre
 is 0 "$K" files worn
 says_not out unreadable
 
+# The cut keeps an index without the file: which one it is.
+is 1 "$K" extract worn wednesday.wav
+says err "worn: wednesday.wav: no file has this name in index 1 of the index partition"
+is 1 "$K" extract worn --data --construct 2 --number 12
+says err "worn: 12: no file has this number in index 2 of the data partition"
+
 # Without --holes: which bytes, and nothing is written.
 is 1 "$K" extract worn --construct 3 wednesday.wav --output lost
 says err "worn: position 36864 of the file, 4,096 bytes: block 42 is unreadable (data side: data.list)"
