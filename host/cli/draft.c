@@ -152,7 +152,8 @@ bool draft_add(struct draft *draft, const char *name, struct bytes bytes)
     bool written = file != NULL;
     if (written) {
         draft->parts[draft->count++] = name;
-        fwrite(bytes.start, 1, bytes.length, file);
+        if (bytes.length > 0)
+            fwrite(bytes.start, 1, bytes.length, file);
         written = close_whole(file);
     }
     if (!written)
