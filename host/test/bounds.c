@@ -190,13 +190,6 @@ static void keep_again(const char *what, struct slice list, struct slice store, 
     expect(what, out[KLAPOUZEN_KEPT_STORE], store_kept);
 }
 
-/* A block that the drive couldn't read. */
-static void lost_block(struct tape *tape)
-{
-    put_byte(&tape->list, 3, 1);
-    tape->elements++;
-}
-
 static void list_of(const char *what, uint64_t blocks, size_t length, uint64_t marks, uint64_t lost, uint64_t wanted)
 {
     struct tape tape = { 0 };
@@ -205,7 +198,7 @@ static void list_of(const char *what, uint64_t blocks, size_t length, uint64_t m
     for (uint64_t i = 0; i < marks; i++)
         tape_mark(&tape);
     for (uint64_t i = 0; i < lost; i++)
-        lost_block(&tape);
+        tape_unreadable_block(&tape);
     struct slice list = guarded(&tape.list), store = guarded(&tape.store);
     expect(what, klapouzen_check_list(SLICE(list), SLICE(store), filled()), wanted);
     expect(what, out[0], wanted == 0 ? tape.elements : 0);
@@ -242,7 +235,7 @@ static void most_constructs(bool lost)
     while (tape.elements + 3 <= KLAPOUZEN_MAX_ELEMENTS) {
         tape_mark(&tape);
         if (lost)
-            lost_block(&tape);
+            tape_unreadable_block(&tape);
         else
             tape_filled_block(&tape, 'x', 1);
         tape_mark(&tape);
@@ -527,7 +520,7 @@ static void largest_volume(bool lost)
         struct tape *tape = &sample.sides[side];
         while (tape->elements + 3 < KLAPOUZEN_MAX_ELEMENTS)
             if (lost)
-                lost_block(tape);
+                tape_unreadable_block(tape);
             else
                 tape_filled_block(tape, 'x', 255);
         sample_empty_index(&sample, side);
@@ -556,7 +549,7 @@ static void largest_lost_index(void)
     struct tape *data = &sample.sides[1];
     tape_mark(data);
     while (data->elements + 1 < KLAPOUZEN_MAX_ELEMENTS)
-        lost_block(data);
+        tape_unreadable_block(data);
     tape_mark(data);
     sample_empty_index(&sample, 0);
     expect("its constructs", klapouzen_constructs(TAPE(*data), 4096, table, filled()), 0);
@@ -675,7 +668,7 @@ static void lost_ansi_blocks(void)
     expect_ansi("the last data block unreadable", &tape, 16, 65530, 0);
     tape = (struct tape){ 0 };
     while (tape.elements < KLAPOUZEN_MAX_ELEMENTS)
-        lost_block(&tape);
+        tape_unreadable_block(&tape);
     expect_ansi("65,536 unreadable blocks", &tape, 16, 0, 0);
 }
 

@@ -67,20 +67,14 @@ static void put_deepest_construct(int side)
     sample_index(&volume, side, &index);
 }
 
-static void put_unreadable(struct tape *tape)
-{
-    put_byte(&tape->list, 3, 1);
-    tape->elements++;
-}
-
 /* Many constructs on both sides, the last ones with the deepest index; unreadable blocks where nothing needs them. */
 static void make_volume(void)
 {
     sample_begin(&volume, 4096);
     for (int i = 0; i < CONSTRUCTS - 1; i++) {
         tape_filled_block(&volume.sides[1], 'x', 4096);
-        put_unreadable(&volume.sides[1]);
-        put_unreadable(&volume.sides[0]);
+        tape_unreadable_block(&volume.sides[1]);
+        tape_unreadable_block(&volume.sides[0]);
         volume.generation++;
         sample_unmount(&volume);
     }
