@@ -15,6 +15,10 @@ count() {
 }
 
 count klapouzen_ansi ansi "the most files"
+count klapouzen_check_list blocks "65,536 blocks"
+count klapouzen_check_list unreadable "65,536 unreadable blocks"
+count klapouzen_verdict data "two sides of 65,536 elements"
+count klapouzen_verdict holed "the same, half of them unreadable"
 for text in flat indented nested; do
     count klapouzen_read_index "$text" "1 MB, $text"
 done

@@ -112,6 +112,58 @@ static void label_once(void)
                                  524288, 1, &length), 0);
 }
 
+/* ---- Lists of the most elements ---- */
+
+static void check_list(void (*add)(struct tape *tape))
+{
+    struct tape tape = { 0 };
+    uint64_t count;
+    while (tape.elements < KLAPOUZEN_MAX_ELEMENTS)
+        add(&tape);
+    expect(klapouzen_check_list(tape.list.bytes, tape.list.length, tape.store.bytes, tape.store.length, &count), 0);
+    tape_free(&tape);
+}
+
+static void small_block(struct tape *tape)
+{
+    tape_filled_block(tape, 'x', 240);
+}
+
+static void blocks_once(void)
+{
+    check_list(small_block);
+}
+
+static void unreadable_once(void)
+{
+    check_list(tape_unreadable_block);
+}
+
+/* A data run to the bound and an index on each side; of 16 data blocks so many are unreadable. */
+static void judge_once(uint64_t unreadable)
+{
+    struct sample sample;
+    uint64_t verdict[KLAPOUZEN_BREAK];
+    sample_begin(&sample, 4096);
+    for (int side = 0; side < 2; side++)
+        while (sample.sides[side].elements + 3 < KLAPOUZEN_MAX_ELEMENTS)
+            (sample.sides[side].elements % 16 < unreadable ? tape_unreadable_block : small_block)(&sample.sides[side]);
+    sample_unmount(&sample);
+    expect(klapouzen_verdict(SAMPLE(&sample), verdict), 0);
+    expect(verdict[KLAPOUZEN_BREAK_WHICH], 0);
+    sample_free(&sample);
+}
+
+static void data_once(void)
+{
+    judge_once(0);
+}
+
+static void holed_once(void)
+{
+    judge_once(8);
+}
+
 static const struct {
     const char *what;
     void (*run)(void);
@@ -120,6 +172,7 @@ static const struct {
     { "nested", nested_once }, { "given", given_once }, { "label", label_once },
     { "smallest", smallest_once }, { "respelled", respelled_once },
     { "padded", padded_once }, { "zeros", zeros_once }, { "signed_zeros", signed_zeros_once },
+    { "blocks", blocks_once }, { "unreadable", unreadable_once }, { "data", data_once }, { "holed", holed_once },
 };
 
 void bench_once(const char *what)
