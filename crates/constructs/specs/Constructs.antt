@@ -78,8 +78,8 @@ scanStart = record { at = 0; run = labels 3; done = [] }
 unfoldable pub standing : ℕ → Tape → List Construct
 standing B t = scan B scanStart t .done
 
--- for each element the length of the data block that it is, or 0, as for an unreadable block. So many elements of the labels are still to come; behind them a run
--- is a data run where the number of marks passed is even
+-- for each element the length of the data block that it is, or 0, as for an unreadable block. So many elements of the labels are still to
+-- come; behind them a run is a data run where the number of marks passed is even
 unfoldable pub dataLengthsFrom : ℕ → Bool → Tape → List ℕ
 dataLengthsFrom k even [] = []
 dataLengthsFrom (suc k) even (e ∷ t) = 0 ∷ dataLengthsFrom k even t

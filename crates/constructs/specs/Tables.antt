@@ -9,6 +9,7 @@ use Rattle.tape.specs.Answers.{bytesBefore}
 use Rattle.refusals.specs.Refusals.{Answer, refused, answer}
 use Rattle.constructs.specs.Constructs.{Construct, standing}
 
+-- without a text there is an unreadable block in the run
 abbrev pub isHoled : Option (List ℕ) → Bool
 isHoled none = true
 isHoled (some x) = false
