@@ -22,44 +22,21 @@ static const char help[] =
 
 /* ---- Unreadable blocks ---- */
 
-/* How many unreadable blocks stand before each element of a side, and before its end. */
-struct counts {
-    uint64_t elements;
-    uint32_t *before;
-};
-
-static struct counts count_before(const struct side *side)
-{
-    struct counts counts = { 0, allocate((KLAPOUZEN_MAX_ELEMENTS + 1) * sizeof(uint32_t)) };
-    struct bytes list = side->list;
-    counts.before[0] = 0;
-    while (list.length > 0) {
-        uint64_t at = counts.elements++;
-        counts.before[at + 1] = counts.before[at] + (take_element(&list).kind == UNREADABLE_BLOCK);
-    }
-    return counts;
-}
-
-static uint32_t before(const struct counts *counts, uint64_t element)
-{
-    return counts->before[element < counts->elements ? element : counts->elements];
-}
-
 /* What is listed: an index, and the unreadable blocks of both sides. */
 struct listing {
     const struct chosen *chosen;
-    struct counts counts[2];
+    struct unreadable sides[2];
 };
 
 /* How many unreadable blocks an extent touches. The sum of offset and count may pass 64 bits. */
 static uint32_t unreadable_in(const struct listing *listing, const uint64_t *row)
 {
     const struct label *label = &listing->chosen->label;
-    const struct counts *counts = &listing->counts[row[KLAPOUZEN_ROW_LETTER] == label->letters[INDEX] ? INDEX : DATA];
+    const struct unreadable *side = &listing->sides[row[KLAPOUZEN_ROW_LETTER] == label->letters[INDEX] ? INDEX : DATA];
     uint64_t first = row[KLAPOUZEN_ROW_STARTBLOCK], behind = row[KLAPOUZEN_ROW_BYTECOUNT] - 1;
     uint64_t last = first + behind / label->block_size
         + (row[KLAPOUZEN_ROW_BYTEOFFSET] + behind % label->block_size) / label->block_size;
-    return before(counts, last < UINT64_MAX ? last + 1 : last) - before(counts, first);
+    return unreadable_before(side, last < UINT64_MAX ? last + 1 : last) - unreadable_before(side, first);
 }
 
 static uint64_t files_touching(const struct listing *listing, const uint64_t *files, const uint64_t *rows)
@@ -169,10 +146,10 @@ static int files(const struct volume *volume, const void *data)
         return status;
     struct listing listing = { &chosen, { { 0, NULL }, { 0, NULL } } };
     for (int side = INDEX; side <= DATA; side++)
-        listing.counts[side] = count_before(&volume->sides[side]);
+        listing.sides[side] = unreadable_read(volume->sides[side].list);
     list_files(&listing, wish->json);
     for (int side = INDEX; side <= DATA; side++)
-        free(listing.counts[side].before);
+        unreadable_free(&listing.sides[side]);
     return DONE;
 }
 

@@ -10,6 +10,7 @@ struct source {
     const struct volume *volume;
     const struct chosen *chosen;
     uint64_t length; /* of the file */
+    struct unreadable sides[2];
 };
 
 bool is_lost(const struct piece *piece)
@@ -32,24 +33,25 @@ static bool not_stored(const struct source *from, const uint64_t place[KLAPOUZEN
 
 /*
  * From a place on to the end of its block, or of what the row has left. What a block has beyond the block size is at no
- * place, and an unreadable block is taken for a full one.
+ * place, and an unreadable block is taken for a full one. The library is asked for no unreadable block: for each it would
+ * walk both lists, and there may be as many as a list has elements.
  */
 static bool find_stored(const struct source *from, const uint64_t place[KLAPOUZEN_BYTE], uint64_t left,
                         struct piece *piece)
 {
     const struct label *label = &from->chosen->label;
     uint64_t block[KLAPOUZEN_BLOCK], offset = place[KLAPOUZEN_BYTE_OFFSET], length = label->block_size;
-    uint64_t refusal = klapouzen_block(VOLUME(from->volume), label->letters[INDEX], label->letters[DATA],
-                                       piece->letter, piece->block, block);
-    bool is_unreadable = refusal == KLAPOUZEN_UNREADABLE_BLOCK;
-    if (refusal != 0 && !is_unreadable)
+    int side = piece->letter == label->letters[INDEX] ? INDEX : DATA;
+    bool is_gap = unreadable_at(&from->sides[side], piece->block);
+    if (!is_gap && klapouzen_block(VOLUME(from->volume), label->letters[INDEX], label->letters[DATA], piece->letter,
+                                   piece->block, block) != 0)
         return false;
-    if (!is_unreadable && length > block[KLAPOUZEN_BLOCK_LENGTH])
+    if (!is_gap && length > block[KLAPOUZEN_BLOCK_LENGTH])
         length = block[KLAPOUZEN_BLOCK_LENGTH];
     if (offset >= length)
         return false;
     piece->length = length - offset < left ? length - offset : left;
-    if (!is_unreadable)
+    if (!is_gap)
         piece->stored = part_of(from->volume->sides[block[KLAPOUZEN_BLOCK_SIDE]].store,
                                 block[KLAPOUZEN_BLOCK_OFFSET] + offset, piece->length);
     return true;
@@ -116,15 +118,19 @@ static int by_position(const void *one, const void *other)
 bool pieces_read(struct pieces *pieces, const struct volume *volume, const struct chosen *chosen,
                  uint64_t length, struct rows *rows)
 {
-    const struct source from = { volume, chosen, length };
+    struct source from = { .volume = volume, .chosen = chosen, .length = length };
+    bool is_whole = true;
     *pieces = (struct pieces){ .count = 0 };
+    for (int side = INDEX; side <= DATA; side++)
+        from.sides[side] = unreadable_read(volume->sides[side].list);
     qsort(rows->numbers, rows->count, KLAPOUZEN_ROW * sizeof rows->numbers[0], by_position);
-    for (uint64_t i = 0; i < rows->count; i++)
-        if (!add_row(pieces, &from, rows->numbers + KLAPOUZEN_ROW * i)) {
-            pieces_free(pieces);
-            return false;
-        }
-    return true;
+    for (uint64_t i = 0; is_whole && i < rows->count; i++)
+        is_whole = add_row(pieces, &from, rows->numbers + KLAPOUZEN_ROW * i);
+    for (int side = INDEX; side <= DATA; side++)
+        unreadable_free(&from.sides[side]);
+    if (!is_whole)
+        pieces_free(pieces);
+    return is_whole;
 }
 
 void pieces_free(struct pieces *pieces)

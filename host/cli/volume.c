@@ -178,6 +178,32 @@ uint64_t count_unreadable(struct bytes list)
     return count;
 }
 
+struct unreadable unreadable_read(struct bytes list)
+{
+    struct unreadable found = { 0, allocate((KLAPOUZEN_MAX_ELEMENTS + 1) * sizeof(uint32_t)) };
+    found.before[0] = 0;
+    while (list.length > 0) {
+        uint64_t at = found.elements++;
+        found.before[at + 1] = found.before[at] + (take_element(&list).kind == UNREADABLE_BLOCK);
+    }
+    return found;
+}
+
+void unreadable_free(struct unreadable *unreadable)
+{
+    free(unreadable->before);
+}
+
+uint32_t unreadable_before(const struct unreadable *unreadable, uint64_t element)
+{
+    return unreadable->before[element < unreadable->elements ? element : unreadable->elements];
+}
+
+bool unreadable_at(const struct unreadable *unreadable, uint64_t element)
+{
+    return element < unreadable->elements && unreadable->before[element + 1] > unreadable->before[element];
+}
+
 /* ---- Asking the library ---- */
 
 struct bytes block_of(const struct volume *volume, int side, uint64_t number)

@@ -64,6 +64,20 @@ struct element take_element(struct bytes *list);
 /* How many unreadable blocks such a list has. */
 uint64_t count_unreadable(struct bytes list);
 
+/* How many of them stand before each of its elements, and before its end. */
+struct unreadable {
+    uint64_t elements;
+    uint32_t *before;
+};
+
+struct unreadable unreadable_read(struct bytes list);
+void unreadable_free(struct unreadable *unreadable);
+
+/* Before an element; before the end where there is none. */
+uint32_t unreadable_before(const struct unreadable *unreadable, uint64_t element);
+
+bool unreadable_at(const struct unreadable *unreadable, uint64_t element);
+
 /* The block with this element number on one side; empty where there is none. */
 struct bytes block_of(const struct volume *volume, int side, uint64_t number);
 
