@@ -413,8 +413,8 @@ absent stopped.gaps
 mkfifo holes_pipe
 exec 9<> holes_pipe
 "$K" extract worn --construct 3 wednesday.wav --holes > holes_pipe 2> /dev/null &
-head -c 1 <&9 > /dev/null
-kill -TERM $!
+timeout 10 head -c 1 <&9 > /dev/null
+kill -TERM $! 2> /dev/null
 wait $! 2> /dev/null
 status=$?
 checks=$((checks + 1))
