@@ -41,6 +41,13 @@ void *reallocate(void *start, size_t size)
     return given(realloc(start, size));
 }
 
+void *room_for(void *start, size_t count, size_t size)
+{
+    if ((count & (count - 1)) != 0)
+        return start;
+    return reallocate(start, (count == 0 ? 1 : 2 * count) * size);
+}
+
 char *format_text(const char *format, ...)
 {
     va_list arguments, again;

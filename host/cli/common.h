@@ -20,6 +20,9 @@ void complain(const char *format, ...) __attribute__((format(printf, 1, 2)));
 void *allocate(size_t size);
 void *reallocate(void *start, size_t size);
 
+/* An array of so many things of a size with room for one more; it grows by doubling. */
+void *room_for(void *start, size_t count, size_t size);
+
 /* A new string, to be freed. */
 char *format_text(const char *format, ...) __attribute__((format(printf, 1, 2)));
 

@@ -6,14 +6,6 @@
 
 /* ---- Segments ---- */
 
-/* Room for one more in an array of so many, which grows by doubling. */
-static void *room_for(void *start, size_t count, size_t size)
-{
-    if ((count & (count - 1)) != 0)
-        return start;
-    return reallocate(start, (count == 0 ? 1 : 2 * count) * size);
-}
-
 static struct segment *add_segment(struct layout *layout, enum kind kind, uint64_t first)
 {
     layout->segments = room_for(layout->segments, layout->count, sizeof *layout->segments);

@@ -82,10 +82,7 @@ static bool find_piece(const struct source *from, const uint64_t *row, uint64_t 
 
 static void add_piece(struct pieces *pieces, const struct piece *piece)
 {
-    if ((pieces->count & (pieces->count - 1)) == 0) {
-        size_t room = pieces->count == 0 ? 1 : 2 * pieces->count;
-        pieces->all = reallocate(pieces->all, room * sizeof *pieces->all);
-    }
+    pieces->all = room_for(pieces->all, pieces->count, sizeof *pieces->all);
     pieces->all[pieces->count++] = *piece;
     if (is_lost(piece)) {
         pieces->lost += piece->length;

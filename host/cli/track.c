@@ -40,10 +40,7 @@ double unit_for(const struct layout layouts[2], double width)
 
 static void add_run(struct track *track, struct drawn run)
 {
-    if ((track->count & (track->count - 1)) == 0) {
-        size_t room = track->count == 0 ? 1 : 2 * track->count;
-        track->runs = reallocate(track->runs, room * sizeof *track->runs);
-    }
+    track->runs = room_for(track->runs, track->count, sizeof *track->runs);
     track->runs[track->count++] = run;
 }
 

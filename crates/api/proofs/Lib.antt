@@ -1,5 +1,6 @@
 pub mod Showing
 pub mod Keeping
+pub mod ConstructRows
 pub mod Saying
 pub mod Writing
 pub mod ReadBack
