@@ -2,7 +2,6 @@
 use mathlib.Core.Path.{_≡_, refl, sym, ap, _∙_, subst}
 use mathlib.Core.Bool.{Bool, true, false, cond}
 use mathlib.Core.List.{List}
-use mathlib.Core.Option.{Option, none, some}
 use Prim.Native.Nat.{ℕ, _*_, _/_, _≤_}
 use native.Mathlib.Nat.{zero-add}
 use native.Mathlib.Omega.{arith}
@@ -15,9 +14,8 @@ use Rattle.slices.specs.Slices.{written}
 use Rattle.slices.specs.Writers.{heldAfter, room}
 use Rattle.slices.proofs.Writing.{front-written}
 use Rattle.tape.specs.Tape.{Tape, maxElements}
-use Rattle.tape.specs.ReadingSteps.{tapeOf}
-use Rattle.tape.specs.Answers.{orRefused, tapeIn, elementCount}
-use Rattle.tape.proofs.Encoding.{Bytes, encodes-read}
+use Rattle.tape.specs.Answers.{tapeIn, elementCount}
+use Rattle.tape.proofs.Encoding.{Bytes, encodes-read, tape-read}
 use Rattle.tape.proofs.Keeping.{Present, absent-list}
 use Rattle.ansi.specs.declared.FilesRead.{FilesRead}
 use Rattle.ansi.specs.declared.FilesRead.the-variants as readIs
@@ -83,11 +81,7 @@ place-refused l s r e = rw (absent-list l s r e)
 
 -- a tape that was read from a list is within the bounds
 tape-small : (l s : List ℕ) (t : Tape) → Bytes l → tapeIn l s ≡ answer t → length t ≤ maxElements
-tape-small l s t w e = by (tapeOf l s) refl e
-  where
-    by : (o : Option Tape) → tapeOf l s ≡ o → orRefused o ≡ answer t → length t ≤ maxElements
-    by none q f = let z : _≡_ {A = ℕ} 0 1 = cc in absurd (omega arith)
-    by (some u) q f = let z : u ≡ t = cc in encodes-read l s t w (q ∙ ap some z) .elements
+tape-small l s t w e = encodes-read l s t w (tape-read l s t e) .elements
 
 pub by-layout : (room : ℕ) (l s : List ℕ) → Bytes l → ByLayout room l s
 by-layout room l s w t e =

@@ -6,5 +6,6 @@ pub mod Writing
 pub mod ReadBack
 pub mod Headers
 pub mod Demands
+pub mod Continued
 pub mod Sizing
 pub mod Spellings

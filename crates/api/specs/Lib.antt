@@ -4,5 +4,6 @@ pub mod Labels
 pub mod Files
 pub mod Indexes
 pub mod Volumes
+pub mod Continued
 pub mod Tapes
 pub mod Steps

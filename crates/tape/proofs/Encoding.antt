@@ -10,11 +10,13 @@ use lib.Dec.{leb, eqb}
 use lib.ListN.{length, take, drop, length-append, length-map, length-drop, take-append-drop}
 use lib.Seq.{take-append-seam, drop-append-seam, length-take-le}
 use borrow.Author.Tests.{leb-true, eqb-true, le-leb, eq-eqb}
-use Rattle.slices.proofs.Booleans.{split, and-parts, and-left, and-right}
+use Rattle.slices.proofs.Booleans.{split, and-parts}
 use Rattle.tape.specs.declared.Entry.{Entry}
 use Rattle.tape.specs.declared.Entry.the-variants.{Mark, Block, Unreadable, End, Bad}
 use Rattle.tape.specs.Tape.{Element, mark, block, unreadable, Tape, Cell, markCell, blockCell, unreadableCell, cellOf, entry, content, list, store, isLawfulCell, lawfulTape, maxElements, maxStore, Encodes}
 use Rattle.tape.specs.ReadingSteps.{entryAt, andBehind, cellsFrom, cells, added, size, total, elementOf, filled, withinBounds, filledWith, tapeOf}
+use Rattle.refusals.specs.Refusals.{answer}
+use Rattle.tape.specs.Answers.{orRefused, tapeIn}
 pub use Rattle.tape.proofs.Entries.{Bytes}
 use Rattle.tape.proofs.Entries.{spells-as}
 use Rattle.tape.proofs.Counting.{length-filled}
@@ -86,12 +88,12 @@ record Spelt (l s : List ℕ) (t : Tape) : Type 0 where
   stores : s ≡ store t
   blocks : lawfulTape t ≡ true
 
-record Added (c : Cell) (o : Option (List Cell)) (cs : List Cell) : Type 0 where
-  rest : List Cell
-  gives : o ≡ some rest
-  is : cs ≡ c ∷ rest
+pub record Added (c : Cell) (o : Option (List Cell)) (cs : List Cell) : Type 0 where
+  pub rest : List Cell
+  pub gives : o ≡ some rest
+  pub is : cs ≡ c ∷ rest
 
-added-some : (c : Cell) (o : Option (List Cell)) (cs : List Cell) → added c o ≡ some cs → Added c o cs
+pub added-some : (c : Cell) (o : Option (List Cell)) (cs : List Cell) → added c o ≡ some cs → Added c o cs
 unfolding added
 added-some c none cs e = let z : _≡_ {A = ℕ} 0 1 = cc in absurd (omega arith)
 added-some c (some ds) cs e = record { rest = ds; gives = refl; is = cc }
@@ -162,26 +164,50 @@ module _ (l : List ℕ) (w : Bytes l) where
   back-from zero at = λ s cs e k. let z : _≡_ {A = ℕ} 0 1 = cc in absurd (omega arith)
   back-from (suc n) at = entry-back at (cellsFrom n l) (back-from n) (entryAt l at) refl
 
-encodes-filled : (l s : List ℕ) (t : Tape) (o : Option (List Cell)) → Bytes l → cells l ≡ o → filledWith s o ≡ some t → Encodes l s t
-unfolding filledWith Back
-encodes-filled l s t none w q f = let z : _≡_ {A = ℕ} 0 1 = cc in absurd (omega arith)
-encodes-filled l s t (some cs) w q f =
-    split (λ x. cond x (some (filled cs s)) none ≡ some t → Encodes l s t) (withinBounds cs s)
+-- the cells of a tape that is read: as many elements and bytes as the bounds allow
+pub record Filled (s : List ℕ) (o : Option (List Cell)) (t : Tape) : Type 0 where
+  pub read : List Cell
+  pub gives : o ≡ some read
+  pub few : length read ≤ maxElements
+  pub all : total read ≡ length s
+  pub small : length s ≤ maxStore
+  pub is : filled read s ≡ t
+
+pub filled-with : (s : List ℕ) (o : Option (List Cell)) (t : Tape) → filledWith s o ≡ some t → Filled s o t
+unfolding filledWith
+filled-with s none t f = let z : _≡_ {A = ℕ} 0 1 = cc in absurd (omega arith)
+filled-with s (some cs) t f =
+    split (λ x. cond x (some (filled cs s)) none ≡ some t → Filled s (some cs) t) (withinBounds cs s)
     (λ x g.
-    let few = leb-true (length cs) maxElements (and-left (leb (length cs) maxElements) _ (and-left (leb (length cs) maxElements && eqb (total cs) (length s)) _ x)) in
-    let all = eqb-true (total cs) (length s) (and-right (leb (length cs) maxElements) _ (and-left (leb (length cs) maxElements && eqb (total cs) (length s)) _ x)) in
-    let small = leb-true (length s) maxStore (and-right (leb (length cs) maxElements && eqb (total cs) (length s)) _ x) in
-    let b = back-from l w (suc (length l)) 0 s cs q all in
-    let is : filled cs s ≡ t = cc in
-    subst (λ (u : Tape). Encodes l s u) is
-    record { lists = b .lists; stores = b .stores; blocks = b .blocks; elements = rw (length-filled cs s) few; bytes = small })
+    let (both, small) = and-parts (leb (length cs) maxElements && eqb (total cs) (length s)) (leb (length s) maxStore) x in
+    let (few, all) = and-parts (leb (length cs) maxElements) (eqb (total cs) (length s)) both in
+    record {
+      read = cs;
+      gives = refl;
+      few = leb-true (length cs) maxElements few;
+      all = eqb-true (total cs) (length s) all;
+      small = leb-true (length s) maxStore small;
+      is = cc;
+    })
     (λ x g. let z : _≡_ {A = ℕ} 0 1 = cc in absurd (omega arith))
     f
 
 -- a tape that is read is encoded
 pub encodes-read : (l s : List ℕ) (t : Tape) → Bytes l → tapeOf l s ≡ some t → Encodes l s t
-unfolding tapeOf
-encodes-read l s t w e = encodes-filled l s t (cells l) w refl e
+unfolding tapeOf Back
+encodes-read l s t w e =
+    let f = filled-with s (cells l) t e in
+    let b = back-from l w (suc (length l)) 0 s (f .read) (f .gives) (f .all) in
+    subst (λ (u : Tape). Encodes l s u) (f .is)
+    record { lists = b .lists; stores = b .stores; blocks = b .blocks; elements = rw (length-filled (f .read) s) (f .few); bytes = f .small }
+
+-- a tape that is answered is read
+pub tape-read : (l s : List ℕ) (t : Tape) → tapeIn l s ≡ answer t → tapeOf l s ≡ some t
+tape-read l s t h = go (tapeOf l s) h
+  where
+    go : (o : Option Tape) → orRefused o ≡ answer t → o ≡ some t
+    go none e = let z : _≡_ {A = ℕ} 0 1 = cc in absurd (omega arith)
+    go (some u) e = let z : u ≡ t = cc in ap some z
 
 -- a list and a store have at most one tape
 pub one-tape : {l s : List ℕ} {t u : Tape} → Encodes l s t → Encodes l s u → t ≡ u

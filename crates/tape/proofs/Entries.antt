@@ -48,7 +48,7 @@ module _ (l : List ℕ) (at : ℕ) (h : at + 4 ≤ length l) where
 
 -- what holds of each entry that can stand at a place holds of the one there
 module _ (P : Entry → Type 0) (l : List ℕ) (at : ℕ) where
-  entry-by : (at < length l → getD l at 0 ≡ markKind → P (Mark (at + 1)))
+  pub entry-by : (at < length l → getD l at 0 ≡ markKind → P (Mark (at + 1)))
       → (at < length l → getD l at 0 ≡ unreadableKind → P (Unreadable (at + 1)))
       → (at + 5 ≤ length l → getD l at 0 ≡ blockKind → isBlockLength (numberAt l (at + 1)) ≡ true → P (Block (numberAt l (at + 1)) (at + 5)))
       → (length l ≤ at → P End) → (at < length l → P Bad) → P (entryAt l at)

@@ -5,5 +5,6 @@ pub mod Encoding
 pub mod Elements
 pub mod Keeping
 pub mod Again
+pub mod Continued
 pub mod Passing
 pub mod Blocks

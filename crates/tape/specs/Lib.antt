@@ -3,4 +3,5 @@ pub mod ReadingSteps
 pub mod WalkSteps
 pub mod Answers
 pub mod Again
+pub mod Continued
 pub mod Steps

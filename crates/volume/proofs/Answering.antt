@@ -2,7 +2,7 @@
 use mathlib.Core.Path.{_≡_, refl, sym, ap, subst, _∙_}
 use mathlib.Core.Bool.{true, false}
 use mathlib.Core.List.{List, _∷_}
-use mathlib.Core.Option.{Option, none, some}
+use mathlib.Core.Option.{none}
 use Prim.Native.Nat.{ℕ, _-_, _≤_, _<_}
 use native.Mathlib.Omega.{arith}
 use native.Mathlib.Decide.{decLe}
@@ -10,9 +10,8 @@ use lib.ListN.{length, getD, replicate, length-replicate, List·getD-eq-default}
 use Rattle.refusals.specs.declared.Refusal.{Refusal}
 use Rattle.refusals.specs.Refusals.{Answer, refused, answer, andThen}
 use Rattle.tape.specs.Tape.{Tape, Encodes}
-use Rattle.tape.specs.Answers.{tapeIn, orRefused}
-use Rattle.tape.specs.ReadingSteps.{tapeOf}
-use Rattle.tape.proofs.Encoding.{Bytes, encodes-read}
+use Rattle.tape.specs.Answers.{tapeIn}
+use Rattle.tape.proofs.Encoding.{Bytes, encodes-read, tape-read}
 use Rattle.constructs.specs.TableSteps.{boundsIn}
 use Rattle.constructs.specs.Constructs.{Construct, scanStart, standing, dataLengths}
 use Rattle.constructs.specs.Steps.{Suffix, here}
@@ -208,6 +207,14 @@ module _ {A : Type 0} (ask : Volume → Tape → Tape → Answer A) (il is dl ds
       go (answer i) (refused q) x y e = let z : _≡_ {A = ℕ} 0 1 = cc in absurd (omega arith)
       go (answer i) (answer d) x y e = record { index = i; other = d; indexRead = x; otherRead = y; says = sym e }
 
+  -- where the question is answered, the labels are read
+  pub asked-labelled : (a : A) → onVolume ask il is dl ds ≡ answer a → (f : Label) × Labelled f
+  asked-labelled a e = go (labelsIn il is dl ds) refl
+    where
+      go : (x : Answer Label) → labelsIn il is dl ds ≡ x → (f : Label) × Labelled f
+      go (refused r) q = let y = ask-refused r (sym q) in let z : _≡_ {A = ℕ} 0 1 = cc in absurd (omega arith)
+      go (answer f) q = (f, labelled f (sym q))
+
   pub ask-labelled : (f : Label) (l : Labelled f) → onVolume ask il is dl ds ≡ ask (volumeWith (givenBy f)) (l .index) (l .other)
   ask-labelled f l = rw (l .indexRead, l .otherRead, l .says)
 
@@ -225,11 +232,7 @@ module _ (il is dl ds : List ℕ) where
 
 -- lists whose labels are read are well formed
 pub read-tape : (l s : List ℕ) (t : Tape) → Bytes l → tapeIn l s ≡ answer t → Encodes l s t
-read-tape l s t bs = go (tapeOf l s) refl
-  where
-    go : (o : Option Tape) → tapeOf l s ≡ o → orRefused o ≡ answer t → Encodes l s t
-    go none x e = let z : _≡_ {A = ℕ} 0 1 = cc in absurd (omega arith)
-    go (some u) x e = let z : u ≡ t = cc in encodes-read l s t bs (x ∙ ap some z)
+read-tape l s t bs e = encodes-read l s t bs (tape-read l s t e)
 
 module _ (il is dl ds : List ℕ) (bi : Bytes il) (bd : Bytes dl) (f : Label) (e : answer f ≡ labelsIn il is dl ds) (g : Given) (same : g ≡ givenBy f) where
   pub cut-found : (r : Tried) → Cuts g il is dl ds r → (a : Rescue) → rescued a ≡ orNoCut (triedCut r) → Rescues il is dl ds a

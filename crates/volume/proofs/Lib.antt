@@ -7,5 +7,6 @@ pub mod Partitions
 pub mod Verdicts
 pub mod Demands
 pub mod Answering
+pub mod Continued
 pub mod Choosing
 pub mod Spellings

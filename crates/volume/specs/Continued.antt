@@ -1,0 +1,22 @@
+-- Reading on never hurts (02, Item 14), of the lists and stores handed in: those of a first read, and those of a second, with a prime.
+use mathlib.Core.List.{List}
+use mathlib.Core.Option.{Option}
+use Prim.Native.Nat.{ℕ}
+use Rattle.tape.specs.Tape.{Tape}
+use Rattle.verdict.specs.Verdict.{Volume, Cut}
+use Rattle.verdict.specs.Continued.{NeverHurts}
+use Rattle.volume.specs.Volume.{volumeOf}
+use Rattle.volume.specs.Answers.{Premises}
+
+module _ (indexList indexStore dataList dataStore indexList′ indexStore′ dataList′ dataStore′ : List ℕ) where
+  -- what the rescue owes of the second read, if that is its answer, a being the cut that the first had: both are of one volume, and to have
+  -- read on did not hurt
+  pub record RescuesOn (a : Cut) (answered : Option Cut) : Type 0 where
+    pub i : Tape
+    pub d : Tape
+    pub i′ : Tape
+    pub d′ : Tape
+    pub v : Volume
+    pub first : Premises indexList indexStore dataList dataStore i d v
+    pub second : Premises indexList′ indexStore′ dataList′ dataStore′ i′ d′ v
+    pub neverHurts : NeverHurts volumeOf v i d i′ d′ a answered
