@@ -1,8 +1,8 @@
--- A list and a store that are continued (02, Item 14) encode the elements that they encoded, and more behind these; and what n elements keep
--- of them, as long as they have so many, is kept of the longer ones.
+-- A list and a store are continued (02, Item 14) exactly where the longer ones encode the elements that they encoded, and others behind
+-- these; and what n elements keep of them, as long as they have so many, is kept of the longer ones.
 use mathlib.Core.Path.{_≡_, refl, sym, _∙_, ap}
 use mathlib.Core.Option.{Option, some}
-use mathlib.Core.List.{List, [], _∷_, _++_}
+use mathlib.Core.List.{List, [], _∷_, _++_, append-assoc}
 use Prim.Native.Nat.{ℕ, zero, suc, _+_, _≤_, _<_}
 use native.Mathlib.Omega.{arith}
 use lib.ListN.{length, take, drop, length-append, length-drop, List·getD-append}
@@ -12,12 +12,12 @@ use Rattle.refusals.specs.Refusals.{answer}
 use Rattle.big_endian.specs.BigEndian.{bytesSay}
 use Rattle.tape.specs.declared.Entry.{Entry}
 use Rattle.tape.specs.declared.Entry.the-variants.{Mark, Block, Unreadable, End, Bad}
-use Rattle.tape.specs.Tape.{Tape, Cell, markCell, blockCell, unreadableCell}
+use Rattle.tape.specs.Tape.{Tape, Cell, markCell, blockCell, unreadableCell, cellOf, entry, content, list, store, Encodes}
 use Rattle.tape.specs.ReadingSteps.{entryAt, numberAt, andBehind, cellsFrom, cells, added, size, total, filled, tapeOf}
-use Rattle.tape.specs.Answers.{tapeIn, keeping}
+use Rattle.tape.specs.Answers.{orRefused, tapeIn, keeping}
 use Rattle.tape.specs.Continued.{Continued}
 use Rattle.tape.proofs.Entries.{entry-by}
-use Rattle.tape.proofs.Encoding.{added-some, filled-with, tape-read}
+use Rattle.tape.proofs.Encoding.{added-some, read-encoded, filled-with, tape-read}
 
 -- the elements of one list in front of others
 abbrev InFront : List Cell → List Cell → Type 0
@@ -117,3 +117,23 @@ module _ {l s l′ s′ : List ℕ} (c : Continued l s l′ s′) (t : Tape) (h 
   pub kept-continued : (n : ℕ) → n ≤ length t → keeping n l′ s′ ≡ keeping n l s
   unfolding keeping
   kept-continued n few = let r = tape-continued in rw (r .1, h, take-append-le n t (r .0) few)
+
+list-append : (t u : Tape) → list (t ++ u) ≡ list t ++ list u
+unfolding list
+list-append [] u = refl
+list-append (e ∷ t) u = ap (λ (l : List ℕ). entry (cellOf e) ++ l) (list-append t u) ∙ sym (append-assoc (entry (cellOf e)) (list t) (list u))
+
+store-append : (t u : Tape) → store (t ++ u) ≡ store t ++ store u
+unfolding store
+store-append [] u = refl
+store-append (e ∷ t) u = ap (λ (s : List ℕ). content e ++ s) (store-append t u) ∙ sym (append-assoc (content e) (store t) (store u))
+
+-- whatever elements come behind those of a tape, marks, blocks or unreadable blocks, within the bounds
+pub continued-by : {l s l′ s′ : List ℕ} (t u : Tape) → Encodes l s t → Encodes l′ s′ (t ++ u) → Continued l s l′ s′
+continued-by t u e f =
+    record {
+      inList = (list u, f .lists ∙ list-append t u ∙ ap (λ (x : List ℕ). x ++ list u) (sym (e .lists)));
+      inStore = (store u, f .stores ∙ store-append t u ∙ ap (λ (x : List ℕ). x ++ store u) (sym (e .stores)));
+      tape = t ++ u;
+      wellFormed = ap orRefused (read-encoded f);
+    }
