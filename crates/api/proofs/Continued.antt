@@ -1,5 +1,5 @@
--- Reading on never hurts (02, Item 14), of two calls of `klapouzen_rescue`: the first was answered with a cut, and the second is of lists and
--- stores that continue those of the first.
+-- Reading on never hurts (02, Item 14), of two calls of `klapouzen_rescue`, the first of which was answered with a cut: the second read has
+-- what that cut keeps, as it has where it continues the first.
 use mathlib.Core.Path.{_≡_, refl, sym, ap, _∙_}
 use mathlib.Core.Logic.{_⊎_, inl, inr}
 use mathlib.Core.List.{List}
@@ -9,14 +9,14 @@ use native.Mathlib.Omega.{arith}
 use Rattle.refusals.specs.Refusals.{Answer, refused, answer}
 use Rattle.refusals.proofs.Numbers.{not-zero}
 use Rattle.tape.specs.Continued.{Continued}
-use Rattle.tape.proofs.Continued.{kept-continued}
 use Rattle.verdict.specs.Verdict.{Cut}
+use Rattle.verdict.specs.Rescue.{rescue}
 use Rattle.verdict.proofs.Continued.{at-least}
 use Rattle.volume.specs.Answers.{cutOf, rescued}
-use Rattle.volume.proofs.Continued.{rescues-on}
+use Rattle.volume.proofs.Continued.{rescues-on, cut-continued}
 use Rattle.api.specs.Outputs.{Shown}
 use Rattle.api.specs.Volumes.{cutNumbers, RescuesOut}
-use Rattle.api.specs.Continued.{RescuesOnOut}
+use Rattle.api.specs.Continued.{KeptAlikeOut, RescuesOnOut}
 
 -- what is shown of a cut: 0, and its numbers
 cut-shown : (x : Answer Cut) {n : ℕ} {out : List ℕ} → Shown 5 cutNumbers x n out → n ≡ 0 → (a : Cut) × (x ≡ answer a) × (out ≡ cutNumbers a)
@@ -27,23 +27,32 @@ cut-told : (x : Answer Cut) (b : Cut) {n : ℕ} {out : List ℕ} → Shown 5 cut
 cut-told (refused r) b s h = let z : _≡_ {A = ℕ} 0 1 = cc in absurd (omega arith)
 cut-told (answer c) b s h = let e : c ≡ b = cc in (s .refusal, s .holds ∙ ap cutNumbers e)
 
-module _ {il is dl ds il′ is′ dl′ ds′ told told′ : List ℕ} {returned : ℕ} (onIndex : Continued il is il′ is′) (onData : Continued dl ds dl′ ds′)
-    (first : RescuesOut il is dl ds 0 told) (second : RescuesOut il′ is′ dl′ ds′ returned told′) where
-  pub read-on : RescuesOnOut il is dl ds il′ is′ dl′ ds′ told returned told′
-  read-on =
-      let (a, h, p) = cut-shown (rescued (first .rescue)) (first .shows) refl in
-      let on = rescues-on onIndex onData (first .rescues) (second .rescues) a h in
-      let b = on .neverHurts .cut in
-      let (zero, q) = cut-told (rescued (second .rescue)) b (second .shows) (on .neverHurts .answers) in
-      let fits = first .rescues .demand (on .i) (on .d) (on .v) (on .first) .sound a (ap cutOf h) in
-      record {
-        cut = zero;
-        asMany = rw (p, q) (at-least a b (on .neverHurts .sameOrMore));
-        sameOrMore = rw (p, q) (as-told a b (on .neverHurts .sameOrMore));
-        keptOfIndex = rw p (kept-continued onIndex (on .i) (on .first .indexTape) (a .indexKept) (fits .inIndex));
-        keptOfData = rw p (kept-continued onData (on .d) (on .first .dataTape) (a .dataKept) (fits .inData));
-      }
-    where
-      as-told : (a b : Cut) → (b ≡ a) ⊎ (a .indexConstruct < b .indexConstruct) → (cutNumbers b ≡ cutNumbers a) ⊎ (a .indexConstruct < b .indexConstruct)
-      as-told a b (inl e) = inl (ap cutNumbers e)
-      as-told a b (inr m) = inr m
+as-told : (a b : Cut) → (b ≡ a) ⊎ (a .indexConstruct < b .indexConstruct) → (cutNumbers b ≡ cutNumbers a) ⊎ (a .indexConstruct < b .indexConstruct)
+as-told a b (inl e) = inl (ap cutNumbers e)
+as-told a b (inr m) = inr m
+
+module _ {il is dl ds il′ is′ dl′ ds′ told : List ℕ} (first : RescuesOut il is dl ds 0 told) where
+  module _ {told′ : List ℕ} {returned : ℕ} (second : RescuesOut il′ is′ dl′ ds′ returned told′) where
+    pub read-again : KeptAlikeOut il is dl ds il′ is′ dl′ ds′ told → RescuesOnOut told returned told′
+    read-again k =
+        let (a, h, p) = cut-shown (rescued (first .rescue)) (first .shows) refl in
+        let on = rescues-on (first .rescues) a h (second .rescues) (rw p at (k .inIndex)) (rw p at (k .inData)) in
+        let b = on .neverHurts .cut in
+        let (zero, q) = cut-told (rescued (second .rescue)) b (second .shows) (on .neverHurts .answers) in
+        record {
+          cut = zero;
+          asMany = rw (p, q) (at-least a b (on .neverHurts .sameOrMore));
+          sameOrMore = rw (p, q) (as-told a b (on .neverHurts .sameOrMore));
+        }
+
+  module _ (onIndex : Continued il is il′ is′) (onData : Continued dl ds dl′ ds′) where
+    -- what continues a read has all that its cut keeps
+    pub cut-stays : KeptAlikeOut il is dl ds il′ is′ dl′ ds′ told
+    cut-stays =
+        let (a, h, p) = cut-shown (rescued (first .rescue)) (first .shows) refl in
+        let (x, y) = cut-continued (first .rescues) a h onIndex onData in
+        record { inIndex = rw p x; inData = rw p y }
+
+    -- the request's own sentence
+    pub read-on : {told′ : List ℕ} {returned : ℕ} → RescuesOut il′ is′ dl′ ds′ returned told′ → RescuesOnOut told returned told′
+    read-on second = read-again second cut-stays

@@ -1,10 +1,10 @@
 -- The labels stand in elements 0 to 3: no other element has a say in them.
-use mathlib.Core.Path.{_≡_, refl, sym, _∙_}
+use mathlib.Core.Path.{_≡_, refl, sym, subst₂, _∙_}
 use mathlib.Core.Bool.{Bool, true, false, _&&_}
 use mathlib.Core.List.{[], _∷_, _++_}
 use Prim.Native.Nat.{ℕ, zero, suc, _≤_, _<_}
 use native.Mathlib.Omega.{arith}
-use lib.ListN.{length, take, getElem?}
+use lib.ListN.{length, take, drop, take-append-drop, getElem?}
 use lib.Seq.{take-append-le}
 use Rattle.slices.proofs.Booleans.{and-right}
 use Rattle.refusals.specs.declared.Refusal.the-variants.{Layout}
@@ -58,3 +58,9 @@ labels-on i d x y f e = go (isLaid i) refl (isLaid d) refl e
     go true h true k r =
         sym (labels-front (i ++ x) (d ++ y))
         ∙ rw (take-append-le 4 i x (laid-four i h), take-append-le 4 d y (laid-four d k)) (labels-front i d) ∙ e
+
+-- and so does a tape whose front has them
+pub labels-within : (n m : ℕ) (i d : Tape) (f : Label) → labelsOf (take n i) (take m d) ≡ answer f → labelsOf i d ≡ answer f
+labels-within n m i d f e =
+    subst₂ (λ (x y : Tape). labelsOf x y ≡ answer f) (take-append-drop n i) (take-append-drop m d)
+    (labels-on (take n i) (take m d) (drop n i) (drop m d) f e)

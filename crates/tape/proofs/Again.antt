@@ -38,7 +38,7 @@ lawful-front (suc n) (e ∷ t) h =
     and-both (isLawfulCell (cellOf e)) (lawfulTape (take n t)) one (lawful-front n t rest)
 
 -- what n elements keep is well formed, and is these elements
-encodes-kept : {l s : List ℕ} {t : Tape} (n : ℕ) → Encodes l s t → Encodes (kept n t .list) (kept n t .store) (take n t)
+pub encodes-kept : {l s : List ℕ} {t : Tape} (n : ℕ) → Encodes l s t → Encodes (kept n t .list) (kept n t .store) (take n t)
 encodes-kept {l} {s} {t} n e =
     record {
       lists = refl;

@@ -1,23 +1,24 @@
 -- A list and a store are continued (02, Item 14) exactly where the longer ones encode the elements that they encoded, and others behind
 -- these; and what n elements keep of them, as long as they have so many, is kept of the longer ones.
-use mathlib.Core.Path.{_≡_, refl, sym, _∙_, ap}
-use mathlib.Core.Option.{Option, some}
+use mathlib.Core.Path.{_≡_, refl, sym, _∙_, ap, subst}
+use mathlib.Core.Option.{Option, none, some}
 use mathlib.Core.List.{List, [], _∷_, _++_, append-assoc}
 use Prim.Native.Nat.{ℕ, zero, suc, _+_, _≤_, _<_}
 use native.Mathlib.Omega.{arith}
 use lib.ListN.{length, take, drop, length-append, length-drop, List·getD-append}
 use lib.Seq.{take-append-le, drop-append-le}
 use borrow.Author.Tests.{lt-ltb, le-leb}
-use Rattle.refusals.specs.Refusals.{answer}
+use Rattle.refusals.specs.Refusals.{answer, andThen}
 use Rattle.big_endian.specs.BigEndian.{bytesSay}
 use Rattle.tape.specs.declared.Entry.{Entry}
 use Rattle.tape.specs.declared.Entry.the-variants.{Mark, Block, Unreadable, End, Bad}
 use Rattle.tape.specs.Tape.{Tape, Cell, markCell, blockCell, unreadableCell, cellOf, entry, content, list, store, Encodes}
 use Rattle.tape.specs.ReadingSteps.{entryAt, numberAt, andBehind, cellsFrom, cells, added, size, total, filled, tapeOf}
-use Rattle.tape.specs.Answers.{orRefused, tapeIn, keeping}
+use Rattle.tape.specs.Answers.{orRefused, tapeIn, Fronts, kept, keeping}
 use Rattle.tape.specs.Continued.{Continued}
 use Rattle.tape.proofs.Entries.{entry-by}
-use Rattle.tape.proofs.Encoding.{added-some, read-encoded, filled-with, tape-read}
+use Rattle.tape.proofs.Encoding.{added-some, read-encoded, filled-with, encodes-own, tape-read, one-tape}
+use Rattle.tape.proofs.Again.{encodes-kept}
 
 -- the elements of one list in front of others
 abbrev InFront : List Cell → List Cell → Type 0
@@ -137,3 +138,18 @@ continued-by t u e f =
       tape = t ++ u;
       wellFormed = ap orRefused (read-encoded f);
     }
+
+-- where n elements keep the same bytes of two lists and stores, they are the same elements
+pub elements-alike : (l s l′ s′ : List ℕ) (n : ℕ) (t : Tape) → tapeIn l s ≡ answer t → keeping n l′ s′ ≡ keeping n l s
+    → (t′ : Tape) × (tapeIn l′ s′ ≡ answer t′) × (take n t′ ≡ take n t)
+unfolding keeping
+elements-alike l s l′ s′ n t h e = go (tapeOf l′ s′) refl (rw h at e)
+  where
+    go : (o : Option Tape) → tapeOf l′ s′ ≡ o → andThen (orRefused o) (λ u. answer (kept n u)) ≡ answer (kept n t)
+        → (t′ : Tape) × (orRefused o ≡ answer t′) × (take n t′ ≡ take n t)
+    go none q e = let z : _≡_ {A = ℕ} 0 1 = cc in absurd (omega arith)
+    go (some t′) q e =
+        let same : kept n t′ ≡ kept n t = cc in
+        let a = encodes-kept n (encodes-own l′ s′ t′ q) in
+        let b = encodes-kept n (encodes-own l s t (tape-read l s t h)) in
+        (t′, refl, one-tape (subst (λ (f : Fronts). Encodes (f .list) (f .store) (take n t′)) same a) b)

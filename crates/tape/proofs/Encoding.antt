@@ -1,7 +1,7 @@
 -- The tape that is read is the tape that is encoded: `tapeOf` answers t exactly where the list and the store encode t. So a list and a
 -- store have at most one tape.
 use mathlib.Core.Path.{_≡_, refl, sym, _∙_, ap, subst}
-use mathlib.Core.Bool.{true, cond, _&&_}
+use mathlib.Core.Bool.{Bool, true, cond, _&&_}
 use mathlib.Core.Option.{Option, none, some}
 use mathlib.Core.List.{List, [], _∷_, _++_, map}
 use Prim.Native.Nat.{ℕ, zero, suc, _+_, _≤_, _<_}
@@ -13,12 +13,12 @@ use borrow.Author.Tests.{leb-true, eqb-true, le-leb, eq-eqb}
 use Rattle.slices.proofs.Booleans.{split, and-parts}
 use Rattle.tape.specs.declared.Entry.{Entry}
 use Rattle.tape.specs.declared.Entry.the-variants.{Mark, Block, Unreadable, End, Bad}
-use Rattle.tape.specs.Tape.{Element, mark, block, unreadable, Tape, Cell, markCell, blockCell, unreadableCell, cellOf, entry, content, list, store, isLawfulCell, lawfulTape, maxElements, maxStore, Encodes}
+use Rattle.tape.specs.Tape.{Element, mark, block, unreadable, Tape, Cell, markCell, blockCell, unreadableCell, cellOf, entry, content, list, store, isBlockLength, isLawfulCell, lawfulTape, maxElements, maxStore, Encodes}
 use Rattle.tape.specs.ReadingSteps.{entryAt, andBehind, cellsFrom, cells, added, size, total, elementOf, filled, withinBounds, filledWith, tapeOf}
 use Rattle.refusals.specs.Refusals.{answer}
 use Rattle.tape.specs.Answers.{orRefused, tapeIn}
 pub use Rattle.tape.proofs.Entries.{Bytes}
-use Rattle.tape.proofs.Entries.{spells-as}
+use Rattle.tape.proofs.Entries.{entry-by, spells-as}
 use Rattle.tape.proofs.Counting.{length-filled}
 use Rattle.tape.proofs.Walking.{entryFor, width, length-entry, size-content, entry-here, entry-none, next-here}
 
@@ -116,11 +116,10 @@ cell-again (blockCell n) x h = ap blockCell h
 cell-again unreadableCell x h = refl
 
 -- one element more in front
-one-back : (c : Cell) (o : Option (List Cell)) (l : List ℕ) (rest : List Cell) → Back o l → isLawfulCell c ≡ true → o ≡ some rest
-    → (s : List ℕ) → size c + total rest ≡ length s → Spelt (entry c ++ l) s (filled (c ∷ rest) s)
-unfolding Back list store lawfulTape filled
-one-back c o l rest back h e s k =
-    let b = back (drop (size c) s) rest e (simp length-drop (omega arith)) in
+one-spelt : (c : Cell) (l : List ℕ) (rest : List Cell) (s : List ℕ) → isLawfulCell c ≡ true → size c + total rest ≡ length s
+    → Spelt l (drop (size c) s) (filled rest (drop (size c) s)) → Spelt (entry c ++ l) s (filled (c ∷ rest) s)
+unfolding list store lawfulTape filled
+one-spelt c l rest s h k b =
     let w : length (take (size c) s) ≡ size c = length-take-le (size c) s (omega arith) in
     record {
       lists = rw (cell-again c (take (size c) s) w, ← (b .lists));
@@ -128,12 +127,15 @@ one-back c o l rest back h e s k =
       blocks = rw (cell-again c (take (size c) s) w, h) (b .blocks);
     }
 
+left-over : (c : Cell) (rest : List Cell) (s : List ℕ) → size c + total rest ≡ length s → total rest ≡ length (drop (size c) s)
+left-over c rest s k = simp length-drop (omega arith)
+
 more-back : (c : Cell) (o : Option (List Cell)) (l : List ℕ) → Back o l → isLawfulCell c ≡ true → Back (added c o) (entry c ++ l)
 unfolding Back total
 more-back c o l back h s cs e k =
     let a = added-some c o cs e in
     let k′ : size c + total (a .rest) ≡ length s = sym (ap total (a .is)) ∙ k in
-    rw (a .is) (one-back c o l (a .rest) back h (a .gives) s k′)
+    rw (a .is) (one-spelt c l (a .rest) s h k′ (back (drop (size c) s) (a .rest) (a .gives) (left-over c (a .rest) s k′)))
 
 nothing-back : (s : List ℕ) → 0 ≡ length s → Spelt [] s (filled [] s)
 unfolding filled list store lawfulTape
@@ -200,6 +202,51 @@ encodes-read l s t w e =
     let b = back-from l w (suc (length l)) 0 s (f .read) (f .gives) (f .all) in
     subst (λ (u : Tape). Encodes l s u) (f .is)
     record { lists = b .lists; stores = b .stores; blocks = b .blocks; elements = rw (length-filled (f .read) s) (f .few); bytes = f .small }
+
+-- whatever numbers stand in a list, its elements have a list of their own
+Own : Option (List Cell) → Type 0
+Own o = (s : List ℕ) (cs : List Cell) → o ≡ some cs → total cs ≡ length s → (l : List ℕ) × Spelt l s (filled cs s)
+
+more-own : (c : Cell) (o : Option (List Cell)) → Own o → isLawfulCell c ≡ true → Own (added c o)
+unfolding Own total
+more-own c o own h s cs e k =
+    let a = added-some c o cs e in
+    let k′ : size c + total (a .rest) ≡ length s = sym (ap total (a .is)) ∙ k in
+    let (l, b) = own (drop (size c) s) (a .rest) (a .gives) (left-over c (a .rest) s k′) in
+    rw (a .is) (entry c ++ l, one-spelt c l (a .rest) s h k′ b)
+
+-- an entry of a block has a lawful length
+abbrev isLawfulEntry : Entry → Bool
+isLawfulEntry (Mark next) = true
+isLawfulEntry (Block n next) = isBlockLength n
+isLawfulEntry (Unreadable next) = true
+isLawfulEntry End = true
+isLawfulEntry Bad = true
+
+lawful-entry : (l : List ℕ) (at : ℕ) → isLawfulEntry (entryAt l at) ≡ true
+lawful-entry l at = entry-by (λ e. isLawfulEntry e ≡ true) l at (λ h k. refl) (λ h k. refl) (λ h k y. y) (λ h. refl) (λ h. refl)
+
+entry-own : (behind : ℕ → Option (List Cell)) → ((next : ℕ) → Own (behind next)) → (x : Entry) → isLawfulEntry x ≡ true → Own (andBehind behind x)
+unfolding Own Back
+entry-own behind own (Mark next) h = more-own markCell (behind next) (own next) refl
+entry-own behind own (Block n next) h = more-own (blockCell n) (behind next) (own next) h
+entry-own behind own (Unreadable next) h = more-own unreadableCell (behind next) (own next) refl
+entry-own behind own End h = λ s cs e k. ([], none-back s cs e k)
+entry-own behind own Bad h = λ s cs e k. let z : _≡_ {A = ℕ} 0 1 = cc in absurd (omega arith)
+
+own-from : (l : List ℕ) (n at : ℕ) → Own (cellsFrom n l at)
+unfolding Own cellsFrom
+own-from l zero at = λ s cs e k. let z : _≡_ {A = ℕ} 0 1 = cc in absurd (omega arith)
+own-from l (suc n) at = entry-own (cellsFrom n l) (own-from l n) (entryAt l at) (lawful-entry l at)
+
+-- a tape that is read is encoded by its own list
+pub encodes-own : (l s : List ℕ) (t : Tape) → tapeOf l s ≡ some t → Encodes (list t) s t
+unfolding tapeOf Own
+encodes-own l s t e =
+    let f = filled-with s (cells l) t e in
+    let (own, b) = own-from l (suc (length l)) 0 s (f .read) (f .gives) (f .all) in
+    subst (λ (u : Tape). Encodes (list u) s u) (f .is)
+    record { lists = refl; stores = b .stores; blocks = b .blocks; elements = rw (length-filled (f .read) s) (f .few); bytes = f .small }
 
 -- a tape that is answered is read
 pub tape-read : (l s : List ℕ) (t : Tape) → tapeIn l s ≡ answer t → tapeOf l s ≡ some t

@@ -22,7 +22,7 @@ use Rattle.volume.specs.AnswerSteps.{judged}
 use Rattle.volume.specs.declared.answers.Verdict.{Verdict}
 use Rattle.volume.specs.declared.answers.Verdict.the-variants as verdictIs
 
-agreed-label : (a : Answer Label) (v : Volume) → agreed a ≡ some v → (f : Label) × (a ≡ answer f) × (volumeWith (givenBy f) ≡ v)
+pub agreed-label : (a : Answer Label) (v : Volume) → agreed a ≡ some v → (f : Label) × (a ≡ answer f) × (volumeWith (givenBy f) ≡ v)
 agreed-label (refused r) v e = let z : _≡_ {A = ℕ} 0 1 = cc in absurd (omega arith)
 agreed-label (answer f) v e = (f, refl, let z : volumeWith (givenBy f) ≡ v = cc in z)
 
