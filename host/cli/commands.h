@@ -7,6 +7,7 @@
 int run_check(struct words *words);
 int run_show(struct words *words);
 int run_cut(struct words *words);
+int run_compare(struct words *words);
 int run_files(struct words *words);
 int run_extract(struct words *words);
 int run_label(struct words *words);

@@ -17,6 +17,7 @@ static const struct command {
     { "check", run_check, "judge cartridges, a line each" },
     { "show", run_show, "draw a cartridge's two partitions as a map" },
     { "cut", run_cut, "write the consistent fronts to a new folder" },
+    { "compare", run_compare, "say where two reads of a tape differ, and which one rescues more" },
     { "files", run_files, "list the files of an index" },
     { "extract", run_extract, "write a file's bytes" },
     { "label", run_label, "write the labels of a volume" },

@@ -85,6 +85,28 @@ static void nights(struct sample *sample)
     tape_filled_block(&sample->sides[1], '<', 1200);
 }
 
+/*
+ * Recordings of three nights. Behind the index side's index of all three stands one of the first night alone, which
+ * points at an earlier index of the data side and has a lower generation: the cut that keeps both drops two nights.
+ */
+static void rewound(struct sample *sample)
+{
+    struct run runs[] = {
+        { "monday.wav", 0, 61000 }, { "tuesday.wav", 0, 9000 }, { "wednesday.wav", 0, 150000 },
+    };
+    uint64_t monday = 0;
+    for (size_t i = 0; i < 3; i++) {
+        sample->generation = i + 1;
+        runs[i].first = put_run(sample, 1, (size_t)runs[i].length, (uint8_t)(40 * i));
+        put_files(sample, 1, runs, i + 1);
+        monday = i == 0 ? sample->last_data_index : monday;
+    }
+    put_files(sample, 0, runs, 3);
+    sample->generation = 1;
+    sample->last_data_index = monday;
+    put_files(sample, 0, runs, 1);
+}
+
 /* A defect in the middle of the data side, and later constructs that stand no more. */
 static void defect(struct sample *sample)
 {
@@ -410,7 +432,7 @@ int main(int count, char **words)
 {
     static const struct { const char *name; void (*make)(struct sample *); } kinds[] = {
         { "extents", extents },
-        { "fresh", fresh }, { "torn", torn }, { "nights", nights }, { "defect", defect },
+        { "fresh", fresh }, { "torn", torn }, { "nights", nights }, { "rewound", rewound }, { "defect", defect },
         { "sparse", sparse }, { "long", long_one }, { "many", many }, { "odd", odd },
         { "spellings", spellings }, { "padded", padded }, { "unreadable", unreadable },
         { "full", full }, { "ansi", ansi }, { "ansi_worn", ansi_worn },
@@ -426,7 +448,7 @@ int main(int count, char **words)
         sample_free(&sample);
         return 0;
     }
-    fputs("usage: make_sample fresh|torn|nights|defect|sparse|long|many|extents|odd|spellings|padded|unreadable|full|ansi|"
-          "ansi_worn|ansi_many DIR\n", stderr);
+    fputs("usage: make_sample fresh|torn|nights|rewound|defect|sparse|long|many|extents|odd|spellings|padded|unreadable|full|"
+          "ansi|ansi_worn|ansi_many DIR\n", stderr);
     return 2;
 }
