@@ -1,7 +1,7 @@
-"""Tapes with other elements: elements.py FROM, a folder with index.list and index.store.
+"""Tapes with other elements: elements.py FROM [SIDE], a folder with index.list and index.store, or those of SIDE.
 
-Each line of standard input makes a new folder: its name and the edits, with tabs between. An edit is words with commas
-between, done one after another; N is an element's number:
+Each line of standard input makes a new folder: its name and the edits, with tabs between; the other side is as it was. An
+edit is words with commas between, done one after another; N is an element's number:
   drop,N            without it
   keep,N            the first N alone
   mark,N            a mark before it
@@ -12,15 +12,16 @@ between, done one after another; N is an element's number:
   lose,N            the block as one that could not be read
 """
 import os
+import shutil
 import sys
 
 UNREADABLE = b""
 
 
-def read(folder):
-    with open(os.path.join(folder, "index.list"), "rb") as file:
+def read(folder, side):
+    with open(os.path.join(folder, side + ".list"), "rb") as file:
         codes = file.read()
-    with open(os.path.join(folder, "index.store"), "rb") as file:
+    with open(os.path.join(folder, side + ".store"), "rb") as file:
         store = file.read()
     elements, at, begin = [], 0, 0
     while at < len(codes):
@@ -44,11 +45,10 @@ def code_of(element):
     return b"\3" if element == UNREADABLE else b"\2" + len(element).to_bytes(4, "big")
 
 
-def write(folder, elements):
-    os.mkdir(folder)
-    with open(os.path.join(folder, "index.list"), "wb") as file:
+def write(folder, side, elements):
+    with open(os.path.join(folder, side + ".list"), "wb") as file:
         file.write(b"".join(map(code_of, elements)))
-    with open(os.path.join(folder, "index.store"), "wb") as file:
+    with open(os.path.join(folder, side + ".store"), "wb") as file:
         file.write(b"".join(e for e in elements if e is not None))
 
 
@@ -79,10 +79,12 @@ def edit(elements, kind, number, *words):
         sys.exit(f"no such edit: {kind}")
 
 
-whole = read(sys.argv[1])
+given = sys.argv[2] if len(sys.argv) > 2 else "index"
+whole = read(sys.argv[1], given)
 for line in sys.stdin:
     folder, *edits = line.rstrip("\n").split("\t")
     tape = list(whole)
     for words in edits:
         edit(tape, *words.split(",", 3))
-    write(folder, tape)
+    shutil.copytree(sys.argv[1], folder)
+    write(folder, given, tape)
