@@ -47,9 +47,9 @@ static void note_difference(struct comparison *found, const struct taken pair[2]
 {
     if (found->differing++ == 0)
         note_first(found, pair);
-    bool lost[] = { pair[OLD].element.kind == UNREADABLE_BLOCK, pair[NEW].element.kind == UNREADABLE_BLOCK };
-    found->unreadable_alone[OLD] += lost[OLD] && !lost[NEW];
-    found->unreadable_alone[NEW] += lost[NEW] && !lost[OLD];
+    /* Two that are both unreadable do not differ. */
+    for (int read = OLD; read <= NEW; read++)
+        found->unreadable_alone[read] += pair[read].element.kind == UNREADABLE_BLOCK;
 }
 
 struct comparison compare_side(const struct side *old, const struct side *new)

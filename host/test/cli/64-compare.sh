@@ -150,11 +150,16 @@ done
 
 # Bytes: of the first block, the last one, one in the middle; the first byte, the last, some; the first that differs counts.
 differs() { # SIDE ELEMENT LENGTH BYTE EDIT..
-    local line="differs first at element $2: a block of $3 bytes in both, its bytes differ from byte $4 on; 1 of the $([ "$1" = index ] && echo 13 || echo 78) elements that both have differs"
+    local line="differs first at element $2: a block of $3 bytes in both, its bytes differ from byte $4 on; 1 of the "
     edited nights "$1" altered "${@:5}"
     is 1 "$K" compare nights altered
-    says out "$([ "$1" = index ] && echo "index side: " || echo "data side:  ")$line"
-    says out "$([ "$1" = index ] && echo "$ALL_DATA" || echo "$ALL_INDEX")"
+    if [ "$1" = index ]; then
+        says out "index side: ${line}13 elements that both have differs"
+        says out "$ALL_DATA"
+    else
+        says out "$ALL_INDEX"
+        says out "data side:  ${line}78 elements that both have differs"
+    fi
     says out "$NEITHER"
 }
 differs data 0 80 0 put,0,1,v
@@ -239,6 +244,17 @@ compares 0 no_labels nights "$ALL_INDEX" "data side:  NEW goes on: OLD's 3 eleme
 compares 0 torn fresh "index side: $SEVEN" "data side:  NEW goes on: OLD's 6 elements, then 1 more" "$CONTINUED" "only NEW can be cut"
 compares 1 fresh torn "index side: $SEVEN" "data side:  OLD goes on: NEW's 6 elements, then 1 more" "$CONTINUES" "only OLD can be cut"
 compares 0 torn torn "index side: $SEVEN" "data side:  the same 6 elements" "OLD and NEW are the same" "neither can be cut"
+# Elements that no cut keeps are not said to be kept.
+edited nights index uncut lose,5 lose,8 lose,11
+while read -r old new only; do
+    is 1 "$K" compare "$old" "$new"
+    tail -n 2 out > found
+    printf '%s\n' "$NEITHER" "only $only can be cut" > wanted
+    same found wanted
+done <<PAIRS
+uncut fresh NEW
+fresh uncut OLD
+PAIRS
 
 # ---- Two volumes ----
 
@@ -251,12 +267,12 @@ labelled volume KLA001 $ONE
 labelled volume_name KLA002 $ONE
 labelled volume_uuid KLA001 $OTHER
 labelled volume_capitals KLA001 ${ONE^^}
-for other in volume_name volume_uuid; do
-    is 1 "$K" compare volume $other
-    says out "$(printf 'two volumes: OLD is KLA001 %s, NEW is %s\nneither' $ONE "$([ $other = volume_name ] && echo "KLA002 $ONE" || echo "KLA001 $OTHER")")"
-    is 1 "$K" compare $other volume
-    says out ", NEW is KLA001 $ONE"
-done
+is 1 "$K" compare volume volume_name
+says out "two volumes: OLD is KLA001 $ONE, NEW is KLA002 $ONE"
+is 1 "$K" compare volume_name volume
+says out "two volumes: OLD is KLA002 $ONE, NEW is KLA001 $ONE"
+is 1 "$K" compare volume volume_uuid
+says out "two volumes: OLD is KLA001 $ONE, NEW is KLA001 $OTHER"
 # It stands before what they are to each other.
 is 1 "$K" compare volume volume_name
 sed -n 5,6p out | cut -d : -f 1 > found
@@ -396,4 +412,4 @@ for words in "fresh nowhere" "nowhere fresh" "--json fresh nowhere"; do
     checks=$((checks + 1))
     [ ! -s out ] || fail "something is said of a read that can't be read"
 done
-rm -rf front.* as_* fewer* marks* nights_copy no_element no_files one_element one_byte other_byte altered shifted inserted shorter lost_* worn_old worn_new worn_front all_other volume* lower* before* rewound_on "$ODD 1" "$ODD 2"
+rm -rf front.* as_* fewer* marks* nights_copy no_element no_files one_element one_byte other_byte altered shifted inserted shorter lost_* worn_old worn_new worn_front all_other uncut volume* lower* before* rewound_on "$ODD 1" "$ODD 2"
