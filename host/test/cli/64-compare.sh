@@ -239,6 +239,8 @@ compares 1 bad1i bad3 "index side: not compared: OLD's $BAD" \
 compares 1 bad3 fresh "index side: $SEVEN" \
     "data side:  differs first at element 0: a block of 80 bytes in both, its bytes differ from byte 0 on; 1 of the 7 elements that both have differs" \
     "$NEITHER" "only NEW can be cut"
+# Of a file that is longer than any may be only the front is read, and nothing is said of the rest.
+compares 1 bad15 bad15 "index side: not compared: each $BAD" "data side:  $SEVEN" "$UNKNOWN" "neither can be cut"
 front nights 99 3 no_labels
 compares 0 no_labels nights "$ALL_INDEX" "data side:  NEW goes on: OLD's 3 elements, then 75 more" "$CONTINUED" "only NEW can be cut"
 compares 0 torn fresh "index side: $SEVEN" "data side:  NEW goes on: OLD's 6 elements, then 1 more" "$CONTINUED" "only NEW can be cut"
