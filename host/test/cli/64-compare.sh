@@ -231,8 +231,8 @@ compares 1 bad1 bad1 "index side: $SEVEN" "data side:  not compared: each $BAD" 
 compares 1 bad1 bad1i "index side: not compared: NEW's $BAD" "data side:  not compared: OLD's $BAD" "$UNKNOWN" "neither can be cut"
 compares 1 bad1i nights "index side: not compared: OLD's $BAD" \
     "data side:  NEW goes on: OLD's 7 elements, then 71 more" "$UNKNOWN" "only NEW can be cut"
-compares 1 bad1i worn_old "index side: not compared: OLD's $BAD" \
-    "data side:  NEW goes on: OLD's 7 elements, then 71 more" "$UNKNOWN" "only NEW can be cut"
+compares 1 bad1 nights "index side: NEW goes on: OLD's 7 elements, then 6 more" \
+    "data side:  not compared: OLD's $BAD" "$UNKNOWN" "only NEW can be cut"
 compares 1 bad1i bad3 "index side: not compared: OLD's $BAD" \
     "data side:  differs first at element 0: a block of 80 bytes in both, its bytes differ from byte 0 on; 1 of the 7 elements that both have differs" \
     "$NEITHER" "neither can be cut"
