@@ -4,3 +4,5 @@
 __attribute__((section("__libfuzzer_extra_counters"))) uint8_t fuzz_counters[COUNTERS];
 
 uint64_t fuzz_accepted;
+
+struct fuzz_count fuzz_counts[FUZZ_COUNTS];

@@ -22,6 +22,16 @@ extern uint8_t fuzz_counters[COUNTERS];
 /* How many inputs were accepted. A corpus of which none is says nothing. */
 extern uint64_t fuzz_accepted;
 
+/* What else a target counts, by names that it gives at each input. A corpus in which one stays 0 says nothing of it. */
+struct fuzz_count {
+    const char *name;
+    uint64_t times;
+};
+
+enum { FUZZ_COUNTS = 2 };
+
+extern struct fuzz_count fuzz_counts[FUZZ_COUNTS];
+
 /* The refusal of the function that an input is for. */
 static inline uint64_t judged(uint64_t refusal)
 {

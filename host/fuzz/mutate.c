@@ -3,7 +3,7 @@
  * the folder, changes them and calls the target, each input at the border of a
  * page that can't be touched; an input with a new answer is one to go on from.
  * The input of a crash is written to ./crash-PID. Status 1 where the target
- * accepts no input of the folder.
+ * accepts no input of the folder, or nothing in it is what the target counts.
  */
 #include <dirent.h>
 #include <inttypes.h>
@@ -186,6 +186,23 @@ static uint64_t run_for(double seconds)
     return runs;
 }
 
+/* Whether the target accepted something, and counted something of all that it counts. */
+static bool is_enough(void)
+{
+    bool enough = fuzz_accepted > 0;
+    for (int i = 0; i < FUZZ_COUNTS; i++)
+        enough = enough && (fuzz_counts[i].name == NULL || fuzz_counts[i].times > 0);
+    return enough;
+}
+
+static void print_counts(void)
+{
+    for (int i = 0; i < FUZZ_COUNTS; i++)
+        if (fuzz_counts[i].name != NULL)
+            printf("; %" PRIu64 " %s", fuzz_counts[i].times, fuzz_counts[i].name);
+    putchar('\n');
+}
+
 int main(int count, char **words)
 {
     if (count < 3)
@@ -197,10 +214,12 @@ int main(int count, char **words)
     for (size_t i = 0; i < inputs; i++)
         run_one(&corpus[i]);
     size_t given = inputs;
+    bool enough = is_enough();
     uint64_t accepted = fuzz_accepted, runs = run_for(strtod(words[2], NULL));
-    printf("%zu inputs, %" PRIu64 " accepted; %" PRIu64 " runs, %" PRIu64 " accepted, %zu new inputs\n", given,
+    printf("%zu inputs, %" PRIu64 " accepted; %" PRIu64 " runs, %" PRIu64 " accepted, %zu new inputs", given,
            accepted, runs, fuzz_accepted - accepted, inputs - given);
+    print_counts();
     for (size_t i = 0; i < inputs; i++)
         buffer_free(&corpus[i]);
-    return accepted == 0;
+    return !enough;
 }

@@ -6,7 +6,7 @@ T=target/fuzz
 seconds=$1
 for target in volume label index form rows ansi; do
     # shellcheck disable=SC2086
-    if clang -std=c11 -D_GNU_SOURCE $CFLAGS -Iinclude -Isample -fsanitize=fuzzer,address,undefined fuzz/$target.c fuzz/counters.c \
+    if clang -std=c11 -D_GNU_SOURCE $CFLAGS -Iinclude -Isample -Itest -fsanitize=fuzzer,address,undefined fuzz/$target.c fuzz/counters.c \
         sample/sample.c target/libklapouzen.a -o $T/${target}_libfuzzer 2> $T/clang.log; then
         echo "$target, libFuzzer; its corpus: $($T/${target}_mutate $T/corpus/$target 0)"
         mkdir -p $T/found/$target

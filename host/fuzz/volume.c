@@ -1,5 +1,6 @@
 /* Four slices as a volume: every volume function, and what their answers owe each other. */
 #include "lists.h"
+#include "read_on.h"
 
 #define SIDE(volume, side) SLICE((volume)->parts[2 * (side)]), SLICE((volume)->parts[2 * (side) + 1])
 #define VOLUME(volume) SIDE(volume, 0), SIDE(volume, 1)
@@ -266,6 +267,75 @@ static void try_lost(const struct volume *volume, int side, uint64_t n, uint64_t
     must(after.no_cut == before->no_cut && memcmp(after.cut, before->cut, sizeof after.cut) == 0);
 }
 
+/* ---- Reading on ---- */
+
+enum { SHORTER_CUT, OTHER_CUT };
+
+static void try_longer(const struct read *before, const struct read *longer, const uint64_t cut[KLAPOUZEN_CUT],
+                       uint64_t no_cut, const uint64_t after[KLAPOUZEN_CUT])
+{
+    fuzz_counts[SHORTER_CUT].times++;
+    fuzz_counts[OTHER_CUT].times += !is_same_cut(cut, after);
+    must(harm(before, longer, cut, no_cut, after) == NULL);
+}
+
+/* How many elements a front has that ends at or beside a construct's closing mark. */
+static uint64_t beside_construct(const struct volume *volume, int side, uint64_t block_size, uint64_t n)
+{
+    uint64_t standing[1];
+    must(klapouzen_constructs(SIDE(volume, side), block_size, table, standing) == 0);
+    if (standing[0] == 0)
+        return 4;
+    return table[KLAPOUZEN_CONSTRUCT * (n % standing[0]) + KLAPOUZEN_CONSTRUCT_KEPT] + n / 5 % 3 - 1;
+}
+
+/* The volume is what was read on to, from fronts of one side and of both. */
+static void try_fronts(const struct volume *volume, const struct read *read, uint64_t n, uint64_t block_size,
+                       const struct said *said)
+{
+    uint64_t ends[2] = { beside_construct(volume, 0, block_size, n), beside_construct(volume, 1, block_size, n / 3) };
+    for (int i = 0; i < 2; i++) {
+        uint64_t cut[KLAPOUZEN_CUT];
+        struct read front = front_of(read, ends[0], ends[1]);
+        if (ANSWERED(klapouzen_rescue(READ(&front), FILLED(cut)), cut) == 0)
+            try_longer(&front, read, cut, said->no_cut, said->cut);
+        ends[n % 2] = UINT64_MAX;
+    }
+}
+
+/* A volume with this cut is what is read on. */
+static void try_behind(const struct read *before, uint64_t n, const uint64_t label[KLAPOUZEN_LABEL],
+                       const uint64_t cut[KLAPOUZEN_CUT])
+{
+    uint64_t after[KLAPOUZEN_CUT], elements[1];
+    struct longer longer = read_on(before, label, cut, n);
+    struct read read = read_of(&longer);
+    if (is_within_bounds(&longer)) {
+        must(klapouzen_check_list(READ_SIDE(&read, 0), elements) == 0);
+        must(klapouzen_check_list(READ_SIDE(&read, 1), elements) == 0);
+        uint64_t no_cut = ANSWERED(klapouzen_rescue(READ(&read), FILLED(after)), after);
+        try_longer(before, &read, cut, no_cut, after);
+    }
+    free_longer(&longer);
+}
+
+static void try_read_on(const struct volume *volume, uint64_t n, const uint64_t label[KLAPOUZEN_LABEL],
+                        const struct said *said)
+{
+    struct read read;
+    for (int i = 0; i < 4; i++) {
+        read.starts[i] = volume->parts[i].start;
+        read.lengths[i] = volume->parts[i].length;
+        n += 257 * read.lengths[i];
+    }
+    try_fronts(volume, &read, n, label[KLAPOUZEN_LABEL_BLOCK_SIZE], said);
+    if (said->no_cut != 0)
+        return;
+    struct read kept = kept_of(&read, said->cut);
+    try_behind(&read, n, label, said->cut);
+    try_behind(&kept, n / 2, label, said->cut);
+}
+
 static void try_volume(const struct volume *volume, uint64_t n)
 {
     uint64_t label[KLAPOUZEN_LABEL], verdict[KLAPOUZEN_BREAK], cut[KLAPOUZEN_CUT];
@@ -283,6 +353,7 @@ static void try_volume(const struct volume *volume, uint64_t n)
         memcpy(before.cut, cut, sizeof cut);
         try_lost(volume, 0, n, label[KLAPOUZEN_LABEL_BLOCK_SIZE], &before);
         try_lost(volume, 1, n, label[KLAPOUZEN_LABEL_BLOCK_SIZE], &before);
+        try_read_on(volume, n, label, &before);
     }
     if (no_cut == 0)
         try_cut(volume, cut, verdict[0] == 0);
@@ -293,6 +364,8 @@ int LLVMFuzzerTestOneInput(const uint8_t *input, size_t size)
     struct slice rest = { input, size };
     uint64_t n = take_number(&rest, 1);
     struct volume volume;
+    fuzz_counts[SHORTER_CUT].name = "shorter reads with a cut";
+    fuzz_counts[OTHER_CUT].name = "longer ones with another";
     for (int i = 0; i < 4; i++)
         volume.parts[i] = take_slice(&rest);
     try_list(&volume, 0, n);
