@@ -279,21 +279,11 @@ static void try_longer(const struct read *before, const struct read *longer, con
     must(harm(before, longer, cut, no_cut, after) == NULL);
 }
 
-/* How many elements a front has that ends at or beside a construct's closing mark. */
-static uint64_t beside_construct(const struct volume *volume, int side, uint64_t block_size, uint64_t n)
-{
-    uint64_t standing[1];
-    must(klapouzen_constructs(SIDE(volume, side), block_size, table, standing) == 0);
-    if (standing[0] == 0)
-        return 4;
-    return table[KLAPOUZEN_CONSTRUCT * (n % standing[0]) + KLAPOUZEN_CONSTRUCT_KEPT] + n / 5 % 3 - 1;
-}
-
 /* The volume is what was read on to, from fronts of one side and of both. */
-static void try_fronts(const struct volume *volume, const struct read *read, uint64_t n, uint64_t block_size,
-                       const struct said *said)
+static void try_fronts(const struct read *read, uint64_t n, uint64_t block_size, const struct said *said)
 {
-    uint64_t ends[2] = { beside_construct(volume, 0, block_size, n), beside_construct(volume, 1, block_size, n / 3) };
+    uint64_t ends[2] = { end_beside_construct(read, 0, block_size, n),
+                         end_beside_construct(read, 1, block_size, n / 3) };
     for (int i = 0; i < 2; i++) {
         uint64_t cut[KLAPOUZEN_CUT];
         struct read front = front_of(read, ends[0], ends[1]);
@@ -328,12 +318,12 @@ static void try_read_on(const struct volume *volume, uint64_t n, const uint64_t 
         read.lengths[i] = volume->parts[i].length;
         n += 257 * read.lengths[i];
     }
-    try_fronts(volume, &read, n, label[KLAPOUZEN_LABEL_BLOCK_SIZE], said);
+    try_fronts(&read, n, label[KLAPOUZEN_LABEL_BLOCK_SIZE], said);
     if (said->no_cut != 0)
         return;
-    struct read kept = kept_of(&read, said->cut);
-    try_behind(&read, n, label, said->cut);
-    try_behind(&kept, n / 2, label, said->cut);
+    if (n % 2 == 1)
+        read = kept_of(&read, said->cut);
+    try_behind(&read, n / 2, label, said->cut);
 }
 
 static void try_volume(const struct volume *volume, uint64_t n)

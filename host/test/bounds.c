@@ -10,6 +10,7 @@
 
 #include "guard.h"
 #include "klapouzen.h"
+#include "read_on.h"
 #include "sample.h"
 
 static int failures;
@@ -566,6 +567,80 @@ static void largest_lost_index(void)
     sample_free(&sample);
 }
 
+/* ---- The longest reads ---- */
+
+/* Blocks of so many bytes in all, behind each an unreadable one, so far that an index construct fills the list. */
+static void put_long_run(struct tape *tape, uint64_t bytes)
+{
+    uint64_t blocks = (KLAPOUZEN_MAX_ELEMENTS - 3 - tape->elements + 1) / 2;
+    for (uint64_t i = 0; tape->elements + 3 < KLAPOUZEN_MAX_ELEMENTS; i++)
+        if (i % 2 == 1)
+            tape_unreadable_block(tape);
+        else
+            tape_filled_block(tape, 'x', bytes / blocks + (i / 2 < bytes % blocks));
+}
+
+/* An index construct on each side, a long run, and another. */
+static void long_volume(struct sample *sample, const uint64_t bytes[2])
+{
+    sample_begin(sample, 4096);
+    sample_unmount(sample);
+    sample->generation++;
+    put_long_run(&sample->sides[0], bytes[0]);
+    put_long_run(&sample->sides[1], bytes[1]);
+    sample_unmount(sample);
+}
+
+/* The same with as many bytes in the runs as make the stores full. */
+static void full_volume(struct sample *sample)
+{
+    uint64_t bytes[2] = { KLAPOUZEN_MAX_ELEMENTS, KLAPOUZEN_MAX_ELEMENTS };
+    long_volume(sample, bytes);
+    for (int side = 0; side < 2; side++)
+        bytes[side] += KLAPOUZEN_MAX_STORE - sample->sides[side].store.length;
+    sample_free(sample);
+    long_volume(sample, bytes);
+    for (int side = 0; side < 2; side++) {
+        expect("its elements", sample->sides[side].elements, KLAPOUZEN_MAX_ELEMENTS);
+        expect("its bytes", sample->sides[side].store.length, KLAPOUZEN_MAX_STORE);
+    }
+}
+
+/* From fronts through the first constructs, into the runs and short of the last mark. */
+static void expect_read_on(const struct read *longer, const uint64_t wanted[KLAPOUZEN_CUT])
+{
+    static const uint64_t ends[] = { 7, 8, 40000, 65533, 65535 }, first[KLAPOUZEN_CUT] = { 0, 0, 7, 7, 1 };
+    uint64_t after[KLAPOUZEN_CUT], refusal = klapouzen_rescue(READ(longer), after);
+    expect("the longest read's cut", is_same_cut(after, wanted), true);
+    for (size_t i = 0; i < sizeof ends / sizeof ends[0]; i++) {
+        struct read front = front_of(longer, ends[i], ends[sizeof ends / sizeof ends[0] - 1 - i]);
+        expect("a front's rescue", klapouzen_rescue(READ(&front), filled()), 0);
+        expect("its cut", is_same_cut(out, first), true);
+        const char *found = harm(&front, longer, first, refusal, after);
+        expect(found == NULL ? "reading on" : found, found == NULL, true);
+    }
+}
+
+/* The most elements and bytes on both sides. On the side that is `torn`, if it is one, the last mark was not read. */
+static void longest_read(int torn)
+{
+    struct sample sample;
+    full_volume(&sample);
+    if (torn < 2)
+        sample.sides[torn].list.bytes[sample.sides[torn].list.length - 1] = 3;
+    struct slice parts[4] = { guarded(&sample.sides[0].list), guarded(&sample.sides[0].store),
+                              guarded(&sample.sides[1].list), guarded(&sample.sides[1].store) };
+    struct read read;
+    for (int i = 0; i < 4; i++) {
+        read.starts[i] = parts[i].start;
+        read.lengths[i] = parts[i].length;
+    }
+    static const uint64_t cuts[2][KLAPOUZEN_CUT] = { { 0, 0, 7, 7, 1 }, { 1, 1, 65536, 65536, 2 } };
+    expect_read_on(&read, cuts[torn == 2]);
+    for (int i = 0; i < 4; i++)
+        drop(parts[i]);
+}
+
 /* ---- ANSI labelled tapes ---- */
 
 /* As ansi_file writes it, behind files of seven elements each. */
@@ -702,6 +777,8 @@ int main(void)
     largest_volume(false);
     largest_volume(true);
     largest_lost_index();
+    for (int torn = 0; torn <= 2; torn++)
+        longest_read(torn);
     largest_ansi();
     return failures > 0;
 }

@@ -13,6 +13,7 @@
 #include "cases.h"
 #include "guard.h"
 #include "klapouzen.h"
+#include "read_on.h"
 #include "vectors.h"
 
 /* ---- Both sides' functions ---- */
@@ -273,17 +274,117 @@ static void index_case(void)
     drop_case(random, parts);
 }
 
+/* ---- Reading on ---- */
+
+/* From a front of a volume to all of it, and behind a volume. */
+enum { FROM_FRONTS, BEHIND, WAYS };
+
+/* How often what was read on had a cut, and how often the longer read has another. */
+static uint64_t read_on_times[WAYS], other_cuts[WAYS];
+
+/* What a read's rescue answers. */
+struct rescued {
+    uint64_t refusal, cut[KLAPOUZEN_CUT];
+};
+
+static struct read read_of_parts(const struct slice parts[4])
+{
+    struct read read;
+    for (int i = 0; i < 4; i++) {
+        read.starts[i] = parts[i].start;
+        read.lengths[i] = parts[i].length;
+    }
+    return read;
+}
+
+static struct rescued library_rescued(void)
+{
+    struct rescued rescued = { answers[0].refusal, { 0 } };
+    memcpy(rescued.cut, answers[0].out, sizeof rescued.cut);
+    return rescued;
+}
+
+static struct rescued compare_rescue(const struct read *read)
+{
+    BOTH("rescue of a read", f->rescue(READ(read), a->out));
+    return library_rescued();
+}
+
+/* By the library's answers. */
+static void expect_no_harm(int way, const struct read *before, const struct rescued *of_before,
+                           const struct read *longer, const struct rescued *of_longer)
+{
+    if (of_before->refusal != 0)
+        return;
+    const char *found = harm(before, longer, of_before->cut, of_longer->refusal, of_longer->cut);
+    read_on_times[way]++;
+    other_cuts[way] += !is_same_cut(of_before->cut, of_longer->cut);
+    if (found != NULL) {
+        differences++;
+        fprintf(stderr, "seed %" PRIu64 ": a longer read %s\n", seed, found);
+    }
+}
+
+/* From a front of one side or of both. */
+static void compare_front(const struct read *read, const struct rescued *rescued, uint64_t block_size, uint64_t n)
+{
+    uint64_t ends[2] = { end_beside_construct(read, 0, block_size, n),
+                         end_beside_construct(read, 1, block_size, n / 3) };
+    if (n % 3 < 2)
+        ends[n % 3] = UINT64_MAX;
+    struct read front = front_of(read, ends[0], ends[1]);
+    struct rescued of_front = compare_rescue(&front);
+    expect_no_harm(FROM_FRONTS, &front, &of_front, read, rescued);
+}
+
+/* A longer read at the border of pages. */
+static void guard_longer(const struct longer *longer, struct slice parts[4])
+{
+    struct read read = read_of(longer);
+    for (int i = 0; i < 4; i++)
+        parts[i] = (struct slice){ guarded_copy(READ_PART(&read, i)), read.lengths[i] };
+}
+
+/* Behind the volume, or behind what its cut keeps. */
+static void compare_behind(const struct read *read, const struct rescued *rescued,
+                           const uint64_t label[KLAPOUZEN_LABEL], uint64_t n)
+{
+    struct slice parts[4];
+    struct read before = n % 2 == 0 ? *read : kept_of(read, rescued->cut);
+    struct longer longer = read_on(&before, label, rescued->cut, n / 2);
+    guard_longer(&longer, parts);
+    struct read more = read_of_parts(parts);
+    struct rescued of_longer = compare_rescue(&more);
+    expect_no_harm(BEHIND, &before, rescued, &more, &of_longer);
+    for (int i = 0; i < 4; i++)
+        guarded_free(SLICE(parts[i]));
+    free_longer(&longer);
+}
+
+/* One of the two ways, of a volume with this label whose rescue was asked for last. */
+static void compare_read_on(const struct slice parts[4], const uint64_t label[KLAPOUZEN_LABEL], uint64_t n)
+{
+    struct read read = read_of_parts(parts);
+    struct rescued rescued = library_rescued();
+    if (seed % 2 == 0 && rescued.refusal == 0)
+        compare_behind(&read, &rescued, label, n);
+    else
+        compare_front(&read, &rescued, label[KLAPOUZEN_LABEL_BLOCK_SIZE], n);
+}
+
 /* ---- Volumes ---- */
 
 static void volume_case(void)
 {
     struct random_case random = random_volume(seed);
     struct slice parts[4];
+    uint64_t label[KLAPOUZEN_LABEL];
     guard_case(&random, parts);
     BOTH("check_labels", f->check_labels(VOLUME(parts), a->out));
+    uint64_t refusal = answers[1].refusal;
+    memcpy(label, answers[1].out, sizeof label);
     struct given given = { { NULL, 0 }, 'a', 'b', 4096 };
-    if (answers[1].refusal == 0) {
-        const uint64_t *label = answers[1].out;
+    if (refusal == 0) {
         given.uuid = (struct slice){ parts[1].start + label[KLAPOUZEN_LABEL_UUID],
                                      label[KLAPOUZEN_LABEL_UUID_LENGTH] };
         given.index = (uint8_t)label[KLAPOUZEN_LABEL_INDEX_LETTER];
@@ -292,6 +393,8 @@ static void volume_case(void)
     }
     BOTH("verdict", f->verdict(VOLUME(parts), a->out));
     BOTH("rescue", f->rescue(VOLUME(parts), a->out));
+    if (refusal == 0)
+        compare_read_on(parts, label, random.numbers[2]);
     compare_list(parts[0], parts[1], random.numbers, given.block_size);
     compare_list(parts[2], parts[3], random.numbers, given.block_size);
     compare_blocks(parts, random.numbers, given.index, given.data);
@@ -443,12 +546,18 @@ static void ansi_place_vector(const struct random_case *vector)
         guarded_free(parts[i].start, parts[i].length);
 }
 
-/* So many cases meet every refusal; fewer say nothing of the generator. */
+/* So many cases meet every refusal, and are read on both ways to another cut; fewer say nothing of the generator. */
 enum { ENOUGH = 1000 };
 
-static uint64_t print_refusals(uint64_t cases)
+static uint64_t print_counts(uint64_t cases)
 {
     uint64_t never = 0;
+    for (int way = 0; way < WAYS; way++) {
+        printf(" %s %" PRIu64 " times, %" PRIu64 " with another cut;", way == FROM_FRONTS ? "read on from fronts" : "behind",
+               read_on_times[way], other_cuts[way]);
+        never += read_on_times[way] == 0 || other_cuts[way] == 0;
+    }
+    printf(" answers by refusal:");
     for (int i = 0; i < REFUSALS; i++) {
         printf(" %d:%" PRIu64, i, refusals[i]);
         never += refusals[i] == 0;
@@ -473,7 +582,7 @@ int main(int count, char **words)
         many_rows_case();
         ansi_case();
     }
-    printf("%" PRIu64 " cases, %" PRIu64 " vectors, %" PRIu64 " calls, %" PRIu64 " differences; answers by refusal:",
-           cases, vectors, calls, differences);
-    return print_refusals(cases) > 0 || differences > 0;
+    printf("%" PRIu64 " cases, %" PRIu64 " vectors, %" PRIu64 " calls, %" PRIu64 " differences;", cases,
+           vectors, calls, differences);
+    return print_counts(cases) > 0 || differences > 0;
 }

@@ -45,9 +45,20 @@ static inline int is_same_cut(const uint64_t one[KLAPOUZEN_CUT], const uint64_t 
     return memcmp(one, other, KLAPOUZEN_CUT * sizeof *one) == 0;
 }
 
+/* How many elements a front of a side has that ends at or beside a standing construct's closing mark. */
+static inline uint64_t end_beside_construct(const struct read *read, int side, uint64_t block_size, uint64_t n)
+{
+    static uint32_t table[KLAPOUZEN_CONSTRUCT_TABLE];
+    uint64_t standing;
+    klapouzen_constructs(READ_SIDE(read, side), block_size, table, &standing);
+    if (standing == 0)
+        return 4;
+    return table[KLAPOUZEN_CONSTRUCT * (n % standing) + KLAPOUZEN_CONSTRUCT_KEPT] + n / 5 % 3 - 1;
+}
+
 /*
- * What does not hold of a longer read, where the one before has this cut; NULL where all does. `refusal` and `after`
- * are what the rescue of the longer one answers. Its cut may keep less of the data side, and a lower generation.
+ * What a longer read does that it must not, where the one before has this cut; NULL where it does nothing of that.
+ * `refusal` and `after` are what its rescue answers. It may keep less of the data side, and a lower generation.
  */
 static inline const char *harm(const struct read *before, const struct read *longer,
                                const uint64_t cut[KLAPOUZEN_CUT], uint64_t refusal,
@@ -55,14 +66,14 @@ static inline const char *harm(const struct read *before, const struct read *lon
 {
     uint64_t verdict[KLAPOUZEN_BREAK];
     if (refusal != 0)
-        return "no cut of a longer read";
+        return "has no cut";
     if (!is_same_cut(cut, after) && after[KLAPOUZEN_CUT_INDEX_CONSTRUCT] <= cut[KLAPOUZEN_CUT_INDEX_CONSTRUCT])
-        return "another cut of a longer read with no more index constructs";
+        return "has another cut with no more index constructs";
     struct read kept = kept_of(longer, cut), kept_before = kept_of(before, cut);
     if (memcmp(kept.lengths, kept_before.lengths, sizeof kept.lengths) != 0)
-        return "what is kept of a longer read";
+        return "keeps other bytes by the cut before";
     if (klapouzen_verdict(READ(&kept), verdict) != 0 || verdict[KLAPOUZEN_BREAK_WHICH] != 0)
-        return "the verdict on what is kept of a longer read";
+        return "is not consistent where the cut before ends";
     return NULL;
 }
 
