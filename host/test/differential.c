@@ -361,15 +361,15 @@ static void compare_behind(const struct read *read, const struct rescued *rescue
     free_longer(&longer);
 }
 
-/* One of the two ways, of a volume with this label whose rescue was asked for last. */
+/* One of the two ways, or none, of a volume with this label whose rescue was asked for last. */
 static void compare_read_on(const struct slice parts[4], const uint64_t label[KLAPOUZEN_LABEL], uint64_t n)
 {
     struct read read = read_of_parts(parts);
     struct rescued rescued = library_rescued();
-    if (seed % 2 == 0 && rescued.refusal == 0)
-        compare_behind(&read, &rescued, label, n);
-    else
+    if (seed % 4 == 1 || (seed % 4 == 3 && rescued.refusal == 0))
         compare_front(&read, &rescued, label[KLAPOUZEN_LABEL_BLOCK_SIZE], n);
+    else if (rescued.refusal == 0)
+        compare_behind(&read, &rescued, label, n);
 }
 
 /* ---- Volumes ---- */
