@@ -325,7 +325,7 @@ static void expect_no_harm(int way, const struct read *before, const struct resc
     }
 }
 
-/* From a front of one side or of both. */
+/* From a front of one side or of both; the volume's other bytes are behind it. */
 static void compare_front(const struct read *read, const struct rescued *rescued, uint64_t block_size, uint64_t n)
 {
     uint64_t ends[2] = { end_beside_construct(read, 0, block_size, n),
@@ -553,8 +553,8 @@ static uint64_t print_counts(uint64_t cases)
 {
     uint64_t never = 0;
     for (int way = 0; way < WAYS; way++) {
-        printf(" %s %" PRIu64 " times, %" PRIu64 " with another cut;", way == FROM_FRONTS ? "read on from fronts" : "behind",
-               read_on_times[way], other_cuts[way]);
+        const char *name = way == FROM_FRONTS ? "read on from fronts" : "behind volumes";
+        printf(" %s %" PRIu64 " times, %" PRIu64 " with another cut;", name, read_on_times[way], other_cuts[way]);
         never += read_on_times[way] == 0 || other_cuts[way] == 0;
     }
     printf(" answers by refusal:");

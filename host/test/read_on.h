@@ -82,13 +82,13 @@ static inline const char *harm(const struct read *before, const struct read *lon
 enum more {
     MORE_NONE,
     MORE_MARKS,
-    MORE_BLOCKS,     /* below the block size, of it, above it */
-    MORE_LOST,       /* unreadable blocks */
-    MORE_TORN_RUN,   /* a mark and blocks without the closing mark */
-    MORE_LOST_RUN,   /* the blocks of an index, an unreadable one among them */
-    MORE_FIRST,      /* the side's first elements again */
-    MORE_LAST,       /* its last ones, in most cases an index that does not stand where it says */
-    MORE_INDEX,      /* a sound index */
+    MORE_BLOCKS,   /* below the block size, of it, above it */
+    MORE_LOST,     /* unreadable blocks */
+    MORE_TORN_RUN, /* a mark and blocks without the closing mark */
+    MORE_LOST_RUN, /* the blocks of an index, an unreadable one among them */
+    MORE_FIRST,    /* the side's first elements again */
+    MORE_LAST,     /* its last ones, in most cases an index that does not stand where it says */
+    MORE_INDEX,    /* a sound index */
     MORE_KINDS
 };
 
@@ -110,7 +110,7 @@ static inline size_t some_length(const struct longer *longer, uint64_t n)
     return longer->block_size + n % 3 - 1;
 }
 
-/* The tape's own elements from one on. */
+/* So many of the tape's own elements, from one on. */
 static inline void put_again(struct tape *tape, uint64_t from, uint64_t count)
 {
     struct tape own = { 0 };
@@ -125,7 +125,7 @@ static inline void put_again(struct tape *tape, uint64_t from, uint64_t count)
     tape_free(&own);
 }
 
-/* An index without files where it says, which fits into a block. The one behind it points at it if it is the data side's. */
+/* A sound index without files, in one block. If it is the data side's, the next one points at it. */
 static inline void put_index(struct longer *longer, int side)
 {
     struct tape *tape = &longer->sides[side];
