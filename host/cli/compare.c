@@ -19,15 +19,16 @@ static const char help[] =
     "index constructs on the index side. Reads of two volumes are said to be that.\n"
     "\n"
     "NEW is OLD continued where each side of NEW begins with all of that side of OLD. Then\n"
-    "reading on has not hurt: where OLD can be cut NEW can be, and the cut is the same or\n"
-    "keeps more index constructs on the index side; and every cut of OLD, wherever it stops\n"
-    "the two sides, is one of NEW. Not promised is that the cut keeps no fewer elements of\n"
-    "the data side and has no lower generation: the later index may point at an earlier one\n"
-    "of the data side. Where it is so that is said, and how to make OLD's cut of NEW.\n"
+    "every cut of OLD, wherever it stops the two sides, is one of NEW. Elements behind OLD's\n"
+    "end are read on, unreadable blocks too; one that OLD could not read and NEW could is a\n"
+    "difference. Where neither is the other continued, NEW may have all that OLD's cut keeps\n"
+    "nevertheless: no element differs before the cut ends.\n"
     "\n"
-    "Elements behind OLD's end are read on, unreadable blocks too. An element that OLD could\n"
-    "not read and NEW could is a difference: neither is the other continued then, and\n"
-    "nothing is promised.\n"
+    "In both cases a second read never hurts: NEW can be cut, and its cut is the same, or it\n"
+    "keeps more index constructs on the index side. Not promised is that it keeps as many\n"
+    "elements of the data side or has as high a generation: the later index may point at an\n"
+    "earlier one of the data side. Where it is so that is said, and how to make OLD's cut of\n"
+    "NEW. Where an element differs before OLD's cut ends, nothing is promised.\n"
     "\n"
     "  --json  one object\n"
     "  --help  this text\n"
@@ -81,6 +82,16 @@ static bool are_one_volume(const struct reads *reads)
 static uint64_t rescued(const struct assessment *found)
 {
     return found->has_cut ? found->cut[KLAPOUZEN_CUT_INDEX_CONSTRUCT] + 1 : 0;
+}
+
+/* Whether the other read has all that the cut of this one keeps: nothing differs before it ends. */
+static bool is_cut_in_other(const struct reads *reads, int read)
+{
+    const struct assessment *found = &reads->found[read];
+    bool is_kept = found->has_cut;
+    for (int side = INDEX; side <= DATA; side++)
+        is_kept = is_kept && kept_elements(found, side) <= reads->sides[side].common;
+    return is_kept;
 }
 
 enum { NEITHER = -1 };
@@ -199,6 +210,14 @@ static void print_volumes(const struct reads *reads)
     printf("%s\n", colour_code(stdout, PLAIN));
 }
 
+static const char *kept_text(const struct reads *reads)
+{
+    bool old = is_cut_in_other(reads, OLD), new = is_cut_in_other(reads, NEW);
+    if (old && new)
+        return ", but each has all that the other's cut keeps";
+    return old ? ", but NEW has all that OLD's cut keeps" : new ? ", but OLD has all that NEW's cut keeps" : "";
+}
+
 static void print_relation(const struct reads *reads)
 {
     static const char *const texts[] = {
@@ -208,7 +227,7 @@ static void print_relation(const struct reads *reads)
         [DIFFERENT] = "neither is the other continued",
         [MALFORMED] = "neither is known to be the other continued",
     };
-    puts(texts[reads->relation]);
+    printf("%s%s\n", texts[reads->relation], reads->relation == DIFFERENT ? kept_text(reads) : "");
 }
 
 /* ---- The rescue ---- */
@@ -276,7 +295,7 @@ static bool print_caution(const struct reads *reads, int more)
     return is_begun;
 }
 
-/* How to make the other's cut of a read that is it continued. */
+/* How to make the other's cut of a read that has all that it keeps. */
 static void print_way_back(const struct reads *reads, int read)
 {
     const struct assessment *other = &reads->found[1 - read];
@@ -288,14 +307,13 @@ static void print_way_back(const struct reads *reads, int read)
 
 static void print_rescue(const struct reads *reads)
 {
-    static const enum relation continued[] = { [OLD] = OLD_CONTINUES_NEW, [NEW] = NEW_CONTINUES_OLD };
     int more = rescues_more(reads);
     if (more == NEITHER)
         print_rescued_alike(reads);
     else
         print_rescued(reads, more);
     bool are_cut = reads->found[OLD].has_cut && reads->found[NEW].has_cut;
-    if (are_cut && print_caution(reads, more) && more != NEITHER && reads->relation == continued[more])
+    if (are_cut && print_caution(reads, more) && more != NEITHER && is_cut_in_other(reads, 1 - more))
         print_way_back(reads, more);
 }
 
@@ -366,11 +384,19 @@ static void print_json_side(const char *key, const struct comparison *found)
     putchar('}');
 }
 
+static void print_json_kept(const struct reads *reads, int read)
+{
+    printf(",\"%s_cut_in_%s\":%s", keys[read], keys[1 - read],
+           !reads->found[read].has_cut ? "null" : is_cut_in_other(reads, read) ? "true" : "false");
+}
+
 static void print_json_whole(const struct reads *reads)
 {
     int more = rescues_more(reads);
     bool is_neither = reads->relation == DIFFERENT || reads->relation == MALFORMED;
     printf(",\"relation\":\"%s\"", is_neither ? "neither" : relation_keys[reads->relation]);
+    print_json_kept(reads, OLD);
+    print_json_kept(reads, NEW);
     printf(",\"same_volume\":%s", !are_labelled(reads) ? "null" : are_one_volume(reads) ? "true" : "false");
     if (more == NEITHER)
         fputs(",\"rescues_more\":null", stdout);

@@ -65,6 +65,15 @@ def rescued(checked):
     return cut["index_construct"] + 1 if cut else 0
 
 
+def cut_within(checked, tapes, others):
+    """Whether what the cut keeps is the other read's front too; None where there is no cut."""
+    cut = checked.get("cut")
+    if not cut:
+        return None
+    fronts = [(tapes[side][2][:cut[side + "_kept"]], others[side][2]) for side in ("index", "data")]
+    return all(other is not None and other[:len(front)] == front for front, other in fronts)
+
+
 def wanted(old, new, checked):
     tapes = [{side: read(folder, side) for side in ("index", "data")} for folder in (old, new)]
     sides = {side: side_of(tapes[0][side], tapes[1][side]) for side in ("index", "data")}
@@ -75,16 +84,18 @@ def wanted(old, new, checked):
     return {
         "old": checked[old], "new": checked[new], **sides,
         "relation": "neither" if malformed else relation(*files) or "neither",
+        "old_cut_in_new": cut_within(checked[old], *tapes),
+        "new_cut_in_old": cut_within(checked[new], *tapes[::-1]),
         "same_volume": None if None in volumes else volumes[0] == volumes[1],
         "rescues_more": "new" if more > 0 else "old" if more < 0 else None,
     }
 
 
 def hurts(found):
-    """Whether a read that goes on cuts worse: never, the library proves."""
+    """Whether a read that has what the other's cut keeps cuts worse: never, the library proves."""
     old, new = found["old"].get("cut"), found["new"].get("cut")
     numbers = ("index_construct", "data_construct", "index_kept", "data_kept", "generation")
-    if found["relation"] != "new_continues_old" or not old:
+    if not found["old_cut_in_new"]:
         return False
     return not new or rescued(found["new"]) <= rescued(found["old"]) and any(old[key] != new[key] for key in numbers)
 
@@ -95,6 +106,8 @@ for line in sys.stdin:
     status, old, new, text = line.rstrip("\n").split("\t")
     found, want = json.loads(text), wanted(old, new, checked)
     relations |= {found["relation"]} | {(side, found[side]["relation"]) for side in ("index", "data")}
+    if found["relation"] == "neither":
+        relations |= {(key, found[key]) for key in ("old_cut_in_new", "new_cut_in_old")}
     for key in want.keys() | found.keys():
         if found.get(key) != want.get(key):
             sys.exit(f"{old} and {new}: {key} is {found.get(key)}, not {want.get(key)}")
@@ -102,6 +115,6 @@ for line in sys.stdin:
         sys.exit(f"{old} and {new}: status {status}")
     if hurts(found):
         sys.exit(f"{old} and {new}: reading on hurts")
-# Every relation was among them: of the whole, and of each side.
-if len(relations) != 4 + 2 * 5:
+# Every relation was among them: of the whole, of each side, and of the cuts where neither goes on.
+if len(relations) != 4 + 2 * 5 + 2 * 3:
     sys.exit(f"only {relations}")

@@ -48,6 +48,9 @@ PYTHON
 CONTINUED="NEW is OLD continued: every cut of OLD is one of NEW"
 CONTINUES="OLD is NEW continued: every cut of NEW is one of OLD"
 NEITHER="neither is the other continued"
+NEW_HAS="$NEITHER, but NEW has all that OLD's cut keeps"
+OLD_HAS="$NEITHER, but OLD has all that NEW's cut keeps"
+EACH_HAS="$NEITHER, but each has all that the other's cut keeps"
 UNKNOWN="neither is known to be the other continued"
 ALL_INDEX="index side: the same 13 elements"
 ALL_DATA="data side:  the same 78 elements"
@@ -75,9 +78,9 @@ compares 1 nights fewer "index side: OLD goes on: NEW's 12 elements, then 1 more
 
 # Each goes on on one side.
 compares 1 fewer_index fewer_data "index side: NEW goes on: OLD's 10 elements, then 3 more" \
-    "data side:  OLD goes on: NEW's 77 elements, then 1 more" "$NEITHER" "NEW rescues more: 3 index constructs, OLD 2"
+    "data side:  OLD goes on: NEW's 77 elements, then 1 more" "$NEW_HAS" "NEW rescues more: 3 index constructs, OLD 2"
 compares 1 fewer_data fewer_index "index side: OLD goes on: NEW's 10 elements, then 3 more" \
-    "data side:  NEW goes on: OLD's 77 elements, then 1 more" "$NEITHER" "OLD rescues more: 3 index constructs, NEW 2"
+    "data side:  NEW goes on: OLD's 77 elements, then 1 more" "$OLD_HAS" "OLD rescues more: 3 index constructs, NEW 2"
 
 # One element, none, files that are missing, and as many as have to be grouped.
 front nights 1 0 one_element
@@ -180,16 +183,16 @@ says out "data side:  differs first at element 77: a block of 1 byte in both, it
 edited nights data shifted size,40,100 'put,60,7,\xff'
 compares 1 nights shifted "$ALL_INDEX" \
     "data side:  differs first at element 40: OLD has a block of 4,096 bytes, NEW has a block of 100 bytes; 2 of the 78 elements that both have differ" \
-    "$NEITHER" "OLD rescues more: 3 index constructs, NEW 2"
+    "$OLD_HAS" "OLD rescues more: 3 index constructs, NEW 2"
 # An element more or fewer, before the end and behind it.
 edited nights data inserted mark,77
 compares 1 nights inserted "$ALL_INDEX" \
     "data side:  differs first at element 77: OLD has a block of 1,200 bytes, NEW has a mark; 1 of the 78 elements that both have differs; OLD has 78 elements, NEW 79" \
-    "$NEITHER" "both rescue 3 index constructs"
+    "$EACH_HAS" "both rescue 3 index constructs"
 edited fewer_data data shorter 'put,72,3,\xff'
 compares 1 nights shorter "$ALL_INDEX" \
     "data side:  differs first at element 72: a block of 4,096 bytes in both, its bytes differ from byte 2 on; 1 of the 77 elements that both have differs; OLD has 78 elements, NEW 77" \
-    "$NEITHER" "both rescue 3 index constructs"
+    "$EACH_HAS" "both rescue 3 index constructs"
 edited one_element index lost_one lose,0
 compares 1 lost_one nights \
     "index side: differs first at element 0: OLD has an unreadable block, NEW has a block of 80 bytes; 1 of the 1 element that both have differs: 1 unreadable in OLD alone; OLD has 1 element, NEW 13" \
@@ -209,14 +212,32 @@ edited nights data worn_old lose,31 lose,42 lose,43 lose,72
 edited nights data worn_new lose,44 lose,72
 compares 1 worn_old nights "$ALL_INDEX" \
     "data side:  differs first at element 31: OLD has an unreadable block, NEW has a block of 4,096 bytes; 4 of the 78 elements that both have differ: 4 unreadable in OLD alone" \
-    "$NEITHER" "NEW rescues more: 3 index constructs, OLD 2"
+    "$NEW_HAS" "NEW rescues more: 3 index constructs, OLD 2"
 compares 1 nights worn_old "$ALL_INDEX" \
     "data side:  differs first at element 31: OLD has a block of 4,096 bytes, NEW has an unreadable block; 4 of the 78 elements that both have differ: 4 unreadable in NEW alone" \
-    "$NEITHER" "OLD rescues more: 3 index constructs, NEW 2"
+    "$OLD_HAS" "OLD rescues more: 3 index constructs, NEW 2"
 compares 1 worn_old worn_new "$ALL_INDEX" \
     "data side:  differs first at element 31: OLD has an unreadable block, NEW has a block of 4,096 bytes; 4 of the 78 elements that both have differ: 3 unreadable in OLD alone, 1 in NEW alone" \
-    "$NEITHER" "both rescue 2 index constructs"
+    "$EACH_HAS" "both rescue 2 index constructs"
 compares 0 worn_old worn_old "$ALL_INDEX" "$ALL_DATA" "OLD and NEW are the same" "both rescue 2 index constructs"
+# The last element that a cut keeps, 70 on the data side and 12 on the index side, and the first behind it.
+edited nights data at_mark drop,70 block,70,9 lose,70
+compares 1 nights at_mark "$ALL_INDEX" \
+    "data side:  differs first at element 70: OLD has a mark, NEW has an unreadable block; 1 of the 78 elements that both have differs: 1 unreadable in NEW alone" \
+    "$OLD_HAS" "OLD rescues more: 3 index constructs, NEW 2"
+edited nights data past_mark lose,71
+compares 1 nights past_mark "$ALL_INDEX" \
+    "data side:  differs first at element 71: OLD has a block of 4,096 bytes, NEW has an unreadable block; 1 of the 78 elements that both have differs: 1 unreadable in NEW alone" \
+    "$EACH_HAS" "both rescue 3 index constructs"
+edited nights index at_end drop,12 block,12,9 lose,12
+compares 1 at_end nights \
+    "index side: differs first at element 12: OLD has an unreadable block, NEW has a mark; 1 of the 13 elements that both have differs: 1 unreadable in OLD alone" \
+    "$ALL_DATA" "$NEW_HAS" "NEW rescues more: 3 index constructs, OLD 2"
+edited nights index past_end block,13,9
+edited nights index past_end_mark mark,13
+compares 1 past_end past_end_mark \
+    "index side: differs first at element 13: OLD has a block of 9 bytes, NEW has a mark; 1 of the 14 elements that both have differs" \
+    "$ALL_DATA" "$EACH_HAS" "both rescue 3 index constructs"
 front worn_old 99 45 worn_front
 compares 0 worn_front worn_old "$ALL_INDEX" "data side:  NEW goes on: OLD's 45 elements, then 33 more" "$CONTINUED" \
     "both rescue 2 index constructs"
@@ -302,11 +323,12 @@ compares 1 rewound before "index side: OLD goes on: NEW's 7 elements, then 3 mor
     "$CONTINUES" "OLD rescues more: 2 index constructs, NEW 1" \
     "but OLD's cut keeps 22 elements of the data side, NEW's 68; it has generation 1, NEW's 3" \
     "klapouzen cut --keep-index 7 --keep-data 68 rewound OUT makes NEW's cut of it"
-# The command makes what it says, also of a read that goes on behind OLD's cut on both sides.
-makes_cut() { # OLD NEW
-    local command
+# The command makes what it says, also of a read that goes on behind OLD's cut on both sides, or has other elements there.
+makes_cut() { # STATUS OLD NEW
+    local status=$1 command
+    shift
     rm -rf OUT olds
-    is 0 "$K" compare "$1" "$2"
+    is "$status" "$K" compare "$1" "$2"
     command=$(sed -n 's/^klapouzen \(cut .* OUT\) makes OLD.s cut of it$/\1/p' out)
     checks=$((checks + 1))
     # shellcheck disable=SC2086
@@ -314,12 +336,16 @@ makes_cut() { # OLD NEW
         || fail "klapouzen $command: not OLD's cut"
     rm -rf OUT olds
 }
-makes_cut before rewound
+makes_cut 0 before rewound
 cp -r rewound rewound_on && printf '\001\003' | tee -a rewound_on/index.list >> rewound_on/data.list
-makes_cut before rewound_on
+makes_cut 0 before rewound_on
 edited before index before_on mark,7
-makes_cut before_on rewound
+makes_cut 0 before_on rewound
 says out "OLD's 8 elements"
+edited before index before_else block,7,5
+makes_cut 1 before_else rewound
+says out "differs first at element 7"
+says out "$NEW_HAS"
 
 # Only the generation is lower, which is lawful where both point at one index.
 cp -r rewound lower
@@ -332,14 +358,15 @@ mv store lower/index.store
 compares 0 lower_before lower "index side: NEW goes on: OLD's 7 elements, then 3 more" "data side:  the same 68 elements" \
     "$CONTINUED" "NEW rescues more: 2 index constructs, OLD 1" "but NEW's cut has generation 4, OLD's 7" \
     "klapouzen cut --keep-index 7 --keep-data 68 lower OUT makes OLD's cut of it"
-makes_cut lower_before lower
+makes_cut 0 lower_before lower
 # As high a generation and as much data: nothing to say.
 respell lower index '<generationnumber>4<' '<generationnumber>7<'
 compares 0 lower_before lower "index side: NEW goes on: OLD's 7 elements, then 3 more" "data side:  the same 68 elements" \
     "$CONTINUED" "NEW rescues more: 2 index constructs, OLD 1"
-# Where it is not the other continued there is no command, and the index side may be less too.
+# Where it has not all that the other's cut keeps there is no command, and the index side may be less too.
 edited before data before_other 'put,30,1,\xff'
 is 1 "$K" compare before_other rewound
+says_not out "all that"
 says out "but NEW's cut keeps 22 elements of the data side, OLD's 68; it has generation 1, OLD's 3"
 says_not out "makes"
 is 1 "$K" compare many nights
@@ -359,11 +386,11 @@ is 0 "$K" compare --json before rewound
 is_json out
 one_line out
 says out '"index":{"relation":"new_continues_old","common":7,"difference":null,"differing":0,"unreadable_in_old_alone":0,"unreadable_in_new_alone":0},"data":{"relation":"same","common":68,'
-says out '},"relation":"new_continues_old","same_volume":true,"rescues_more":"new"}'
+says out '},"relation":"new_continues_old","old_cut_in_new":true,"new_cut_in_old":false,"same_volume":true,"rescues_more":"new"}'
 is 1 "$K" compare worn_old worn_new --json
-says out '"data":{"relation":"different","common":31,"difference":{"element":31,"old":{"kind":"unreadable","length":null},"new":{"kind":"block","length":4096},"byte":null},"differing":4,"unreadable_in_old_alone":3,"unreadable_in_new_alone":1},"relation":"neither","same_volume":true,"rescues_more":null}'
+says out '"data":{"relation":"different","common":31,"difference":{"element":31,"old":{"kind":"unreadable","length":null},"new":{"kind":"block","length":4096},"byte":null},"differing":4,"unreadable_in_old_alone":3,"unreadable_in_new_alone":1},"relation":"neither","old_cut_in_new":true,"new_cut_in_old":true,"same_volume":true,"rescues_more":null}'
 is 1 "$K" compare --json bad1 fresh
-says out '"data":{"relation":"malformed","common":null,"difference":null,"differing":null,"unreadable_in_old_alone":null,"unreadable_in_new_alone":null},"relation":"neither","same_volume":null,"rescues_more":"new"}'
+says out '"data":{"relation":"malformed","common":null,"difference":null,"differing":null,"unreadable_in_old_alone":null,"unreadable_in_new_alone":null},"relation":"neither","old_cut_in_new":null,"new_cut_in_old":false,"same_volume":null,"rescues_more":"new"}'
 is 1 "$K" compare --json volume_uuid volume
 says out '"same_volume":false,"rescues_more":null}'
 
@@ -414,4 +441,4 @@ for words in "fresh nowhere" "nowhere fresh" "--json fresh nowhere"; do
     checks=$((checks + 1))
     [ ! -s out ] || fail "something is said of a read that can't be read"
 done
-rm -rf front.* as_* fewer* marks* nights_copy no_element no_files one_element one_byte other_byte altered shifted inserted shorter lost_* worn_old worn_new worn_front all_other uncut volume* lower* before* rewound_on "$ODD 1" "$ODD 2"
+rm -rf front.* as_* at_* past_* fewer* marks* nights_copy no_element no_files one_element one_byte other_byte altered shifted inserted shorter lost_* worn_old worn_new worn_front all_other uncut volume* lower* before* rewound_on "$ODD 1" "$ODD 2"
