@@ -269,14 +269,15 @@ static void try_lost(const struct volume *volume, int side, uint64_t n, uint64_t
 
 /* ---- Reading on ---- */
 
-enum { SHORTER_CUT, OTHER_CUT };
+enum { FIRST_CUT, OTHER_CUT };
 
-static void try_longer(const struct read *before, const struct read *longer, const uint64_t cut[KLAPOUZEN_CUT],
+/* What the rescue answers of two reads, the second of which has all that the first one's cut keeps. */
+static void try_second(const struct read *first, const struct read *second, const uint64_t cut[KLAPOUZEN_CUT],
                        uint64_t no_cut, const uint64_t after[KLAPOUZEN_CUT])
 {
-    fuzz_counts[SHORTER_CUT].times++;
+    fuzz_counts[FIRST_CUT].times++;
     fuzz_counts[OTHER_CUT].times += !is_same_cut(cut, after);
-    must(harm(before, longer, cut, no_cut, after) == NULL);
+    must(harm(first, second, cut, no_cut, after) == NULL);
 }
 
 /* The volume is what was read on to, from fronts of one side and of both. */
@@ -288,7 +289,7 @@ static void try_fronts(const struct read *read, uint64_t n, uint64_t block_size,
         uint64_t cut[KLAPOUZEN_CUT];
         struct read front = front_of(read, ends[0], ends[1]);
         if (ANSWERED(klapouzen_rescue(READ(&front), FILLED(cut)), cut) == 0)
-            try_longer(&front, read, cut, said->no_cut, said->cut);
+            try_second(&front, read, cut, said->no_cut, said->cut);
         ends[n % 2] = UINT64_MAX;
     }
 }
@@ -304,21 +305,53 @@ static void try_behind(const struct read *before, uint64_t n, const uint64_t lab
         must(klapouzen_check_list(READ_SIDE(&read, 0), elements) == 0);
         must(klapouzen_check_list(READ_SIDE(&read, 1), elements) == 0);
         uint64_t no_cut = ANSWERED(klapouzen_rescue(READ(&read), FILLED(after)), after);
-        try_longer(before, &read, cut, no_cut, after);
+        try_second(before, &read, cut, no_cut, after);
     }
     free_longer(&longer);
 }
 
-static void try_read_on(const struct volume *volume, uint64_t n, const uint64_t label[KLAPOUZEN_LABEL],
-                        const struct said *said)
+static struct read read_of_volume(const struct volume *volume)
 {
     struct read read;
     for (int i = 0; i < 4; i++) {
         read.starts[i] = volume->parts[i].start;
         read.lengths[i] = volume->parts[i].length;
-        n += 257 * read.lengths[i];
     }
+    return read;
+}
+
+/*
+ * Two reads, in one of which an unreadable block stands for an element, or behind the last. Where the cut of either ends
+ * before it, the other has all that it keeps.
+ */
+static void try_reread(const struct volume *volume, int side, uint64_t n, const struct said *said)
+{
+    uint64_t elements[1], cut[KLAPOUZEN_CUT], kept = KLAPOUZEN_CUT_INDEX_KEPT + (uint64_t)side;
+    must(klapouzen_check_list(SIDE(volume, side), elements) == 0);
+    uint64_t element = 4 + n % (elements[0] - 3);
+    if (element == KLAPOUZEN_MAX_ELEMENTS)
+        return;
+    struct volume other = *volume;
+    struct own_side lost = lose(&volume->parts[2 * side], &volume->parts[2 * side + 1], element);
+    other.parts[2 * side] = lost.list;
+    other.parts[2 * side + 1] = lost.store;
+    struct read read = read_of_volume(volume), worn = read_of_volume(&other);
+    uint64_t no_cut = ANSWERED(klapouzen_rescue(READ(&worn), FILLED(cut)), cut);
+    if (said->no_cut == 0 && said->cut[kept] <= element)
+        try_second(&read, &worn, said->cut, no_cut, cut);
+    if (no_cut == 0 && cut[kept] <= element)
+        try_second(&worn, &read, cut, said->no_cut, said->cut);
+    free_side(&lost);
+}
+
+static void try_read_on(const struct volume *volume, uint64_t n, const uint64_t label[KLAPOUZEN_LABEL],
+                        const struct said *said)
+{
+    struct read read = read_of_volume(volume);
+    for (int i = 0; i < 4; i++)
+        n += 257 * read.lengths[i];
     try_fronts(&read, n, label[KLAPOUZEN_LABEL_BLOCK_SIZE], said);
+    try_reread(volume, (int)(n / 5 % 2), n / 11, said);
     if (said->no_cut != 0)
         return;
     if (n % 2 == 1)
@@ -354,8 +387,8 @@ int LLVMFuzzerTestOneInput(const uint8_t *input, size_t size)
     struct slice rest = { input, size };
     uint64_t n = take_number(&rest, 1);
     struct volume volume;
-    fuzz_counts[SHORTER_CUT].name = "shorter reads with a cut";
-    fuzz_counts[OTHER_CUT].name = "longer ones with another";
+    fuzz_counts[FIRST_CUT].name = "first reads with a cut";
+    fuzz_counts[OTHER_CUT].name = "second ones with another";
     for (int i = 0; i < 4; i++)
         volume.parts[i] = take_slice(&rest);
     try_list(&volume, 0, n);

@@ -57,10 +57,11 @@ static inline uint64_t end_beside_construct(const struct read *read, int side, u
 }
 
 /*
- * What a longer read does that it must not, where the one before has this cut; NULL where it does nothing of that.
- * `refusal` and `after` are what its rescue answers. It may keep less of the data side, and a lower generation.
+ * What a second read does that it must not, where the one before has this cut and it has all that this keeps; NULL where
+ * it does nothing of that. `refusal` and `after` are what its rescue answers. It may keep less of the data side, and a
+ * lower generation.
  */
-static inline const char *harm(const struct read *before, const struct read *longer,
+static inline const char *harm(const struct read *before, const struct read *second,
                                const uint64_t cut[KLAPOUZEN_CUT], uint64_t refusal,
                                const uint64_t after[KLAPOUZEN_CUT])
 {
@@ -69,7 +70,7 @@ static inline const char *harm(const struct read *before, const struct read *lon
         return "has no cut";
     if (!is_same_cut(cut, after) && after[KLAPOUZEN_CUT_INDEX_CONSTRUCT] <= cut[KLAPOUZEN_CUT_INDEX_CONSTRUCT])
         return "has another cut with no more index constructs";
-    struct read kept = kept_of(longer, cut), kept_before = kept_of(before, cut);
+    struct read kept = kept_of(second, cut), kept_before = kept_of(before, cut);
     if (memcmp(kept.lengths, kept_before.lengths, sizeof kept.lengths) != 0)
         return "keeps other bytes by the cut before";
     if (klapouzen_verdict(READ(&kept), verdict) != 0 || verdict[KLAPOUZEN_BREAK_WHICH] != 0)

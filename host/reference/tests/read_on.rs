@@ -1,6 +1,7 @@
 //! Reading on never hurts: a longer read of a tape against a shorter one. Where the
 //! shorter one has a cut, the longer one has the same or one with more indexes of
-//! the index partition, and the shorter one's cut is still one.
+//! the index partition, and the shorter one's cut is still one. So it is of any
+//! second read that has all that the cut of the first keeps.
 
 use reference::index::Place;
 use reference::label::Label;
@@ -58,12 +59,17 @@ struct Tried {
 
 impl Tried {
     fn hold(&mut self, old: &Read, new: &Read) {
-        let Ok(cut) = old.cut else { return };
         for (before, after) in old.sides().into_iter().zip(new.sides()) {
             assert!(after.list.starts_with(before.list) && after.store.starts_with(before.store));
             assert!(after.read().is_ok());
         }
-        let other = new.cut.expect("a cut where the shorter read has one");
+        self.hold_cut(old, new);
+    }
+
+    /// Of a second read that has all that the first one's cut keeps.
+    fn hold_cut(&mut self, old: &Read, new: &Read) {
+        let Ok(cut) = old.cut else { return };
+        let other = new.cut.expect("a cut where the first read has one");
         self.cuts += 1;
         if other != cut {
             assert!(other.index_construct > cut.index_construct);
@@ -350,4 +356,36 @@ fn more_indexes_with_fewer_data_elements_and_a_lower_generation() {
     let mut tried = Tried::default();
     tried.hold(&old, &new);
     assert_eq!((tried.cuts, tried.others, tried.lower), (1, 1, 1));
+}
+
+/// Each element behind the labels as an unreadable block: of the two reads either has
+/// all that the other's cut keeps where that ends before the element.
+#[test]
+fn elements_that_one_read_has_and_the_other_not() {
+    let mut random = Random::new(0x5eed_0014);
+    let (mut worn_first, mut worn_second) = (Tried::default(), Tried::default());
+    for _ in 0..60 {
+        let (tape, _, whole, _) = read_with_cut(&mut random);
+        for (side, n) in
+            (0..2).flat_map(|side| (4..tape[side].elements.len()).map(move |n| (side, n)))
+        {
+            let mut other = tape.clone();
+            other[side].elements[n] = Unreadable;
+            let worn = Read::of(&other);
+            let ends_before = |read: &Read| {
+                read.cut
+                    .is_ok_and(|cut| [cut.index_kept, cut.data_kept][side] <= n as u64)
+            };
+            if ends_before(&worn) {
+                worn_first.hold_cut(&worn, &whole);
+            }
+            if ends_before(&whole) {
+                worn_second.hold_cut(&whole, &worn);
+            }
+        }
+    }
+    assert!(
+        worn_first.others > 20 && worn_second.cuts > 20,
+        "{worn_first:?} {worn_second:?}"
+    );
 }
