@@ -528,6 +528,14 @@ uint64_t klapouzen_verdict(const uint8_t *index_list, size_t index_list_length,
  * The cut that leaves a consistent volume with the most index constructs on the
  * index partition. klapouzen_keep turns the numbers of elements into bytes.
  * Refusals: those of klapouzen_check_labels, then 13 (no cut leaves one).
+ *
+ * Reading on never hurts. Where a first read of a tape has a cut, so has a second
+ * one whose lists are well formed and whose lists and stores begin with those of
+ * the first. It is enough that klapouzen_keep with that cut's numbers of elements
+ * gives the same bytes of both reads. The five numbers are the same, or the index
+ * construct is higher; then the data construct, the elements kept of the data
+ * partition and the generation may be lower. The first cut leaves a consistent
+ * volume of the second read as well.
  */
 enum klapouzen_cut {
     KLAPOUZEN_CUT_INDEX_CONSTRUCT, /* number of the last construct kept, index partition */

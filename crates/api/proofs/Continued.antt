@@ -10,7 +10,6 @@ use Rattle.refusals.specs.Refusals.{Answer, refused, answer}
 use Rattle.refusals.proofs.Numbers.{not-zero}
 use Rattle.tape.specs.Continued.{Continued}
 use Rattle.verdict.specs.Verdict.{Cut}
-use Rattle.verdict.specs.Rescue.{rescue}
 use Rattle.verdict.proofs.Continued.{at-least}
 use Rattle.volume.specs.Answers.{cutOf, rescued}
 use Rattle.volume.proofs.Continued.{rescues-on, cut-continued}
