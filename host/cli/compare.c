@@ -2,6 +2,7 @@
 #include <inttypes.h>
 #include <string.h>
 #include <strings.h>
+#include <sys/stat.h>
 
 #include "assessed.h"
 #include "commands.h"
@@ -34,7 +35,8 @@ static const char help[] =
     "  --help  this text\n"
     "\n"
     "Exit status: 0 all of OLD is in NEW: both are the same, or NEW is OLD continued; 1 it is\n"
-    "not, or a list is malformed; 2 bad use or a file that can't be read.\n";
+    "not, or a list is malformed; 2 bad use, one folder given twice too, or a file that\n"
+    "can't be read.\n";
 
 static const char *const names[] = { [OLD] = "OLD", [NEW] = "NEW" };
 static const char *const keys[] = { [OLD] = "old", [NEW] = "new" };
@@ -445,6 +447,14 @@ static int open_new(const struct volume *old, const void *given)
     return on_volume(wish->folder, compare, &begun);
 }
 
+/* A read compared with itself says nothing, and a script that drops OLD then drops both. */
+static bool is_one_folder(char *const folders[2])
+{
+    struct stat old, new;
+    return stat(folders[OLD], &old) == 0 && stat(folders[NEW], &new) == 0 && old.st_dev == new.st_dev
+        && old.st_ino == new.st_ino;
+}
+
 int run_compare(struct words *words)
 {
     struct wish wish = { .json = false };
@@ -452,6 +462,8 @@ int run_compare(struct words *words)
     int status = take_words(words, options, help, 2, "two folders wanted, OLD and NEW");
     if (status != GO_ON)
         return status;
-    wish.folder = words->words[1];
-    return on_volume(words->words[0], open_new, &wish);
+    if (is_one_folder(words->words))
+        return bad_use(help, "one folder given twice", words->words[NEW]);
+    wish.folder = words->words[NEW];
+    return on_volume(words->words[OLD], open_new, &wish);
 }

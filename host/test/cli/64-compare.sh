@@ -1,10 +1,11 @@
 # Two reads of one tape.
 "$SAMPLE" rewound rewound || exit 2
 
-# compares STATUS OLD NEW LINE..: prints what check says of each, and then exactly these lines.
+# compares STATUS OLD NEW LINE..: prints what check says of each, and then exactly these lines. Of a read and itself: a copy.
 compares() {
     local status=$1 old=$2 new=$3
     shift 3
+    [ "$old" != "$new" ] || { rm -rf twin && cp -r "$old" twin && new=twin; }
     {
         printf 'OLD  '; "$K" check "$old" | sed -n 1p
         printf 'NEW  '; "$K" check "$new" | sed -n 1p
@@ -58,8 +59,6 @@ ALL_DATA="data side:  the same 78 elements"
 # ---- The same, and one that goes on ----
 
 compares 0 nights nights "$ALL_INDEX" "$ALL_DATA" "OLD and NEW are the same" "both rescue 3 index constructs"
-cp -r nights nights_copy
-compares 0 nights nights_copy "$ALL_INDEX" "$ALL_DATA" "OLD and NEW are the same" "both rescue 3 index constructs"
 front nights 10 99 fewer_index
 front nights 99 77 fewer_data
 front nights 12 31 fewer
@@ -139,7 +138,8 @@ for old in as_mark as_block as_short as_byte as_lost; do
         [ $old = as_lost ] && alone=": 1 unreadable in OLD alone"
         [ $new = as_lost ] && alone=": 1 unreadable in NEW alone"
         if [ $old = $new ]; then
-            is 0 "$K" compare $old $new
+            rm -rf twin && cp -r $old twin
+            is 0 "$K" compare $old twin
             says out "$ALL_DATA"
             continue
         fi
@@ -400,10 +400,12 @@ for n in 3 7 11; do
     front nights $n $((6 * n - 1)) front.$n
     reads="$reads front.$n"
 done
+rm -rf twin && cp -r worn_old twin && reads="$reads twin"
 # shellcheck disable=SC2086
 "$K" check --json $reads > checked
 for old in $reads; do
     for new in $reads; do
+        [ "$old" != "$new" ] || continue
         object=$("$K" compare --json "$old" "$new")
         printf '%s\t%s\t%s\t%s\n' $? "$old" "$new" "$object"
     done
@@ -430,6 +432,18 @@ for words in "" fresh "fresh fresh fresh"; do
     says err "klapouzen: two folders wanted, OLD and NEW"
     says err "usage: klapouzen compare [--json] OLD NEW"
 done
+# One folder by any of its names: nothing is compared, and nothing is said to be the same.
+ln -s nights other_name
+for words in "nights nights" "nights ./nights/" "--json nights nights" "nights other_name" "other_name nights" "torn torn"; do
+    # shellcheck disable=SC2086
+    is 2 "$K" compare $words
+    says err "klapouzen: one folder given twice: ${words##* }"
+    checks=$((checks + 1))
+    [ ! -s out ] || fail "something is said of one folder"
+done
+rm other_name
+is 2 "$K" compare nowhere nowhere
+says err "klapouzen: nowhere: No such file or directory"
 is 2 "$K" compare --nonsense fresh fresh
 says err "unknown option: --nonsense"
 is 2 "$K" compare --json=x fresh fresh
@@ -441,4 +455,4 @@ for words in "fresh nowhere" "nowhere fresh" "--json fresh nowhere"; do
     checks=$((checks + 1))
     [ ! -s out ] || fail "something is said of a read that can't be read"
 done
-rm -rf front.* as_* at_* past_* fewer* marks* nights_copy no_element no_files one_element one_byte other_byte altered shifted inserted shorter lost_* worn_old worn_new worn_front all_other uncut volume* lower* before* rewound_on "$ODD 1" "$ODD 2"
+rm -rf front.* as_* at_* past_* fewer* marks* twin no_element no_files one_element one_byte other_byte altered shifted inserted shorter lost_* worn_old worn_new worn_front all_other uncut volume* lower* before* rewound_on "$ODD 1" "$ODD 2"
