@@ -394,7 +394,7 @@ says out '"data":{"relation":"malformed","common":null,"difference":null,"differ
 is 1 "$K" compare --json volume_uuid volume
 says out '"same_volume":false,"rescues_more":null}'
 
-# Pairs of fronts and of altered reads, each with each, against a reading of the test's own.
+# Pairs of fronts and of altered reads, some with each, against a reading of the test's own.
 reads="nights fresh torn before rewound lower fewer fewer_index fewer_data fewer_other shifted inserted worn_old worn_new worn_front lost_behind as_mark altered one_element bad1 bad1i volume_uuid volume_capitals"
 for n in 3 7 11; do
     front nights $n $((6 * n - 1)) front.$n
@@ -404,7 +404,7 @@ rm -rf twin && cp -r worn_old twin && reads="$reads twin"
 # shellcheck disable=SC2086
 "$K" check --json $reads > checked
 for old in $reads; do
-    for new in $reads; do
+    for new in nights before rewound fewer_index worn_old worn_new bad1 bad1i front.7 twin; do
         [ "$old" != "$new" ] || continue
         object=$("$K" compare --json "$old" "$new")
         printf '%s\t%s\t%s\t%s\n' $? "$old" "$new" "$object"
