@@ -310,16 +310,6 @@ static void try_behind(const struct read *before, uint64_t n, const uint64_t lab
     free_longer(&longer);
 }
 
-static struct read read_of_volume(const struct volume *volume)
-{
-    struct read read;
-    for (int i = 0; i < 4; i++) {
-        read.starts[i] = volume->parts[i].start;
-        read.lengths[i] = volume->parts[i].length;
-    }
-    return read;
-}
-
 /*
  * Two reads, in one of which an unreadable block stands for an element, or behind the last. Where the cut of either ends
  * before it, the other has all that it keeps.
@@ -335,7 +325,7 @@ static void try_reread(const struct volume *volume, int side, uint64_t n, const 
     struct own_side lost = lose(&volume->parts[2 * side], &volume->parts[2 * side + 1], element);
     other.parts[2 * side] = lost.list;
     other.parts[2 * side + 1] = lost.store;
-    struct read read = read_of_volume(volume), worn = read_of_volume(&other);
+    struct read read = READ_OF(volume->parts), worn = READ_OF(other.parts);
     uint64_t no_cut = ANSWERED(klapouzen_rescue(READ(&worn), FILLED(cut)), cut);
     if (said->no_cut == 0 && said->cut[kept] <= element)
         try_second(&read, &worn, said->cut, no_cut, cut);
@@ -347,7 +337,7 @@ static void try_reread(const struct volume *volume, int side, uint64_t n, const 
 static void try_read_on(const struct volume *volume, uint64_t n, const uint64_t label[KLAPOUZEN_LABEL],
                         const struct said *said)
 {
-    struct read read = read_of_volume(volume);
+    struct read read = READ_OF(volume->parts);
     for (int i = 0; i < 4; i++)
         n += 257 * read.lengths[i];
     try_fronts(&read, n, label[KLAPOUZEN_LABEL_BLOCK_SIZE], said);

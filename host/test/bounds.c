@@ -630,11 +630,7 @@ static void longest_read(int torn)
         sample.sides[torn].list.bytes[sample.sides[torn].list.length - 1] = 3;
     struct slice parts[4] = { guarded(&sample.sides[0].list), guarded(&sample.sides[0].store),
                               guarded(&sample.sides[1].list), guarded(&sample.sides[1].store) };
-    struct read read;
-    for (int i = 0; i < 4; i++) {
-        read.starts[i] = parts[i].start;
-        read.lengths[i] = parts[i].length;
-    }
+    struct read read = READ_OF(parts);
     static const uint64_t cuts[2][KLAPOUZEN_CUT] = { { 0, 0, 7, 7, 1 }, { 1, 1, 65536, 65536, 2 } };
     expect_read_on(&read, cuts[torn == 2]);
     for (int i = 0; i < 4; i++)

@@ -287,16 +287,6 @@ struct rescued {
     uint64_t refusal, cut[KLAPOUZEN_CUT];
 };
 
-static struct read read_of_parts(const struct slice parts[4])
-{
-    struct read read;
-    for (int i = 0; i < 4; i++) {
-        read.starts[i] = parts[i].start;
-        read.lengths[i] = parts[i].length;
-    }
-    return read;
-}
-
 static struct rescued library_rescued(void)
 {
     struct rescued rescued = { answers[0].refusal, { 0 } };
@@ -353,7 +343,7 @@ static void compare_behind(const struct read *read, const struct rescued *rescue
     struct read before = n % 2 == 0 ? *read : kept_of(read, rescued->cut);
     struct longer longer = read_on(&before, label, rescued->cut, n / 2);
     guard_longer(&longer, parts);
-    struct read more = read_of_parts(parts);
+    struct read more = READ_OF(parts);
     struct rescued of_longer = compare_rescue(&more);
     expect_no_harm(BEHIND, &before, rescued, &more, &of_longer);
     for (int i = 0; i < 4; i++)
@@ -364,7 +354,7 @@ static void compare_behind(const struct read *read, const struct rescued *rescue
 /* One of the two ways, or none, of a volume with this label whose rescue was asked for last. */
 static void compare_read_on(const struct slice parts[4], const uint64_t label[KLAPOUZEN_LABEL], uint64_t n)
 {
-    struct read read = read_of_parts(parts);
+    struct read read = READ_OF(parts);
     struct rescued rescued = library_rescued();
     if (seed % 4 == 1 || (seed % 4 == 3 && rescued.refusal == 0))
         compare_front(&read, &rescued, label[KLAPOUZEN_LABEL_BLOCK_SIZE], n);

@@ -15,6 +15,11 @@ struct read {
     size_t lengths[4];
 };
 
+/* Of four slices, each test's own type. */
+#define READ_OF(parts) ((struct read){ \
+        { (parts)[0].start, (parts)[1].start, (parts)[2].start, (parts)[3].start }, \
+        { (parts)[0].length, (parts)[1].length, (parts)[2].length, (parts)[3].length } })
+
 #define READ_PART(read, part) (read)->starts[part], (read)->lengths[part]
 #define READ_SIDE(read, side) READ_PART(read, 2 * (side)), READ_PART(read, 2 * (side) + 1)
 #define READ(read) READ_SIDE(read, 0), READ_SIDE(read, 1)
