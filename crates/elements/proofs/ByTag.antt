@@ -7,20 +7,16 @@ use native.Mathlib.Omega.{arith}
 use lib.Dec.{eqb}
 use lib.ListN.{length, drop, getD, length-drop}
 use Rattle.xml.specs.Tree.{Tree, none, node, past, notOpen, tagHead, top, pop, closed, opened, alone, put, trees}
-use Rattle.elements.specs.Tags.{Tags, tagsOf, tagsLeft, tagsAt, tagsAround, tagsIn, tagPlace}
+use Rattle.elements.specs.Tags.{Tags, told, heads, tagsOf, tagsLeft, tagsAt, tagsAround, tagsIn, tagPlace}
 use Rattle.elements.specs.Reading.{leftAt, forestAt, childrenAt}
 use Rattle.elements.specs.TagSteps.{aroundAt}
 
 module _ {A : Type 0} (tell : List ℕ → A) where
-  unfoldable pub told : Tags → Tree A
-  told none = none
-  told (node r k f) = node (tell r) (told k) (told f)
-
   unfoldable pub each : List Tags → List (Tree A)
   each [] = []
-  each (f ∷ fs) = told f ∷ each fs
+  each (f ∷ fs) = told tell f ∷ each fs
 
-  pub top-each : (fs : List Tags) → top (each fs) ≡ told (top fs)
+  pub top-each : (fs : List Tags) → top (each fs) ≡ told tell (top fs)
   unfolding top each told
   top-each [] = refl
   top-each (f ∷ fs) = refl
@@ -48,7 +44,7 @@ module _ {A : Type 0} (tell : List ℕ → A) where
       go true e h = simp e h
       go false e h = simp e (ap (put tell s) h ∙ put-each s (tagsOf s))
 
-  pub told-none : (f : Tags) → told f ≡ none → f ≡ none
+  pub told-none : (f : Tags) → told tell f ≡ none → f ≡ none
   unfolding told
   told-none none e = refl
   told-none (node r k f) e = let y : _≡_ {A = ℕ} 0 1 = cc in absurd (omega arith)
@@ -58,7 +54,7 @@ module _ (s : List ℕ) where
   left-told i = trees-each tagHead (drop i s)
 
   -- a row's heads
-  pub row-told : (i : ℕ) → forestAt s i ≡ told tagHead (tagsAt s i)
+  pub row-told : (i : ℕ) → forestAt s i ≡ heads (tagsAt s i)
   row-told i = ap top (left-told i) ∙ top-each tagHead (tagsLeft s i)
 
   pub around-told : (i : ℕ) → aroundAt s i ≡ each tagHead (tagsAround s i)
@@ -67,11 +63,11 @@ module _ (s : List ℕ) where
   pub no-tags : (i : ℕ) → forestAt s i ≡ none → tagsAt s i ≡ none
   no-tags i e = told-none tagHead (tagsAt s i) (sym (row-told i) ∙ e)
 
-  pub children-told : (n : ℕ) → childrenAt s n ≡ told tagHead (tagsIn (drop n s))
+  pub children-told : (n : ℕ) → childrenAt s n ≡ heads (tagsIn (drop n s))
   unfolding childrenAt tagsIn told
   children-told n = go (past 0 0 (drop n s) .empty) refl
     where
-      go : (b : Bool) → past 0 0 (drop n s) .empty ≡ b → childrenAt s n ≡ told tagHead (tagsIn (drop n s))
+      go : (b : Bool) → past 0 0 (drop n s) .empty ≡ b → childrenAt s n ≡ heads (tagsIn (drop n s))
       go true e = simp e
       go false e = simp e (row-told n)
 

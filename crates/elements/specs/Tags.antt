@@ -4,12 +4,22 @@ use mathlib.Core.Bool.{cond}
 use mathlib.Core.List.{List}
 use Prim.Native.Nat.{ℕ, _-_}
 use lib.ListN.{length, drop}
-use Rattle.xml.specs.Tree.{Tree, none, past, tagHead, top, pop, trees}
+use Rattle.xml.specs.Tree.{Tree, Forest, none, node, past, tagHead, top, pop, trees}
 use Rattle.elements.specs.declared.heads.Span.{Span}
 
 -- elements in a row, each told by its tag
 abbrev pub Tags : Type 0
 Tags = Tree (List ℕ)
+
+module _ {A : Type 0} (tell : List ℕ → A) where
+  -- the same elements, told by something else
+  unfoldable pub told : Tags → Tree A
+  told none = none
+  told (node r k f) = node (tell r) (told k) (told f)
+
+-- by their heads
+abbrev pub heads : Tags → Forest
+heads = told tagHead
 
 -- what is left to read of a text
 abbrev pub tagsOf : List ℕ → List Tags

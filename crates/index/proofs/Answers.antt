@@ -36,7 +36,7 @@ use Rattle.index.specs.declared.read.Read.{Read}
 use Rattle.index.specs.declared.read.Read.the-variants.{Found, Refused}
 use Rattle.index.specs.Index.{Index, Summary, headingOf, indexWith, summaryOf, isTrue, structured, bounded, allValued, allOwn, allLawful, standsAt, locationOf, locationIn, filesOf, fileOf, fileCount, childrenRead, tagRead, rootRead, callerRight, indexOf}
 use Rattle.index.specs.Places.{updateTimeIn}
-use Rattle.index.specs.Steps.{ReadsAs, HeaderOf}
+use Rattle.index.specs.Steps.{ReadsAs, HeaderOf, ReadsInto, rowCount}
 
 pub caller-last : (g : Given) (letter : ℕ) → isLetter (g .indexLetter) ≡ true → isLetter (g .dataLetter) ≡ true → eqb (g .indexLetter) (g .dataLetter) ≡ false
     → isBlockSize (g .blockSize) ≡ true → values.isUuid (g .uuid) ≡ true
@@ -88,25 +88,25 @@ files-length (e ∷ l) = go (eqb (e .sort) file) (files-length l)
     go true i = ap suc i
     go false i = i
 
-module _ {s : List ℕ} {w : Span} {a : Answer Index} where
-  pub reads-refused : {r : Refusal} → a ≡ refused r → ReadsAs s w a (Refused r)
-  reads-refused {r} e = record { answers = ap summaryOf (sym e); header = tt }
+module _ {s : List ℕ} {t : Tags} {a : Answer Index} {e e′ o o′ : List ℕ} where
+  pub into-refused : {r : Refusal} → a ≡ refused r → ReadsInto s t a e e′ o o′ (Refused r)
+  into-refused {r} q = record { reads = record { answers = ap summaryOf (sym q); header = tt }; tables = tt }
 
-  pub same-read : {b : Answer Index} {r : Read} → ReadsAs s w a r → a ≡ b → ReadsAs s w b r
-  same-read {r = r} p e = subst (λ (x : Answer Index). ReadsAs s w x r) e p
+  pub same-into : {b : Answer Index} {r : Read} → ReadsInto s t a e e′ o o′ r → a ≡ b → ReadsInto s t b e e′ o o′ r
+  same-into {r = r} p q = subst (λ (x : Answer Index). ReadsInto s t x e e′ o o′ r) q p
 
--- the children by which the update time's place is told are those
-pub same-place : {s : List ℕ} {a : Answer Index} {r : Read} {t u : Tags} (place : Tags → Span) → t ≡ u → ReadsAs s (place t) a r → ReadsAs s (place u) a r
-same-place {s} {a} {r} place e p = subst (λ (x : Tags). ReadsAs s (place x) a r) e p
+  -- the root's children are those
+  pub same-tags : {u : Tags} {r : Read} → t ≡ u → ReadsInto s t a e e′ o o′ r → ReadsInto s u a e e′ o o′ r
+  same-tags {r = r} q p = subst (λ (x : Tags). ReadsInto s x a e e′ o o′ r) q p
 
 -- an index whose children are those of the header
-pub reads-children : {s t : List ℕ} {a : Answer Index} {h : Header} (release entries files : ℕ) (k : Forest) (c : Tags) → HeaderOf s t release entries files h
-    → Placed s index k t → TagsPlaced s index c t → entries ≡ entriesOf (elements index k) → files ≡ fileCount (elements index k)
+pub reads-children : {s t : List ℕ} {a : Answer Index} {h : Header} (release entries files rows : ℕ) (k : Forest) (c : Tags) → HeaderOf s t release entries files rows h
+    → Placed s index k t → TagsPlaced s index c t → entries ≡ entriesOf (elements index k) → files ≡ fileCount (elements index k) → rows ≡ rowCount (elements index k)
     → a ≡ answer (indexWith release k) → ReadsAs s (updateTimeIn s c) a (Found h)
-reads-children release entries files k c w p r e f q =
+reads-children release entries files rows k c w p r e f o q =
     record {
       answers =
-          ap answer (w .heading k p e f ∙ ap (λ (n : ℕ). record { heading = headingOf release k; files = n }) (sym (files-length (elements index k))))
+          ap answer (w .heading k p e f o ∙ ap (λ (n : ℕ). record { heading = headingOf release k; files = n; rows = rowCount (elements index k) }) (sym (files-length (elements index k))))
           ∙ ap summaryOf (sym q);
       header = w .definite c r;
     }
@@ -178,8 +178,8 @@ pub no-back-at : (f : Forest) (back : Bool) (letter block : ℕ) → back ≡ ha
     → _≡_ {A = Address} (record { letter = letter; block = block }) (record { letter = 0; block = 0 })
 no-back-at f back letter block b l n e = rw (l, n) (no-back f (sym b ∙ e))
 
-pub same-heading : (release : ℕ) (k : Forest) (entries files generation highest directories : ℕ) (time : List ℕ) (letter block letter₂ block₂ : ℕ) (back allow : Bool)
-    → entries ≡ entriesOf (elements index k) → files ≡ fileCount (elements index k)
+pub same-heading : (release : ℕ) (k : Forest) (entries files rows generation highest directories : ℕ) (time : List ℕ) (letter block letter₂ block₂ : ℕ) (back allow : Bool)
+    → entries ≡ entriesOf (elements index k) → files ≡ fileCount (elements index k) → rows ≡ rowCount (elements index k)
     → generation ≡ numberOrZero (textIn (bytes "generationnumber") k) → time ≡ textIn (bytes "updatetime") k → letter ≡ locationIn k .letter → block ≡ locationIn k .block
     → back ≡ hasElement (childrenIn (bytes "previousgenerationlocation") k)
     → letter₂ ≡ locationOf (childrenIn (bytes "previousgenerationlocation") k) .letter → block₂ ≡ locationOf (childrenIn (bytes "previousgenerationlocation") k) .block
@@ -199,7 +199,8 @@ pub same-heading : (release : ℕ) (k : Forest) (entries files generation highes
             directories = directories;
           };
       files = files;
+      rows = rows;
     })
-    (record { heading = headingOf release k; files = fileCount (elements index k) })
-same-heading release k entries files generation highest directories time letter block letter₂ block₂ back allow m n a b c d e f g h i j =
-    rw (a, b, c, d, e, f, g, h, i, j, m, n)
+    (record { heading = headingOf release k; files = fileCount (elements index k); rows = rowCount (elements index k) })
+same-heading release k entries files rows generation highest directories time letter block letter₂ block₂ back allow m n o a b c d e f g h i j =
+    rw (a, b, c, d, e, f, g, h, i, j, m, n, o)

@@ -40,12 +40,12 @@ abbrev sound : IndexElement → Bool
 sound e = rightly e && hasValue e
 
 -- the elements in an element of sort s
-abbrev within : ℕ → Forest → List IndexElement
+abbrev pub within : ℕ → Forest → List IndexElement
 within s c = cond (holdsElements s) (elements s c) []
 
 -- a test that each element of a row passes: the first one, those in it, those behind it
 module _ (test : IndexElement → Bool) (kind : ℕ) (h : Head) (c r : Forest) (e : every test (elements kind (node h c r)) ≡ true) where
-  here : test (element (sortOf kind h) h c) ≡ true
+  pub here : test (element (sortOf kind h) h c) ≡ true
   unfolding elements every
   here = and-left _ (every test (within (sortOf kind h) c ++ elements kind r)) e
 
@@ -53,10 +53,10 @@ module _ (test : IndexElement → Bool) (kind : ℕ) (h : Head) (c r : Forest) (
   unfolding elements every
   parts = sym (every-append test (within (sortOf kind h) c) (elements kind r)) ∙ and-right (test (element (sortOf kind h) h c)) _ e
 
-  inside : holdsElements (sortOf kind h) ≡ true → every test (elements (sortOf kind h) c) ≡ true
+  pub inside : holdsElements (sortOf kind h) ≡ true → every test (elements (sortOf kind h) c) ≡ true
   inside o = sym (ap (λ (b : Bool). every test (cond b (elements (sortOf kind h) c) [])) o) ∙ and-left _ (every test (elements kind r)) parts
 
-  behind : every test (elements kind r) ≡ true
+  pub behind : every test (elements kind r) ≡ true
   behind = and-right (every test (within (sortOf kind h) c)) _ parts
 
 -- what says a letter says one from `a` to `z`

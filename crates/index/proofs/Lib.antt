@@ -2,6 +2,9 @@ pub mod Steps
 pub mod Gathering
 pub mod Counted
 pub mod Swept
+pub mod Numbered
+pub mod Listing
+pub mod Agreeing
 pub mod Surveying
 pub mod Answers
 pub mod Lawful

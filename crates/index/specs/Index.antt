@@ -1,6 +1,6 @@
 -- An index's text (01, Index and Refusal numbers): what it is refused for, in the order of the classes, and what it holds.
 use mathlib.Core.Bool.{Bool, false, cond, _&&_}
-use mathlib.Core.List.{List, [], _∷_}
+use mathlib.Core.List.{List, [], _∷_, _++_}
 use mathlib.Core.Option.{Option, some, none}
 use Prim.Native.Nat.{ℕ, _-_}
 use lib.Dec.{eqb, leb}
@@ -151,13 +151,19 @@ indexOf g letter block text =
     (requireForm text
     (rootRead g letter block (forestAt text 38))))
 
--- what a read hands out of an index: its heading, and how many files it has
+-- the rows of files, one file after the other
+unfoldable pub allRows : List File → List Row
+allRows [] = []
+allRows (f ∷ fs) = f .rows ++ allRows fs
+
+-- what a read hands out of an index: its heading, how many files it has, and how many rows these have
 pub record Summary : Type 0 where
   pub heading : Heading
   pub files : ℕ
+  pub rows : ℕ
 
 abbrev pub summary : Index → Summary
-summary x = record { heading = x .heading; files = length (x .files) }
+summary x = record { heading = x .heading; files = length (x .files); rows = length (allRows (x .files)) }
 
 abbrev pub summaryOf : Answer Index → Answer Summary
 summaryOf a = andThen a (λ x. answer (summary x))

@@ -1,4 +1,5 @@
 pub mod Structure
+pub mod Entries
 pub mod SweepSteps
 pub mod Respelled
 pub mod Index

@@ -7,3 +7,4 @@ pub use read::Header;
 pub use read::Read;
 pub use read::is_caller_right;
 pub use read::read_index;
+pub use read::read_into;

@@ -18,10 +18,10 @@ ghost use Rattle.xml.specs.CheckSteps.{good, form};
 ghost use Rattle.elements.specs.Reading.{forestAt, childrenAt, hasElement};
 ghost use Rattle.index_values.specs.Steps.{given};
 ghost use Rattle.index.specs.Index.{isTrue, locationOf, standsAt, callerRight, indexOf};
-ghost use Rattle.index.specs.Steps.{HeaderOf, ReadsIndex, ReadsChildren, ReadsTag, ReadsRoot};
+ghost use Rattle.index.specs.Steps.{HeaderOf, ReadsIndex, ReadsAll, ReadsChildren, ReadsTag, ReadsRoot};
 
 // What an index says besides its files: the R of its version 2.0.R; its generation; where the update time stands in its text; its location;
-// its back pointer, or zeros if it has none; whether the policy may be updated; the highest fileuid; how many directories, with the root, and files it has.
+// its back pointer, or zeros if it has none; whether the policy may be updated; the highest fileuid; how many directories, with the root, and files it has, and how many rows these.
 pub struct Header {
     pub release: u64,
     pub generation: Generation,
@@ -35,6 +35,7 @@ pub struct Header {
     pub highest: u64,
     pub directories: u64,
     pub files: u64,
+    pub rows: u64,
 }
 
 pub enum Read {
@@ -114,9 +115,16 @@ fn has_row(text: &[u8], at: usize) -> bool
 }
 
 // The header of an index whose children have those places.
-fn head_from(text: &[u8], places: &[usize; 16], release: u64, entries: u64, files: u64) -> Header
+fn head_from(
+    text: &[u8],
+    places: &[usize; 16],
+    release: u64,
+    entries: u64,
+    files: u64,
+    rows: u64,
+) -> Header
     requires { ⌜ files ≤ entries ⌝ }
-    ensures { λ r. ⌜ HeaderOf (now (text .entry)) (now (places .entry)) release entries files r ⌝ }
+    ensures { λ r. ⌜ HeaderOf (now (text .entry)) (now (places .entry)) release entries files rows r ⌝ }
 {
     let here = index_rows::row_at(text, places[4]);
     let back = index_rows::row_at(text, places[9]);
@@ -133,13 +141,16 @@ fn head_from(text: &[u8], places: &[usize; 16], release: u64, entries: u64, file
         highest: index_values::number_placed(text, places[6]),
         directories: entries - files,
         files,
+        rows,
     }
 }
 
-// The index whose children are the row at at.
+// The index whose children are the row at at. The numbers of its entries and all rows go into their tables, as far as these have room.
 fn read_children(
     text: &[u8],
     uuid: &[u8],
+    entry_table: &mut [u64],
+    row_table: &mut [u64],
     at: usize,
     volume: Partitions,
     release: u64,
@@ -147,9 +158,10 @@ fn read_children(
     block: BlockNumber,
 ) -> Read
     requires { ⌜ (at ≤ length (now text)) × (height (forestAt (now text) at) ≤ 64) ⌝ }
-    ensures { λ r. ⌜ ReadsChildren (now (text .entry)) (given (now (uuid .entry)) volume) letter block release at r ⌝ }
+    ensures { λ r. ⌜ ReadsChildren (now (text .entry)) (given (now (uuid .entry)) volume) letter block release at
+        (now («entry_table» .entry)) (now («entry_table» .exit)) (now («row_table» .entry)) (now («row_table» .exit)) r ⌝ }
 {
-    let found = survey::survey(text, uuid, at, volume);
+    let found = survey::survey(text, uuid, entry_table, row_table, at, volume);
     let s = found.sums;
     let places = found.places;
     if !s.structure {
@@ -170,20 +182,23 @@ fn read_children(
     if !is_place(text, index_rows::row_at(text, places[4]), letter, block) {
         return Read::Refused(Refusal::Location);
     }
-    Read::Found(head_from(text, &places, release, s.entries, s.files))
+    Read::Found(head_from(text, &places, release, s.entries, s.files, s.rows))
 }
 
 // The index whose root's tag is at n.
 fn read_tag(
     text: &[u8],
     uuid: &[u8],
+    entry_table: &mut [u64],
+    row_table: &mut [u64],
     n: usize,
     volume: Partitions,
     letter: u8,
     block: BlockNumber,
 ) -> Read
     requires { ⌜ height (childrenAt (now text) n) ≤ 64 ⌝ }
-    ensures { λ r. ⌜ ReadsTag (now (text .entry)) (given (now (uuid .entry)) volume) letter block n r ⌝ }
+    ensures { λ r. ⌜ ReadsTag (now (text .entry)) (given (now (uuid .entry)) volume) letter block n
+        (now («entry_table» .entry)) (now («entry_table» .exit)) (now («row_table» .entry)) (now («row_table» .exit)) r ⌝ }
 {
     if !elements::name_is(text, n, b"ltfsindex") {
         return Read::Refused(Refusal::Structure);
@@ -195,33 +210,56 @@ fn read_tag(
         Version::Nothing => Read::Refused(Refusal::Version),
         Version::Release(release) => {
             let at = elements::first_child(text, n);
-            read_children(text, uuid, at, volume, release, letter, block)
+            read_children(
+                text,
+                uuid,
+                entry_table,
+                row_table,
+                at,
+                volume,
+                release,
+                letter,
+                block,
+            )
         }
     }
 }
 
 // The index whose text is in the XML form.
-fn read_root(text: &[u8], uuid: &[u8], volume: Partitions, letter: u8, block: BlockNumber) -> Read
+fn read_root(
+    text: &[u8],
+    uuid: &[u8],
+    entry_table: &mut [u64],
+    row_table: &mut [u64],
+    volume: Partitions,
+    letter: u8,
+    block: BlockNumber,
+) -> Read
     requires { ⌜ form (now text) ≡ good ⌝ }
-    ensures { λ r. ⌜ ReadsRoot (now (text .entry)) (given (now (uuid .entry)) volume) letter block r ⌝ }
+    ensures { λ r. ⌜ ReadsRoot (now (text .entry)) (given (now (uuid .entry)) volume) letter block
+        (now («entry_table» .entry)) (now («entry_table» .exit)) (now («row_table» .entry)) (now («row_table» .exit)) r ⌝ }
 {
     match elements::next_tag(text, 38) {
         Tag::End => Read::Refused(Refusal::Structure),
         Tag::Close(_) => Read::Refused(Refusal::Structure),
-        Tag::Empty(n) => read_tag(text, uuid, n, volume, letter, block),
-        Tag::Open(n) => read_tag(text, uuid, n, volume, letter, block),
+        Tag::Empty(n) => read_tag(text, uuid, entry_table, row_table, n, volume, letter, block),
+        Tag::Open(n) => read_tag(text, uuid, entry_table, row_table, n, volume, letter, block),
     }
 }
 
-// An index's text, of the volume with that UUID, letters and block size, at a partition letter and the number of its first block.
-pub fn read_index(
+// An index's text, of the volume with that UUID, letters and block size, at a partition letter and the number of its first block. The numbers of its
+// entries and all rows go into their tables, as far as these have room; what a table holds after a refusal is left open.
+pub fn read_into(
     text: &[u8],
     uuid: &[u8],
     volume: Partitions,
     letter: u8,
     block: BlockNumber,
+    entry_table: &mut [u64],
+    row_table: &mut [u64],
 ) -> Read
-    ensures { λ r. ⌜ ReadsIndex (now (text .entry)) (indexOf (given (now (uuid .entry)) volume) letter (block .0) (now (text .entry))) r ⌝ }
+    ensures { λ r. ⌜ ReadsAll (now (text .entry)) (indexOf (given (now (uuid .entry)) volume) letter (block .0) (now (text .entry)))
+        (now («entry_table» .entry)) (now («entry_table» .exit)) (now («row_table» .entry)) (now («row_table» .exit)) r ⌝ }
 {
     if !is_caller_right(uuid, volume, letter) {
         return Read::Refused(Refusal::Caller);
@@ -231,6 +269,31 @@ pub fn read_index(
     }
     match xml::check(text) {
         FormChecked::Broken(_) => Read::Refused(Refusal::Form),
-        FormChecked::Good => read_root(text, uuid, volume, letter, block),
+        FormChecked::Good => {
+            read_root(text, uuid, entry_table, row_table, volume, letter, block)
+        }
     }
+}
+
+// The same without the tables.
+pub fn read_index(
+    text: &[u8],
+    uuid: &[u8],
+    volume: Partitions,
+    letter: u8,
+    block: BlockNumber,
+) -> Read
+    ensures { λ r. ⌜ ReadsIndex (now (text .entry)) (indexOf (given (now (uuid .entry)) volume) letter (block .0) (now (text .entry))) r ⌝ }
+{
+    let mut no_entries = [0u64; 1];
+    let mut no_rows = [0u64; 1];
+    read_into(
+        text,
+        uuid,
+        volume,
+        letter,
+        block,
+        &mut no_entries,
+        &mut no_rows,
+    )
 }

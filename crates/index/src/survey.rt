@@ -31,6 +31,7 @@ fn sum_up(table: &[u64; 4096], s: Sums) -> Sums
             lawful: false,
             entries: 0,
             files: 0,
+            rows: 0,
         };
     }
     let distinct = index_values::unique(table, n as usize);
@@ -42,20 +43,24 @@ fn sum_up(table: &[u64; 4096], s: Sums) -> Sums
         lawful: s.lawful,
         entries: n,
         files: s.files,
+        rows: s.rows,
     }
 }
 
-// What is gathered of the index whose children are the row at at, with tables for fileuids and rows.
+// What is gathered of the index whose children are the row at at, with tables for fileuids and a file's rows.
 fn survey_with(
     text: &[u8],
     uuid: &[u8],
     table: &mut [u64; 4096],
     rows: &mut [u64; 5120],
+    entry_table: &mut [u64],
+    row_table: &mut [u64],
     at: usize,
     volume: Partitions,
 ) -> Gathered
     requires { ⌜ (at ≤ length (now text)) × (height (forestAt (now text) at) ≤ 64) ⌝ }
-    ensures { λ r. ⌜ Surveys (given (now (uuid .entry)) volume) (now (text .entry)) at r ⌝ }
+    ensures { λ r. ⌜ Surveys (given (now (uuid .entry)) volume) (now (text .entry)) at (now («entry_table» .entry)) (now («entry_table» .exit))
+        (now («row_table» .entry)) (now («row_table» .exit)) r ⌝ }
 {
     let start = Sums {
         structure: true,
@@ -65,19 +70,50 @@ fn survey_with(
         lawful: true,
         entries: 0,
         files: 0,
+        rows: 0,
     };
-    let w = walk::walk(text, uuid, table, rows, at, INDEX, 64, volume, start);
+    let w = walk::walk(
+        text,
+        uuid,
+        table,
+        rows,
+        entry_table,
+        row_table,
+        at,
+        INDEX,
+        64,
+        0,
+        volume,
+        start,
+    );
     let places = w.places;
     let sums = sum_up(table, w.sums);
     Gathered { sums, places }
 }
 
-// What is gathered of the index whose children are the row at at.
-pub fn survey(text: &[u8], uuid: &[u8], at: usize, volume: Partitions) -> Gathered
+// What is gathered of the index whose children are the row at at; the numbers of its entries and all rows go into their tables, as far as they have room.
+pub fn survey(
+    text: &[u8],
+    uuid: &[u8],
+    entry_table: &mut [u64],
+    row_table: &mut [u64],
+    at: usize,
+    volume: Partitions,
+) -> Gathered
     requires { ⌜ (at ≤ length (now text)) × (height (forestAt (now text) at) ≤ 64) ⌝ }
-    ensures { λ r. ⌜ Surveys (given (now (uuid .entry)) volume) (now (text .entry)) at r ⌝ }
+    ensures { λ r. ⌜ Surveys (given (now (uuid .entry)) volume) (now (text .entry)) at (now («entry_table» .entry)) (now («entry_table» .exit))
+        (now («row_table» .entry)) (now («row_table» .exit)) r ⌝ }
 {
     let mut table = [0u64; 4096];
     let mut rows = [0u64; 5120];
-    survey_with(text, uuid, &mut table, &mut rows, at, volume)
+    survey_with(
+        text,
+        uuid,
+        &mut table,
+        &mut rows,
+        entry_table,
+        row_table,
+        at,
+        volume,
+    )
 }

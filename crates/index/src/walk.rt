@@ -13,22 +13,25 @@ use index_values::Partitions;
 ghost use mathlib.Core.Path.{_≡_};
 ghost use mathlib.Core.Bool.{cond, _&&_};
 ghost use Prim.Native.Nat.{_≤_, _<_};
-ghost use lib.ListN.{length, set};
+ghost use lib.ListN.{length};
 ghost use Rattle.xml.specs.FormSteps.{height};
 ghost use Rattle.elements.specs.Reading.{forestAt, headAt, childrenAt};
 ghost use Rattle.elements.specs.StartSteps.{Shape};
 ghost use Rattle.index_names.specs.Sorts.{holdsElements};
 ghost use Rattle.index_values.specs.Elements.{nameNumber};
 ghost use Rattle.index.specs.Structure.{mayStand, rightOften};
+ghost use lib.Dec.{eqb};
 ghost use Rattle.children.specs.Children.{textOfFirst};
 ghost use Rattle.children.specs.RowSteps.{seat};
+ghost use Rattle.index_names.specs.Sorts.{file};
 ghost use Rattle.index_values.specs.Entries.{isEntry, numberOrZero};
+ghost use Rattle.index.specs.Entries.{holder};
 ghost use Rattle.index_values.specs.Steps.{given};
-ghost use Rattle.index.specs.SweepSteps.{gathered, oneMore, marked, rowDone, endedSums, begun, settled};
-ghost use Rattle.index.specs.Steps.{Ends, Meets, GoesOn, Closes, ClosesEmpty, WalksRow};
+ghost use Rattle.index.specs.SweepSteps.{gathered, oneMore, moreRows, marked, rowDone, endedSums, begun, settled};
+ghost use Rattle.index.specs.Steps.{Ends, Meets, GoesOn, rowsCopied, SaysEntry, EntryListed, Closes, ClosesEmpty, WalksRow};
 
-// What the walk gathers besides the fileuids: whether the structure is right so far, how many directories and files there are, how many
-// of them files.
+// What the walk gathers besides the tables: whether the structure is right so far, and so on; how many directories and files there are, how many
+// of them files, and how many rows those have.
 pub struct Sums {
     pub structure: bool,
     pub few: bool,
@@ -37,6 +40,7 @@ pub struct Sums {
     pub lawful: bool,
     pub entries: u64,
     pub files: u64,
+    pub rows: u64,
 }
 
 // Where reading goes on, what was gathered, and the places of the row's elements.
@@ -106,6 +110,7 @@ fn finish(kind: usize, seen: &[u64; 16], a: Sums) -> Sums
         lawful: a.lawful,
         entries: a.entries,
         files: a.files,
+        rows: a.rows,
     }
 }
 
@@ -190,12 +195,26 @@ fn enter(text: &[u8], uuid: &[u8], h: Start, sort: usize, volume: Partitions, a:
         lawful: a.lawful,
         entries: bump_if(is_entry(sort), a.entries),
         files: bump_if(sort == FILE, a.files),
+        rows: a.rows,
     }
+}
+
+// So many rows more.
+fn add_rows(n: u64, k: usize) -> u64
+    ensures { λ r. ⌜ r ≡ moreRows n k ⌝ }
+{
+    if 8388608 < n {
+        return n;
+    }
+    if 1024 < k {
+        return n;
+    }
+    n + k as u64
 }
 
 // What is gathered with the tests of a file's extents.
 fn settle(v: Judged, a: Sums) -> Sums
-    ensures { λ r. ⌜ r ≡ settled (v .few) (v .lawful) a ⌝ }
+    ensures { λ r. ⌜ r ≡ settled (v .few) (v .lawful) (v .count) a ⌝ }
 {
     Sums {
         structure: a.structure,
@@ -205,34 +224,127 @@ fn settle(v: Judged, a: Sums) -> Sums
         lawful: both(a.lawful, v.lawful),
         entries: a.entries,
         files: a.files,
+        rows: add_rows(a.rows, v.count),
     }
 }
 
-// The fileuid of an entry goes into the table, from the place of that element; no other element has one there.
-fn put_uid(text: &[u8], uids: &mut [u64; 4096], place: usize, entry: bool, at: u64)
-    ensures { λ r. ⌜ now (uids .exit)
-        ≡ cond entry (set (now (uids .entry)) at (numberOrZero (textOfFirst (seat (now (text .entry)) place)))) (now (uids .entry)) ⌝ }
+// A file's rows, the first count of a table, into the table of all rows behind n others, if it has room for them.
+fn keep_rows(rows: &[u64; 5120], count: usize, row_table: &mut [u64], n: u64)
+    ensures { λ r. ⌜ now («row_table» .exit) ≡ rowsCopied (now (rows .entry)) count n (now («row_table» .entry)) ⌝ }
 {
-    if entry {
-        tables::put(uids, at as usize, index_values::number_placed(text, place));
+    if 1024 < count {
+        return;
     }
+    let prior = n as usize;
+    if row_table.len() / 5 < prior {
+        return;
+    }
+    tables::copy(rows, count * 5, row_table, prior * 5);
 }
 
-// The end of an element of a sort, with what the walk over its children left, and its number among the entries if it is one.
+// 1 for a file, 0 for a directory.
+fn kind_of(sort: usize) -> u64
+    ensures { λ r. ⌜ r ≡ cond (eqb sort file) 1 0 ⌝ }
+{
+    if sort == FILE {
+        return 1;
+    }
+    0
+}
+
+// The length that a file says, by the place of that element; 0 of a directory.
+fn length_of(text: &[u8], sort: usize, place: usize) -> u64
+    ensures { λ r. ⌜ r ≡ cond (eqb sort file) (numberOrZero (textOfFirst (seat (now (text .entry)) place))) 0 ⌝ }
+{
+    if sort == FILE {
+        return index_values::number_placed(text, place);
+    }
+    0
+}
+
+// The nine numbers of an entry of a sort, in that directory, whose children have those places; so much was gathered before it, and it has so many rows.
+fn entry_numbers(
+    text: &[u8],
+    places: &[usize; 16],
+    uid: u64,
+    sort: usize,
+    parent: u64,
+    prior: Sums,
+    count: usize,
+) -> [u64; 9]
+    ensures { λ r. ⌜ SaysEntry (now (text .entry)) (now (places .entry)) uid sort parent prior count r ⌝ }
+{
+    let name = index_rows::span_at(text, places[1]);
+    [
+        kind_of(sort),
+        parent,
+        prior.files,
+        uid,
+        name.from as u64,
+        name.len as u64,
+        length_of(text, sort, places[8]),
+        prior.rows,
+        count as u64,
+    ]
+}
+
+// The numbers of an entry go into their tables, its fileuid into that of the fileuids; no other element has any there.
+fn list_entry(
+    text: &[u8],
+    places: &[usize; 16],
+    uids: &mut [u64; 4096],
+    entry_table: &mut [u64],
+    sort: usize,
+    parent: u64,
+    prior: Sums,
+    count: usize,
+)
+    ensures { λ r. ⌜ EntryListed (now (text .entry)) (now (places .entry)) sort parent prior count (now (uids .entry)) (now (uids .exit))
+        (now («entry_table» .entry)) (now («entry_table» .exit)) ⌝ }
+{
+    if !is_entry(sort) {
+        return;
+    }
+    let n = prior.entries as usize;
+    let uid = index_values::number_placed(text, places[0]);
+    tables::put(uids, n, uid);
+    if entry_table.len() / 9 <= n {
+        return;
+    }
+    let numbers = entry_numbers(text, places, uid, sort, parent, prior, count);
+    tables::copy(&numbers, 9, entry_table, n * 9);
+}
+
+// The end of an element of a sort in that directory, with what the walk over its children left, and what was gathered before it.
 fn close_element(
     text: &[u8],
     w: Left,
     uids: &mut [u64; 4096],
     rows: &mut [u64; 5120],
+    entry_table: &mut [u64],
+    row_table: &mut [u64],
     sort: usize,
+    parent: u64,
     volume: Partitions,
-    number: u64,
+    prior: Sums,
 ) -> Sums
-    ensures { λ r. ⌜ Closes (now (text .entry)) (w .places) sort volume number (gathered (w .sums) (now (uids .entry))) (gathered r (now (uids .exit))) ⌝ }
+    ensures { λ r. ⌜ Closes (now (text .entry)) (w .places) sort parent volume prior
+        (gathered (w .sums) (now (uids .entry)) (now («entry_table» .entry)) (now («row_table» .entry)))
+        (gathered r (now (uids .exit)) (now («entry_table» .exit)) (now («row_table» .exit))) ⌝ }
 {
     let places = w.places;
-    put_uid(text, uids, places[0], is_entry(sort), number);
     let v = index_values::judge(text, &places, rows, sort, volume);
+    list_entry(
+        text,
+        &places,
+        uids,
+        entry_table,
+        sort,
+        parent,
+        prior,
+        v.count,
+    );
+    keep_rows(rows, v.count, row_table, w.sums.rows);
     settle(v, w.sums)
 }
 
@@ -241,15 +353,31 @@ fn close_empty(
     text: &[u8],
     uids: &mut [u64; 4096],
     rows: &mut [u64; 5120],
+    entry_table: &mut [u64],
+    row_table: &mut [u64],
     sort: usize,
+    parent: u64,
     volume: Partitions,
-    number: u64,
+    prior: Sums,
     a: Sums,
 ) -> Sums
-    ensures { λ r. ⌜ ClosesEmpty sort volume number (gathered a (now (uids .entry))) (gathered r (now (uids .exit))) ⌝ }
+    ensures { λ r. ⌜ ClosesEmpty (now (text .entry)) sort parent volume prior
+        (gathered a (now (uids .entry)) (now («entry_table» .entry)) (now («row_table» .entry)))
+        (gathered r (now (uids .exit)) (now («entry_table» .exit)) (now («row_table» .exit))) ⌝ }
 {
     let w = over(0, sort, &[0u64; 16], a, [0usize; 16]);
-    close_element(text, w, uids, rows, sort, volume, number)
+    close_element(
+        text,
+        w,
+        uids,
+        rows,
+        entry_table,
+        row_table,
+        sort,
+        parent,
+        volume,
+        prior,
+    )
 }
 
 // Both.
@@ -291,20 +419,35 @@ fn behind(text: &[u8], h: Start) -> usize
     elements::leave(text, h.at)
 }
 
-// The rest of the element of a kind that is open at at, with depth levels of nesting left.
+// The directory that holds what is in an element of a sort: it, if it is an entry, else the one around it.
+fn directory_in(sort: usize, parent: u64, number: u64) -> u64
+    ensures { λ r. ⌜ r ≡ holder sort parent number ⌝ }
+{
+    if is_entry(sort) {
+        return number;
+    }
+    parent
+}
+
+// The rest of the element of a kind that is open at at, in that directory, with depth levels of nesting left.
 pub fn walk(
     text: &[u8],
     uuid: &[u8],
     uids: &mut [u64; 4096],
     rows: &mut [u64; 5120],
+    entry_table: &mut [u64],
+    row_table: &mut [u64],
     at: usize,
     kind: usize,
     depth: usize,
+    parent: u64,
     volume: Partitions,
     sums: Sums,
 ) -> Left
     requires { ⌜ (at ≤ length (now text)) × (height (forestAt (now text) at) ≤ depth) ⌝ }
-    ensures { λ r. ⌜ WalksRow (given (now (uuid .entry)) volume) (now (text .entry)) kind at (gathered sums (now (uids .entry))) (now (uids .exit)) r ⌝ }
+    ensures { λ r. ⌜ WalksRow (given (now (uuid .entry)) volume) (now (text .entry)) kind at parent
+        (gathered sums (now (uids .entry)) (now («entry_table» .entry)) (now («row_table» .entry)))
+        (now (uids .exit)) (now («entry_table» .exit)) (now («row_table» .exit)) r ⌝ }
 {
     let mut i = at;
     let mut a = sums;
@@ -316,16 +459,52 @@ pub fn walk(
             Next::Close(n) => return over(n, kind, &seen, a, places),
             Next::Opens(h) => {
                 let sort = meet(text, h, kind, &mut seen, &mut places);
-                let number = a.entries;
+                let prior = a;
                 a = enter(text, uuid, h, sort, volume, a);
                 if !is_open(sort) {
                     i = behind(text, h);
                 } else if h.empty {
-                    a = close_empty(text, uids, rows, sort, volume, number, a);
+                    a = close_empty(
+                        text,
+                        uids,
+                        rows,
+                        entry_table,
+                        row_table,
+                        sort,
+                        parent,
+                        volume,
+                        prior,
+                        a,
+                    );
                     i = h.at;
                 } else {
-                    let w = walk(text, uuid, uids, rows, h.at, sort, depth - 1, volume, a);
-                    a = close_element(text, w, uids, rows, sort, volume, number);
+                    let inside = directory_in(sort, parent, prior.entries);
+                    let w = walk(
+                        text,
+                        uuid,
+                        uids,
+                        rows,
+                        entry_table,
+                        row_table,
+                        h.at,
+                        sort,
+                        depth - 1,
+                        inside,
+                        volume,
+                        a,
+                    );
+                    a = close_element(
+                        text,
+                        w,
+                        uids,
+                        rows,
+                        entry_table,
+                        row_table,
+                        sort,
+                        parent,
+                        volume,
+                        prior,
+                    );
                     i = w.at;
                 }
             }

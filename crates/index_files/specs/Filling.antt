@@ -59,11 +59,6 @@ pub record HoldsFiles (s : List ℕ) (ts : List (List ℕ)) (fs : List File) (be
   pub rest : drop (length fs * 4) after ≡ drop (length fs * 4) before
   pub long : length after ≡ length before
 
--- the rows of files, one file after the other
-unfoldable pub allRows : List File → List Row
-allRows [] = []
-allRows (f ∷ fs) = f .rows ++ allRows fs
-
 -- where a buffer of so many numbers has room for them: the rows of a file, the files of an index, the rows of all its files
 abbrev pub rowsFor : ℕ → Answer File → Answer (List Row)
 rowsFor room a = andThen a (λ f. withRoom 5 room (f .rows))

@@ -9,7 +9,7 @@ use lib.Dec.{eqb, ltb}
 use lib.ListN.{length, getD, set, length-set, replicate, getD-replicate, length-replicate, drop}
 use lib.Seq.{getD-set-same, getD-set-other}
 use Rattle.xml.specs.Tree.{Tree, Forest, none, node, tagHead}
-use Rattle.elements.specs.Tags.{tagsAt, tagsIn}
+use Rattle.elements.specs.Tags.{Tags, tagsAt, tagsIn}
 use Rattle.elements.specs.Reading.{forestAt, headAt, childrenAt}
 use Rattle.elements.specs.TagSteps.{FirstOf}
 use Rattle.elements.proofs.ByTag.{no-tags}
@@ -120,6 +120,11 @@ module _ (s : List ℕ) (kind : ℕ) where
   placed-none f t e z =
       subst (Placed s kind f) (sym z)
       (by-all (λ h. h .name) (seat s) (seat-none s 0 refl) kind f f (replicate 16 0) e (by-none (λ h. h .name) (seat s) (seat-none s 0 refl) kind f))
+
+  pub tags-none : (f : Tags) (t : List ℕ) → f ≡ none → t ≡ replicate 16 0 → TagsPlaced s kind f t
+  tags-none f t e z =
+      subst (TagsPlaced s kind f) (sym z)
+      (by-all (λ r. tagHead r .name) (tagSeat s) (tag-none s 0 refl) kind f f (replicate 16 0) e (by-none (λ r. tagHead r .name) (tagSeat s) (tag-none s 0 refl) kind f))
 
 -- an element of number i at n, before the row at k
 module _ (s : List ℕ) (kind i : ℕ) (t t′ : List ℕ) {m n k : ℕ} (first : FirstOf s m n k) (en : i ≡ numberIn (names kind) (headAt s n .name)) (et : t′ ≡ noted i n t) where

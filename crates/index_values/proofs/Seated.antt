@@ -1,5 +1,5 @@
 -- What is found by name in a row is what is found by number, by the place of the first element of that number.
-use mathlib.Core.Path.{_≡_, refl, ap, sym, _∙_}
+use mathlib.Core.Path.{_≡_, refl, ap, sym, _∙_, subst}
 use mathlib.Core.Bool.{Bool, true, false, cond, _||_}
 use mathlib.Core.List.{List, []}
 use Prim.Native.Nat.{ℕ, _<_}
@@ -62,17 +62,28 @@ module _ (kind j : ℕ) (name : List ℕ) (told : (n : List ℕ) → eqb (number
     row-placed : childrenIn name f ≡ childrenOfFirst (seat s (getD t j 0))
     row-placed = row-first f ∙ ap childrenOfFirst (placed j h)
 
--- of a directory or a file: its fileuid
-fileuid-told : (kind : ℕ) → isEntry kind ≡ true → (n : List ℕ) → eqb (numberIn (names kind) n) 0 ≡ same n (bytes "fileuid")
-unfolding names table times entryTable ofDirectory ofFile bytes ruled same
-fileuid-told kind e n = go (eqb kind root) (eqb kind directory) (eqb kind file) refl refl refl e
-  where
-    go : (x y z : Bool) → eqb kind root ≡ x → eqb kind directory ≡ y → eqb kind file ≡ z → (x || y || z) ≡ true
-        → eqb (numberIn (names kind) n) 0 ≡ same n (bytes "fileuid")
-    go true y z p q r o = ap (λ (k : ℕ). eqb (numberIn (names k) n) 0) (eqb-true kind root p) ∙ number-own (names root) 0 n refl
-    go false true z p q r o = ap (λ (k : ℕ). eqb (numberIn (names k) n) 0) (eqb-true kind directory q) ∙ number-own (names directory) 0 n refl
-    go false false true p q r o = ap (λ (k : ℕ). eqb (numberIn (names k) n) 0) (eqb-true kind file r) ∙ number-own (names file) 0 n refl
-    go false false false p q r o = let y : _≡_ {A = ℕ} 0 1 = cc in absurd (omega arith)
+-- of a directory or a file: its fileuid and its name
+module _ (kind : ℕ) (e : isEntry kind ≡ true) where
+  by-kind : (P : ℕ → Type 0) → P root → P directory → P file → P kind
+  by-kind P a b c = go (eqb kind root) (eqb kind directory) (eqb kind file) refl refl refl e
+    where
+      go : (x y z : Bool) → eqb kind root ≡ x → eqb kind directory ≡ y → eqb kind file ≡ z → (x || y || z) ≡ true → P kind
+      go true y z p q r o = subst P (sym (eqb-true kind root p)) a
+      go false true z p q r o = subst P (sym (eqb-true kind directory q)) b
+      go false false true p q r o = subst P (sym (eqb-true kind file r)) c
+      go false false false p q r o = let y : _≡_ {A = ℕ} 0 1 = cc in absurd (omega arith)
+
+  fileuid-told : (n : List ℕ) → eqb (numberIn (names kind) n) 0 ≡ same n (bytes "fileuid")
+  unfolding names table times entryTable ofDirectory ofFile bytes ruled same
+  fileuid-told n =
+      by-kind (λ k. eqb (numberIn (names k) n) 0 ≡ same n (bytes "fileuid"))
+      (number-own (names root) 0 n refl) (number-own (names directory) 0 n refl) (number-own (names file) 0 n refl)
+
+  name-told : (n : List ℕ) → eqb (numberIn (names kind) n) 1 ≡ same n (bytes "name")
+  unfolding names table times entryTable ofDirectory ofFile bytes ruled same
+  name-told n =
+      by-kind (λ k. eqb (numberIn (names k) n) 1 ≡ same n (bytes "name"))
+      (number-own (names root) 1 n refl) (number-own (names directory) 1 n refl) (number-own (names file) 1 n refl)
 
 pub fileuid-placed : (kind : ℕ) → isEntry kind ≡ true → (s : List ℕ) (f : Forest) (t : List ℕ) → Placed s kind f t
     → uidOf f ≡ numberOrZero (textOfFirst (seat s (getD t 0 0)))
@@ -145,3 +156,7 @@ pub updatetime-stands : (s : List ℕ) (f : Tags) (t : List ℕ) → TagsPlaced 
 unfolding names table indexTable bytes ruled same
 updatetime-stands s f t placed =
     place-first index 3 (bytes "updatetime") (λ n. number-own (names index) 3 n refl) s f ∙ ap (firstText s) (placed 3 (omega arith))
+
+pub name-stands : (kind : ℕ) → isEntry kind ≡ true → (s : List ℕ) (f : Tags) (t : List ℕ) → TagsPlaced s kind f t
+    → firstText s (tagsNamed (bytes "name") f) ≡ firstText s (tagSeat s (getD t 1 0))
+name-stands kind e s f t placed = place-first kind 1 (bytes "name") (name-told kind e) s f ∙ ap (firstText s) (placed 1 (omega arith))

@@ -83,3 +83,7 @@ few s c = not (eqb s file) || leb (length (extentRows c)) maxRows
 -- 11: a file's extents, not too many, are lawful for its length and the block size
 unfoldable pub lawfulFile : Given → ℕ → Forest → Bool
 lawfulFile g s c = not (eqb s file) || (few s c && extents.lawful (lengthOf c) (g .blockSize) (extentRows c))
+
+-- the rows of a file; any other element has none
+unfoldable pub rowsHeld : ℕ → Forest → List Row
+rowsHeld s c = cond (eqb s file) (extentRows c) []

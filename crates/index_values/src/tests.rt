@@ -206,10 +206,11 @@ fn read_rows(text: &[u8], at: usize, out: &mut [u64]) -> usize
     }
 }
 
-// Whether a file has few extents, and lawful ones.
+// Whether a file has few extents, and lawful ones; and how many rows were taken of it, none of a file with too many.
 pub struct Judged {
     pub few: bool,
     pub lawful: bool,
+    pub count: usize,
 }
 
 // Whether the first rows of a table, so many, are lawful.
@@ -221,7 +222,7 @@ fn are_lawful(table: &[u64], count: usize, file_length: ByteCount, size: u64) ->
     extents::lawful(&table[0..e], file_length, size)
 }
 
-// The extents of an element of a sort whose children have those places, if it is a file; with out to read them into.
+// The extents of an element of a sort whose children have those places, if it is a file; their rows go into the front of out.
 pub fn judge(
     text: &[u8],
     places: &[usize; 16],
@@ -229,12 +230,13 @@ pub fn judge(
     sort: usize,
     volume: Partitions,
 ) -> Judged
-    ensures { λ r. ⌜ TestsExtents (now (text .entry)) (now (places .entry)) sort volume (r .few) (r .lawful) ⌝ }
+    ensures { λ r. ⌜ TestsExtents (now (text .entry)) (now (places .entry)) sort volume (now (out .exit)) r ⌝ }
 {
     if sort != FILE {
         return Judged {
             few: true,
             lawful: true,
+            count: 0,
         };
     }
     let count = read_rows(text, index_rows::row_at(text, places[9]), out);
@@ -242,6 +244,7 @@ pub fn judge(
         return Judged {
             few: false,
             lawful: false,
+            count: 0,
         };
     }
     let length = ByteCount(number_placed(text, places[8]));
@@ -249,5 +252,6 @@ pub fn judge(
     Judged {
         few: true,
         lawful: good,
+        count,
     }
 }

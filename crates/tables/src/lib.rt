@@ -1,6 +1,9 @@
 // Tables of numbers, asked for at any place: past the end a table has 0.
 ghost use mathlib.Core.Path.{_≡_};
-ghost use lib.ListN.{getD, set};
+ghost use Prim.Native.Nat.{_+_, _≤_};
+ghost use lib.ListN.{length, take, getD, set};
+ghost use lib.Seq.{sets};
+ghost use Rattle.tables.specs.Copying.{copied};
 
 // What is at n, 0 past the end.
 pub fn item(table: &[u64], n: usize) -> u64
@@ -19,6 +22,34 @@ pub fn put(table: &mut [u64], n: usize, v: u64)
     if n < table.len() {
         table[n] = v;
     }
+}
+
+// The first n of src into out from at on.
+fn write(src: &[u64], n: usize, out: &mut [u64], at: usize)
+    requires { ⌜ (n ≤ length (now src)) × (at + n ≤ length (now out)) ⌝ }
+    ensures { λ r. ⌜ now (out .exit) ≡ sets (now (out .entry)) at (take n (now (src .entry))) ⌝ }
+{
+    let mut i: usize = 0;
+    while i < n {
+        out[at + i] = src[i];
+        i += 1;
+    }
+}
+
+// The same, if there are so many and out has the room.
+pub fn copy(src: &[u64], n: usize, out: &mut [u64], at: usize)
+    ensures { λ r. ⌜ now (out .exit) ≡ copied (now (src .entry)) n (now (out .entry)) at ⌝ }
+{
+    if src.len() < n {
+        return;
+    }
+    if out.len() < at {
+        return;
+    }
+    if out.len() - at < n {
+        return;
+    }
+    write(src, n, out, at);
 }
 
 // The same for a table of narrower numbers.

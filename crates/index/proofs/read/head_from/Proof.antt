@@ -13,6 +13,16 @@ use Rattle.index_values.proofs.Seated.{generation-placed, updatetime-placed, up
 use borrow.Author.Needs.{needs}
 use Rattle.index.proofs.read.head_from.Statement.{statement}
 use Rattle.index.proofs.read.head_from.Tie as tie
+use Rattle.index.proofs.read.head_from.Reads as reads
+use Rattle.index.proofs.read.head_from.Lts as lts
+use Rattle.index.proofs.read.block_named.Reads as block-named-reads
+use Rattle.index.proofs.read.has_row.Reads as has-row-reads
+use Rattle.index.proofs.read.is_true.Reads as is-true-reads
+use Rattle.index.proofs.read.letter_named.Reads as letter-named-reads
+use Rattle.index_rows.proofs.row_at.Reads as row-at-reads
+use Rattle.index_rows.proofs.span_at.Reads as span-at-reads
+use Rattle.index_rows.proofs.text_at.Reads as text-at-reads
+use Rattle.index_values.proofs.number_placed.Reads as number-placed-reads
 
 element-copy-out-row-at : tie.Need-element-copy-out-row-at
 element-copy-out-row-at c = search needs
@@ -68,19 +78,19 @@ element-copy-out-number-placed-2 c = search needs
 number-placed-requires-2 : tie.Need-number-placed-requires-2
 number-placed-requires-2 c κs = search needs
 
-sub-t35 : tie.Need-sub-t35
-sub-t35 c = omega (arith, c .before .before .before .before .before .before .before .before .before .before .before .before .before .before .before .before .before .before .before .pre)
+sub-t36 : tie.Need-sub-t36
+sub-t36 c = omega (arith, c .before .before .before .before .before .before .before .before .before .before .before .before .before .before .before .before .before .before .before .pre)
 
 returns : tie.Need-returns
 returns c =
     record {
-      heading = λ k p e f.
+      heading = λ k p e f o.
           let s = c .before .before .before .before .before .before .before .before .before .before .before .before .before .before .before .before .before .before .before .args .text .now in
           let t = c .before .before .before .before .before .before .before .before .before .before .before .before .before .before .before .before .before .before .before .args .places .now in
           let here = c .before .before .before .before .before .before .before .before .before .before .before .before .before .before .before .before .row-at .ensures .0 ∙ sym (location-placed s k t p) in
           let back = c .before .before .before .before .before .before .before .before .before .before .before .before .before .before .row-at2 .ensures .0 ∙ sym (back-placed s k t p) in
-          same-heading (c .before .before .before .before .before .before .before .before .before .before .before .before .before .before .before .before .before .before .before .args .release) k (c .before .before .before .before .before .before .before .before .before .before .before .before .before .before .before .before .before .before .before .args .entries) (c .before .before .before .before .before .before .before .before .before .before .before .before .before .before .before .before .before .before .before .args .files) (c .before .before .before .before .before .before .before .before .before .before .before .before .number-placed .result) (c .number-placed2 .result) _ _ (c .before .before .before .before .before .before .before .before .before .letter-named .result) (c .before .before .before .before .before .before .before .before .block-named .result .0) (c .before .before .before .before .before .before .letter-named2 .result) (c .before .before .before .before .before .block-named2 .result .0) (c .before .before .before .before .before .before .before .has-row .result) (c .before .before .is-true .result)
-          e f
+          same-heading (c .before .before .before .before .before .before .before .before .before .before .before .before .before .before .before .before .before .before .before .args .release) k (c .before .before .before .before .before .before .before .before .before .before .before .before .before .before .before .before .before .before .before .args .entries) (c .before .before .before .before .before .before .before .before .before .before .before .before .before .before .before .before .before .before .before .args .files) (c .before .before .before .before .before .before .before .before .before .before .before .before .before .before .before .before .before .before .before .args .rows) (c .before .before .before .before .before .before .before .before .before .before .before .before .number-placed .result) (c .number-placed2 .result) _ _ (c .before .before .before .before .before .before .before .before .before .letter-named .result) (c .before .before .before .before .before .before .before .before .block-named .result .0) (c .before .before .before .before .before .before .letter-named2 .result) (c .before .before .before .before .before .block-named2 .result .0) (c .before .before .before .before .before .before .before .has-row .result) (c .before .before .is-true .result)
+          e f o
           (c .before .before .before .before .before .before .before .before .before .before .before .before .number-placed .ensures ∙ ap numberOrZero (sym (generation-placed s k t p)))
           (c .before .before .before .before .before .before .before .before .before .before .span-at .ensures .spans .part ∙ sym (updatetime-placed s k t p))
           (c .before .before .before .before .before .before .before .before .before .letter-named .ensures ∙ ap (λ (f : Forest). locationOf f .letter) here) (c .before .before .before .before .before .before .before .before .block-named .ensures ∙ ap (λ (f : Forest). locationOf f .block) here)
@@ -118,5 +128,9 @@ head-from-spec =
     is-true-requires
     element-copy-out-number-placed-2
     number-placed-requires-2
-    sub-t35
+    sub-t36
     returns)
+
+-- unused: sub-t35 : tie.Need-sub-t35
+-- unused: sub-t35 c = omega (arith, @pre)
+-- unused:

@@ -56,6 +56,7 @@ returns c =
     refl
     (c .before .bump-if .ensures ∙ ap (λ (b : Bool). cond b (oneMore (a .entries)) (a .entries)) (c .before .before .is-entry .ensures))
     (c .bump-if2 .ensures)
+    refl
 
 pub enter-spec : {M : Type 1} → statement M
 enter-spec =

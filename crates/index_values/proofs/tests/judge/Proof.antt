@@ -8,7 +8,7 @@ use Rattle.index_values.proofs.tests.judge.Statement.{statement}
 use Rattle.index_values.proofs.tests.judge.Tie as tie
 
 returns : tie.Need-returns
-returns c f p = no-file _ f (c .before .before .args .volume) (c .if1 .taken)
+returns c f p = no-file _ f (c .before .before .args .volume) _ (c .if1 .taken)
 
 element-copy-out-row-at : tie.Need-element-copy-out-row-at
 element-copy-out-row-at c = search needs
@@ -24,7 +24,7 @@ returns-2 c f p =
     let s = c .before .before .before .before .before .before .before .args .text .now in
     let t = c .before .before .before .before .before .before .before .args .places .now in
     let placed = p (c .before .before .before .before .before .if1 .left) in
-    too-many (c .before .before .before .before .before .before .before .args .sort) f (c .before .before .before .before .before .before .before .args .volume) s (c .before .before .before .row-at .result) (c .before .before .before .before .before .if1 .left) (c .before .before .before .row-at .ensures .0 ∙ sym (extents-placed s f t placed)) _ (c .before .read-rows .result) (c .before .read-rows .ensures) (c .if2 .taken)
+    too-many (c .before .before .before .before .before .before .before .args .sort) f (c .before .before .before .before .before .before .before .args .volume) _ s (c .before .before .before .row-at .result) (c .before .before .before .before .before .if1 .left) (c .before .before .before .row-at .ensures .0 ∙ sym (extents-placed s f t placed)) (c .before .read-rows .result) (c .before .read-rows .ensures) (c .if2 .taken)
 
 element-copy-out-number-placed : tie.Need-element-copy-out-number-placed
 element-copy-out-number-placed c = search needs
@@ -40,7 +40,7 @@ returns-3 c f p =
     let s = c .before .before .before .before .before .before .before .before .before .before .before .before .args .text .now in
     let t = c .before .before .before .before .before .before .before .before .before .before .before .before .args .places .now in
     let placed = p (c .before .before .before .before .before .before .before .before .before .before .if1 .left) in
-    judged (c .before .before .before .before .before .before .before .before .before .before .before .before .args .sort) f (c .before .before .before .before .before .before .before .before .before .before .before .before .args .volume) s (c .before .before .before .before .before .before .before .before .row-at .result) (c .before .before .before .before .before .before .before .before .before .before .if1 .left) (c .before .before .before .before .before .before .before .before .row-at .ensures .0 ∙ sym (extents-placed s f t placed)) _ (c .before .before .before .before .before .before .read-rows .result) (c .before .before .before .before .before .before .read-rows .ensures) (c .before .before .before .before .before .if2 .left) (c .before .before .before .number-placed .result) (c .before .before .before .number-placed .ensures ∙ ap numberOrZero (sym (length-placed s f t placed))) (c .are-lawful .result) (c .are-lawful .ensures)
+    judged (c .before .before .before .before .before .before .before .before .before .before .before .before .args .sort) f (c .before .before .before .before .before .before .before .before .before .before .before .before .args .volume) _ s (c .before .before .before .before .before .before .before .before .row-at .result) (c .before .before .before .before .before .before .before .before .before .before .if1 .left) (c .before .before .before .before .before .before .before .before .row-at .ensures .0 ∙ sym (extents-placed s f t placed)) (c .before .before .before .before .before .before .read-rows .result) (c .before .before .before .before .before .before .read-rows .ensures) (c .before .before .before .before .before .if2 .left) (search needs) (c .before .before .before .number-placed .result) (c .before .before .before .number-placed .ensures ∙ ap numberOrZero (sym (length-placed s f t placed))) (c .are-lawful .result) (c .are-lawful .ensures)
 
 pub judge-spec : {M : Type 1} → statement M
 judge-spec =
