@@ -47,6 +47,13 @@ texts false false true t h g k = sym (k refl)
 texts false false false true h g k = refl
 texts false false false false h g k = refl
 
+text-else : (l n s t : Bool) → (l ≡ true → n ≡ true) → (n ≡ true → t ≡ true) → (s ≡ true → t ≡ true) → (pick l n s t ≡ 101 → ⊥) → t ≡ true
+text-else true n s t h g k z = g (h refl)
+text-else false true s t h g k z = g refl
+text-else false false true t h g k z = k refl
+text-else false false false true h g k z = refl
+text-else false false false false h g k z = absurd (z refl)
+
 letters : (l n s t : Bool) → eqb (pick l n s t) 97 ≡ l
 letters true n s t = refl
 letters false true s t = refl
@@ -77,3 +84,7 @@ module _ (k b : ℕ) (e : k ≡ kindOf b) where
 
   pub a-letter : k ≡ 97 → isAsciiLetter b ≡ true
   a-letter h = sym (kind-letter b) ∙ eq-eqb (kindOf b) 97 (sym e ∙ h)
+
+  pub a-text : (k ≡ 101 → ⊥) → isText b ≡ true
+  unfolding kindOf
+  a-text h = text-else (isAsciiLetter b) (isNameByte b) (isSpace b) (isText b) (letter-name b) (name-text b) (space-text b) (λ z. h (e ∙ z))

@@ -1,14 +1,14 @@
 -- What the scanners of the form check promise each other: the machine comes to the same from where a scanner began as from where it ended.
 use mathlib.Core.Path.{_≡_}
 use mathlib.Core.Bool.{Bool, true, false, cond, not, _&&_, _||_}
-use mathlib.Core.List.{List, [], _∷_}
+use mathlib.Core.List.{List, [], _∷_, _++_}
 use Prim.Native.Nat.{ℕ, suc, _+_, _-_, _≤_, _<_}
 use lib.ListN.{length, take, drop, getD}
 use lib.Dec.{ltb, eqb}
 use Rattle.slices.specs.Slices.{within}
 use Rattle.xml.specs.Bytes.{isSpace, isAsciiLetter, isNameByte}
 use Rattle.xml.specs.Tree.{front}
-use Rattle.xml.specs.CheckSteps.{Held, blank, children, Mode, name, content, opens, State, stop, at, char, tagEnd, outside, leave, formStep, Outcome, broken, ended, formRun}
+use Rattle.xml.specs.CheckSteps.{Held, blank, children, words, Mode, name, content, opens, State, stop, at, char, tagEnd, outside, leave, formStep, Outcome, broken, ended, formRun}
 use Rattle.xml.specs.declared.bytes.Scan.{Scan}
 use Rattle.xml.specs.declared.bytes.Scan.the-variants.{At, Broken}
 use Rattle.xml.specs.declared.tags.TagEnd.{TagEnd}
@@ -53,6 +53,14 @@ Between i n (Broken u) = Unit {0}
 pub record Scans (t : List ℕ) (i : ℕ) (from to : List (List ℕ) → State) (r : Scan) : Type 0 where
   pub runs : (ns : List (List ℕ)) → formRun (from ns) (drop i t) ≡ goesOn t (to ns) r
   pub ends : Between i (length t) r
+
+-- r is true only where the bytes w complete the character that begins with b
+pub record Completes (b : ℕ) (w : List ℕ) (r : Bool) : Type 0 where
+  pub runs : r ≡ true → (p : Mode) (ns : List (List ℕ)) (s : List ℕ) → formRun (first p b ns) (w ++ s) ≡ formRun (at p ns) s
+
+-- text from i to j, where the machine is as it was at i: in text that ends in no `]`
+abbrev pub TextTo : List ℕ → ℕ → ℕ → Type 0
+TextTo t i j = Scans t i (at (content (words 0))) (at (content (words 0))) (At j)
 
 -- the bytes of t from i to j
 abbrev pub part : List ℕ → ℕ → ℕ → List ℕ
