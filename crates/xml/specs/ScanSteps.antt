@@ -4,7 +4,7 @@ use mathlib.Core.Bool.{Bool, true, false, cond, not, _&&_, _||_}
 use mathlib.Core.List.{List, [], _∷_, _++_}
 use Prim.Native.Nat.{ℕ, suc, _+_, _-_, _≤_, _<_}
 use lib.ListN.{length, take, drop, getD}
-use lib.Dec.{ltb, eqb}
+use lib.Dec.{leb, ltb, eqb}
 use Rattle.slices.specs.Slices.{within}
 use Rattle.xml.specs.Bytes.{isSpace, isAsciiLetter, isNameByte}
 use Rattle.xml.specs.Tree.{front}
@@ -23,8 +23,8 @@ isText b = isSpace b || (within 32 127 b && not (eqb b 60 || eqb b 38 || eqb b 6
 unfoldable pub kindOf : ℕ → ℕ
 kindOf b = cond (isAsciiLetter b) 97 (cond (isNameByte b) 98 (cond (isSpace b) 100 (cond (isText b) 99 101)))
 
-abbrev pub ofKind : ℕ → ℕ → ℕ → Bool
-ofKind lo hi b = within lo hi (kindOf b)
+abbrev pub upTo : ℕ → ℕ → Bool
+upTo hi b = leb (kindOf b) hi
 
 -- a table of the kinds of bytes
 pub record Kinds (ks : List ℕ) : Type 0 where
@@ -33,6 +33,12 @@ pub record Kinds (ks : List ℕ) : Type 0 where
 -- j is the end of the bytes from i on that pass the test
 pub record Past (f : ℕ → Bool) (t : List ℕ) (i j : ℕ) : Type 0 where
   pub found : j ≡ i + front f (drop i t)
+  pub inside : j ≤ length t
+
+-- the bytes from i to j pass the test: those from i on that do end where those from j on do
+pub record Along (f : ℕ → Bool) (t : List ℕ) (i j : ℕ) : Type 0 where
+  pub same : i + front f (drop i t) ≡ j + front f (drop j t)
+  pub ahead : i ≤ j
   pub inside : j ≤ length t
 
 -- after the first byte of a character, b, before which the machine was at p
