@@ -338,7 +338,7 @@ pub(crate) fn text_end(text: &[u8], from: usize, kinds: &[u8; 256]) -> Scan
             n = 0;
             match char_end(text, i, b) {
                 Scan::At(j) => {
-                    i = past_chars(text, j, kinds);
+                    i = past_wide(text, j, kinds);
                 }
                 Scan::Broken(u) => {
                     return Scan::Broken(u);

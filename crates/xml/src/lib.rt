@@ -18,6 +18,7 @@ use bytes::word_end;
 use characters::text_end;
 use tags::Start;
 use tags::end_tag;
+use tags::inner_tag;
 use tags::start_tag;
 
 // A text in the form, or one with so many bytes left unread.
@@ -56,7 +57,7 @@ fn read_tag(
     if !begins {
         return Turn::Broken(text.len() - from);
     }
-    match start_tag(text, from, kinds) {
+    match inner_tag(text, from, kinds) {
         Start::Open(e, j) => Turn::Opened(from, e, j),
         Start::Empty(j) => Turn::Inside(j),
         Start::Broken(u) => Turn::Broken(u),

@@ -70,15 +70,15 @@ char-end-requires c κs = search needs
 enum-known-j : tie.Need-enum-known-j Inv-loop μ-loop
 enum-known-j c = search needs
 
-past-chars-requires-2 : tie.Need-past-chars-requires-2 Inv-loop μ-loop
-past-chars-requires-2 c κs =
+past-wide-requires : tie.Need-past-wide-requires Inv-loop μ-loop
+past-wide-requires c κs =
     let b = scan-bounds (c .before .j .given .0 .0) (c .before .before .before .char-end .ensures (content (words 0))) (c .before .j .given .1) in
     (search needs, c .before .before .before .before .before .before .before .before .before .before .before .before .before .pre .1)
 
 loop-less-2 : tie.Need-loop-less-2 Inv-loop μ-loop
 loop-less-2 c =
     let b = scan-bounds (c .before .before .j .given .0 .0) (c .before .before .before .before .char-end .ensures (content (words 0))) (c .before .before .j .given .1) in
-    let h = c .past-chars2 .ensures .ends in
+    let h = c .past-wide .ensures .ends in
     search needs
 
 loop-again-2 : tie.Need-loop-again-2 Inv-loop μ-loop
@@ -87,13 +87,13 @@ loop-again-2 c =
     let r = c .before .before .before .before .char-end .ensures (content (words 0)) in
     let j = c .before .before .j .given in
     let b = scan-bounds (j .0 .0) r (j .1) in
-    let e = c .past-chars2 .ensures in
+    let e = c .past-wide .ensures in
     let h = e .ends in (
       search needs,
       search needs,
       search needs,
       λ s x. c .before .before .before .before .before .before .before .before .before .before .before .loop .inv .3 s
-          (scan-step (search needs) (λ ns. simp (ne-eqb _ _ (c .before .before .before .before .before .before .before .before .if1 .left), ne-eqb _ _ (c .before .before .before .before .before .before .before .if2 .left), ← c .before .before .before .before .before .before .ends-section .ensures, c .before .before .before .before .before .if3 .left)) (scan-then (j .0 .0) r (j .1) (scan-then (c .past-chars2 .result) e refl x))),
+          (scan-step (search needs) (λ ns. simp (ne-eqb _ _ (c .before .before .before .before .before .before .before .before .if1 .left), ne-eqb _ _ (c .before .before .before .before .before .before .before .if2 .left), ← c .before .before .before .before .before .before .ends-section .ensures, c .before .before .before .before .before .if3 .left)) (scan-then (j .0 .0) r (j .1) (scan-then (c .past-wide .result) e refl x))),
     )
 
 enum-known-u : tie.Need-enum-known-u Inv-loop μ-loop
@@ -133,7 +133,7 @@ text-end-spec =
     returns-2
     char-end-requires
     enum-known-j
-    past-chars-requires-2
+    past-wide-requires
     loop-less-2
     loop-again-2
     enum-known-u
