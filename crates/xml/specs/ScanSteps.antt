@@ -13,6 +13,7 @@ use Rattle.xml.specs.declared.bytes.Scan.{Scan}
 use Rattle.xml.specs.declared.bytes.Scan.the-variants.{At, Broken}
 use Rattle.xml.specs.declared.tags.TagEnd.{TagEnd}
 use Rattle.xml.specs.declared.tags.Start.{Start}
+use Rattle.xml.specs.declared.Markup.{Markup}
 use Rattle.xml.specs.declared.Turn.{Turn}
 
 -- bytes that text has under no further rule: white space, and ASCII characters other than `<`, `&`, `>` and `]`
@@ -137,6 +138,11 @@ OpensTurn t i n begins r = (o : Bool) → Turns t i n begins (at (opens o)) (λ 
 abbrev pub held : Bool → Held
 held true = children
 held false = blank
+
+-- the content of an element from i on, up to its next `<`, behind which an element may begin or not
+abbrev pub Reaches : List ℕ → ℕ → Bool → Markup → Type 0
+Reaches t i some (Markup.At j o) = Scans t i (at (content (held some))) (at (opens o)) (At j)
+Reaches t i some (Markup.Broken u) = Scans t i (at (content (held some))) (at (opens false)) (Broken u)
 
 -- what follows in the element n at that depth, up to the end of its next tag
 abbrev pub NextTurn : List ℕ → ℕ → List ℕ → Bool → ℕ → Turn → Type 0
