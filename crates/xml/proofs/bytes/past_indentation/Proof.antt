@@ -1,6 +1,4 @@
 -- `past_indentation` meets its contract. Invariant: the bytes from `from` to i are white space; the four places of a turn follow each other.
-use mathlib.Core.Path.{_≡_, refl, ap}
-use mathlib.Core.Bool.{true}
 use Prim.Native.Nat.{_+_, _-_}
 use native.Mathlib.Omega.{arith}
 use lib.ListN.{length}

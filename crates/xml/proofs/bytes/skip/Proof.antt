@@ -1,5 +1,4 @@
 -- `skip` meets its contract. Invariant: the bytes from `from` to i are of these kinds; the four places of a turn follow each other.
-use mathlib.Core.Path.{refl}
 use Prim.Native.Nat.{_+_, _-_}
 use native.Mathlib.Omega.{arith}
 use lib.ListN.{length}

@@ -1,5 +1,5 @@
 -- `past_wide` meets its contract. Invariant: what is before i is text; each turn passes one character.
-use mathlib.Core.Path.{refl, ap, _∙_}
+use mathlib.Core.Path.{refl}
 use Prim.Native.Nat.{_-_, _≤_}
 use native.Mathlib.Omega.{arith}
 use lib.ListN.{length}
