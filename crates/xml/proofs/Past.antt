@@ -10,8 +10,9 @@ use lib.Dec.{ltb}
 use native.Mathlib.Omega.{arith}
 use lib.ListN.{length, drop, getD, drop-of-length-le, length-drop}
 use lib.Seq.{drop-cons, getD-drop}
+use Rattle.xml.specs.Bytes.{isSpace}
 use Rattle.xml.specs.Tree.{front}
-use Rattle.xml.specs.ScanSteps.{Past}
+use Rattle.xml.specs.ScanSteps.{Past, Along}
 
 -- past the end there is 0
 pub beyond : (t : List ℕ) (i : ℕ) → length t ≤ i → getD t i 0 ≡ 0
@@ -32,6 +33,37 @@ module _ (f : ℕ → Bool) (t : List ℕ) (i : ℕ) where
   pub front-end : length t ≤ i → i + front f (drop i t) ≡ i
   unfolding front
   front-end h = rw (drop-of-length-le t h) (simp add-zero)
+
+-- a run of bytes along which they pass, from place to place
+module _ {f : ℕ → Bool} {t : List ℕ} {a : ℕ} where
+  pub along-none : a ≤ length t → Along f t a a
+  along-none h = record { same = refl; ahead = omega arith; inside = h }
+
+  pub along-then : {i j : ℕ} → Along f t a i → Along f t i j → Along f t a j
+  along-then x y = record { same = x .same ∙ y .same; ahead = omega (arith, x .ahead, y .ahead); inside = y .inside }
+
+  pub along-past : {i j : ℕ} → Along f t a i → Past f t i j → Past f t a j
+  along-past x y = record { found = y .found ∙ sym (x .same); inside = y .inside }
+
+  -- the byte at i passes, and the next place is j
+  pub along-on : {i : ℕ} → Along f t a i → i < length t → f (getD t i 0) ≡ true → (j : ℕ) → j ≡ i + 1 → Along f t a j
+  along-on {i} x h e j z =
+      record {
+        same = x .same ∙ front-more f t i h e ∙ ap (λ (k : ℕ). k + front f (drop k t)) (sym z);
+        ahead = omega (arith, x .ahead);
+        inside = omega arith;
+      }
+
+  pub along-stop : {i : ℕ} → Along f t a i → i < length t → f (getD t i 0) ≡ false → Past f t a i
+  along-stop {i} x h e = record { found = sym (x .same ∙ front-none f t i h e); inside = x .inside }
+
+  pub along-end : {i : ℕ} → Along f t a i → length t ≤ i → Past f t a i
+  along-end {i} x h = record { found = sym (x .same ∙ front-end f t i h); inside = x .inside }
+
+-- a space at i
+pub along-blank : {t : List ℕ} {a i : ℕ} → Along isSpace t a i → i < length t → getD t i 0 ≡ 32 → (j : ℕ) → j ≡ i + 1 → Along isSpace t a j
+unfolding isSpace
+along-blank x h e j z = along-on x h (ap isSpace e) j z
 
 front-same : (f g : ℕ → Bool) → ((b : ℕ) → f b ≡ g b) → (s : List ℕ) → front f s ≡ front g s
 unfolding front

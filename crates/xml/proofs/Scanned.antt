@@ -1,17 +1,19 @@
 -- Scans put together: from one byte, from a run of bytes, from one scan and the next.
 use mathlib.Core.Path.{_≡_, refl, ap, _∙_, sym, subst}
 use mathlib.Core.Bool.{Bool, true}
-use mathlib.Core.List.{List}
+use mathlib.Core.List.{List, _++_}
 use Prim.Native.Nat.{ℕ, _+_, _-_, _<_, _≤_}
 use native.Mathlib.Omega.{arith}
-use lib.ListN.{length, drop, getD}
+use lib.ListN.{length, take, drop, getD, take-append-drop}
+use lib.Seq.{drop-drop}
 use Rattle.xml.specs.Bytes.{isAsciiLetter}
-use Rattle.xml.specs.CheckSteps.{Mode, State, stop, at, formStep, broken, ended, formRun}
+use Rattle.xml.specs.CheckSteps.{Mode, State, stop, at, reads, formStep, broken, ended, formRun}
 use Rattle.xml.specs.ScanSteps.{Past, Scans, Between, goesOn}
 use Rattle.xml.specs.declared.bytes.Scan.{Scan}
 use Rattle.xml.specs.declared.bytes.Scan.the-variants.{At, Broken}
 use Rattle.xml.proofs.Classes.{letter-high}
 use Rattle.xml.proofs.Past.{past-ahead}
+use Rattle.xml.proofs.Runs.{run-word}
 use Rattle.xml.proofs.Scanning.{inside, run-on, run-out, run-refused, run-stopped, run-as, run-past}
 
 -- the byte b, which is not 0, stands inside
@@ -70,6 +72,13 @@ module _ {t : List ℕ} {i : ℕ} where
 
   pub scan-is : {a b : List (List ℕ) → State} {r s : Scan} → Scans t i a b r → r ≡ s → Scans t i a b s
   scan-is {a} {b} x e = subst (Scans t i a b) e x
+
+  -- a word that stands there
+  pub scan-word : {p : Mode} (w : List ℕ) (j : ℕ) → take (j - i) (drop i t) ≡ w → i ≤ j → j ≤ length t → Scans t i (at (reads p w)) (at p) (At j)
+  scan-word {p} w j e h l =
+      let n : i + (j - i) ≡ j = omega arith in
+      let d : drop i t ≡ w ++ drop j t = sym (take-append-drop (j - i) (drop i t)) ∙ ap (λ (v : List ℕ). v ++ drop (j - i) (drop i t)) e ∙ ap (λ (v : List ℕ). w ++ v) (drop-drop (j - i) i t ∙ ap (λ (k : ℕ). drop k t) n) in
+      record { runs = λ ns. ap (formRun (at (reads p w) ns)) d ∙ run-word p ns w (drop j t); ends = (h, l) }
 
   -- one scan and the next
   pub scan-then : {a b c : List (List ℕ) → State} {r s : Scan} (j : ℕ) → Scans t i a b r → r ≡ At j → Scans t j b c s → Scans t i a c s

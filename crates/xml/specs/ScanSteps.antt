@@ -1,18 +1,19 @@
 -- What the scanners of the form check promise each other: the machine comes to the same from where a scanner began as from where it ended.
 use mathlib.Core.Path.{_≡_}
 use mathlib.Core.Bool.{Bool, true, false, cond, not, _&&_, _||_}
-use mathlib.Core.List.{List, [], _∷_}
+use mathlib.Core.List.{List, [], _∷_, _++_}
 use Prim.Native.Nat.{ℕ, suc, _+_, _-_, _≤_, _<_}
 use lib.ListN.{length, take, drop, getD}
-use lib.Dec.{ltb, eqb}
+use lib.Dec.{leb, ltb, eqb}
 use Rattle.slices.specs.Slices.{within}
 use Rattle.xml.specs.Bytes.{isSpace, isAsciiLetter, isNameByte}
 use Rattle.xml.specs.Tree.{front}
-use Rattle.xml.specs.CheckSteps.{Held, blank, children, Mode, name, content, opens, State, stop, at, char, tagEnd, outside, leave, formStep, Outcome, broken, ended, formRun}
+use Rattle.xml.specs.CheckSteps.{Held, blank, children, words, Mode, name, content, opens, State, stop, at, char, tagEnd, outside, leave, formStep, Outcome, broken, ended, formRun}
 use Rattle.xml.specs.declared.bytes.Scan.{Scan}
 use Rattle.xml.specs.declared.bytes.Scan.the-variants.{At, Broken}
 use Rattle.xml.specs.declared.tags.TagEnd.{TagEnd}
 use Rattle.xml.specs.declared.tags.Start.{Start}
+use Rattle.xml.specs.declared.Markup.{Markup}
 use Rattle.xml.specs.declared.Turn.{Turn}
 
 -- bytes that text has under no further rule: white space, and ASCII characters other than `<`, `&`, `>` and `]`
@@ -23,8 +24,8 @@ isText b = isSpace b || (within 32 127 b && not (eqb b 60 || eqb b 38 || eqb b 6
 unfoldable pub kindOf : ℕ → ℕ
 kindOf b = cond (isAsciiLetter b) 97 (cond (isNameByte b) 98 (cond (isSpace b) 100 (cond (isText b) 99 101)))
 
-abbrev pub ofKind : ℕ → ℕ → ℕ → Bool
-ofKind lo hi b = within lo hi (kindOf b)
+abbrev pub upTo : ℕ → ℕ → Bool
+upTo hi b = leb (kindOf b) hi
 
 -- a table of the kinds of bytes
 pub record Kinds (ks : List ℕ) : Type 0 where
@@ -33,6 +34,12 @@ pub record Kinds (ks : List ℕ) : Type 0 where
 -- j is the end of the bytes from i on that pass the test
 pub record Past (f : ℕ → Bool) (t : List ℕ) (i j : ℕ) : Type 0 where
   pub found : j ≡ i + front f (drop i t)
+  pub inside : j ≤ length t
+
+-- the bytes from i to j pass the test: those from i on that do end where those from j on do
+pub record Along (f : ℕ → Bool) (t : List ℕ) (i j : ℕ) : Type 0 where
+  pub same : i + front f (drop i t) ≡ j + front f (drop j t)
+  pub ahead : i ≤ j
   pub inside : j ≤ length t
 
 -- after the first byte of a character, b, before which the machine was at p
@@ -53,6 +60,14 @@ Between i n (Broken u) = Unit {0}
 pub record Scans (t : List ℕ) (i : ℕ) (from to : List (List ℕ) → State) (r : Scan) : Type 0 where
   pub runs : (ns : List (List ℕ)) → formRun (from ns) (drop i t) ≡ goesOn t (to ns) r
   pub ends : Between i (length t) r
+
+-- r is true only where the bytes w complete the character that begins with b
+pub record Completes (b : ℕ) (w : List ℕ) (r : Bool) : Type 0 where
+  pub runs : r ≡ true → (p : Mode) (ns : List (List ℕ)) (s : List ℕ) → formRun (first p b ns) (w ++ s) ≡ formRun (at p ns) s
+
+-- text from i to j, where the machine is as it was at i: in text that ends in no `]`
+abbrev pub TextTo : List ℕ → ℕ → ℕ → Type 0
+TextTo t i j = Scans t i (at (content (words 0))) (at (content (words 0))) (At j)
 
 -- the bytes of t from i to j
 abbrev pub part : List ℕ → ℕ → ℕ → List ℕ
@@ -123,6 +138,11 @@ OpensTurn t i n begins r = (o : Bool) → Turns t i n begins (at (opens o)) (λ 
 abbrev pub held : Bool → Held
 held true = children
 held false = blank
+
+-- the content of an element from i on, up to its next `<`, behind which an element may begin or not
+abbrev pub Reaches : List ℕ → ℕ → Bool → Markup → Type 0
+Reaches t i some (Markup.At j o) = Scans t i (at (content (held some))) (at (opens o)) (At j)
+Reaches t i some (Markup.Broken u) = Scans t i (at (content (held some))) (at (opens false)) (Broken u)
 
 -- what follows in the element n at that depth, up to the end of its next tag
 abbrev pub NextTurn : List ℕ → ℕ → List ℕ → Bool → ℕ → Turn → Type 0

@@ -4,7 +4,7 @@ ghost use Prim.Native.Nat.{_+_, _≤_};
 ghost use lib.ListN.{length, getD};
 ghost use Rattle.xml.specs.Bytes.{isSpace, isNameByte};
 ghost use Rattle.xml.specs.CheckSteps.{Mode, at, reads};
-ghost use Rattle.xml.specs.ScanSteps.{isText, kindOf, ofKind, Kinds, Past, Scans};
+ghost use Rattle.xml.specs.ScanSteps.{isText, kindOf, upTo, Kinds, Past, Along, Scans};
 
 // The kind of each byte: `a` a letter, `b` another byte of a name, `c` another byte that text has under no further rule, `d` white space, `e` any
 // other byte.
@@ -33,18 +33,14 @@ pub(crate) fn byte(text: &[u8], i: usize) -> u8
     if i < text.len() { text[i] } else { 0 }
 }
 
-// The end of the bytes from `from` on whose kinds are from lo to hi.
-fn skip(text: &[u8], from: usize, lo: u8, hi: u8, kinds: &[u8; 256]) -> usize
+// The end of the bytes from `from` on whose kinds are up to hi, byte by byte.
+fn skip_one(text: &[u8], from: usize, hi: u8, kinds: &[u8; 256]) -> usize
     requires { ⌜ (from ≤ length (now text)) × Kinds (now kinds) ⌝ }
-    ensures { λ r. ⌜ Past (ofKind lo hi) (now (text .entry)) from r ⌝ }
+    ensures { λ r. ⌜ Past (upTo hi) (now (text .entry)) from r ⌝ }
 {
     let mut i = from;
     while i < text.len() {
-        let k = kind(text[i], kinds);
-        if k < lo {
-            return i;
-        }
-        if hi < k {
+        if hi < kind(text[i], kinds) {
             return i;
         }
         i += 1;
@@ -52,12 +48,60 @@ fn skip(text: &[u8], from: usize, lo: u8, hi: u8, kinds: &[u8; 256]) -> usize
     i
 }
 
+// The end of the bytes from `from` on whose kinds are up to hi; four bytes at a turn.
+fn skip(text: &[u8], from: usize, hi: u8, kinds: &[u8; 256]) -> usize
+    requires { ⌜ (from ≤ length (now text)) × Kinds (now kinds) ⌝ }
+    ensures { λ r. ⌜ Past (upTo hi) (now (text .entry)) from r ⌝ }
+{
+    let mut i = from;
+    while 4 <= text.len() - i {
+        if hi < kind(text[i], kinds) {
+            return i;
+        }
+        if hi < kind(text[i + 1], kinds) {
+            return i + 1;
+        }
+        if hi < kind(text[i + 2], kinds) {
+            return i + 2;
+        }
+        if hi < kind(text[i + 3], kinds) {
+            return i + 3;
+        }
+        i += 4;
+    }
+    skip_one(text, i, hi, kinds)
+}
+
 // The end of the name bytes from `from` on.
 pub(crate) fn past_name(text: &[u8], from: usize, kinds: &[u8; 256]) -> usize
     requires { ⌜ (from ≤ length (now text)) × Kinds (now kinds) ⌝ }
     ensures { λ r. ⌜ Past isNameByte (now (text .entry)) from r ⌝ }
 {
-    skip(text, from, b'a', b'b', kinds)
+    skip(text, from, b'b', kinds)
+}
+
+// Past spaces from `from` on; not all of them at the end of the text. Four at a turn: most white space is the indentation of a line.
+fn past_indentation(text: &[u8], from: usize) -> usize
+    requires { ⌜ from ≤ length (now text) ⌝ }
+    ensures { λ r. ⌜ Along isSpace (now (text .entry)) from r ⌝ }
+{
+    let mut i = from;
+    while 4 <= text.len() - i {
+        if text[i] != b' ' {
+            return i;
+        }
+        if text[i + 1] != b' ' {
+            return i + 1;
+        }
+        if text[i + 2] != b' ' {
+            return i + 2;
+        }
+        if text[i + 3] != b' ' {
+            return i + 3;
+        }
+        i += 4;
+    }
+    i
 }
 
 // The end of the white space from `from` on.
@@ -65,7 +109,14 @@ pub(crate) fn past_spaces(text: &[u8], from: usize, kinds: &[u8; 256]) -> usize
     requires { ⌜ (from ≤ length (now text)) × Kinds (now kinds) ⌝ }
     ensures { λ r. ⌜ Past isSpace (now (text .entry)) from r ⌝ }
 {
-    skip(text, from, b'd', b'd', kinds)
+    let mut i = from;
+    while i < text.len() {
+        if kind(text[i], kinds) != b'd' {
+            return i;
+        }
+        i = past_indentation(text, i + 1);
+    }
+    i
 }
 
 // The end of the bytes of text from `from` on that are under no further rule.
@@ -73,7 +124,7 @@ pub(crate) fn past_text(text: &[u8], from: usize, kinds: &[u8; 256]) -> usize
     requires { ⌜ (from ≤ length (now text)) × Kinds (now kinds) ⌝ }
     ensures { λ r. ⌜ Past isText (now (text .entry)) from r ⌝ }
 {
-    skip(text, from, b'a', b'd', kinds)
+    skip(text, from, b'd', kinds)
 }
 
 // Where a scan ended: at a position past what it read, or at a byte that does not fit, with so many bytes unread.

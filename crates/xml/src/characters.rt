@@ -1,14 +1,17 @@
 // Characters and references, and what is made of them: attribute values and text.
 ghost use mathlib.Core.Path.{_≡_};
 ghost use mathlib.Core.Bool.{_&&_};
+ghost use mathlib.Core.List.{[], _∷_};
 ghost use Prim.Native.Nat.{_+_, _≤_, _<_, min};
 ghost use lib.Dec.{eqb};
 ghost use lib.ListN.{length};
 ghost use mathlib.Core.Bool.{false};
+ghost use Rattle.slices.specs.Slices.{within};
 ghost use Rattle.xml.specs.CheckSteps.{Mode, at, more, lead239, amp, ampA, value, valued, content, words, opens};
-ghost use Rattle.xml.specs.ScanSteps.{Kinds, Scans, first};
+ghost use Rattle.xml.specs.ScanSteps.{Kinds, Scans, Completes, TextTo, first};
 use super::bytes::Scan;
 use super::bytes::byte;
+use super::bytes::kind;
 use super::bytes::past_text;
 use super::bytes::word_end;
 
@@ -200,12 +203,125 @@ fn ends_section(b: u8, n: usize) -> bool
     if b == b'>' { n == 2 } else { false }
 }
 
+// Whether b may follow the first byte of a character.
+fn continues(b: u8) -> bool
+    ensures { λ r. ⌜ r ≡ within 128 191 b ⌝ }
+{
+    if b < 128 {
+        return false;
+    }
+    b <= 191
+}
+
+// Whether these are the bytes of a character.
+fn two_bytes(b: u8, c: u8) -> bool
+    requires { ⌜ (128 ≤ b) × (b < 224) ⌝ }
+    ensures { λ r. ⌜ Completes b (c ∷ []) r ⌝ }
+{
+    if b < 194 {
+        return false;
+    }
+    continues(c)
+}
+
+// Whether these are the bytes of a character; U+FFC0 to U+FFFF are left to the general scan.
+fn three_bytes(b: u8, c: u8, d: u8) -> bool
+    requires { ⌜ (224 ≤ b) × (b < 240) ⌝ }
+    ensures { λ r. ⌜ Completes b (c ∷ d ∷ []) r ⌝ }
+{
+    if !continues(c) {
+        return false;
+    }
+    if !continues(d) {
+        return false;
+    }
+    if b < 225 {
+        return 160 <= c;
+    }
+    if b < 237 {
+        return true;
+    }
+    if b < 238 {
+        return c <= 159;
+    }
+    if b < 239 {
+        return true;
+    }
+    c < 191
+}
+
+// Whether these are the bytes of a character; U+100000 and above are left to the general scan.
+fn four_bytes(b: u8, c: u8, d: u8, e: u8) -> bool
+    requires { ⌜ 240 ≤ b ⌝ }
+    ensures { λ r. ⌜ Completes b (c ∷ d ∷ e ∷ []) r ⌝ }
+{
+    if !continues(c) {
+        return false;
+    }
+    if !continues(d) {
+        return false;
+    }
+    if !continues(e) {
+        return false;
+    }
+    if b < 241 {
+        return 144 <= c;
+    }
+    b < 244
+}
+
+// The end of characters of text from `from` on, of one byte and of more. It stops at the latest at one that is under a further rule or not well-formed,
+// or at the last three bytes.
+fn past_wide(text: &[u8], from: usize, kinds: &[u8; 256]) -> usize
+    requires { ⌜ (from ≤ length (now text)) × Kinds (now kinds) ⌝ }
+    ensures { λ r. ⌜ TextTo (now (text .entry)) from r ⌝ }
+{
+    let mut i = from;
+    while 4 <= text.len() - i {
+        let b = text[i];
+        if b < 128 {
+            if kind(b, kinds) == b'e' {
+                return i;
+            }
+            i += 1;
+        } else if b < 224 {
+            if !two_bytes(b, text[i + 1]) {
+                return i;
+            }
+            i += 2;
+        } else if b < 240 {
+            if !three_bytes(b, text[i + 1], text[i + 2]) {
+                return i;
+            }
+            i += 3;
+        } else {
+            if !four_bytes(b, text[i + 1], text[i + 2], text[i + 3]) {
+                return i;
+            }
+            i += 4;
+        }
+    }
+    i
+}
+
+// The same, quicker where all are of one byte.
+fn past_chars(text: &[u8], from: usize, kinds: &[u8; 256]) -> usize
+    requires { ⌜ (from ≤ length (now text)) × Kinds (now kinds) ⌝ }
+    ensures { λ r. ⌜ TextTo (now (text .entry)) from r ⌝ }
+{
+    let i = past_text(text, from, kinds);
+    if byte(text, i) < 128 {
+        return i;
+    }
+    past_wide(text, i, kinds)
+}
+
 // The rest of an element's text, with the `<` behind it.
 pub(crate) fn text_end(text: &[u8], from: usize, kinds: &[u8; 256]) -> Scan
     requires { ⌜ (from ≤ length (now text)) × Kinds (now kinds) ⌝ }
     ensures { λ r. ⌜ Scans (now (text .entry)) from (at (content (words 0))) (at (opens false)) r ⌝ }
 {
-    let mut i = past_text(text, from, kinds);
+    let mut i = past_chars(text, from, kinds);
     let mut n: usize = 0;
     while i < text.len() {
         let b = text[i];
@@ -222,7 +338,7 @@ pub(crate) fn text_end(text: &[u8], from: usize, kinds: &[u8; 256]) -> Scan
             n = 0;
             match char_end(text, i, b) {
                 Scan::At(j) => {
-                    i = past_text(text, j, kinds);
+                    i = past_wide(text, j, kinds);
                 }
                 Scan::Broken(u) => {
                     return Scan::Broken(u);

@@ -1,10 +1,12 @@
 // The XML form (01, The XML form): whether a text is in it, and if not, how many of its bytes are unread where it leaves the form.
 ghost use mathlib.Core.Path.{_≡_};
+ghost use mathlib.Core.Bool.{_&&_};
 ghost use mathlib.Core.List.{[], _∷_};
 ghost use Prim.Native.Nat.{_≤_};
+ghost use lib.Dec.{ltb};
 ghost use lib.ListN.{length, drop};
 ghost use Rattle.xml.specs.CheckSteps.{at, before, after, content, blank, formRun, form, outcomeOf};
-ghost use Rattle.xml.specs.ScanSteps.{Kinds, OpensTurn, NextTurn, part};
+ghost use Rattle.xml.specs.ScanSteps.{Kinds, OpensTurn, Reaches, NextTurn, part};
 
 mod bytes;
 mod characters;
@@ -18,6 +20,7 @@ use bytes::word_end;
 use characters::text_end;
 use tags::Start;
 use tags::end_tag;
+use tags::inner_tag;
 use tags::start_tag;
 
 // A text in the form, or one with so many bytes left unread.
@@ -56,14 +59,47 @@ fn read_tag(
     if !begins {
         return Turn::Broken(text.len() - from);
     }
-    match start_tag(text, from, kinds) {
+    match inner_tag(text, from, kinds) {
         Start::Open(e, j) => Turn::Opened(from, e, j),
         Start::Empty(j) => Turn::Inside(j),
         Start::Broken(u) => Turn::Broken(u),
     }
 }
 
-// The content of the element at this depth whose name is from start to end, up to the end of its next tag; it has children already or not.
+// The next `<` of an element: the position behind it, and whether there is no text before it, so that an element may begin. Or so many bytes are
+// unread.
+enum Markup {
+    At(usize, bool),
+    Broken(usize),
+}
+
+// The content of an element up to its next `<`; it has children already or not.
+fn next_markup(text: &[u8], from: usize, children: bool, kinds: &[u8; 256]) -> Markup
+    requires { ⌜ (from ≤ length (now text)) × Kinds (now kinds) ⌝ }
+    ensures { λ r. ⌜ Reaches (now (text .entry)) from children r ⌝ }
+{
+    let i = past_spaces(text, from, kinds);
+    if byte(text, i) == b'<' {
+        return Markup::At(i + 1, true);
+    }
+    if children {
+        return Markup::Broken(text.len() - i);
+    }
+    match text_end(text, i, kinds) {
+        Scan::At(j) => Markup::At(j, false),
+        Scan::Broken(u) => Markup::Broken(u),
+    }
+}
+
+// Whether an element may begin, where there is no text, inside an element at this depth.
+fn may_begin(alone: bool, depth: usize) -> bool
+    ensures { λ r. ⌜ r ≡ (alone && ltb depth 64) ⌝ }
+{
+    if alone { depth < 64 } else { false }
+}
+
+// The content of the element at this depth whose name is from start to end, up to the end of its next tag; it has children already or not. There is
+// one call of `read_tag`, so that the compiler inlines it.
 fn next_tag(
     text: &[u8],
     from: usize,
@@ -76,16 +112,9 @@ fn next_tag(
     requires { ⌜ (from ≤ length (now text)) × (start ≤ end) × (end ≤ length (now text)) × Kinds (now kinds) ⌝ }
     ensures { λ r. ⌜ NextTurn (now (text .entry)) from (part (now (text .entry)) start end) children depth r ⌝ }
 {
-    let i = past_spaces(text, from, kinds);
-    if byte(text, i) == b'<' {
-        return read_tag(text, i + 1, depth < 64, start, end, kinds);
-    }
-    if children {
-        return Turn::Broken(text.len() - i);
-    }
-    match text_end(text, i, kinds) {
-        Scan::At(j) => read_tag(text, j, false, start, end, kinds),
-        Scan::Broken(u) => Turn::Broken(u),
+    match next_markup(text, from, children, kinds) {
+        Markup::At(j, alone) => read_tag(text, j, may_begin(alone, depth), start, end, kinds),
+        Markup::Broken(u) => Turn::Broken(u),
     }
 }
 

@@ -117,6 +117,20 @@ pub(crate) fn start_tag(text: &[u8], from: usize, kinds: &[u8; 256]) -> Start
     }
 }
 
+// The same; quicker where the tag has a name alone, as most have.
+pub(crate) fn inner_tag(text: &[u8], from: usize, kinds: &[u8; 256]) -> Start
+    requires { ⌜ (from ≤ length (now text)) × Kinds (now kinds) ⌝ }
+    ensures { λ r. ⌜ Starts (now (text .entry)) from r ⌝ }
+{
+    if kind(byte(text, from), kinds) == b'a' {
+        let e = past_name(text, from, kinds);
+        if byte(text, e) == b'>' {
+            return Start::Open(e, e + 1);
+        }
+    }
+    start_tag(text, from, kinds)
+}
+
 // The `>` of an end tag, from the end of its name on.
 fn shut(text: &[u8], from: usize, kinds: &[u8; 256]) -> Scan
     requires { ⌜ (from ≤ length (now text)) × Kinds (now kinds) ⌝ }
@@ -129,11 +143,17 @@ fn shut(text: &[u8], from: usize, kinds: &[u8; 256]) -> Scan
     Scan::Broken(text.len() - i)
 }
 
-// The end tag of an element with this name, from behind its `</` on.
+// The end tag of an element with this name, from behind its `</` on. Where the name is another, `word_end` finds its first byte that does not fit.
 pub(crate) fn end_tag(text: &[u8], from: usize, name: &[u8], kinds: &[u8; 256]) -> Scan
     requires { ⌜ (from ≤ length (now text)) × Kinds (now kinds) ⌝ }
     ensures { λ r. ⌜ Scans (now (text .entry)) from (at (reads closed (now (name .entry)))) leave r ⌝ }
 {
+    if name.len() <= text.len() - from {
+        let end = from + name.len();
+        if slices::same(&text[from..end], name) {
+            return shut(text, end, kinds);
+        }
+    }
     match word_end(text, from, name) {
         Scan::At(j) => shut(text, j, kinds),
         Scan::Broken(u) => Scan::Broken(u),

@@ -82,8 +82,8 @@ returns-3 c =
     let no : c .before .before .before .before .args .begins ≡ false = not-true (c .before .before .before .before .args .begins) (c .if2 .taken) in
     λ o. record { runs = λ ns f. run-refused t i (opens o) (n ∷ ns) (search needs) refl (simp (← e, ne-eqb _ _ (c .before .if1 .left), f, no, and-false)); ends = tt }
 
-start-tag-requires : tie.Need-start-tag-requires
-start-tag-requires c κs = (search needs, c .before .before .before .before .pre .3)
+inner-tag-requires : tie.Need-inner-tag-requires
+inner-tag-requires c κs = (search needs, c .before .before .before .before .pre .3)
 
 enum-known-e : tie.Need-enum-known-e
 enum-known-e c = search needs
@@ -102,7 +102,7 @@ returns-4 c =
     let n = part t (c .before .before .before .before .before .before .before .before .args .start) (c .before .before .before .before .before .before .before .before .args .end) in
     let e = c .before .before .before .before .before .before .byte .ensures in
     let yes : c .before .before .before .before .before .before .before .before .args .begins ≡ true = not-false (c .before .before .before .before .before .before .before .before .args .begins) (c .before .before .before .before .if2 .left) in
-    λ o. turns-opened (opens o) refl yes (λ ns f. simp (← e, ne-eqb _ _ (c .before .before .before .before .before .if1 .left), f, yes, and-true)) (c .before .e .given .0 .0) (c .before .e .given .0 .1 .0) (c .before .before .before .start-tag .ensures) (c .before .e .given .1)
+    λ o. turns-opened (opens o) refl yes (λ ns f. simp (← e, ne-eqb _ _ (c .before .before .before .before .before .if1 .left), f, yes, and-true)) (c .before .e .given .0 .0) (c .before .e .given .0 .1 .0) (c .before .before .before .inner-tag .ensures) (c .before .e .given .1)
 
 returns-5 : tie.Need-returns-5
 unfolding formStep ended
@@ -112,7 +112,7 @@ returns-5 c =
     let n = part t (c .before .before .before .before .before .before .before .before .args .start) (c .before .before .before .before .before .before .before .before .args .end) in
     let e = c .before .before .before .before .before .before .byte .ensures in
     let yes : c .before .before .before .before .before .before .before .before .args .begins ≡ true = not-false (c .before .before .before .before .before .before .before .before .args .begins) (c .before .before .before .before .if2 .left) in
-    λ o. turns-inside (opens o) refl yes (λ ns f. simp (← e, ne-eqb _ _ (c .before .before .before .before .before .if1 .left), f, yes, and-true)) (c .before .j2 .given .0 .0) (c .before .before .before .start-tag .ensures) (c .before .j2 .given .1)
+    λ o. turns-inside (opens o) refl yes (λ ns f. simp (← e, ne-eqb _ _ (c .before .before .before .before .before .if1 .left), f, yes, and-true)) (c .before .j2 .given .0 .0) (c .before .before .before .inner-tag .ensures) (c .before .j2 .given .1)
 
 returns-6 : tie.Need-returns-6
 unfolding formStep ended
@@ -122,7 +122,7 @@ returns-6 c =
     let n = part t (c .before .before .before .before .before .before .before .before .args .start) (c .before .before .before .before .before .before .before .before .args .end) in
     let e = c .before .before .before .before .before .before .byte .ensures in
     let yes : c .before .before .before .before .before .before .before .before .args .begins ≡ true = not-false (c .before .before .before .before .before .before .before .before .args .begins) (c .before .before .before .before .if2 .left) in
-    λ o. turns-cut (opens o) refl yes (λ ns f. simp (← e, ne-eqb _ _ (c .before .before .before .before .before .if1 .left), f, yes, and-true)) (c .before .u2 .given .0 .0) (c .before .before .before .start-tag .ensures) (c .before .u2 .given .1)
+    λ o. turns-cut (opens o) refl yes (λ ns f. simp (← e, ne-eqb _ _ (c .before .before .before .before .before .if1 .left), f, yes, and-true)) (c .before .u2 .given .0 .0) (c .before .before .before .inner-tag .ensures) (c .before .u2 .given .1)
 
 pub read-tag-spec : {M : Type 1} → statement M
 read-tag-spec =
@@ -140,7 +140,7 @@ read-tag-spec =
     returns-2
     sub-t23
     returns-3
-    start-tag-requires
+    inner-tag-requires
     enum-known-e
     enum-known-j-2
     enum-known-u-2

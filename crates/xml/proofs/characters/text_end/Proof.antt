@@ -8,9 +8,7 @@ use borrow.Author.Needs.{needs}
 use Rattle.xml.specs.CheckSteps.{at, content, words, opens, withoutText, formStep, insideElement, inText, ended}
 use Rattle.xml.specs.ScanSteps.{Scans}
 use Rattle.xml.specs.declared.bytes.Scan.{Scan}
-use Rattle.xml.proofs.Past.{past-ahead}
-use Rattle.xml.proofs.Stays.{text-stay}
-use Rattle.xml.proofs.Scanned.{scan-refused, scan-step, scan-done, scan-out, scan-past, scan-then, scan-broken, scan-bounds}
+use Rattle.xml.proofs.Scanned.{scan-refused, scan-step, scan-done, scan-out, scan-then, scan-broken, scan-bounds}
 use Rattle.xml.proofs.characters.text_end.Statement.{statement}
 use Rattle.xml.proofs.characters.text_end.Tie as tie
 
@@ -22,14 +20,14 @@ Inv-loop text from kinds i₀ n₀ i n =
 abbrev μ-loop : tie.MeasureT-loop
 μ-loop text from kinds i₀ n₀ i n = length text - i
 
-past-text-requires : tie.Need-past-text-requires Inv-loop μ-loop
-past-text-requires c κs = search needs
+past-chars-requires : tie.Need-past-chars-requires Inv-loop μ-loop
+past-chars-requires c κs = search needs
 
 loop-holds : tie.Need-loop-holds Inv-loop μ-loop
 loop-holds c =
-    let e = c .past-text .ensures in
-    let h = past-ahead e in
-    (search needs, search needs, search needs, λ r x. scan-past text-stay e x)
+    let e = c .past-chars .ensures in
+    let h = e .ends in
+    (search needs, search needs, search needs, λ r x. scan-then (c .past-chars .result) e refl x)
 
 shared-slice-read-b : tie.Need-shared-slice-read-b Inv-loop μ-loop
 shared-slice-read-b c = search needs
@@ -72,15 +70,15 @@ char-end-requires c κs = search needs
 enum-known-j : tie.Need-enum-known-j Inv-loop μ-loop
 enum-known-j c = search needs
 
-past-text-requires-2 : tie.Need-past-text-requires-2 Inv-loop μ-loop
-past-text-requires-2 c κs =
+past-wide-requires : tie.Need-past-wide-requires Inv-loop μ-loop
+past-wide-requires c κs =
     let b = scan-bounds (c .before .j .given .0 .0) (c .before .before .before .char-end .ensures (content (words 0))) (c .before .j .given .1) in
     (search needs, c .before .before .before .before .before .before .before .before .before .before .before .before .before .pre .1)
 
 loop-less-2 : tie.Need-loop-less-2 Inv-loop μ-loop
 loop-less-2 c =
     let b = scan-bounds (c .before .before .j .given .0 .0) (c .before .before .before .before .char-end .ensures (content (words 0))) (c .before .before .j .given .1) in
-    let h = past-ahead (c .past-text2 .ensures) in
+    let h = c .past-wide .ensures .ends in
     search needs
 
 loop-again-2 : tie.Need-loop-again-2 Inv-loop μ-loop
@@ -89,13 +87,13 @@ loop-again-2 c =
     let r = c .before .before .before .before .char-end .ensures (content (words 0)) in
     let j = c .before .before .j .given in
     let b = scan-bounds (j .0 .0) r (j .1) in
-    let e = c .past-text2 .ensures in
-    let h = past-ahead e in (
+    let e = c .past-wide .ensures in
+    let h = e .ends in (
       search needs,
       search needs,
       search needs,
       λ s x. c .before .before .before .before .before .before .before .before .before .before .before .loop .inv .3 s
-          (scan-step (search needs) (λ ns. simp (ne-eqb _ _ (c .before .before .before .before .before .before .before .before .if1 .left), ne-eqb _ _ (c .before .before .before .before .before .before .before .if2 .left), ← c .before .before .before .before .before .before .ends-section .ensures, c .before .before .before .before .before .if3 .left)) (scan-then (j .0 .0) r (j .1) (scan-past text-stay e x))),
+          (scan-step (search needs) (λ ns. simp (ne-eqb _ _ (c .before .before .before .before .before .before .before .before .if1 .left), ne-eqb _ _ (c .before .before .before .before .before .before .before .if2 .left), ← c .before .before .before .before .before .before .ends-section .ensures, c .before .before .before .before .before .if3 .left)) (scan-then (j .0 .0) r (j .1) (scan-then (c .past-wide .result) e refl x))),
     )
 
 enum-known-u : tie.Need-enum-known-u Inv-loop μ-loop
@@ -121,7 +119,7 @@ text-end-spec =
     (tie.spec
     Inv-loop
     μ-loop
-    past-text-requires
+    past-chars-requires
     loop-holds
     shared-slice-read-b
     add-t13
@@ -135,7 +133,7 @@ text-end-spec =
     returns-2
     char-end-requires
     enum-known-j
-    past-text-requires-2
+    past-wide-requires
     loop-less-2
     loop-again-2
     enum-known-u
