@@ -1,10 +1,12 @@
 // Where runs of bytes and tags end.
 ghost use mathlib.Core.Path.{_≡_};
-ghost use Prim.Native.Nat.{_≤_, min};
+ghost use Prim.Native.Nat.{_+_, _≤_, min};
 ghost use lib.ListN.{length, drop};
+ghost use Rattle.slices.specs.Slices.{within};
 ghost use Rattle.xml.specs.Bytes.{isNameByte, isSpace};
 ghost use Rattle.xml.specs.ScanSteps.{Past};
 ghost use Rattle.xml.specs.Tree.{isNot, past, quoteAfter};
+ghost use Rattle.elements.specs.ScanSteps.{Onward, Passed};
 
 // The place at, or the text's end where that comes first.
 pub fn inside(text: &[u8], at: usize) -> usize
@@ -31,28 +33,41 @@ fn find_one(text: &[u8], at: usize, b: u8) -> usize
     i
 }
 
-// The first b from at on, or the end; four bytes at a turn.
+// Whether b is among the eight bytes from i on. None of them ends the look at the others, so that the compiler compares them at once.
+fn is_near(text: &[u8], i: usize, b: u8) -> bool
+    requires { ⌜ i + 8 ≤ length (now text) ⌝ }
+    ensures { λ r. ⌜ Passed (isNot b) (now (text .entry)) i 8 r ⌝ }
+{
+    let mut near = false;
+    let mut k: usize = 0;
+    while k < 8 {
+        near = near | (text[i + k] == b);
+        k += 1;
+    }
+    near
+}
+
+// Past bytes from at on that are not b, eight at a turn.
+fn others_end(text: &[u8], at: usize, b: u8) -> usize
+    requires { ⌜ at ≤ length (now text) ⌝ }
+    ensures { λ r. ⌜ Onward (isNot b) (now (text .entry)) at r ⌝ }
+{
+    let mut i = at;
+    while 8 <= text.len() - i {
+        if is_near(text, i, b) {
+            return i;
+        }
+        i += 8;
+    }
+    i
+}
+
+// The first b from at on, or the end.
 pub fn find(text: &[u8], at: usize, b: u8) -> usize
     requires { ⌜ at ≤ length (now text) ⌝ }
     ensures { λ r. ⌜ Past (isNot b) (now (text .entry)) at r ⌝ }
 {
-    let mut i = at;
-    while 4 <= text.len() - i {
-        if text[i] == b {
-            return i;
-        }
-        if text[i + 1] == b {
-            return i + 1;
-        }
-        if text[i + 2] == b {
-            return i + 2;
-        }
-        if text[i + 3] == b {
-            return i + 3;
-        }
-        i += 4;
-    }
-    find_one(text, i, b)
+    find_one(text, others_end(text, at, b), b)
 }
 
 // A letter, a digit, `_`, `-` or `.`.
@@ -93,8 +108,42 @@ pub fn is_space(b: u8) -> bool
     b == 10
 }
 
-// The end of the name that begins at at.
-pub fn name_end(text: &[u8], at: usize) -> usize
+// A small letter.
+fn is_small(b: u8) -> bool
+    ensures { λ r. ⌜ r ≡ within 97 122 b ⌝ }
+{
+    if b < 97 {
+        return false;
+    }
+    b <= 122
+}
+
+// Past small letters from at on, four at a turn.
+fn letters_end(text: &[u8], at: usize) -> usize
+    requires { ⌜ at ≤ length (now text) ⌝ }
+    ensures { λ r. ⌜ Onward isNameByte (now (text .entry)) at r ⌝ }
+{
+    let mut i = at;
+    while 4 <= text.len() - i {
+        if !is_small(text[i]) {
+            return i;
+        }
+        if !is_small(text[i + 1]) {
+            return i + 1;
+        }
+        if !is_small(text[i + 2]) {
+            return i + 2;
+        }
+        if !is_small(text[i + 3]) {
+            return i + 3;
+        }
+        i += 4;
+    }
+    i
+}
+
+// The end of the name that begins at at, byte by byte.
+fn run_end(text: &[u8], at: usize) -> usize
     requires { ⌜ at ≤ length (now text) ⌝ }
     ensures { λ r. ⌜ Past isNameByte (now (text .entry)) at r ⌝ }
 {
@@ -106,6 +155,20 @@ pub fn name_end(text: &[u8], at: usize) -> usize
         i += 1;
     }
     i
+}
+
+// The end of the name that begins at at; most names are small letters before `>`.
+pub fn name_end(text: &[u8], at: usize) -> usize
+    requires { ⌜ at ≤ length (now text) ⌝ }
+    ensures { λ r. ⌜ Past isNameByte (now (text .entry)) at r ⌝ }
+{
+    let i = letters_end(text, at);
+    if i < text.len() {
+        if text[i] == 62 {
+            return i;
+        }
+    }
+    run_end(text, i)
 }
 
 // The end of the white space that begins at at.
