@@ -1,8 +1,9 @@
 -- What an answer of this crate says, and what its functions promise each other.
-use mathlib.Core.Bool.{Bool, true, _&&_}
+use mathlib.Core.Bool.{Bool, true, not, _&&_}
 use mathlib.Core.List.{List, [], _∷_}
 use mathlib.Core.Option.{Option, some, none}
 use Prim.Native.Nat.{ℕ}
+use lib.Dec.{eqb}
 use lib.ListN.{drop, getD}
 use Rattle.slices.specs.Slices.{within}
 use Rattle.values.specs.declared.Boolean.{Boolean}
@@ -29,3 +30,7 @@ versionOf aVersion.Nothing = none
 unfoldable pub between : List ℕ → List ℕ → List ℕ → Bool
 between low high [] = true
 between low high (b ∷ s) = within (getD low 0 0) (getD high 0 0) b && between (drop 1 low) (drop 1 high) s
+
+-- an ASCII character from space on, no `&` and no `/`
+unfoldable pub isCommon : ℕ → Bool
+isCommon b = within 32 127 b && not (eqb b 38) && not (eqb b 47)

@@ -12,7 +12,7 @@ ghost use Rattle.slices.specs.Slices.{within, every};
 ghost use Rattle.texts.specs.Decoded.{decoded};
 ghost use Rattle.slices.specs.Slices as slices;
 ghost use Rattle.values.specs.Values.{boolean, letter, version, byPattern, inPattern, two, inRanges, isPlain, isTime, isUuid, sameUuid, isCreator, isName, isRootName};
-ghost use Rattle.values.specs.Steps.{booleanOf, letterOf, versionOf, between};
+ghost use Rattle.values.specs.Steps.{booleanOf, letterOf, versionOf, between, isCommon};
 
 // What a text says as a boolean.
 pub enum Boolean {
@@ -252,10 +252,43 @@ pub fn is_creator(raw: &[u8]) -> bool
     all_plain(raw, true)
 }
 
-// Whether raw means a name.
+// Whether b is an ASCII character from space on, no `&` and no `/`. A letter or a digit is told by two comparisons.
+fn is_common(b: u8) -> bool
+    ensures { λ r. ⌜ r ≡ isCommon b ⌝ }
+{
+    if b < b'0' {
+        if b < 32 {
+            return false;
+        }
+        if b == b'&' {
+            return false;
+        }
+        return b != b'/';
+    }
+    b <= 127
+}
+
+// Whether each byte of raw is such a character.
+fn all_common(raw: &[u8]) -> bool
+    ensures { λ r. ⌜ r ≡ every isCommon (now (raw .entry)) ⌝ }
+{
+    let mut i: usize = 0;
+    while i < raw.len() {
+        if !is_common(raw[i]) {
+            return false;
+        }
+        i += 1;
+    }
+    true
+}
+
+// Whether raw means a name. Mostly its bytes are common, and then it means itself, a code point each byte.
 pub fn is_name(raw: &[u8]) -> bool
     ensures { λ r. ⌜ r ≡ isName (decoded (now (raw .entry))) ⌝ }
 {
+    if all_common(raw) {
+        return in_count(raw.len());
+    }
     if !in_count(texts::code_points(raw)) {
         return false;
     }
