@@ -6,10 +6,12 @@ use Prim.Native.Nat.{ℕ, _+_, _<_, _≤_}
 use native.Mathlib.Omega.{arith}
 use lib.Dec.{eqb}
 use lib.ListN.{length, drop, getD}
+use Rattle.xml.specs.Bytes.{isNameByte}
 use Rattle.xml.specs.Tree.{front, isNot}
 use Rattle.xml.specs.ScanSteps.{Past}
-use Rattle.xml.proofs.Past.{front-more, front-none}
-use Rattle.elements.specs.ScanSteps.{Onward, Passed}
+use Rattle.xml.proofs.Past.{front-more, front-none, front-end}
+use Rattle.elements.specs.ScanSteps.{Onward, Looked}
+use Rattle.elements.proofs.Names.{no-shut}
 
 -- at the place itself
 pub onward-here : (f : ℕ → Bool) (s : List ℕ) (i j : ℕ) → j ≡ i → i ≤ length s → Onward f s i j
@@ -32,9 +34,21 @@ module _ {f : ℕ → Bool} {s : List ℕ} {at i : ℕ} (o : Onward f s at i) wh
   pub onward-stop : i < length s → f (getD s i 0) ≡ false → Past f s at i
   onward-stop h e = record { found = sym (o .same ∙ front-none f s i h e); inside = o .inside }
 
+  -- nor is there one past the end
+  pub onward-over : length s ≤ i → Past f s at i
+  onward-over h = record { found = sym (o .same ∙ front-end f s i h); inside = o .inside }
+
+-- a name of small letters ends at `>`
+pub onward-shut : {s : List ℕ} {at i : ℕ} → Onward isNameByte s at i → i < length s → getD s i 0 ≡ 62 → Past isNameByte s at i
+onward-shut o h e = onward-stop o h (ap isNameByte e ∙ no-shut)
+
 -- one byte more looked at, for a byte b
-pub passed-more : (b : ℕ) (s : List ℕ) (i k : ℕ) (near : Bool) → i + k < length s → Passed (isNot b) s i k near
-    → Passed (isNot b) s i (k + 1) (near || eqb (getD s (i + k) 0) b)
+pub looked-more : (b : ℕ) (s : List ℕ) (i k : ℕ) (near : Bool) → i + k < length s → Looked (isNot b) s i k near
+    → Looked (isNot b) s i (k + 1) (near || eqb (getD s (i + k) 0) b)
 unfolding isNot
-passed-more b s i k true h p e = absurd (false≢true (sym e))
-passed-more b s i k false h p e = onward-more (p refl) h (ap not e) (i + (k + 1)) (omega arith)
+looked-more b s i k true h p = record { none = λ e. absurd (false≢true (sym e)); some = λ e. p .some refl }
+looked-more b s i k false h p =
+    record {
+      none = λ e. onward-more (p .none refl) h (ap not e) (i + (k + 1)) (omega arith);
+      some = λ e. omega (arith, p .none refl .same, front-none (isNot b) s (i + k) h (ap not e));
+    }

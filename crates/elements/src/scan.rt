@@ -6,7 +6,7 @@ ghost use Rattle.slices.specs.Slices.{within};
 ghost use Rattle.xml.specs.Bytes.{isNameByte, isSpace};
 ghost use Rattle.xml.specs.ScanSteps.{Past};
 ghost use Rattle.xml.specs.Tree.{isNot, past, quoteAfter};
-ghost use Rattle.elements.specs.ScanSteps.{Onward, Passed};
+ghost use Rattle.elements.specs.ScanSteps.{EndsInside, Onward, Looked, Nearby};
 
 // The place at, or the text's end where that comes first.
 pub fn inside(text: &[u8], at: usize) -> usize
@@ -36,7 +36,7 @@ fn find_one(text: &[u8], at: usize, b: u8) -> usize
 // Whether b is among the eight bytes from i on. None of them ends the look at the others, so that the compiler compares them at once.
 fn is_near(text: &[u8], i: usize, b: u8) -> bool
     requires { ⌜ i + 8 ≤ length (now text) ⌝ }
-    ensures { λ r. ⌜ Passed (isNot b) (now (text .entry)) i 8 r ⌝ }
+    ensures { λ r. ⌜ Looked (isNot b) (now (text .entry)) i 8 r ⌝ }
 {
     let mut near = false;
     let mut k: usize = 0;
@@ -47,10 +47,10 @@ fn is_near(text: &[u8], i: usize, b: u8) -> bool
     near
 }
 
-// Past bytes from at on that are not b, eight at a turn.
+// Past bytes from at on that are not b, eight at a turn, to eight that b is among, or to fewer.
 fn others_end(text: &[u8], at: usize, b: u8) -> usize
     requires { ⌜ at ≤ length (now text) ⌝ }
-    ensures { λ r. ⌜ Onward (isNot b) (now (text .entry)) at r ⌝ }
+    ensures { λ r. ⌜ Nearby (isNot b) (now (text .entry)) at r ⌝ }
 {
     let mut i = at;
     while 8 <= text.len() - i {
@@ -62,12 +62,28 @@ fn others_end(text: &[u8], at: usize, b: u8) -> usize
     i
 }
 
+// The first b from at on, where there is one.
+fn find_ahead(text: &[u8], at: usize, b: u8) -> usize
+    requires { ⌜ EndsInside (isNot b) (now text) at ⌝ }
+    ensures { λ r. ⌜ Past (isNot b) (now (text .entry)) at r ⌝ }
+{
+    let mut i = at;
+    while text[i] != b {
+        i += 1;
+    }
+    i
+}
+
 // The first b from at on, or the end.
 pub fn find(text: &[u8], at: usize, b: u8) -> usize
     requires { ⌜ at ≤ length (now text) ⌝ }
     ensures { λ r. ⌜ Past (isNot b) (now (text .entry)) at r ⌝ }
 {
-    find_one(text, others_end(text, at, b), b)
+    let i = others_end(text, at, b);
+    if text.len() - i < 8 {
+        return find_one(text, i, b);
+    }
+    find_ahead(text, i, b)
 }
 
 // A letter, a digit, `_`, `-` or `.`.
@@ -119,7 +135,7 @@ fn is_small(b: u8) -> bool
 }
 
 // Past small letters from at on, four at a turn.
-fn letters_end(text: &[u8], at: usize) -> usize
+pub fn letters_end(text: &[u8], at: usize) -> usize
     requires { ⌜ at ≤ length (now text) ⌝ }
     ensures { λ r. ⌜ Onward isNameByte (now (text .entry)) at r ⌝ }
 {
@@ -157,18 +173,12 @@ fn run_end(text: &[u8], at: usize) -> usize
     i
 }
 
-// The end of the name that begins at at; most names are small letters before `>`.
+// The end of the name that begins at at.
 pub fn name_end(text: &[u8], at: usize) -> usize
     requires { ⌜ at ≤ length (now text) ⌝ }
     ensures { λ r. ⌜ Past isNameByte (now (text .entry)) at r ⌝ }
 {
-    let i = letters_end(text, at);
-    if i < text.len() {
-        if text[i] == 62 {
-            return i;
-        }
-    }
-    run_end(text, i)
+    run_end(text, letters_end(text, at))
 }
 
 // The end of the white space that begins at at.
@@ -211,13 +221,13 @@ pub struct TagEnd {
     pub at: usize,
 }
 
-// The end of the tag at n; most have a name alone.
+// The end of the tag at n; most have a name of small letters alone.
 pub fn tag_end(text: &[u8], n: usize) -> TagEnd
     requires { ⌜ n ≤ length (now text) ⌝ }
     ensures { λ r. ⌜ (past 0 0 (drop n (now (text .entry))) ≡ record { empty = r .empty; rest = drop (r .at) (now (text .entry)) })
         × (n ≤ r .at) × (r .at ≤ length (now (text .entry))) ⌝ }
 {
-    let e = name_end(text, n);
+    let e = letters_end(text, n);
     if e < text.len() {
         if text[e] == 62 {
             return TagEnd {

@@ -1,6 +1,7 @@
 -- `others_end` meets its contract. Invariant: b is found from i on where it is found from at on.
 use mathlib.Core.Path.{refl}
 use Prim.Native.Nat.{_-_}
+use native.Mathlib.Omega.{arith}
 use lib.ListN.{length}
 use Rattle.xml.specs.Tree.{isNot}
 use Rattle.elements.specs.ScanSteps.{Onward}
@@ -25,7 +26,7 @@ is-near-requires : tie.Need-is-near-requires Inv-loop μ-loop
 is-near-requires c κs = search needs
 
 returns : tie.Need-returns Inv-loop μ-loop
-returns c = c .before .before .before .loop .inv
+returns c = record { onward = c .before .before .before .loop .inv; ends = λ h. c .before .is-near .ensures .some (c .if1 .taken) }
 
 add-i : tie.Need-add-i Inv-loop μ-loop
 add-i c = search needs
@@ -34,10 +35,10 @@ loop-less : tie.Need-loop-less Inv-loop μ-loop
 loop-less c = search needs
 
 loop-again : tie.Need-loop-again Inv-loop μ-loop
-loop-again c = onward-on (c .before .before .before .loop .inv) (c .before .is-near .ensures (c .if1 .left))
+loop-again c = onward-on (c .before .before .before .loop .inv) (c .before .is-near .ensures .none (c .if1 .left))
 
 returns-2 : tie.Need-returns-2 Inv-loop μ-loop
-returns-2 c = c .before .loop .inv
+returns-2 c = record { onward = c .before .loop .inv; ends = λ h. absurd (omega arith) }
 
 pub others-end-spec : {M : Type 1} → statement M
 others-end-spec =
