@@ -1,14 +1,24 @@
 -- The bytes of names by ranges of byte values.
-use mathlib.Core.Path.{_≡_}
+use mathlib.Core.Path.{_≡_, refl}
 use mathlib.Core.Bool.{true, false, or-false}
 use mathlib.Core.Logic.{_⊎_, inl, inr, ⊎-elim}
 use Prim.Native.Nat.{ℕ, _<_, _≤_}
 use native.Mathlib.Omega.{arith}
 use borrow.Author.Tests.{eq-eqb, ne-eqb, le-leb, lt-leb}
 use lib.Dec.{leb, eqb}
+use Rattle.slices.specs.Slices.{within}
 use Rattle.xml.specs.Bytes.{isAsciiLetter, isNameByte}
 
+-- `>` is none
+pub no-shut : isNameByte 62 ≡ false
+unfolding isNameByte isAsciiLetter
+no-shut = refl
+
 module _ (b : ℕ) where
+  pub small-name : within 97 122 b ≡ true → isNameByte b ≡ true
+  unfolding isNameByte isAsciiLetter
+  small-name e = rw e
+
   not : (k : ℕ) → (b < k) ⊎ (k < b) → eqb b k ≡ false
   not k h = ne-eqb b k (λ e. ⊎-elim (λ z. omega arith) (λ z. omega arith) h)
 

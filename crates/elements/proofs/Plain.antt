@@ -19,6 +19,7 @@ use Rattle.elements.specs.declared.tags.Tag.the-variants.{End, Close, Op
 use Rattle.elements.specs.Reading.{forestAt, headAt, emptyAt, childrenAt, hasElement}
 use Rattle.elements.specs.TagSteps.{TextAt, NextTag, Behind, FirstOf}
 use Rattle.elements.specs.StartSteps.{Shape, GoesOnAt, Opening, StartsElement}
+use Rattle.elements.proofs.Names.{no-shut}
 use Rattle.elements.proofs.Left.{none-next, close-next, empty-next, open-next}
 use Rattle.elements.proofs.Parts.{no-part, name-part, key-part, text-found, empty-told, children-some}
 use Rattle.elements.proofs.Rows.{row-end, row-close, behind-close, behind-end, first-open, first-empty}
@@ -33,10 +34,6 @@ name-byte b k e f = go (eqb b k) refl
         let z : true ≡ false = sym e ∙ ap isNameByte (eqb-true b k q) ∙ f in
         let y : _≡_ {A = ℕ} 0 1 = cc in
         absurd (omega arith)
-
-no-shut : isNameByte 62 ≡ false
-unfolding isNameByte isAsciiLetter
-no-shut = refl
 
 no-solidus : isNameByte 47 ≡ false
 unfolding isNameByte isAsciiLetter

@@ -132,21 +132,7 @@ fn other_start(text: &[u8], n: usize, e: usize) -> Start
     }
 }
 
-// The element whose tag is at n.
-fn start_at(text: &[u8], n: usize) -> Start
-    requires { ⌜ n ≤ length (now text) ⌝ }
-    ensures { λ r. ⌜ Opening (now (text .entry)) n r ⌝ }
-{
-    let e = scan::name_end(text, n);
-    if e < text.len() {
-        if text[e] == 62 {
-            return plain_start(text, n, e);
-        }
-    }
-    other_start(text, n, e)
-}
-
-// What comes next from at on.
+// What comes next from at on. Most start tags have a name of small letters alone.
 pub fn next_start(text: &[u8], at: usize) -> Next
     ensures { λ r. ⌜ NextStart (now (text .entry)) at r ⌝ }
 {
@@ -161,7 +147,14 @@ pub fn next_start(text: &[u8], at: usize) -> Next
     if byte(text, n) == 47 {
         return Next::Close(n);
     }
-    Next::Opens(start_at(text, n))
+    let e = scan::letters_end(text, n);
+    if text.len() <= e {
+        return Next::Opens(other_start(text, n, e));
+    }
+    if text[e] == 62 {
+        return Next::Opens(plain_start(text, n, e));
+    }
+    Next::Opens(other_start(text, n, scan::name_end(text, n)))
 }
 
 // The next element of the row at at.

@@ -2,3 +2,4 @@ pub mod Patterns
 pub mod Parts
 pub mod Uuids
 pub mod SchemaForm
+pub mod Common

@@ -1,19 +1,23 @@
 -- A text by its pattern, along both: at each byte that is passed, at one that does not fit, at the end; a text in a pattern has its length, and
 -- passes each test that the pattern and all digits pass; its hex digits tell it.
 use mathlib.Core.Path.{_≡_, refl, ap, ap₂, _∙_, sym}
-use mathlib.Core.Bool.{Bool, true, false, not, cond, false≢true}
+use mathlib.Core.Bool.{Bool, true, false, not, cond, false≢true, _&&_}
 use mathlib.Core.List.{List, [], _∷_, map}
 use Prim.Native.Nat.{ℕ, suc, _+_, _<_, _≤_}
+use native.Mathlib.Omega.{arith}
+use native.Mathlib.Nat.{add-zero}
 use native.Mathlib.Numerals.{add-one}
-use borrow.Author.Tests.{eqb-true, not-true}
-use lib.Dec.{eqb}
+use borrow.Author.Tests.{eqb-true, eq-eqb, leb-true, le-leb, not-true}
+use lib.Dec.{leb, eqb}
 use lib.ListN.{length, drop, getD, drop-of-length-le}
-use lib.Seq.{drop-cons}
-use Rattle.slices.specs.Slices.{every}
-use Rattle.slices.proofs.Booleans.{split, and-left, and-right, and-both, and-parts}
+use lib.Seq.{drop-cons, drop-drop, getD-drop}
+use Rattle.slices.specs.Slices.{within, every}
+use Rattle.slices.specs.Words.{bytes}
+use Rattle.slices.proofs.Booleans.{split, and-left, and-right, and-both, and-parts, same-tests}
 use Rattle.digits.specs.Decimal.{isDigit}
 use Rattle.digits.specs.Hex.{isHex}
 use Rattle.values.specs.Values.{byPattern, inPattern}
+use Rattle.values.specs.Steps.{between}
 
 module _ (p s : List ℕ) (i : ℕ) where
   pub pattern-on : i < length p → i < length s → byPattern (getD p i 0) (getD s i 0) ≡ true → inPattern (drop i p) (drop i s) ≡ inPattern (drop (i + 1) p) (drop (i + 1) s)
@@ -62,6 +66,54 @@ module _ (test : ℕ → Bool) (digit : (b : ℕ) → isDigit b ≡ true → tes
       and-both (test b) (every test s)
       (fits-test q b (and-left (test q) (every test p) h) (and-left (byPattern q b) (inPattern p s) e))
       (pattern-every p s (and-right (test q) (every test p) h) (and-right (byPattern q b) (inPattern p s) e))
+
+-- ---- a text by the least and the greatest in a pattern
+
+module _ (low high s : List ℕ) (i : ℕ) where
+  pub between-step : i < length s
+      → between (drop i low) (drop i high) (drop i s) ≡ (within (getD low i 0) (getD high i 0) (getD s i 0) && between (drop (i + 1) low) (drop (i + 1) high) (drop (i + 1) s))
+  unfolding between
+  between-step h = rw (drop-cons s i 0, add-one) (rw (getD-drop i low 0 0, getD-drop i high 0 0, drop-drop 1 i low, drop-drop 1 i high, add-one, add-zero))
+
+  pub between-end : length s ≤ i → between (drop i low) (drop i high) (drop i s) ≡ true
+  unfolding between
+  between-end h = rw (drop-of-length-le s h)
+
+-- the least and the greatest byte that fit a pattern's byte, which is no star
+abbrev pub least : ℕ → ℕ
+least q = cond (eqb q 35) 48 q
+
+abbrev pub greatest : ℕ → ℕ
+greatest q = cond (eqb q 35) 57 q
+
+itself-only : (q b : ℕ) → within q q b ≡ eqb q b
+itself-only q b =
+    same-tests (within q q b) (eqb q b)
+    (λ e. eq-eqb q b (omega (arith, leb-true q b (and-left (leb q b) (leb b q) e), leb-true b q (and-right (leb q b) (leb b q) e))))
+    (λ e. let z : q ≡ b = eqb-true q b e in and-both (leb q b) (leb b q) (le-leb q b (omega arith)) (le-leb b q (omega arith)))
+
+fits-between : (q b : ℕ) → eqb q 42 ≡ false → within (least q) (greatest q) b ≡ byPattern q b
+unfolding byPattern
+fits-between q b n = go (eqb q 35)
+  where
+    go : (t : Bool) → within (cond t 48 q) (cond t 57 q) b ≡ cond t (isDigit b) (cond (eqb q 42) (isHex b) (eqb q b))
+    go true = refl
+    go false = rw n (itself-only q b)
+
+pub between-pattern : (p s : List ℕ) → every (λ q. not (eqb q 42)) p ≡ true → length p ≡ length s
+    → between (map least p) (map greatest p) s ≡ inPattern p s
+unfolding between inPattern every
+between-pattern [] [] n h = refl
+between-pattern [] (b ∷ s) n h = absurd (omega arith)
+between-pattern (q ∷ p) [] n h = absurd (omega arith)
+between-pattern (q ∷ p) (b ∷ s) n h =
+    let (f, g) = and-parts (not (eqb q 42)) (every (λ q. not (eqb q 42)) p) n in
+    ap₂ _&&_ (fits-between q b (not-true (eqb q 42) f)) (between-pattern p s g (omega arith))
+
+pub time-between : (s : List ℕ) → length s ≡ 30
+    → between (bytes "0000-00-00T00:00:00.000000000Z") (bytes "9999-99-99T99:99:99.999999999Z") s ≡ inPattern (bytes "####-##-##T##:##:##.#########Z") s
+unfolding bytes every
+time-between s h = between-pattern (bytes "####-##-##T##:##:##.#########Z") s refl (sym h)
 
 -- ---- the hex digits of a text in a pattern
 

@@ -12,7 +12,7 @@ ghost use Rattle.slices.specs.Slices.{within, every};
 ghost use Rattle.texts.specs.Decoded.{decoded};
 ghost use Rattle.slices.specs.Slices as slices;
 ghost use Rattle.values.specs.Values.{boolean, letter, version, byPattern, inPattern, two, inRanges, isPlain, isTime, isUuid, sameUuid, isCreator, isName, isRootName};
-ghost use Rattle.values.specs.Steps.{booleanOf, letterOf, versionOf};
+ghost use Rattle.values.specs.Steps.{booleanOf, letterOf, versionOf, between, isCommon};
 
 // What a text says as a boolean.
 pub enum Boolean {
@@ -130,11 +130,33 @@ fn is_in_ranges(raw: &[u8]) -> bool
     is_two(raw, 17, 0, 59)
 }
 
+// Whether each byte of raw is from low's to high's. None of them ends the look at the others, so that the compiler compares many at once.
+fn is_between(low: &[u8], high: &[u8], raw: &[u8]) -> bool
+    requires { ⌜ (length (now low) ≡ length (now raw)) × (length (now high) ≡ length (now raw)) ⌝ }
+    ensures { λ r. ⌜ r ≡ between (now (low .entry)) (now (high .entry)) (now (raw .entry)) ⌝ }
+{
+    let mut so = true;
+    let mut i: usize = 0;
+    while i < raw.len() {
+        let b = raw[i];
+        so = so & ((low[i] <= b) & (b <= high[i]));
+        i += 1;
+    }
+    so
+}
+
 // Whether raw is a time.
 pub fn is_time(raw: &[u8]) -> bool
     ensures { λ r. ⌜ r ≡ isTime (now (raw .entry)) ⌝ }
 {
-    if !is_in_pattern(b"####-##-##T##:##:##.#########Z", raw) {
+    if raw.len() != 30 {
+        return false;
+    }
+    if !is_between(
+        b"0000-00-00T00:00:00.000000000Z",
+        b"9999-99-99T99:99:99.999999999Z",
+        raw,
+    ) {
         return false;
     }
     is_in_ranges(raw)
@@ -230,10 +252,43 @@ pub fn is_creator(raw: &[u8]) -> bool
     all_plain(raw, true)
 }
 
-// Whether raw means a name.
+// Whether b is an ASCII character from space on, no `&` and no `/`. A letter or a digit is told by two comparisons.
+fn is_common(b: u8) -> bool
+    ensures { λ r. ⌜ r ≡ isCommon b ⌝ }
+{
+    if b < b'0' {
+        if b < 32 {
+            return false;
+        }
+        if b == b'&' {
+            return false;
+        }
+        return b != b'/';
+    }
+    b <= 127
+}
+
+// Whether each byte of raw is such a character.
+fn all_common(raw: &[u8]) -> bool
+    ensures { λ r. ⌜ r ≡ every isCommon (now (raw .entry)) ⌝ }
+{
+    let mut i: usize = 0;
+    while i < raw.len() {
+        if !is_common(raw[i]) {
+            return false;
+        }
+        i += 1;
+    }
+    true
+}
+
+// Whether raw means a name. Mostly its bytes are common, and then it means itself, a code point each byte.
 pub fn is_name(raw: &[u8]) -> bool
     ensures { λ r. ⌜ r ≡ isName (decoded (now (raw .entry))) ⌝ }
 {
+    if all_common(raw) {
+        return in_count(raw.len());
+    }
     if !in_count(texts::code_points(raw)) {
         return false;
     }

@@ -6,6 +6,7 @@ use native.Mathlib.Omega.{arith}
 use lib.ListN.{length, drop, getD}
 use Rattle.xml.specs.Tree.{past}
 use Rattle.xml.proofs.Past.{past-ahead}
+use Rattle.elements.proofs.Finding.{onward-shut}
 use Rattle.elements.proofs.Plain.{named-past}
 use Rattle.elements.proofs.Left.{past-shut, past-on, past-quoted, past-end}
 use borrow.Author.Needs.{needs}
@@ -18,8 +19,8 @@ Inv-loop text n e i₀ q₀ last₀ i q last = (n ≤ i) × (i ≤ length text) 
 abbrev μ-loop : tie.MeasureT-loop
 μ-loop text n e i₀ q₀ last₀ i q last = length text - i
 
-name-end-requires : tie.Need-name-end-requires Inv-loop μ-loop
-name-end-requires c κs = search needs
+letters-end-requires : tie.Need-letters-end-requires Inv-loop μ-loop
+letters-end-requires c κs = search needs
 
 shared-slice-read-if2 : tie.Need-shared-slice-read-if2 Inv-loop μ-loop
 shared-slice-read-if2 c = search needs
@@ -29,9 +30,10 @@ add-t13 c = search needs
 
 returns : tie.Need-returns Inv-loop μ-loop
 returns c =
-    let r = c .before .before .before .name-end in (
-      named-past (c .before .before .before .before .before .args .text .now) (c .before .before .before .before .before .args .n) (r .result) (r .ensures) (c .before .before .if1 .taken) (c .if2 .taken),
-      omega (arith, past-ahead (r .ensures)),
+    let r = c .before .before .before .letters-end in
+    let p = onward-shut (r .ensures) (c .before .before .if1 .taken) (c .if2 .taken) in (
+      named-past (c .before .before .before .before .before .args .text .now) (c .before .before .before .before .before .args .n) (r .result) p (c .before .before .if1 .taken) (c .if2 .taken),
+      omega (arith, past-ahead p),
       omega arith,
     )
 
@@ -83,7 +85,7 @@ tag-end-spec =
     (tie.spec
     Inv-loop
     μ-loop
-    name-end-requires
+    letters-end-requires
     shared-slice-read-if2
     add-t13
     returns

@@ -1,4 +1,4 @@
--- `name_end` meets its contract. Invariant: the run ends from i on where it ends from at on.
+-- `run_end` meets its contract. Invariant: the run ends from i on where it ends from at on.
 use Prim.Native.Nat.{_+_, _-_, _≤_}
 use mathlib.Core.Path.{_≡_, refl, sym, _∙_}
 use borrow.Author.Tests.{not-true, not-false}
@@ -7,8 +7,8 @@ use Rattle.xml.specs.Bytes.{isNameByte}
 use Rattle.xml.specs.Tree.{front}
 use Rattle.xml.proofs.Past.{front-more, front-none, front-end}
 use borrow.Author.Needs.{needs}
-use Rattle.elements.proofs.scan.name_end.Statement.{statement}
-use Rattle.elements.proofs.scan.name_end.Tie as tie
+use Rattle.elements.proofs.scan.run_end.Statement.{statement}
+use Rattle.elements.proofs.scan.run_end.Tie as tie
 
 abbrev Inv-loop : tie.InvT-loop
 Inv-loop text at i₀ i = (i ≤ length text) × (at + front isNameByte (drop at text) ≡ i + front isNameByte (drop i text))
@@ -46,8 +46,8 @@ returns-2 c =
     let l = c .before .loop in
     record { found = sym (l .inv .1 ∙ front-end isNameByte _ _ (search needs)); inside = search needs }
 
-pub name-end-spec : {M : Type 1} → statement M
-name-end-spec =
+pub run-end-spec : {M : Type 1} → statement M
+run-end-spec =
     tie.close
     (tie.spec
     Inv-loop
