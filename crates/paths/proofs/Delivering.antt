@@ -1,7 +1,7 @@
 -- What the writer of a path owes at each of its answers: 14, 2, 14, 10, and the path.
 use mathlib.Core.Path.{_≡_, refl, ap, sym, _∙_}
 use mathlib.Core.Bool.{Bool, true, false, cond, false≢true}
-use mathlib.Core.List.{List, [], _∷_, _++_}
+use mathlib.Core.List.{List, []}
 use Prim.Native.Nat.{ℕ, zero, suc, _%_, _<_, _≤_}
 use native.Mathlib.Omega.{arith}
 use borrow.Author.Tests.{eq-eqb, ne-eqb, lt-ltb, le-ltb, le-leb, lt-leb, leb-true, leb-false}
@@ -12,8 +12,9 @@ use Rattle.refusals.specs.declared.Refusal.{Refusal}
 use Rattle.refusals.specs.declared.Refusal.the-variants.{Missing, Short, Caller}
 use Rattle.slices.specs.Slices.{written}
 use Rattle.slices.specs.declared.Written.the-variants.{To, Refused}
-use Rattle.paths.specs.Paths.{entryCount, parentOf, joined, nameOf, isPlaced, namesDown, pathDown, pathOf, fitting}
+use Rattle.paths.specs.Paths.{entryCount, parentOf, nameOf, isPlaced, namesDown, pathDown, pathOf, fitting}
 use Rattle.paths.specs.Steps.{isAnswer, sizeFor, pathBytes, Delivers}
+use Rattle.paths.proofs.Walks.{with-name, joining}
 use Rattle.paths.specs.declared.Size.the-variants.{Bytes, TooLong}
 
 -- a size tells whether there is room
@@ -50,21 +51,20 @@ module _ (text entries : List ℕ) where
       go (eqb n 0) (isPlaced text entries n) (namesDown text entries steps (parentOf entries n)) e (names-refused steps (parentOf entries n))
     where
       go : (root placed : Bool) (a : Answer (List (List ℕ)))
-          → isAnswer (cond root (answer []) (require placed Caller (andThen a (λ above. answer (above ++ (nameOf text entries n ∷ [])))))) ≡ false
+          → isAnswer (cond root (answer []) (require placed Caller (with-name (nameOf text entries n) a))) ≡ false
           → (isAnswer a ≡ false → a ≡ refused Caller)
-          → cond root (answer []) (require placed Caller (andThen a (λ above. answer (above ++ (nameOf text entries n ∷ []))))) ≡ refused Caller
+          → cond root (answer []) (require placed Caller (with-name (nameOf text entries n) a)) ≡ refused Caller
       go true placed a k next = absurd (false≢true (sym k))
       go false false a k next = refl
-      go false true (refused r) k next = ap (λ (b : Answer (List (List ℕ))). andThen b (λ above. answer (above ++ (nameOf text entries n ∷ [])))) (next refl)
+      go false true (refused r) k next = ap (with-name (nameOf text entries n)) (next refl)
       go false true (answer above) k next = absurd (false≢true (sym k))
 
   path-refused : (n : ℕ) → isAnswer (pathDown text entries n) ≡ false → pathDown text entries n ≡ refused Caller
   unfolding pathDown
   path-refused n e = go (namesDown text entries n n) e (names-refused n n)
     where
-      go : (a : Answer (List (List ℕ))) → isAnswer (andThen a (λ names. answer (joined names))) ≡ false → (isAnswer a ≡ false → a ≡ refused Caller)
-          → andThen a (λ names. answer (joined names)) ≡ refused Caller
-      go (refused r) k next = ap (λ (b : Answer (List (List ℕ))). andThen b (λ names. answer (joined names))) (next refl)
+      go : (a : Answer (List (List ℕ))) → isAnswer (joining a) ≡ false → (isAnswer a ≡ false → a ≡ refused Caller) → joining a ≡ refused Caller
+      go (refused r) k next = ap joining (next refl)
       go (answer names) k next = absurd (false≢true (sym k))
 
   path-bytes : (n : ℕ) → isAnswer (pathDown text entries n) ≡ true → pathDown text entries n ≡ answer (pathBytes text entries n)

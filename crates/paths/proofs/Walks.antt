@@ -27,6 +27,13 @@ joined-snoc : (names : List (List ℕ)) (y x : List ℕ) → joined (names ++ (y
 joined-snoc [] y x = joined-more y [] x
 joined-snoc (z ∷ names) y x = joined-more z (names ++ (y ∷ [])) x
 
+-- names with one more, and names joined
+abbrev pub with-name : List ℕ → Answer (List (List ℕ)) → Answer (List (List ℕ))
+with-name x a = andThen a (λ above. answer (above ++ (x ∷ [])))
+
+abbrev pub joining : Answer (List (List ℕ)) → Answer (List ℕ)
+joining a = andThen a (λ names. answer (joined names))
+
 -- what an entry with that name adds to the path of its parent p
 abbrev pub below : ℕ → List ℕ → List ℕ → List ℕ
 below zero above name = name
@@ -52,7 +59,8 @@ module _ (text entries : List ℕ) where
         let past : length text < nameAt entries n + nameLength entries n = omega arith in
         rw (lt-leb _ _ past) (and-false (ltb (parentOf entries n) n))
 
-    pub placed-name : parentOf entries n < n → nameAt entries n ≤ length text → isPlaced text entries n ≡ leb (nameLength entries n) (length text - nameAt entries n)
+    pub placed-name : parentOf entries n < n → nameAt entries n ≤ length text
+        → isPlaced text entries n ≡ leb (nameLength entries n) (length text - nameAt entries n)
     unfolding isPlaced
     placed-name h k =
         rw (lt-ltb (parentOf entries n) n h)
@@ -86,8 +94,7 @@ module _ (text entries : List ℕ) where
   names-unplaced (suc n) h e = rw (not-root n, e)
 
   names-placed : (n : ℕ) → 0 < n → isPlaced text entries n ≡ true
-      → namesDown text entries n n
-      ≡ andThen (namesDown text entries (parentOf entries n) (parentOf entries n)) (λ above. answer (above ++ (nameOf text entries n ∷ [])))
+      → namesDown text entries n n ≡ with-name (nameOf text entries n) (namesDown text entries (parentOf entries n) (parentOf entries n))
   unfolding namesDown
   names-placed zero h e = absurd (omega arith)
   names-placed (suc n) h e =
@@ -97,22 +104,20 @@ module _ (text entries : List ℕ) where
 
   -- a name below entry n is joined by `/` to the path of n
   joined-below : (n : ℕ) (x : List ℕ) → 0 < n
-      → andThen (andThen (namesDown text entries n n) (λ above. answer (above ++ (x ∷ [])))) (λ names. answer (joined names))
-      ≡ andThen (pathDown text entries n) (λ above. answer (above ++ bytes "/" ++ x))
+      → joining (with-name x (namesDown text entries n n)) ≡ andThen (pathDown text entries n) (λ above. answer (above ++ bytes "/" ++ x))
   unfolding pathDown namesDown
   joined-below zero x h = absurd (omega arith)
   joined-below (suc n) x h = rw (not-root n) (go (isPlaced text entries (suc n)) (namesDown text entries n (parentOf entries (suc n))))
     where
       go : (t : Bool) (a : Answer (List (List ℕ)))
-          → andThen (andThen (require t Caller (andThen a (λ above. answer (above ++ (nameOf text entries (suc n) ∷ []))))) (λ above. answer (above ++ (x ∷ [])))) (λ names. answer (joined names))
-          ≡ andThen (andThen (require t Caller (andThen a (λ above. answer (above ++ (nameOf text entries (suc n) ∷ []))))) (λ names. answer (joined names))) (λ above. answer (above ++ bytes "/" ++ x))
+          → joining (with-name x (require t Caller (with-name (nameOf text entries (suc n)) a)))
+          ≡ andThen (joining (require t Caller (with-name (nameOf text entries (suc n)) a))) (λ above. answer (above ++ bytes "/" ++ x))
       go false a = refl
       go true (refused r) = refl
       go true (answer names) = ap answer (joined-snoc names (nameOf text entries (suc n)) x)
 
   joined-under : (p : ℕ) (x : List ℕ)
-      → andThen (andThen (namesDown text entries p p) (λ above. answer (above ++ (x ∷ [])))) (λ names. answer (joined names))
-      ≡ andThen (pathDown text entries p) (λ above. answer (below p above x))
+      → joining (with-name x (namesDown text entries p p)) ≡ andThen (pathDown text entries p) (λ above. answer (below p above x))
   unfolding pathDown namesDown joined
   joined-under zero x = refl
   joined-under (suc p) x = joined-below (suc p) x (omega arith)
@@ -122,8 +127,7 @@ module _ (text entries : List ℕ) where
       → pathDown text entries n ≡ andThen (pathDown text entries (parentOf entries n)) (λ above. answer (below (parentOf entries n) above (nameOf text entries n)))
   unfolding pathDown
   down-placed n h e =
-      ap (λ (a : Answer (List (List ℕ))). andThen a (λ names. answer (joined names))) (names-placed n h e)
-      ∙ joined-under (parentOf entries n) (nameOf text entries n)
+      ap joining (names-placed n h e) ∙ joined-under (parentOf entries n) (nameOf text entries n)
 
   pub down-unplaced : (n : ℕ) → 0 < n → isPlaced text entries n ≡ false → pathDown text entries n ≡ refused Caller
   unfolding pathDown

@@ -1,4 +1,4 @@
--- `path_len` meets its contract. Invariant: what the entry reached has yet to add is the path less the room that is taken.
+-- `path_len` meets its contract. Invariant: the path of the entry reached and the room that was taken are the whole path.
 use Prim.Native.Nat.{ℕ, _+_, _-_, _≤_}
 use mathlib.Core.Path.{_≡_, refl, _∙_, ap}
 use mathlib.Core.Bool.{true}

@@ -1,4 +1,4 @@
--- `put_path` meets its contract. Invariant: what is left, written in front of what was written, leaves what is to be left.
+-- `put_path` meets its contract. Invariant: the path of the entry reached, written in front of what was written, is the whole path written.
 use Prim.Native.Nat.{ℕ, _≤_}
 use mathlib.Core.Path.{_≡_, refl, sym, _∙_, ap}
 use mathlib.Core.Bool.{true}
