@@ -5,6 +5,7 @@ pub mod Saying
 pub mod Writing
 pub mod ReadBack
 pub mod Headers
+pub mod Naming
 pub mod Demands
 pub mod Continued
 pub mod Sizing

@@ -3,6 +3,7 @@ pub mod Partitions
 pub mod Labels
 pub mod Files
 pub mod Indexes
+pub mod Names
 pub mod Volumes
 pub mod Continued
 pub mod Tapes

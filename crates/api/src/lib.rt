@@ -3,6 +3,7 @@ pub mod ansi_tapes;
 pub mod files;
 pub mod indexes;
 pub mod labelling;
+pub mod names;
 mod numbers;
 pub mod partitions;
 pub mod volumes;

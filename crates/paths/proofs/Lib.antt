@@ -1,0 +1,4 @@
+pub mod Walks
+pub mod Names
+pub mod Delivering
+pub mod Tables
