@@ -8,7 +8,7 @@ says out "1 directory, 1 file"
 is 0 "$K" files nights --data --construct 0
 says out "1 directory, 0 files"
 is 1 "$K" files nights --construct 9
-says err "refused 2: no such element, construct, file or file position (index side: index.store, index construct 9)"
+says err "refused 2: no such element, construct, file, entry or file position (index side: index.store, index construct 9)"
 is 2 "$K" files nights --construct x
 is 0 "$K" files sparse --json
 says out '{"file":0,"length":80000,"name":"gaps & <more>","extents":[{"partition":"b","startblock":7,'
