@@ -58,11 +58,11 @@ static void print_json_ansi(const struct volume *volume, uint64_t refusal)
 static void print_json_labels(const struct label *label)
 {
     fputs(",\"identifier\":", stdout);
-    print_json(stdout, label->identifier, false);
+    print_json(stdout, label->identifier);
     fputs(",\"uuid\":", stdout);
-    print_json(stdout, label->uuid, false);
+    print_json(stdout, label->uuid);
     fputs(",\"data_uuid\":", stdout);
-    print_json(stdout, label->data_uuid, false);
+    print_json(stdout, label->data_uuid);
 }
 
 static void print_json_verdict(const struct assessment *found)

@@ -256,7 +256,7 @@ says_not out unreadable
 
 # The cut keeps an index without the file: which one it is.
 is 1 "$K" extract worn wednesday.wav
-says err "worn: wednesday.wav: no file has this name in index 1 of the index partition"
+says err "worn: wednesday.wav: no file has this path or name in index 1 of the index partition"
 is 1 "$K" extract worn --data --construct 2 --number 12
 says err "worn: 12: no file has this number in index 2 of the data partition"
 
