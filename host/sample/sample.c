@@ -72,7 +72,9 @@ static void tag(struct index_text *index, int depth, const char *tag)
 static void value(struct index_text *index, int depth, const char *name, const char *text)
 {
     new_line(index, depth);
-    put(&index->text, "<%s>%s</%s>", name, text, name);
+    put(&index->text, "<%s>", name);
+    put_bytes(&index->text, text, strlen(text));
+    put(&index->text, "</%s>", name);
 }
 
 static void number(struct index_text *index, int depth, const char *name, uint64_t number)

@@ -285,9 +285,10 @@ fn creator(random: &mut Random) -> String {
 }
 
 fn name(random: &mut Random) -> String {
-    match random.below(8) {
+    match random.below(9) {
         0 => " spaced ".into(),
         1 => "a]]>b".into(),
+        6 => "&lt;\"&amp;amp;'>".into(),
         2 => ".".into(),
         3 => "A&B".into(),
         4 => "日本:語".into(),
@@ -641,6 +642,8 @@ struct Pool<'a> {
     block_size: u64,
     next_uid: u64,
     uid_step: u64,
+    /// One entry in so many is a directory, as far as there is depth left.
+    directories: usize,
 }
 
 impl Pool<'_> {
@@ -693,7 +696,7 @@ fn directory_node(random: &mut Random, pool: &mut Pool, root: bool, depth: usize
     let mut nodes = entry_nodes(random, uid, directory_name);
     let mut contents = Vec::new();
     for _ in 0..random.below(4) {
-        if depth > 0 && random.one_in(3) {
+        if depth > 0 && random.one_in(pool.directories) {
             contents.push(directory_node(random, pool, false, depth - 1));
         } else {
             contents.push(file_node(random, pool));
@@ -727,8 +730,10 @@ pub fn index_node(
         block_size: label.block_size,
         next_uid: 1,
         uid_step: 1 + random.draw() % 9,
+        directories: 2 + random.below(3),
     };
-    let directory = directory_node(random, &mut pool, true, 3);
+    let depth = *random.pick(&[&3, &3, &12]);
+    let directory = directory_node(random, &mut pool, true, depth);
     let highest = if random.one_in(4) { 0 } else { pool.next_uid };
     let mut nodes = vec![
         Node::value("creator", creator(random)),
