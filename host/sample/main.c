@@ -511,7 +511,7 @@ int main(int count, char **words)
         sample_free(&sample);
         return 0;
     }
-    fputs("usage: make_sample fresh|torn|nights|rewound|defect|sparse|long|many|extents|odd|spellings|padded|unreadable|full|folders|"
-          "ansi|ansi_worn|ansi_many DIR\n", stderr);
+    fputs("usage: make_sample fresh|torn|nights|rewound|defect|sparse|long|many|extents|odd|spellings|padded|unreadable|full|"
+          "folders|ansi|ansi_worn|ansi_many DIR\n", stderr);
     return 2;
 }

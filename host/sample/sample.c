@@ -211,6 +211,23 @@ struct buffer index_of_size(size_t size, bool indented)
     return index.text;
 }
 
+struct buffer index_of_names(size_t size, const char *character)
+{
+    enum { CHARACTERS = 255 };
+    struct index_head head = { .generation = 7, .letter = 'a', .block = 5 };
+    struct index_text index;
+    struct buffer name = { 0 };
+    for (int i = 0; i < CHARACTERS; i++)
+        put(&name, "%s", character);
+    put_byte(&name, '\0', 1);
+    index_begin(&index, &head);
+    while (index.text.length + 2 * name.length + 1024 < size)
+        index_file(&index, (const char *)name.bytes, 0, NULL, 0);
+    index_end(&index);
+    buffer_free(&name);
+    return index.text;
+}
+
 struct buffer nested_index(size_t size, int depth)
 {
     struct index_head head = { .generation = 7, .letter = 'a', .block = 5 };
