@@ -129,3 +129,23 @@ extracted folders 2 found
 is 1 "$K" extract folders --construct 1 "$RAW/monday.wav"
 says err "refused 2: "
 no_drafts
+
+# ---- Break 5: the path of the file that does not lie on the tape ----
+
+lose folders lost_folders data:16
+is 1 "$K" check lost_folders
+is_visible out
+says out 'break 5: file 6 of the last index does not lie on the tape: odd\x7f\u202egpj/csi\u009b[31m; no cut'
+is 0 "$K" show lost_folders
+is_visible out
+says out 'verdict  break 5: file 6 of the last index does not lie on the tape: odd\x7f\u202egpj/csi\u009b[31m'
+is 1 "$K" check --json lost_folders
+is_json out
+says out '"text":"file 6 of the last index does not lie on the tape","path":"odd\u007f\u202egpj/csi\u009b[31m"}'
+is 0 "$K" cut lost_folders told_folders --keep-index 9
+says out "break 5: file 6 of the last index does not lie on the tape: odd"
+is 1 "$K" compare folders lost_folders
+is_visible out
+says out 'does not lie on the tape: odd\x7f\u202egpj/csi\u009b[31m'
+is 1 "$K" check --json torn
+says_not out '"path"'
