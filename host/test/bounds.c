@@ -587,7 +587,8 @@ static void whole_rows(size_t count)
     for (uint64_t i = 1; i <= files; i++) {
         uint64_t before = KLAPOUZEN_MAX_ROWS * (i - 1), left = count - before;
         expect("its first row", number_of(&whole, i, KLAPOUZEN_ENTRY_FIRST_ROW), before);
-        expect("its rows", number_of(&whole, i, KLAPOUZEN_ENTRY_ROWS), left < KLAPOUZEN_MAX_ROWS ? left : KLAPOUZEN_MAX_ROWS);
+        expect("its rows", number_of(&whole, i, KLAPOUZEN_ENTRY_ROWS),
+               left < KLAPOUZEN_MAX_ROWS ? left : KLAPOUZEN_MAX_ROWS);
     }
     drop_whole(&whole);
 }
@@ -623,6 +624,37 @@ static void deepest_paths(void)
     put(&path, "innermost");
     expect_path("the deepest path", &whole, whole.count - 1, path);
     drop_whole(&whole);
+}
+
+/* In directories as deep as a file may stand: one with an extent, and one whose attributes go down to this nesting. */
+static struct slice index_of_nesting(int nesting)
+{
+    enum { FILE_AND_ATTRIBUTES = 2 };
+    struct extent extent = { 'b', 4, 0, 1, 0 };
+    struct index_text index;
+    index_begin(&index, &head);
+    while (index.depth < KLAPOUZEN_MAX_NESTING - 5)
+        index_directory(&index, "d");
+    index_file(&index, "rows", 1, &extent, 1);
+    index_attributes(&index, "attributes", nesting - index.depth - FILE_AND_ATTRIBUTES);
+    index_end(&index);
+    return guarded(&index.text);
+}
+
+static void deepest_elements(void)
+{
+    enum { DIRECTORIES = 29 };
+    struct slice deeper = index_of_nesting(KLAPOUZEN_MAX_NESTING + 1);
+    struct whole whole = read_whole("nesting 64", index_of_nesting(KLAPOUZEN_MAX_NESTING), DIRECTORIES + 2, 1);
+    for (int i = 0; i < 2; i++) {
+        expect("its parent", number_of(&whole, DIRECTORIES + i, KLAPOUZEN_ENTRY_PARENT), DIRECTORIES - 1);
+        expect("files before it", number_of(&whole, DIRECTORIES + i, KLAPOUZEN_ENTRY_FILE), i);
+        expect("rows before it", number_of(&whole, DIRECTORIES + i, KLAPOUZEN_ENTRY_FIRST_ROW), i);
+        expect("its rows", number_of(&whole, DIRECTORIES + i, KLAPOUZEN_ENTRY_ROWS), 1 - i);
+    }
+    expect("nesting 65", klapouzen_read_whole(SLICE(deeper), GIVEN, 'a', 5, NONE, NONE, filled()), 4);
+    drop_whole(&whole);
+    drop(deeper);
 }
 
 /* A path of the longest names, each character a reference. */
@@ -733,6 +765,7 @@ static void largest_indexes(void)
 static void largest_paths(void)
 {
     deepest_paths();
+    deepest_elements();
     longest_path();
     longest_table();
     decode_of("&amp;", "&", KLAPOUZEN_MAX_INDEX / 5);

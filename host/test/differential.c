@@ -227,11 +227,18 @@ static size_t room_for(uint64_t numbers, size_t most)
 
 /* ---- Names and paths ---- */
 
-/* Some bytes of a text, in which references may be cut off at either end. */
+/* Some bytes of a text: many, or few from a reference on, which may be cut off. */
 static struct slice part_of_text(struct slice text, uint64_t n)
 {
-    size_t from = text.length > 0 ? n * 7919 % text.length : 0, left = text.length - from;
-    return (struct slice){ text.start + from, left < LENT / 2 ? left : LENT / 2 };
+    if (text.length == 0)
+        return text;
+    size_t from = n * 7919 % text.length, most = LENT / 2;
+    const uint8_t *reference = memchr(text.start + from, '&', text.length - from);
+    if (n % 2 == 1 && reference != NULL) {
+        from = (size_t)(reference - text.start);
+        most = n / 2 % 12;
+    }
+    return (struct slice){ text.start + from, text.length - from < most ? text.length - from : most };
 }
 
 static void compare_decode(struct slice text)
@@ -300,7 +307,7 @@ static void compare_whole(struct slice text, const struct given *given, uint8_t 
     uint64_t count = header[KLAPOUZEN_INDEX_DIRECTORIES] + header[KLAPOUZEN_INDEX_FILES];
     size_t entries = room_for(KLAPOUZEN_ENTRY * count, ENTRIES);
     size_t rows = room_for(KLAPOUZEN_ROW * header[KLAPOUZEN_INDEX_ROWS], ROWS);
-    if (answers[0].refusal == 0) {
+    if (answers[1].refusal == 0) {
         wholes++;
         compare_paths(text, answers[0].entries, entries);
     }

@@ -142,6 +142,7 @@ static void call_indexes(void)
     answered(klapouzen_path(index_text.bytes, index_text.length, entries, KLAPOUZEN_ENTRY * (DIRECTORIES + FILES),
                             DIRECTORIES + FILES - 1, path, sizeof path, out));
     must(out[0] == 2 * (DIRECTORIES - 2) + strlen("last"));
+    must(index_text.length > sizeof path);
     answered(klapouzen_decode(index_text.bytes, sizeof path, path, sizeof path, out));
     answered(klapouzen_byte_at(rows, sizeof rows / sizeof rows[0], KLAPOUZEN_MAX_ROWS, 4096, 0, out));
     answered(klapouzen_index(TAPE(volume.sides[1]), UUID, 'a', 'b', 4096, 'b', CONSTRUCTS - 1, out));
