@@ -4,6 +4,7 @@
 
 #include "volume.h"
 
+/* As KLAPOUZEN_ENTRY_KIND tells them. */
 enum entry_kind { DIRECTORY, REGULAR };
 
 struct contents {

@@ -61,15 +61,15 @@ struct search {
 };
 
 /* A path or a name, told of an entry. */
-typedef struct bytes text_of(const struct contents *contents, uint64_t entry);
+typedef struct bytes told(const struct contents *contents, uint64_t entry);
 
 /* How many files, or directories, have this path or name, and the last of them. */
-static uint64_t count_called(const struct search *search, enum entry_kind kind, text_of *text_of, struct bytes wanted,
+static uint64_t count_called(const struct search *search, enum entry_kind kind, told *told, struct bytes wanted,
                              uint64_t *entry)
 {
     uint64_t found = 0;
     for (uint64_t i = 0; i < search->contents->count; i++)
-        if (is_file(search->contents, i) == (kind == REGULAR) && are_same(text_of(search->contents, i), wanted)) {
+        if (is_file(search->contents, i) == (kind == REGULAR) && are_same(told(search->contents, i), wanted)) {
             *entry = i;
             found++;
         }
