@@ -1,17 +1,31 @@
 #!/usr/bin/env bash
 # Instructions, counted by valgrind: counts.sh TARGET
-# Of one call of an exported function: others may be inlined.
+# Of one call of a function: others may be inlined. Where two functions read the same text there is their ratio.
 set -euo pipefail
 bench=$1/bench/bench
 out=$1/bench/callgrind.out
 
-count() {
-    local function=$1 what=$2 name=$3
-    if ! valgrind --tool=callgrind --callgrind-out-file="$out" --toggle-collect="$function" "$bench" once "$what" 2> "$out.log" > /dev/null; then
+# counted FUNCTION WHAT [TEXT]: prints the instructions of the function in `bench once WHAT TEXT`.
+counted() {
+    local function=$1
+    shift
+    if ! valgrind --tool=callgrind --callgrind-out-file="$out" --toggle-collect="$function" "$bench" once "$@" 2> "$out.log" > /dev/null; then
         cat "$out.log" >&2
         exit 1
     fi
-    printf '%-60s %12s\n' "$function, $name" "$(awk '/Collected/ { print $NF }' "$out.log")"
+    awk '/Collected/ { print $NF }' "$out.log"
+}
+
+print_count() { # NAME INSTRUCTIONS [OF]: and how many times OF this is
+    printf '%-60s %12s' "$1" "$2"
+    if [ $# -gt 2 ]; then
+        awk -v one="$2" -v other="$3" 'BEGIN { printf "  %5.2fx", one / other }'
+    fi
+    echo
+}
+
+count() { # FUNCTION WHAT NAME
+    print_count "$1, $3" "$(counted "$1" "$2")"
 }
 
 count klapouzen_ansi ansi "the most files"
@@ -19,8 +33,19 @@ count klapouzen_check_list blocks "65,536 blocks"
 count klapouzen_check_list unreadable "65,536 unreadable blocks"
 count klapouzen_verdict data "two sides of 65,536 elements"
 count klapouzen_verdict holed "the same, half of them unreadable"
+# All but klapouzen_read_index hand out the same: header, entries with decoded names, rows. The last checks none of it.
 for text in flat indented nested; do
-    count klapouzen_read_index "$text" "1 MB, $text"
+    whole=$(counted whole_by_library whole $text)
+    print_count "klapouzen_read_index, 1 MB, $text" "$(counted klapouzen_read_index index $text)" "$whole"
+    print_count "klapouzen_read_whole, 1 MB, $text" "$(counted klapouzen_read_whole whole $text)" "$whole"
+    print_count "  with klapouzen_decode of each name" "$whole" "$whole"
+    print_count "  libxml2's SAX interface, collecting the same" "$(counted collect_by_sax sax $text)" "$whole"
+done
+# Well-formedness alone.
+for text in flat Cyrillic kanji; do
+    form=$(counted klapouzen_check_form form $text)
+    print_count "klapouzen_check_form, 1 MB, $text" "$form" "$form"
+    print_count "  expat, with handlers that do nothing" "$(counted form_by_expat expat $text)" "$form"
 done
 count klapouzen_read_index padded "1 MB, flat, its numbers padded"
 count klapouzen_read_index zeros "1 MB, a number with zeros in front"

@@ -1,6 +1,6 @@
 /*
  * The benchmarks, all in one run or the one named: bench [texts|volumes|ansi]. Ratios have the absolute figures beside
- * them. bench once WHAT: a single call, whose instructions make counts counts.
+ * them. bench once WHAT [TEXT]: a single call, whose instructions make counts counts.
  */
 #include <stdio.h>
 #include <string.h>
@@ -19,8 +19,8 @@ static const struct {
 int main(int count, char **words)
 {
     setvbuf(stdout, NULL, _IOLBF, 0);
-    if (count == 3 && strcmp(words[1], "once") == 0)
-        bench_once(words[2]);
+    if (count > 2 && strcmp(words[1], "once") == 0)
+        bench_once(words[2], words[3]);
     for (size_t i = 0; i < sizeof parts / sizeof parts[0]; i++)
         if (count == 1 || strcmp(words[1], parts[i].name) == 0)
             parts[i].run();

@@ -4,10 +4,12 @@
 #include <string.h>
 
 #include "bench.h"
+#include "collect.h"
 #include "klapouzen.h"
-#include "sample.h"
+#include "shapes.h"
 
 #define WORD(text) (const uint8_t *)(text), strlen(text)
+#define SLICE_OF(text) ((const struct buffer *)(text))->bytes, ((const struct buffer *)(text))->length
 
 static void expect(uint64_t found, uint64_t wanted)
 {
@@ -17,10 +19,16 @@ static void expect(uint64_t found, uint64_t wanted)
     exit(1);
 }
 
+static void fail(const char *what, const char *name)
+{
+    fprintf(stderr, "no %s has the name %s\n", what, name);
+    exit(1);
+}
+
 static void read_with(struct buffer text, const char *uuid)
 {
     uint64_t header[KLAPOUZEN_INDEX];
-    expect(klapouzen_read_index(text.bytes, text.length, WORD(uuid), 'a', 'b', 4096, 'a', 5, header), 0);
+    expect(klapouzen_read_index(SLICE_OF(&text), WORD(uuid), 'a', 'b', 4096, 'a', 5, header), 0);
     buffer_free(&text);
 }
 
@@ -46,21 +54,6 @@ static void smallest_once(void)
 static void respelled_once(void)
 {
     read_with(smallest(), "30A91A08-DAAE-48D1-AE75-69804E61D2EA");
-}
-
-static void flat_once(void)
-{
-    read_once(index_of_size(KLAPOUZEN_MAX_INDEX, false));
-}
-
-static void indented_once(void)
-{
-    read_once(index_of_size(KLAPOUZEN_MAX_INDEX, true));
-}
-
-static void nested_once(void)
-{
-    read_once(nested_index(KLAPOUZEN_MAX_INDEX, 30));
 }
 
 static void padded_once(void)
@@ -168,20 +161,59 @@ static const struct {
     const char *what;
     void (*run)(void);
 } calls[] = {
-    { "ansi", ansi_once },     { "flat", flat_once },   { "indented", indented_once },
-    { "nested", nested_once }, { "given", given_once }, { "label", label_once },
+    { "ansi", ansi_once }, { "given", given_once }, { "label", label_once },
     { "smallest", smallest_once }, { "respelled", respelled_once },
     { "padded", padded_once }, { "zeros", zeros_once }, { "signed_zeros", signed_zeros_once },
     { "blocks", blocks_once }, { "unreadable", unreadable_once }, { "data", data_once }, { "holed", holed_once },
 };
 
-void bench_once(const char *what)
+/* ---- Texts of 1 MB ---- */
+
+static void index_by_library(const void *text)
 {
-    for (size_t i = 0; i < sizeof calls / sizeof calls[0]; i++)
+    uint64_t header[KLAPOUZEN_INDEX];
+    expect(klapouzen_read_index(SLICE_OF(text), WORD(SAMPLE_UUID), 'a', 'b', 4096, 'a', 5, header), 0);
+}
+
+static void whole_by_sax(const void *text)
+{
+    struct collector collector;
+    expect(collect_by_sax(&collector, SLICE_OF(text)), true);
+    collect_free(&collector);
+}
+
+static const struct {
+    const char *what;
+    void (*run)(const void *text);
+} readings[] = {
+    { "index", index_by_library }, { "whole", whole_by_library }, { "sax", whole_by_sax },
+    { "form", form_by_library },   { "expat", form_by_expat },
+};
+
+static void read_shape(void (*run)(const void *text), const char *name)
+{
+    for (int i = 0; i < SHAPES; i++) {
+        if (strcmp(name, shapes[i].name) != 0)
+            continue;
+        struct buffer text = shapes[i].make(KLAPOUZEN_MAX_INDEX);
+        run(&text);
+        buffer_free(&text);
+        return;
+    }
+    fail("text", name);
+}
+
+void bench_once(const char *what, const char *shape)
+{
+    for (size_t i = 0; shape == NULL && i < sizeof calls / sizeof calls[0]; i++)
         if (strcmp(what, calls[i].what) == 0) {
             calls[i].run();
             return;
         }
-    fprintf(stderr, "no call has the name %s\n", what);
-    exit(1);
+    for (size_t i = 0; shape != NULL && i < sizeof readings / sizeof readings[0]; i++)
+        if (strcmp(what, readings[i].what) == 0) {
+            read_shape(readings[i].run, shape);
+            return;
+        }
+    fail("call", what);
 }

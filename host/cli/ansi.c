@@ -142,7 +142,7 @@ static void print_json_refusal(const struct ansi_tape *tape)
     if (words == NULL)
         fputs("null", stdout);
     else
-        print_json(stdout, bytes_of(words), false);
+        print_json(stdout, bytes_of(words));
     free(words);
 }
 

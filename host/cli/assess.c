@@ -1,7 +1,9 @@
 #include "assess.h"
 
 #include <inttypes.h>
+#include <stdlib.h>
 
+#include "common.h"
 #include "words.h"
 
 void assess_lists(const struct volume *volume, struct assessment *found)
@@ -53,10 +55,44 @@ void print_cut_clause(FILE *out, const struct assessment *found)
     print_cut(out, found);
 }
 
+/* The index partition's last, which is sound where the verdict is break 5. */
+static void read_last(const struct volume *volume, const struct label *label, struct contents *contents)
+{
+    struct constructs *standing = allocate(sizeof *standing);
+    uint64_t header[KLAPOUZEN_INDEX];
+    read_constructs(&volume->sides[INDEX], label->block_size, standing);
+    struct place place = construct_place(volume, label, INDEX, construct_row(standing, standing->count - 1));
+    read_index_at(label, &place, header);
+    contents_read(contents, label, &place, header);
+    free(standing);
+}
+
+bool find_broken_file(const struct volume *volume, const struct assessment *found, struct contents *contents,
+                      uint64_t *entry)
+{
+    enum { NOT_ON_TAPE = 5 };
+    if (found->refusal != 0 || found->verdict[KLAPOUZEN_BREAK_WHICH] != NOT_ON_TAPE)
+        return false;
+    read_last(volume, &found->label, contents);
+    return find_numbered(contents, found->verdict[KLAPOUZEN_BREAK_NUMBER], entry);
+}
+
+static void print_assessed_verdict(FILE *out, const struct volume *volume, const struct assessment *found)
+{
+    struct contents contents;
+    uint64_t entry;
+    print_verdict(out, found->verdict);
+    if (!find_broken_file(volume, found, &contents, &entry))
+        return;
+    fputs(": ", out);
+    print_bytes(out, path_of(&contents, entry));
+    contents_free(&contents);
+}
+
 void print_outcome(FILE *out, const struct volume *volume, const struct assessment *found)
 {
     if (found->refusal == 0) {
-        print_verdict(out, found->verdict);
+        print_assessed_verdict(out, volume, found);
         return;
     }
     fputs(colour_code(out, RED), out);

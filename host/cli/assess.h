@@ -2,7 +2,7 @@
 #ifndef ASSESS_H
 #define ASSESS_H
 
-#include "volume.h"
+#include "contents.h"
 
 struct assessment {
     uint64_t refusal; /* of the labels; the rest holds where it is 0 */
@@ -27,7 +27,14 @@ bool has_unreadable(const struct assessment *found);
 /* Elements kept of a side by the cut; all where there is none. */
 uint64_t kept_elements(const struct assessment *found, int side);
 
-/* "consistent", "break 2: ..", or "refused 3: ..". */
+/*
+ * Of break 5, which is a file's: all that its index holds, to be freed, and the file's entry. False of any other verdict;
+ * there is nothing to free then.
+ */
+bool find_broken_file(const struct volume *volume, const struct assessment *found, struct contents *contents,
+                      uint64_t *entry);
+
+/* "consistent", "break 2: ..", "break 5: ..: takes/monday.wav", or "refused 3: ..". */
 void print_outcome(FILE *out, const struct volume *volume, const struct assessment *found);
 
 /* "keeps all 7 + 7 elements", or "keeps 7 + 7 of 9 + 12 elements". */

@@ -58,15 +58,17 @@ static void print_json_ansi(const struct volume *volume, uint64_t refusal)
 static void print_json_labels(const struct label *label)
 {
     fputs(",\"identifier\":", stdout);
-    print_json(stdout, label->identifier, false);
+    print_json(stdout, label->identifier);
     fputs(",\"uuid\":", stdout);
-    print_json(stdout, label->uuid, false);
+    print_json(stdout, label->uuid);
     fputs(",\"data_uuid\":", stdout);
-    print_json(stdout, label->data_uuid, false);
+    print_json(stdout, label->data_uuid);
 }
 
-static void print_json_verdict(const struct assessment *found)
+static void print_json_verdict(const struct volume *volume, const struct assessment *found)
 {
+    struct contents contents;
+    uint64_t entry;
     if (is_consistent(found)) {
         fputs(",\"verdict\":\"consistent\"", stdout);
         return;
@@ -74,7 +76,13 @@ static void print_json_verdict(const struct assessment *found)
     printf(",\"verdict\":\"break\",\"break\":{\"which\":%" PRIu64 ",\"number\":%" PRIu64 ",\"text\":\"",
            found->verdict[KLAPOUZEN_BREAK_WHICH], found->verdict[KLAPOUZEN_BREAK_NUMBER]);
     print_break(stdout, found->verdict);
-    fputs("\"}", stdout);
+    putchar('"');
+    if (find_broken_file(volume, found, &contents, &entry)) {
+        fputs(",\"path\":", stdout);
+        print_json(stdout, path_of(&contents, entry));
+        contents_free(&contents);
+    }
+    putchar('}');
 }
 
 /* A number of each list; null where the list is malformed. */
@@ -125,7 +133,7 @@ void print_assessed_json(const struct volume *volume, const struct assessment *f
         print_json_elements(found);
     } else {
         print_json_labels(&found->label);
-        print_json_verdict(found);
+        print_json_verdict(volume, found);
         print_json_elements(found);
         print_json_cut(found);
     }

@@ -55,46 +55,7 @@ int choose_index(const struct volume *volume, const struct choice *choice, struc
     return status;
 }
 
-bool read_chosen_file(const struct chosen *chosen, uint64_t number, uint64_t file[KLAPOUZEN_FILE])
+void read_chosen(const struct chosen *chosen, struct contents *contents)
 {
-    return klapouzen_read_file(INDEX_AT(&chosen->label, &chosen->place), number, file) == 0;
-}
-
-void read_chosen_rows(const struct chosen *chosen, uint64_t number,
-                      const uint64_t file[KLAPOUZEN_FILE], struct rows *rows)
-{
-    rows->count = 0;
-    if (file[KLAPOUZEN_FILE_ROWS] > 0)
-        klapouzen_read_rows(INDEX_AT(&chosen->label, &chosen->place), number, rows->numbers,
-                            sizeof rows->numbers / sizeof rows->numbers[0], &rows->count);
-}
-
-/* The index was read already, so nothing is refused where the room is right. */
-static uint64_t *all_numbers(const struct chosen *chosen, __typeof__(klapouzen_read_files) *read, uint64_t numbers)
-{
-    uint64_t *room = allocate(numbers * sizeof *room), count;
-    uint64_t refusal = read(INDEX_AT(&chosen->label, &chosen->place), room, numbers, &count);
-    if (refusal != 0) {
-        complain("reading all of an index: %s", klapouzen_refusal_text(refusal));
-        exit(FAILED);
-    }
-    return room;
-}
-
-uint64_t *read_all_files(const struct chosen *chosen)
-{
-    return all_numbers(chosen, klapouzen_read_files, KLAPOUZEN_FILE * chosen->header[KLAPOUZEN_INDEX_FILES]);
-}
-
-uint64_t *read_all_rows(const struct chosen *chosen, const uint64_t *files)
-{
-    uint64_t rows = 0;
-    for (uint64_t i = 0; i < chosen->header[KLAPOUZEN_INDEX_FILES]; i++)
-        rows += files[KLAPOUZEN_FILE * i + KLAPOUZEN_FILE_ROWS];
-    return all_numbers(chosen, klapouzen_read_all_rows, KLAPOUZEN_ROW * rows);
-}
-
-struct bytes file_name(const struct chosen *chosen, const uint64_t file[KLAPOUZEN_FILE])
-{
-    return part_of(chosen->place.text, file[KLAPOUZEN_FILE_NAME], file[KLAPOUZEN_FILE_NAME_LENGTH]);
+    contents_read(contents, &chosen->label, &chosen->place, chosen->header);
 }

@@ -3,6 +3,7 @@
 #define CHOSEN_H
 
 #include "assess.h"
+#include "contents.h"
 #include "options.h"
 
 /* The options that choose it, as given. */
@@ -32,27 +33,7 @@ struct chosen {
 /* Finds and reads the index; answers GO_ON, or says why not and answers the status. */
 int choose_index(const struct volume *volume, const struct choice *choice, struct chosen *chosen);
 
-/* A file's rows: five numbers each. */
-struct rows {
-    uint64_t count;
-    uint64_t numbers[KLAPOUZEN_ROW * KLAPOUZEN_MAX_ROWS];
-};
-
-/* A file of the index; false where there is no such file. */
-bool read_chosen_file(const struct chosen *chosen, uint64_t number, uint64_t file[KLAPOUZEN_FILE]);
-
-/* The rows of a file that was read. */
-void read_chosen_rows(const struct chosen *chosen, uint64_t number,
-                      const uint64_t file[KLAPOUZEN_FILE], struct rows *rows);
-
-/*
- * All files of the index, and the rows of all files, in one reading each: the numbers of klapouzen_read_files and of
- * klapouzen_read_all_rows, to be freed.
- */
-uint64_t *read_all_files(const struct chosen *chosen);
-uint64_t *read_all_rows(const struct chosen *chosen, const uint64_t *files);
-
-/* A file's name as spelled. */
-struct bytes file_name(const struct chosen *chosen, const uint64_t file[KLAPOUZEN_FILE]);
+/* All that it holds, to be freed. */
+void read_chosen(const struct chosen *chosen, struct contents *contents);
 
 #endif

@@ -76,8 +76,7 @@ static bool are_labelled(const struct reads *reads)
 static bool are_one_volume(const struct reads *reads)
 {
     const struct label *old = &reads->found[OLD].label, *new = &reads->found[NEW].label;
-    return old->identifier.length == new->identifier.length
-        && memcmp(old->identifier.start, new->identifier.start, old->identifier.length) == 0
+    return are_same(old->identifier, new->identifier)
         && strncasecmp((const char *)old->uuid.start, (const char *)new->uuid.start, old->uuid.length) == 0;
 }
 

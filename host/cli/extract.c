@@ -15,13 +15,14 @@
 static const char help[] =
     "usage: klapouzen extract [--construct N] [--data] [--holes] [--output OUT] DIR (FILE | --number N)\n"
     "\n"
-    "Writes a file's bytes, zeros where nothing is stored. FILE is the file's name where\n"
-    "only one file has it; where none has it and it is a number, the file with that number\n"
-    "in the list of `klapouzen files`.\n"
+    "Writes a file's bytes, zeros where nothing is stored. FILE is the file's path as\n"
+    "`klapouzen files` lists it, which may begin with / or ./ too; or where no file has this\n"
+    "path the file's name alone, if only one file has it; or where none has it and it is a\n"
+    "number, the file with that number in the list.\n"
     "\n"
     "Of a file with bytes on unreadable blocks it says which these are, and writes nothing.\n"
     "\n"
-    "  --number N     the file with this number, whatever names there are\n"
+    "  --number N     the file with this number, whatever paths and names there are\n"
     "  --output OUT   to a new file OUT, whole or not at all, and not to standard output\n"
     "  --holes        such a file too, with zeros for these bytes, so that all others are in\n"
     "                 their places; and the new file OUT.gaps, a line for each gap: its\n"
@@ -51,39 +52,80 @@ struct extraction {
 
 /* ---- Which file ---- */
 
-/* How many files have this name, and the number of the last of them. */
-static uint64_t count_named(const struct chosen *chosen, const char *name, uint64_t *number)
+/* Where a file is looked for: the index, all that it holds, and what was given. */
+struct search {
+    const struct volume *volume;
+    const struct chosen *chosen;
+    const struct contents *contents;
+    const char *word;
+};
+
+/* A path or a name, told of an entry. */
+typedef struct bytes told(const struct contents *contents, uint64_t entry);
+
+/* How many files, or directories, have this path or name, and the last of them. */
+static uint64_t count_called(const struct search *search, enum entry_kind kind, told *told, struct bytes wanted,
+                             uint64_t *entry)
 {
-    uint64_t *files = read_all_files(chosen), found = 0;
-    for (uint64_t i = 0; i < chosen->header[KLAPOUZEN_INDEX_FILES]; i++)
-        if (spells(file_name(chosen, files + KLAPOUZEN_FILE * i), name)) {
-            *number = i;
+    uint64_t found = 0;
+    for (uint64_t i = 0; i < search->contents->count; i++)
+        if (is_file(search->contents, i) == (kind == REGULAR) && are_same(told(search->contents, i), wanted)) {
+            *entry = i;
             found++;
         }
-    free(files);
     return found;
 }
 
-/* That no file has what was given, a name or a number; the index is named, since a later one may have it. */
-static bool no_file(const struct volume *volume, const struct chosen *chosen, const char *word,
-                    const char *what)
+/* What was given without each / and ./ before it: a path as the library tells it. */
+static struct bytes given_path(const char *word)
 {
-    complain("%s: %s: no file has this %s in index %" PRIu64 " of the %s partition", volume->folder, word,
-             what, chosen->construct, volume->sides[chosen->side].name);
+    while (word[0] == '/' || strncmp(word, "./", 2) == 0)
+        word += word[0] == '/' ? 1 : 2;
+    return bytes_of(word);
+}
+
+/* A directory may have a / behind its path. */
+static bool is_directory(const struct search *search)
+{
+    uint64_t entry;
+    struct bytes path = given_path(search->word);
+    while (path.length > 0 && path.start[path.length - 1] == '/')
+        path.length--;
+    return count_called(search, DIRECTORY, path_of, path, &entry) > 0;
+}
+
+/* The index is named, since in a later one it may be otherwise. */
+static bool complain_file(const struct search *search, const char *what, const char *way)
+{
+    complain("%s: %s: %s in index %" PRIu64 " of the %s partition%s", search->volume->folder, search->word, what,
+             search->chosen->construct, search->volume->sides[search->chosen->side].name, way);
     return false;
 }
 
-/* A number means a file only where none has it as its name. */
-static bool find_file(const struct volume *volume, const struct chosen *chosen, const char *word,
-                      uint64_t *number)
+static bool find_number(const struct search *search, uint64_t number, uint64_t *entry)
 {
-    uint64_t named = count_named(chosen, word, number);
-    if (named == 1 || (named == 0 && read_number(word, number)))
+    return find_numbered(search->contents, number, entry) || complain_file(search, "no file has this number", "");
+}
+
+/* A name is taken only where no file has it as its path, a number where nothing has it as its name. */
+static bool find_file(const struct search *search, uint64_t *entry)
+{
+    bool is_bare = strchr(search->word, '/') == NULL;
+    uint64_t number, found = count_called(search, REGULAR, path_of, given_path(search->word), entry);
+    if (found > 1)
+        return complain_file(search, "several files have this path", "; give --number");
+    if (found == 0 && is_bare)
+        found = count_called(search, REGULAR, name_of, bytes_of(search->word), entry);
+    if (found > 1)
+        return complain_file(search, "several files have this name", "; give the path, or --number");
+    if (found == 1)
         return true;
-    if (named == 0)
-        return no_file(volume, chosen, word, "name");
-    complain("%s: %s: several files have this name; give --number", volume->folder, word);
-    return false;
+    bool is_number = read_number(search->word, &number);
+    if (is_directory(search))
+        return complain_file(search, "this is a directory", is_number ? "; --number gives the file" : "");
+    if (is_number)
+        return find_number(search, number, entry);
+    return complain_file(search, is_bare ? "no file has this path or name" : "no file has this path", "");
 }
 
 /* ---- Writing ---- */
@@ -248,16 +290,15 @@ struct wish {
     bool holes;
 };
 
-/* The file's number and its numbers; false where there is no such file, which was said. */
+/* The file's entry; false where there is no such file, which was said. */
 static bool find_wished(const struct volume *volume, const struct chosen *chosen,
-                        const struct wish *wish, uint64_t *number, uint64_t file[KLAPOUZEN_FILE])
+                        const struct contents *contents, const struct wish *wish, uint64_t *entry)
 {
-    if (wish->number != NULL ? !read_number(wish->number, number)
-                             : !find_file(volume, chosen, wish->file, number))
-        return false;
-    if (read_chosen_file(chosen, *number, file))
-        return true;
-    return no_file(volume, chosen, wish->number != NULL ? wish->number : wish->file, "number");
+    struct search search = { volume, chosen, contents, wish->number != NULL ? wish->number : wish->file };
+    uint64_t number;
+    if (wish->number == NULL)
+        return find_file(&search, entry);
+    return read_number(wish->number, &number) && find_number(&search, number, entry);
 }
 
 static int write_wished(const struct extraction *extraction, const struct wish *wish)
@@ -267,26 +308,34 @@ static int write_wished(const struct extraction *extraction, const struct wish *
     return wish->holes ? write_holed(extraction, wish->output) : complain_gaps(extraction);
 }
 
+static int extract_from(const struct volume *volume, const struct chosen *chosen, const struct contents *contents,
+                        const struct wish *wish)
+{
+    struct pieces pieces;
+    uint64_t entry;
+    if (!find_wished(volume, chosen, contents, wish, &entry)
+        || !pieces_read(&pieces, volume, chosen, contents, entry))
+        return NOT_SO;
+    struct extraction extraction = {
+        .volume = volume, .chosen = chosen, .length = entry_of(contents, entry)[KLAPOUZEN_ENTRY_LENGTH],
+        .pieces = &pieces,
+    };
+    int status = write_wished(&extraction, wish);
+    pieces_free(&pieces);
+    return status;
+}
+
 static int extract(const struct volume *volume, const void *data)
 {
-    static struct rows rows;
     const struct wish *wish = data;
     struct chosen chosen;
-    struct pieces pieces;
-    uint64_t number, file[KLAPOUZEN_FILE];
+    struct contents contents;
     int status = choose_index(volume, &wish->choice, &chosen);
     if (status != GO_ON)
         return status;
-    if (!find_wished(volume, &chosen, wish, &number, file))
-        return NOT_SO;
-    read_chosen_rows(&chosen, number, file, &rows);
-    if (!pieces_read(&pieces, volume, &chosen, file[KLAPOUZEN_FILE_LENGTH], &rows))
-        return NOT_SO;
-    struct extraction extraction = {
-        .volume = volume, .chosen = &chosen, .length = file[KLAPOUZEN_FILE_LENGTH], .pieces = &pieces,
-    };
-    status = write_wished(&extraction, wish);
-    pieces_free(&pieces);
+    read_chosen(&chosen, &contents);
+    status = extract_from(volume, &chosen, &contents, wish);
+    contents_free(&contents);
     return status;
 }
 

@@ -1,6 +1,5 @@
 /* klapouzen files: what an index holds. */
 #include <inttypes.h>
-#include <stdlib.h>
 
 #include "chosen.h"
 #include "commands.h"
@@ -8,23 +7,25 @@
 #include "words.h"
 
 static const char help[] =
-    "usage: klapouzen files [--construct N] [--data] [--json] DIR\n"
+    "usage: klapouzen files [--construct N] [--data] [--directories] [--json] DIR\n"
     "\n"
-    "Lists the files of an index: number, length and name, and for each extent its\n"
+    "Lists the files of an index: number, length and path, and for each extent its\n"
     "partition, first block, offset there, bytes, and position in the file, and how many\n"
-    "unreadable blocks it touches.\n"
+    "unreadable blocks it touches. A path begins below the root directory.\n"
     "\n"
     CHOICE_HELP
-    "  --json         one object a line, a file each\n"
+    "  --directories  the directories too, with a / behind their paths, empty ones among them\n"
+    "  --json         one object a line, a file each, or with --directories a directory\n"
     "  --help         this text\n"
     "\n"
     "Exit status: 0 listed, 1 refused, 2 bad use or a file that can't be read.\n";
 
 /* ---- Unreadable blocks ---- */
 
-/* What is listed: an index, and the unreadable blocks of both sides. */
+/* What is listed: an index with all that it holds, and the unreadable blocks of both sides. */
 struct listing {
     const struct chosen *chosen;
+    struct contents contents;
     struct unreadable sides[2];
 };
 
@@ -39,24 +40,28 @@ static uint32_t unreadable_in(const struct listing *listing, const uint64_t *row
     return unreadable_before(side, last < UINT64_MAX ? last + 1 : last) - unreadable_before(side, first);
 }
 
-static uint64_t files_touching(const struct listing *listing, const uint64_t *files, const uint64_t *rows)
+static uint64_t files_touching(const struct listing *listing)
 {
     uint64_t touching = 0;
-    for (uint64_t i = 0; i < listing->chosen->header[KLAPOUZEN_INDEX_FILES]; i++) {
-        bool touches = false;
-        for (uint64_t row = 0; row < files[KLAPOUZEN_FILE * i + KLAPOUZEN_FILE_ROWS]; row++, rows += KLAPOUZEN_ROW)
-            touches = touches || unreadable_in(listing, rows) > 0;
-        touching += touches;
+    for (uint64_t i = 0; i < listing->contents.count; i++) {
+        const uint64_t *row = rows_of(&listing->contents, i);
+        uint64_t left = entry_of(&listing->contents, i)[KLAPOUZEN_ENTRY_ROWS];
+        while (left > 0 && unreadable_in(listing, row) == 0) {
+            left--;
+            row += KLAPOUZEN_ROW;
+        }
+        touching += left > 0;
     }
     return touching;
 }
 
 /* ---- The list ---- */
 
-static void print_head(const struct listing *listing, uint64_t touching)
+static void print_head(const struct listing *listing)
 {
     const struct chosen *chosen = listing->chosen;
     const uint64_t *header = chosen->header;
+    uint64_t touching = files_touching(listing);
     printf("index %" PRIu64 " of the %s partition, generation %" PRIu64 ", ", chosen->construct,
            chosen->side == INDEX ? "index" : "data", header[KLAPOUZEN_INDEX_GENERATION]);
     print_bytes(stdout, part_of(chosen->place.text, header[KLAPOUZEN_INDEX_TIME],
@@ -87,55 +92,78 @@ static void print_row(const struct listing *listing, const uint64_t *row)
     putchar('\n');
 }
 
-static void print_file(const struct listing *listing, uint64_t number,
-                       const uint64_t file[KLAPOUZEN_FILE], const uint64_t *rows)
+/* A directory has neither number nor length; the / behind its path is the root's whole path. */
+static void print_entry(const struct listing *listing, uint64_t entry)
 {
-    printf("%s%6" PRIu64 "%s  %14s  ", colour_code(stdout, CYAN), number,
-           colour_code(stdout, PLAIN), grouped(file[KLAPOUZEN_FILE_LENGTH]));
-    print_spelled(stdout, file_name(listing->chosen, file));
-    putchar('\n');
-    for (uint64_t i = 0; i < file[KLAPOUZEN_FILE_ROWS]; i++)
-        print_row(listing, rows + KLAPOUZEN_ROW * i);
+    const struct contents *contents = &listing->contents;
+    const uint64_t *numbers = entry_of(contents, entry), *row = rows_of(contents, entry);
+    bool file = is_file(contents, entry);
+    if (file)
+        printf("%s%6" PRIu64 "%s  %14s  ", colour_code(stdout, CYAN), numbers[KLAPOUZEN_ENTRY_FILE],
+               colour_code(stdout, PLAIN), grouped(numbers[KLAPOUZEN_ENTRY_LENGTH]));
+    else
+        printf("%24s", "");
+    print_bytes(stdout, path_of(contents, entry));
+    puts(file ? "" : "/");
+    for (uint64_t i = 0; i < numbers[KLAPOUZEN_ENTRY_ROWS]; i++)
+        print_row(listing, row + KLAPOUZEN_ROW * i);
 }
 
-static void print_object(const struct listing *listing, uint64_t number,
-                         const uint64_t file[KLAPOUZEN_FILE], const uint64_t *rows)
+/* ---- JSON ---- */
+
+static void print_json_names(const struct listing *listing, uint64_t entry)
 {
-    printf("{\"file\":%" PRIu64 ",\"length\":%" PRIu64 ",\"name\":", number,
-           file[KLAPOUZEN_FILE_LENGTH]);
-    print_json(stdout, file_name(listing->chosen, file), true);
+    const struct contents *contents = &listing->contents;
+    fputs("\"name\":", stdout);
+    print_json(stdout, name_of(contents, entry));
+    fputs(",\"path\":", stdout);
+    print_json(stdout, path_of(contents, entry));
+    printf(",\"fileuid\":%" PRIu64, entry_of(contents, entry)[KLAPOUZEN_ENTRY_UID]);
+}
+
+static void print_json_rows(const struct listing *listing, uint64_t entry)
+{
+    const uint64_t *row = rows_of(&listing->contents, entry);
     fputs(",\"extents\":[", stdout);
-    for (uint64_t i = 0; i < file[KLAPOUZEN_FILE_ROWS]; i++) {
-        const uint64_t *row = rows + KLAPOUZEN_ROW * i;
+    for (uint64_t i = 0; i < entry_of(&listing->contents, entry)[KLAPOUZEN_ENTRY_ROWS]; i++, row += KLAPOUZEN_ROW)
         printf("%s{\"partition\":\"%c\",\"startblock\":%" PRIu64 ",\"byteoffset\":%" PRIu64
                ",\"bytecount\":%" PRIu64 ",\"fileoffset\":%" PRIu64 ",\"unreadable_blocks\":%" PRIu32 "}",
                i > 0 ? "," : "", (char)row[KLAPOUZEN_ROW_LETTER], row[KLAPOUZEN_ROW_STARTBLOCK],
                row[KLAPOUZEN_ROW_BYTEOFFSET], row[KLAPOUZEN_ROW_BYTECOUNT], row[KLAPOUZEN_ROW_FILEOFFSET],
                unreadable_in(listing, row));
-    }
-    fputs("]}\n", stdout);
+    putchar(']');
 }
 
-static void list_files(const struct listing *listing, bool json)
+static void print_object(const struct listing *listing, uint64_t entry)
 {
-    const struct chosen *chosen = listing->chosen;
-    uint64_t *files = read_all_files(chosen), *rows = read_all_rows(chosen, files);
-    const uint64_t *file = files, *row = rows;
-    if (!json)
-        print_head(listing, files_touching(listing, files, rows));
-    for (uint64_t number = 0; number < chosen->header[KLAPOUZEN_INDEX_FILES]; number++) {
-        (json ? print_object : print_file)(listing, number, file, row);
-        row += KLAPOUZEN_ROW * file[KLAPOUZEN_FILE_ROWS];
-        file += KLAPOUZEN_FILE;
-    }
-    free(files);
-    free(rows);
+    const uint64_t *numbers = entry_of(&listing->contents, entry);
+    bool file = is_file(&listing->contents, entry);
+    if (file)
+        printf("{\"file\":%" PRIu64 ",\"length\":%" PRIu64 ",", numbers[KLAPOUZEN_ENTRY_FILE],
+               numbers[KLAPOUZEN_ENTRY_LENGTH]);
+    else
+        fputs("{\"directory\":true,", stdout);
+    print_json_names(listing, entry);
+    if (file)
+        print_json_rows(listing, entry);
+    puts("}");
 }
+
+/* ---- The command ---- */
 
 struct wish {
     struct choice choice;
-    bool json;
+    bool directories, json;
 };
+
+static void list_entries(const struct listing *listing, const struct wish *wish)
+{
+    if (!wish->json)
+        print_head(listing);
+    for (uint64_t i = 0; i < listing->contents.count; i++)
+        if (wish->directories || is_file(&listing->contents, i))
+            (wish->json ? print_object : print_entry)(listing, i);
+}
 
 static int files(const struct volume *volume, const void *data)
 {
@@ -144,12 +172,14 @@ static int files(const struct volume *volume, const void *data)
     int status = choose_index(volume, &wish->choice, &chosen);
     if (status != GO_ON)
         return status;
-    struct listing listing = { &chosen, { { 0, NULL }, { 0, NULL } } };
+    struct listing listing = { .chosen = &chosen };
+    read_chosen(&chosen, &listing.contents);
     for (int side = INDEX; side <= DATA; side++)
         listing.sides[side] = unreadable_read(volume->sides[side].list);
-    list_files(&listing, wish->json);
+    list_entries(&listing, wish);
     for (int side = INDEX; side <= DATA; side++)
         unreadable_free(&listing.sides[side]);
+    contents_free(&listing.contents);
     return DONE;
 }
 
@@ -157,7 +187,8 @@ int run_files(struct words *words)
 {
     struct wish wish = { .json = false };
     const struct option options[] = {
-        CHOICE_OPTIONS(wish.choice), { "json", NULL, &wish.json }, { NULL, NULL, NULL },
+        CHOICE_OPTIONS(wish.choice), { "directories", NULL, &wish.directories }, { "json", NULL, &wish.json },
+        { NULL, NULL, NULL },
     };
     int status = take_words(words, options, help, 1, "one folder wanted");
     return status == GO_ON ? on_volume(words->words[0], files, &wish) : status;

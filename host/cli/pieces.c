@@ -113,16 +113,18 @@ static int by_position(const void *one, const void *other)
 }
 
 bool pieces_read(struct pieces *pieces, const struct volume *volume, const struct chosen *chosen,
-                 uint64_t length, struct rows *rows)
+                 const struct contents *contents, uint64_t entry)
 {
-    struct source from = { .volume = volume, .chosen = chosen, .length = length };
+    const uint64_t *file = entry_of(contents, entry);
+    struct source from = { .volume = volume, .chosen = chosen, .length = file[KLAPOUZEN_ENTRY_LENGTH] };
+    uint64_t *rows = rows_of(contents, entry), count = file[KLAPOUZEN_ENTRY_ROWS];
     bool is_whole = true;
     *pieces = (struct pieces){ .count = 0 };
     for (int side = INDEX; side <= DATA; side++)
         from.sides[side] = unreadable_read(volume->sides[side].list);
-    qsort(rows->numbers, rows->count, KLAPOUZEN_ROW * sizeof rows->numbers[0], by_position);
-    for (uint64_t i = 0; is_whole && i < rows->count; i++)
-        is_whole = add_row(pieces, &from, rows->numbers + KLAPOUZEN_ROW * i);
+    qsort(rows, count, KLAPOUZEN_ROW * sizeof *rows, by_position);
+    for (uint64_t i = 0; is_whole && i < count; i++)
+        is_whole = add_row(pieces, &from, rows + KLAPOUZEN_ROW * i);
     for (int side = INDEX; side <= DATA; side++)
         unreadable_free(&from.sides[side]);
     if (!is_whole)

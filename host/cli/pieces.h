@@ -25,11 +25,11 @@ struct pieces {
 bool is_lost(const struct piece *piece);
 
 /*
- * The pieces of a file by its length and its rows, which are put in order. Where a byte is on no block, or the block is
+ * The pieces of a file of the chosen index; its rows are put in order. Where a byte is on no block, or the block is
  * too short for it, says so and answers false; there is nothing to free then.
  */
 bool pieces_read(struct pieces *pieces, const struct volume *volume, const struct chosen *chosen,
-                 uint64_t length, struct rows *rows);
+                 const struct contents *contents, uint64_t entry);
 void pieces_free(struct pieces *pieces);
 
 #endif

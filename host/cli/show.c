@@ -291,7 +291,7 @@ static void print_head(const struct volume *volume, const struct assessment *fou
     }
     print_labels(&found->label);
     fputs("verdict  ", stdout);
-    print_verdict(stdout, found->verdict);
+    print_outcome(stdout, volume, found);
     fputs("\ncut      ", stdout);
     print_cut(stdout, found);
     putchar('\n');

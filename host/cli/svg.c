@@ -44,7 +44,7 @@ static void end_text(FILE *out)
 
 static void put_text(FILE *out, struct bytes text)
 {
-    print_text(out, TO_XML, text, false);
+    print_text(out, TO_XML, text);
 }
 
 /* Of a long name the end, which tells deliveries apart. */

@@ -1,7 +1,10 @@
 #include "text.h"
 
 #include <inttypes.h>
+#include <stdlib.h>
 #include <string.h>
+
+#include "common.h"
 
 struct bytes bytes_of(const char *text)
 {
@@ -27,7 +30,7 @@ static size_t utf8_length(struct bytes text)
     return overlong || outside ? 0 : length;
 }
 
-/* A character, or a byte that is none, and how many bytes it took as spelled. */
+/* A character, or a byte that is none, and how many bytes it took. */
 struct character {
     uint32_t code;
     size_t taken;
@@ -42,20 +45,6 @@ static struct character next_character(struct bytes text)
     for (size_t i = 1; i < length; i++)
         code = code << 6 | (text.start[i] & 0x3f);
     return (struct character){ code, length > 0 ? length : 1, length == 0 };
-}
-
-/* The next character of a text, or the one that a reference stands for. */
-static struct character next_decoded(struct bytes text)
-{
-    static const struct { const char *reference; char character; } references[] = {
-        { "&amp;", '&' }, { "&lt;", '<' }, { "&gt;", '>' }, { "&quot;", '"' }, { "&apos;", '\'' },
-    };
-    for (size_t i = 0; text.start[0] == '&' && i < sizeof references / sizeof references[0]; i++) {
-        size_t length = strlen(references[i].reference);
-        if (text.length >= length && memcmp(text.start, references[i].reference, length) == 0)
-            return (struct character){ (uint8_t)references[i].character, length, false };
-    }
-    return next_character(text);
 }
 
 static struct bytes rest_of(struct bytes text, size_t taken)
@@ -123,10 +112,10 @@ static void put_ascii(FILE *out, enum form form, char character)
         fputc(character, out);
 }
 
-void print_text(FILE *out, enum form form, struct bytes text, bool spelled)
+void print_text(FILE *out, enum form form, struct bytes text)
 {
     while (text.length > 0) {
-        struct character next = spelled ? next_decoded(text) : next_character(text);
+        struct character next = next_character(text);
         if (is_unseen(next))
             (form == TO_JSON ? put_json_number : put_number)(out, next);
         else if (next.code < 0x80)
@@ -137,27 +126,31 @@ void print_text(FILE *out, enum form form, struct bytes text, bool spelled)
     }
 }
 
-void print_spelled(FILE *out, struct bytes text)
-{
-    print_text(out, TO_TERMINAL, text, true);
-}
-
 void print_bytes(FILE *out, struct bytes text)
 {
-    print_text(out, TO_TERMINAL, text, false);
+    print_text(out, TO_TERMINAL, text);
 }
 
-void print_json(FILE *out, struct bytes text, bool spelled)
+void print_spelled(FILE *out, struct bytes text)
+{
+    uint8_t *decoded = allocate(text.length);
+    uint64_t length;
+    klapouzen_decode(SLICE(text), decoded, text.length, &length);
+    print_bytes(out, (struct bytes){ decoded, length });
+    free(decoded);
+}
+
+void print_json(FILE *out, struct bytes text)
 {
     fputc('"', out);
-    print_text(out, TO_JSON, text, spelled);
+    print_text(out, TO_JSON, text);
     fputc('"', out);
 }
 
 void print_json_name(FILE *out, const char *key, struct bytes text)
 {
     fprintf(out, "\"%s\":", key);
-    print_json(out, text, false);
+    print_json(out, text);
     if (is_utf8(text))
         return;
     fprintf(out, ",\"%s_bytes\":\"", key);
@@ -207,17 +200,9 @@ struct bytes last_columns(struct bytes text, size_t columns)
 
 /* ---- Comparing and counting ---- */
 
-bool spells(struct bytes spelled, const char *text)
+bool are_same(struct bytes one, struct bytes other)
 {
-    struct bytes wanted = bytes_of(text);
-    while (spelled.length > 0 && wanted.length > 0) {
-        struct character found = next_decoded(spelled), next = next_character(wanted);
-        if (found.code != next.code || found.is_byte != next.is_byte)
-            return false;
-        spelled = rest_of(spelled, found.taken);
-        wanted = rest_of(wanted, next.taken);
-    }
-    return spelled.length == 0 && wanted.length == 0;
+    return one.length == other.length && (one.length == 0 || memcmp(one.start, other.start, one.length) == 0);
 }
 
 const char *grouped(uint64_t number)

@@ -19,16 +19,15 @@ struct bytes bytes_of(const char *text);
  * are no UTF-8 are written as numbers: \x1b for a byte, \u202e for a character,
  * and \\ is a backslash, so that texts that differ are printed differently. JSON has
  * \u alone, and U+FFFD for a byte that is no UTF-8; is_utf8 says whether one is.
- * `spelled`: references are decoded first.
  */
-void print_text(FILE *out, enum form form, struct bytes text, bool spelled);
+void print_text(FILE *out, enum form form, struct bytes text);
 
-/* To a terminal: a text from a tape as spelled, and any other text. */
-void print_spelled(FILE *out, struct bytes text);
+/* To a terminal: any text, and a value of a label or an index as spelled, its references decoded. */
 void print_bytes(FILE *out, struct bytes text);
+void print_spelled(FILE *out, struct bytes text);
 
 /* A JSON string with its quotes. */
-void print_json(FILE *out, struct bytes text, bool spelled);
+void print_json(FILE *out, struct bytes text);
 
 bool is_utf8(struct bytes text);
 
@@ -41,8 +40,8 @@ void print_padded(FILE *out, struct bytes text, size_t columns);
 /* The end of a text that takes at most so many columns where it is printed. */
 struct bytes last_columns(struct bytes text, size_t columns);
 
-/* Whether a text as spelled, decoded, is this one. */
-bool spells(struct bytes spelled, const char *text);
+/* Whether two texts have the same bytes. */
+bool are_same(struct bytes one, struct bytes other);
 
 /* 12,345,678: digits in threes. The text stands until the fourth call after. */
 const char *grouped(uint64_t number);

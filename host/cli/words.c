@@ -117,7 +117,7 @@ static void print_ansi(FILE *out, enum form form, const struct volume *volume,
 {
     struct bytes identifier = ansi_volume(tape).identifier;
     fputs(identifier.length > 0 ? "an ANSI labelled tape, volume " : "an ANSI labelled tape", out);
-    print_text(out, form, identifier, false);
+    print_text(out, form, identifier);
     if (tape->refusal == 0) {
         fputs(", with ", out);
         print_counted(out, tape->files, "file", "files");
@@ -126,7 +126,7 @@ static void print_ansi(FILE *out, enum form form, const struct volume *volume,
         print_counted(out, tape->files, "whole file", "whole files");
     }
     fputs(": see klapouzen ansi ", out);
-    print_text(out, form, bytes_of(volume->folder), false);
+    print_text(out, form, bytes_of(volume->folder));
 }
 
 void print_refusal(FILE *out, enum form form, const struct volume *volume, uint64_t refusal)

@@ -1,4 +1,4 @@
-/* An index text with what is given of its label and place: header, files, rows, byte map. */
+/* An index text with what is given of its label and place: header, entries, paths, rows, byte map. */
 #include "fuzz.h"
 #include "sample.h"
 
@@ -51,43 +51,135 @@ static void try_file(const struct index *index, uint64_t number, const uint64_t 
     try_rows(index, file[KLAPOUZEN_FILE_LENGTH], count[0]);
 }
 
-typedef __typeof__(klapouzen_read_files) read_all;
+/* ---- All of an index ---- */
 
-/* What a reader puts into exactly its room, and into more. Into a number less it puts nothing. */
-static uint64_t *try_all(const struct index *index, read_all *read, uint64_t refusal, uint64_t found, size_t each)
+/* Room behind what is wanted, which no call may change. */
+enum { BEHIND = 16 };
+
+struct whole {
+    size_t entries, rows; /* numbers */
+    uint64_t *entry, *row;
+};
+
+static void must_be_untouched(const struct whole *whole)
 {
-    enum { BEHIND = 16 };
-    uint64_t count[1];
-    size_t numbers = found * each;
-    uint64_t *room = malloc((numbers + BEHIND) * sizeof *room), *end = room + numbers + BEHIND;
-    fill(room, numbers + BEHIND);
-    if (numbers > 0) {
-        must(ANSWERED(read(GIVEN(index), room, numbers - 1, FILLED(count)), count) == KLAPOUZEN_SHORT_OUTPUT);
-        must_be_filled(room, end);
-    }
+    must_be_filled(whole->entry, whole->entry + whole->entries + BEHIND);
+    must_be_filled(whole->row, whole->row + whole->rows + BEHIND);
+}
+
+static void try_short(const struct index *index, const struct whole *whole, size_t entries, size_t rows)
+{
+    uint64_t header[KLAPOUZEN_INDEX];
+    must(ANSWERED(klapouzen_read_whole(GIVEN(index), whole->entry, entries, whole->row, rows, FILLED(header)), header)
+         == KLAPOUZEN_SHORT_OUTPUT);
+    must_be_untouched(whole);
+}
+
+/* Into exactly its room, and into more. Into a number less it puts nothing, nor where the index is refused. */
+static void try_rooms(const struct index *index, const struct whole *whole, uint64_t refusal,
+                      const uint64_t header[KLAPOUZEN_INDEX])
+{
+    uint64_t again[KLAPOUZEN_INDEX];
+    if (whole->entries > 0)
+        try_short(index, whole, whole->entries - 1, whole->rows + BEHIND);
+    if (whole->rows > 0)
+        try_short(index, whole, whole->entries + BEHIND, whole->rows - 1);
     for (size_t more = 0; more <= BEHIND; more += BEHIND) {
-        must(ANSWERED(read(GIVEN(index), room, numbers + more, FILLED(count)), count) == refusal);
-        must(count[0] == found);
-        must_be_filled(room + numbers, end);
+        must(klapouzen_read_whole(GIVEN(index), whole->entry, whole->entries + more, whole->row, whole->rows + more,
+                                  FILLED(again)) == refusal);
+        must(memcmp(header, again, sizeof again) == 0);
     }
-    return room;
+    must_be_filled(whole->entry + whole->entries, whole->entry + whole->entries + BEHIND);
+    must_be_filled(whole->row + whole->rows, whole->row + whole->rows + BEHIND);
 }
 
-static void try_files(const struct index *index, uint64_t refusal, uint64_t count)
+/* A path is its directory's, a / and its name decoded; it fits in the text's length. */
+static void try_path(const struct index *index, const struct whole *whole, uint64_t entry)
 {
-    uint64_t all = 0, before = 0;
-    uint64_t *files = try_all(index, klapouzen_read_files, refusal, count, KLAPOUZEN_FILE);
-    for (uint64_t i = 0; i < count; i++)
-        all += files[KLAPOUZEN_FILE * i + KLAPOUZEN_FILE_ROWS];
-    uint64_t *all_rows = try_all(index, klapouzen_read_all_rows, refusal, all, KLAPOUZEN_ROW);
-    for (uint64_t i = 0; i < count && i < 4; i++) {
-        const uint64_t *file = files + KLAPOUZEN_FILE * i;
-        try_file(index, i, file, all_rows + KLAPOUZEN_ROW * before);
-        before += file[KLAPOUZEN_FILE_ROWS];
+    const uint64_t *numbers = whole->entry + KLAPOUZEN_ENTRY * entry;
+    uint64_t count[1], above[1] = { 0 }, name[1] = { 0 }, parent = numbers[KLAPOUZEN_ENTRY_PARENT];
+    size_t room = index->text.length;
+    uint8_t *path = malloc(room), *wanted = malloc(2 * room + 1);
+    must(ANSWERED(klapouzen_path(SLICE(index->text), whole->entry, whole->entries, entry, path, room, FILLED(count)), count)
+         == 0);
+    if (entry > 0) {
+        must(klapouzen_path(SLICE(index->text), whole->entry, whole->entries, parent, wanted, room, above) == 0);
+        if (parent > 0)
+            wanted[above[0]++] = '/';
+        must(klapouzen_decode(index->text.start + numbers[KLAPOUZEN_ENTRY_NAME], numbers[KLAPOUZEN_ENTRY_NAME_LENGTH],
+                              wanted + above[0], room, name) == 0);
     }
-    free(files);
-    free(all_rows);
+    must(count[0] == above[0] + name[0] && memcmp(path, wanted, count[0]) == 0);
+    if (count[0] > 0)
+        must(ANSWERED(klapouzen_path(SLICE(index->text), whole->entry, whole->entries, entry, path, count[0] - 1, above),
+                      above) == KLAPOUZEN_SHORT_OUTPUT);
+    free(path);
+    free(wanted);
 }
+
+/* What an entry owes the ones before it. */
+static void try_entry(const struct index *index, const struct whole *whole, uint64_t entry)
+{
+    const uint64_t *numbers = whole->entry + KLAPOUZEN_ENTRY * entry;
+    must(numbers[KLAPOUZEN_ENTRY_KIND] <= 1 && numbers[KLAPOUZEN_ENTRY_PARENT] <= entry);
+    must(numbers[KLAPOUZEN_ENTRY_NAME] + numbers[KLAPOUZEN_ENTRY_NAME_LENGTH] <= index->text.length);
+    if (entry == 0)
+        return;
+    const uint64_t *before = numbers - KLAPOUZEN_ENTRY;
+    must(numbers[KLAPOUZEN_ENTRY_PARENT] < entry);
+    must(whole->entry[KLAPOUZEN_ENTRY * numbers[KLAPOUZEN_ENTRY_PARENT] + KLAPOUZEN_ENTRY_KIND] == 0);
+    must(numbers[KLAPOUZEN_ENTRY_FILE] == before[KLAPOUZEN_ENTRY_FILE] + before[KLAPOUZEN_ENTRY_KIND]);
+    must(numbers[KLAPOUZEN_ENTRY_FIRST_ROW] == before[KLAPOUZEN_ENTRY_FIRST_ROW] + before[KLAPOUZEN_ENTRY_ROWS]);
+}
+
+/* All entries; the files among the first of them also alone, and their paths. */
+static void try_entries(const struct index *index, const struct whole *whole)
+{
+    enum { SOME = 8 };
+    for (uint64_t i = 0; i < whole->entries / KLAPOUZEN_ENTRY; i++) {
+        const uint64_t *entry = whole->entry + KLAPOUZEN_ENTRY * i;
+        try_entry(index, whole, i);
+        if (i >= SOME)
+            continue;
+        const uint64_t file[KLAPOUZEN_FILE] = { entry[KLAPOUZEN_ENTRY_LENGTH], entry[KLAPOUZEN_ENTRY_NAME],
+                                                entry[KLAPOUZEN_ENTRY_NAME_LENGTH], entry[KLAPOUZEN_ENTRY_ROWS] };
+        try_path(index, whole, i);
+        if (entry[KLAPOUZEN_ENTRY_KIND] == 1)
+            try_file(index, entry[KLAPOUZEN_ENTRY_FILE], file,
+                     whole->row + KLAPOUZEN_ROW * entry[KLAPOUZEN_ENTRY_FIRST_ROW]);
+    }
+}
+
+static void try_whole(const struct index *index, uint64_t refusal, const uint64_t header[KLAPOUZEN_INDEX])
+{
+    uint64_t count = header[KLAPOUZEN_INDEX_DIRECTORIES] + header[KLAPOUZEN_INDEX_FILES];
+    struct whole whole = { KLAPOUZEN_ENTRY * count, KLAPOUZEN_ROW * header[KLAPOUZEN_INDEX_ROWS], NULL, NULL };
+    whole.entry = malloc((whole.entries + BEHIND) * sizeof *whole.entry);
+    whole.row = malloc((whole.rows + BEHIND) * sizeof *whole.row);
+    fill(whole.entry, whole.entries + BEHIND);
+    fill(whole.row, whole.rows + BEHIND);
+    try_rooms(index, &whole, refusal, header);
+    try_entries(index, &whole);
+    free(whole.entry);
+    free(whole.row);
+}
+
+/* Any bytes of the text, by a number. */
+static void try_decode(const struct index *index, uint64_t number)
+{
+    uint64_t count[1], again[1];
+    size_t from = index->text.length > 0 ? number % index->text.length : 0, length = index->text.length - from;
+    uint8_t *room = malloc(length + 1), *exact;
+    must(ANSWERED(klapouzen_decode(index->text.start + from, length, room, length, FILLED(count)), count) == 0);
+    must(count[0] <= length && length <= 6 * count[0]);
+    exact = malloc(count[0] + 1);
+    must(klapouzen_decode(index->text.start + from, length, exact, count[0], FILLED(again)) == 0);
+    must(again[0] == count[0] && memcmp(room, exact, count[0]) == 0);
+    free(room);
+    free(exact);
+}
+
+/* ---- Other spellings ---- */
 
 /* The same answer to the UUID in the other case; and 8, where it is looked for, to another UUID. */
 static void try_spelling(const struct index *index, uint64_t refusal, const uint64_t header[KLAPOUZEN_INDEX])
@@ -141,7 +233,8 @@ int LLVMFuzzerTestOneInput(const uint8_t *input, size_t size)
     uint64_t files = header[KLAPOUZEN_INDEX_FILES];
     must(ANSWERED(klapouzen_read_file(GIVEN(&index), files, FILLED(file)), file)
          == (refusal != 0 ? refusal : KLAPOUZEN_MISSING));
-    try_files(&index, refusal, files);
+    try_whole(&index, refusal, header);
+    try_decode(&index, index.block);
     if (refusal != KLAPOUZEN_BAD_ARGUMENT)
         try_spelling(&index, refusal, header);
     try_padded(&index, refusal, header);

@@ -38,29 +38,31 @@
  * How the functions go together: klapouzen_check_labels gives the UUID, the
  * letters and the block size of a volume, klapouzen_constructs with that block
  * size where the texts of its indexes are, and klapouzen_read_index and the
- * readers behind it take all of these. klapouzen_verdict and klapouzen_rescue
- * do it all by themselves, and klapouzen_keep says what a cut leaves.
+ * readers behind it take all of these. klapouzen_read_index says how much room
+ * klapouzen_read_whole needs for all that an index holds, and klapouzen_path
+ * tells the paths of what it found. klapouzen_verdict and klapouzen_rescue do it
+ * all by themselves, and klapouzen_keep says what a cut leaves.
  *
  * Every function
  *   - answers a refusal number, enum klapouzen_refusal, 0 for none. The
  *     comments name the numbers that a function can answer in the order in
  *     which it looks for them: the first that applies is answered;
  *   - fills all of `out`, *count, *length and *place: with its answer, or on a
- *     refusal with zeros. On a refusal `buffer`, `rows`, `files` and `table`
+ *     refusal with zeros. On a refusal `buffer`, `entries`, `rows` and `table`
  *     keep every byte;
  *   - takes NULL for a slice of length 0, and takes any bytes in a slice: there
  *     is nothing that a caller must check before;
  *   - writes only to the memory named in its comment, keeps no pointer,
  *     allocates nothing, and may be called from several threads at once.
  *
- * A slice is a pointer and a length: in bytes, or for 64-bit numbers (`rows`,
- * `files`) in numbers. Slices that are only read may overlap each other. What a
+ * A slice is a pointer and a length: in bytes, or for 64-bit numbers (`entries`,
+ * `rows`) in numbers. Slices that are only read may overlap each other. What a
  * function writes (`out`, *count, *length, *place, `table`, and where they are
- * not const `buffer`, `rows` and `files`) must not overlap anything else that it
- * is given. `out`, `table` and the pointers to single numbers must not be NULL,
- * and must have room for as many numbers as the declaration says. The names of
- * the numbers in `out` and in a row are an enum above the function; its last name
- * is how many they are.
+ * not const `buffer`, `entries` and `rows`) must not overlap anything else that
+ * it is given. `out`, `table` and the pointers to single numbers must not be
+ * NULL, and must have room for as many numbers as the declaration says. The names
+ * of the numbers in `out`, in an entry and in a row are an enum above the
+ * function; its last name is how many they are.
  *
  * Stack: a call needs less than KLAPOUZEN_STACK bytes.
  */
@@ -127,7 +129,7 @@ static inline const char *klapouzen_refusal_text(uint64_t refusal)
     static const char *const texts[] = {
         "none",
         "the block list is malformed or does not fit its store",
-        "no such element, construct, file or file position",
+        "no such element, construct, file, entry or file position",
         "not a VOL1 label of an LTFS volume",
         "the text is not in the XML form",
         "wrong root, or an element or attribute missing, repeated, unknown or misplaced",
@@ -365,6 +367,7 @@ enum klapouzen_index_header {
     KLAPOUZEN_INDEX_HIGHEST_UID,
     KLAPOUZEN_INDEX_DIRECTORIES, /* the root directory too */
     KLAPOUZEN_INDEX_FILES,
+    KLAPOUZEN_INDEX_ROWS, /* extents of all files */
     KLAPOUZEN_INDEX
 };
 
@@ -417,34 +420,68 @@ uint64_t klapouzen_read_rows(const uint8_t *text, size_t length,
                              uint64_t *count);
 
 /*
- * All files of an index in one reading: the KLAPOUZEN_FILE numbers of each, as
- * klapouzen_read_file has them, at the front of `files`, file 0 first; the rest
- * of it is unchanged. files_length counts numbers, *count files;
- * KLAPOUZEN_INDEX_FILES of klapouzen_read_index says how many there are.
- * Refusals: as klapouzen_read_index, then 10 (files_length is below
- * KLAPOUZEN_FILE times the files).
+ * All of an index in one reading. out: what klapouzen_read_index says. Each
+ * directory and each file has an entry of KLAPOUZEN_ENTRY numbers at the front of
+ * `entries`, in the order of their start tags, so that the root directory is
+ * entry 0 and what a directory holds comes behind it. The rows of all files stand
+ * at the front of `rows`, those of file 0 first, each as klapouzen_read_rows has
+ * it. The rest of both is unchanged. entries_length and rows_length count
+ * numbers: KLAPOUZEN_ENTRY times KLAPOUZEN_INDEX_DIRECTORIES and
+ * KLAPOUZEN_INDEX_FILES together, and KLAPOUZEN_ROW times KLAPOUZEN_INDEX_ROWS,
+ * are enough.
+ * Refusals: as klapouzen_read_index, then 10 (entries_length or rows_length is
+ * below that).
  */
-uint64_t klapouzen_read_files(const uint8_t *text, size_t length,
+enum klapouzen_entry {
+    KLAPOUZEN_ENTRY_KIND,   /* 0: a directory, 1: a file */
+    KLAPOUZEN_ENTRY_PARENT, /* entry of the directory that holds it; the root's is 0, itself */
+    KLAPOUZEN_ENTRY_FILE,   /* how many files come before it: a file's own number */
+    KLAPOUZEN_ENTRY_UID,    /* its fileuid */
+    KLAPOUZEN_ENTRY_NAME,   /* as spelled, from the beginning of the index's text */
+    KLAPOUZEN_ENTRY_NAME_LENGTH, /* in bytes of that text */
+    KLAPOUZEN_ENTRY_LENGTH,      /* of the file, in bytes; of a directory 0 */
+    KLAPOUZEN_ENTRY_FIRST_ROW,   /* how many rows come before it: its own are from here on */
+    KLAPOUZEN_ENTRY_ROWS,        /* how many it has; a directory has none */
+    KLAPOUZEN_ENTRY
+};
+
+uint64_t klapouzen_read_whole(const uint8_t *text, size_t length,
                               const uint8_t *uuid, size_t uuid_length,
                               uint8_t index_letter, uint8_t data_letter,
                               uint64_t block_size, uint8_t letter, uint64_t block,
-                              uint64_t *files, size_t files_length,
-                              uint64_t *count);
+                              uint64_t *entries, size_t entries_length,
+                              uint64_t *rows, size_t rows_length,
+                              uint64_t out[KLAPOUZEN_INDEX]);
 
 /*
- * The rows of all files in one reading: those of file 0, then those of file 1,
- * and so on, each as klapouzen_read_rows has it, at the front of `rows`; the
- * rest of it is unchanged. rows_length counts numbers, *count rows;
- * KLAPOUZEN_FILE_ROWS of klapouzen_read_files says how many are a file's.
- * Refusals: as klapouzen_read_index, then 10 (rows_length is below KLAPOUZEN_ROW
- * times all rows).
+ * A name or another value as spelled, with each of the five references &amp;
+ * &lt; &gt; &quot; and &apos; replaced by the character that it stands for, at
+ * the front of the buffer; the bytes after it keep their values. *count: its
+ * bytes, never more than the text has. The text may be any bytes: those that are
+ * no such reference stay as they are, and what a reference leaves is not looked
+ * at again.
+ * Refusals: 10 (the buffer is too short for it).
  */
-uint64_t klapouzen_read_all_rows(const uint8_t *text, size_t length,
-                                 const uint8_t *uuid, size_t uuid_length,
-                                 uint8_t index_letter, uint8_t data_letter,
-                                 uint64_t block_size, uint8_t letter, uint64_t block,
-                                 uint64_t *rows, size_t rows_length,
-                                 uint64_t *count);
+uint64_t klapouzen_decode(const uint8_t *text, size_t length,
+                          uint8_t *buffer, size_t buffer_length,
+                          uint64_t *count);
+
+/*
+ * The path of an entry, by the text and the entries that klapouzen_read_whole
+ * handed out: the decoded names of the directories below the root that hold it
+ * and its own, with / between them, at the front of the buffer; the bytes after
+ * it keep their values. The root's path is empty. *count: its bytes, which are
+ * never more than the text's. entries_length counts numbers. Of other tables
+ * than klapouzen_read_whole's the path may be longer.
+ * Refusals: 14 (entries_length no multiple of KLAPOUZEN_ENTRY), 2 (no such
+ * entry), 14 (on the way from the entry up to the root an entry whose parent is
+ * not before it, or whose name does not lie in the text; the root's own is not
+ * looked at), 10 (the buffer is too short for it).
+ */
+uint64_t klapouzen_path(const uint8_t *text, size_t length,
+                        const uint64_t *entries, size_t entries_length,
+                        uint64_t entry, uint8_t *buffer, size_t buffer_length,
+                        uint64_t *count);
 
 /*
  * The index of a partition by the number of its construct among those that

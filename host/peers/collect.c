@@ -4,6 +4,8 @@
 #include <stdlib.h>
 #include <string.h>
 
+#include "klapouzen.h"
+
 enum element {
     OTHER, GENERATION, UUID, TIME, LOCATION, BACK, PARTITION, STARTBLOCK, POLICY_UPDATE, HIGHEST, DIRECTORY,
     FILE_, UID, NAME, LENGTH, EXTENT, BYTEOFFSET, BYTECOUNT, FILEOFFSET, SKIPPED,
@@ -26,24 +28,30 @@ static enum element element_of(const char *name)
     return OTHER;
 }
 
-size_t collected_files(const struct collected *collected)
+size_t collected_entries(const struct collected *collected)
 {
-    return collected->files.length / sizeof(struct collected_file);
+    return collected->entries.length / (KLAPOUZEN_ENTRY * sizeof(uint64_t));
 }
 
-const struct collected_file *collected_file(const struct collected *collected, size_t number)
+const uint64_t *collected_entry(const struct collected *collected, size_t number)
 {
-    return (const struct collected_file *)(const void *)collected->files.bytes + number;
+    return (const uint64_t *)(const void *)collected->entries.bytes + KLAPOUZEN_ENTRY * number;
 }
 
-static struct collected_file *last_file(struct collected *found)
+size_t collected_rows(const struct collected *collected)
 {
-    return (struct collected_file *)(void *)found->files.bytes + collected_files(found) - 1;
+    return collected->rows.length / (KLAPOUZEN_ROW * sizeof(uint64_t));
+}
+
+/* The innermost entry that is open. */
+static uint64_t *this_entry(struct collector *collector)
+{
+    return (uint64_t *)(void *)collector->found.entries.bytes + KLAPOUZEN_ENTRY * collector->open[collector->opened - 1];
 }
 
 static uint64_t *last_row(struct collected *found)
 {
-    return (uint64_t *)(void *)found->rows.bytes + found->rows.length / sizeof(uint64_t) - 5;
+    return (uint64_t *)(void *)found->rows.bytes + KLAPOUZEN_ROW * (collected_rows(found) - 1);
 }
 
 void collect_begin(struct collector *collector)
@@ -51,17 +59,26 @@ void collect_begin(struct collector *collector)
     *collector = (struct collector){ 0 };
 }
 
-static void begin_file(struct collected *found)
+static void begin_entry(struct collector *collector, enum element element)
 {
-    struct collected_file file = { 0 };
-    put_bytes(&found->files, &file, sizeof file);
+    struct collected *found = &collector->found;
+    uint64_t entry[KLAPOUZEN_ENTRY] = {
+        [KLAPOUZEN_ENTRY_KIND] = element == FILE_,
+        [KLAPOUZEN_ENTRY_PARENT] = collector->opened > 0 ? collector->open[collector->opened - 1] : 0,
+        [KLAPOUZEN_ENTRY_FILE] = found->files,
+        [KLAPOUZEN_ENTRY_FIRST_ROW] = collected_rows(found),
+    };
+    collector->open[collector->opened++] = collected_entries(found);
+    put_bytes(&found->entries, entry, sizeof entry);
+    found->directories += element == DIRECTORY;
+    found->files += element == FILE_;
 }
 
-static void begin_row(struct collected *found)
+static void begin_row(struct collector *collector)
 {
-    uint64_t row[5] = { 0 };
-    put_bytes(&found->rows, row, sizeof row);
-    last_file(found)->rows++;
+    uint64_t row[KLAPOUZEN_ROW] = { 0 };
+    put_bytes(&collector->found.rows, row, sizeof row);
+    this_entry(collector)[KLAPOUZEN_ENTRY_ROWS]++;
 }
 
 void collect_start(struct collector *collector, const char *name)
@@ -74,12 +91,10 @@ void collect_start(struct collector *collector, const char *name)
         return;
     if (element == SKIPPED)
         collector->skipped = collector->depth;
-    else if (element == DIRECTORY)
-        collector->found.directories++;
-    else if (element == FILE_)
-        begin_file(&collector->found);
+    else if (element == DIRECTORY || element == FILE_)
+        begin_entry(collector, element);
     else if (element == EXTENT)
-        begin_row(&collector->found);
+        begin_row(collector);
 }
 
 void collect_text(struct collector *collector, const char *text, size_t length)
@@ -99,18 +114,18 @@ static void end_place(struct collected *found, enum element parent, int which, u
         last_row(found)[which] = number;
 }
 
-static void end_in_file(struct collector *collector, enum element element, uint64_t number)
+static void end_in_entry(struct collector *collector, enum element element, uint64_t number)
 {
     struct collected *found = &collector->found;
-    struct collected_file *file = last_file(found);
+    uint64_t *entry = this_entry(collector);
     if (element == UID)
-        file->uid = number;
+        entry[KLAPOUZEN_ENTRY_UID] = number;
     if (element == LENGTH)
-        file->length = number;
+        entry[KLAPOUZEN_ENTRY_LENGTH] = number;
     if (element != NAME)
         return;
-    file->name = found->names.length;
-    file->name_length = collector->text.length;
+    entry[KLAPOUZEN_ENTRY_NAME] = found->names.length;
+    entry[KLAPOUZEN_ENTRY_NAME_LENGTH] = collector->text.length;
     put_bytes(&found->names, collector->text.bytes, collector->text.length);
 }
 
@@ -133,9 +148,10 @@ static void end_value(struct collector *collector, enum element element, enum el
     case BYTEOFFSET: last_row(found)[2] = number; break;
     case BYTECOUNT: last_row(found)[3] = number; break;
     case FILEOFFSET: last_row(found)[4] = number; break;
+    case DIRECTORY: case FILE_: collector->opened--; break;
     default:
-        if (parent == FILE_)
-            end_in_file(collector, element, number);
+        if (parent == FILE_ || parent == DIRECTORY)
+            end_in_entry(collector, element, number);
     }
 }
 
@@ -154,6 +170,6 @@ void collect_free(struct collector *collector)
 {
     buffer_free(&collector->text);
     buffer_free(&collector->found.names);
-    buffer_free(&collector->found.files);
+    buffer_free(&collector->found.entries);
     buffer_free(&collector->found.rows);
 }

@@ -8,28 +8,27 @@
 
 #include "sample.h"
 
-struct collected_file {
-    uint64_t uid, length;
-    size_t name, name_length; /* in names */
-    size_t rows;
-};
-
+/* All that klapouzen_read_whole answers, and the UUID and the time themselves. */
 struct collected {
     char uuid[40], time[32];
-    uint64_t generation, highest_uid, directories;
+    uint64_t generation, highest_uid, directories, files;
     uint64_t place[2], back[2]; /* letter, block */
     bool has_back, policy_update;
-    struct buffer names, files, rows; /* struct collected_file; five uint64_t a row */
+    struct buffer names;         /* decoded */
+    struct buffer entries, rows; /* the numbers of enum klapouzen_entry, names being in `names`, and of enum klapouzen_row */
 };
 
-size_t collected_files(const struct collected *collected);
-const struct collected_file *collected_file(const struct collected *collected, size_t number);
+size_t collected_entries(const struct collected *collected);
+const uint64_t *collected_entry(const struct collected *collected, size_t number);
+size_t collected_rows(const struct collected *collected);
 
 /* A collection going on. */
 struct collector {
     struct collected found;
     int path[65], depth;
     int skipped; /* depth of the element whose inside is passed over; 0 for none */
+    size_t open[65]; /* the entries that are not at their ends yet, the outermost first */
+    int opened;
     struct buffer text;
 };
 

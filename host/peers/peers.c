@@ -219,20 +219,42 @@ static void judge(const uint8_t *text, size_t length)
     (text)->bytes[0], (text)->lengths[0], (text)->bytes[1], (text)->lengths[1], (uint8_t)(random)[0], \
         (uint8_t)(random)[1], (random)[2], (uint8_t)(random)[3], (random)[4]
 
-/* Lengths and rows of all files; a collector has the rows one behind another too. */
-static bool same_files(const struct random_case *random, const struct collected *found)
+/* A name as the index spells it, and as a parser decodes it. */
+static bool same_name(const struct random_case *random, const uint64_t *entry, const struct collected *found,
+                      const uint64_t *collected)
 {
-    size_t count = collected_files(found), rows_size = found->rows.length;
-    uint64_t *files = malloc(count * KLAPOUZEN_FILE * sizeof *files + 1), *rows = malloc(rows_size + 1);
-    uint64_t files_read, rows_read;
-    bool same = klapouzen_read_files(GIVEN(random, random->numbers), files, KLAPOUZEN_FILE * count, &files_read) == 0
-        && klapouzen_read_all_rows(GIVEN(random, random->numbers), rows, rows_size / sizeof *rows, &rows_read) == 0
-        && files_read == count && rows_read * KLAPOUZEN_ROW * sizeof *rows == rows_size
+    uint64_t length = entry[KLAPOUZEN_ENTRY_NAME_LENGTH], count;
+    uint8_t *name = malloc(length + 1);
+    bool same = klapouzen_decode(random->bytes[0] + entry[KLAPOUZEN_ENTRY_NAME], length, name, length, &count) == 0
+        && count == collected[KLAPOUZEN_ENTRY_NAME_LENGTH]
+        && (count == 0 || memcmp(name, found->names.bytes + collected[KLAPOUZEN_ENTRY_NAME], count) == 0);
+    free(name);
+    return same;
+}
+
+/* All numbers of an entry but where its name is. */
+static bool same_entry(const uint64_t *entry, const uint64_t *collected)
+{
+    for (int i = 0; i < KLAPOUZEN_ENTRY; i++)
+        if (i != KLAPOUZEN_ENTRY_NAME && i != KLAPOUZEN_ENTRY_NAME_LENGTH && entry[i] != collected[i])
+            return false;
+    return true;
+}
+
+/* All entries and rows; a collector has them one behind another too. */
+static bool same_whole(const struct random_case *random, const struct collected *found)
+{
+    size_t count = collected_entries(found), rows_size = found->rows.length;
+    uint64_t *entries = malloc(count * KLAPOUZEN_ENTRY * sizeof *entries), *rows = malloc(rows_size + 1);
+    uint64_t header[KLAPOUZEN_INDEX];
+    bool same = klapouzen_read_whole(GIVEN(random, random->numbers), entries, KLAPOUZEN_ENTRY * count, rows,
+                                     KLAPOUZEN_ROW * collected_rows(found), header) == 0
         && (rows_size == 0 || memcmp(rows, found->rows.bytes, rows_size) == 0);
-    for (size_t i = 0; same && i < count; i++)
-        same = files[KLAPOUZEN_FILE * i + KLAPOUZEN_FILE_LENGTH] == collected_file(found, i)->length
-            && files[KLAPOUZEN_FILE * i + KLAPOUZEN_FILE_ROWS] == collected_file(found, i)->rows;
-    free(files);
+    for (size_t i = 0; same && i < count; i++) {
+        const uint64_t *entry = entries + KLAPOUZEN_ENTRY * i, *collected = collected_entry(found, i);
+        same = same_entry(entry, collected) && same_name(random, entry, found, collected);
+    }
+    free(entries);
     free(rows);
     return same;
 }
@@ -249,7 +271,8 @@ static bool same_index(const struct random_case *random, const struct collected 
         && header[KLAPOUZEN_INDEX_POLICY_UPDATE] == found->policy_update
         && header[KLAPOUZEN_INDEX_HIGHEST_UID] == found->highest_uid
         && header[KLAPOUZEN_INDEX_DIRECTORIES] == found->directories
-        && header[KLAPOUZEN_INDEX_FILES] == collected_files(found) && same_files(random, found);
+        && header[KLAPOUZEN_INDEX_FILES] == found->files
+        && header[KLAPOUZEN_INDEX_ROWS] == collected_rows(found) && same_whole(random, found);
 }
 
 static uint64_t indexes;

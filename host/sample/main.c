@@ -227,6 +227,69 @@ static void odd(struct sample *sample)
     sample_index(sample, 0, &index);
 }
 
+/* A tree in the order of its text: a file, a directory, or the end of one. */
+struct branch {
+    enum { FILE_HERE, DIRECTORY_BEGINS, DIRECTORY_ENDS } kind;
+    const char *name;
+};
+
+/* An index of a tree whose files are runs one behind the other, each of 4,097 bytes. */
+static void put_tree(struct sample *sample, int side, uint64_t first, const struct branch *branches, size_t count)
+{
+    struct index_head head = sample_head(sample, side);
+    struct extent extent = { 'b', first, 0, BLOCK_SIZE + 1, 0 };
+    struct index_text index;
+    index_begin(&index, &head);
+    for (size_t i = 0; i < count; i++) {
+        if (branches[i].kind == DIRECTORY_BEGINS)
+            index_directory(&index, branches[i].name);
+        else if (branches[i].kind == DIRECTORY_ENDS)
+            index_leave(&index);
+        else
+            index_file(&index, branches[i].name, extent.bytecount, &extent, 1);
+        extent.startblock += branches[i].kind == FILE_HERE ? 2 : 0;
+    }
+    index_end(&index);
+    sample_index(sample, side, &index);
+}
+
+/*
+ * Directories in directories: names that several files have, names with references and one that looks like a reference
+ * when it is decoded, directories whose names are numbers, an empty one, one with characters that a terminal obeys.
+ */
+static void folders(struct sample *sample)
+{
+    enum { FILES = 9 };
+    static const struct branch branches[] = {
+        { FILE_HERE, "notes.txt" },
+        { DIRECTORY_BEGINS, "takes &amp; cuts" },
+        { FILE_HERE, "notes.txt" },
+        { DIRECTORY_BEGINS, "&lt;raw&gt;" },
+        { FILE_HERE, "monday.wav" },
+        { FILE_HERE, "the &quot;one&quot;.wav" },
+        { DIRECTORY_ENDS, NULL },
+        { FILE_HERE, "monday.wav" },
+        { DIRECTORY_ENDS, NULL },
+        { DIRECTORY_BEGINS, "5" },
+        { DIRECTORY_BEGINS, "6" },
+        { FILE_HERE, "&amp;lt;" },
+        { DIRECTORY_ENDS, NULL },
+        { DIRECTORY_ENDS, NULL },
+        { DIRECTORY_BEGINS, "odd\x7f\xe2\x80\xaegpj" },
+        { FILE_HERE, "csi\xc2\x9b[31m" },
+        { FILE_HERE, "tuesday.wav" },
+        { FILE_HERE, "tuesday.wav" },
+        { DIRECTORY_ENDS, NULL },
+        { DIRECTORY_BEGINS, "empty" },
+        { DIRECTORY_ENDS, NULL },
+    };
+    uint64_t first = sample->sides[1].elements;
+    for (int i = 0; i < FILES; i++)
+        put_run(sample, 1, BLOCK_SIZE + 1, (uint8_t)(25 * i));
+    put_tree(sample, 1, first, branches, sizeof branches / sizeof branches[0]);
+    put_tree(sample, 0, first, branches, sizeof branches / sizeof branches[0]);
+}
+
 /* The UUID in capitals wherever it stands in the store, every second time, from the first on or from the second. */
 static void respell(struct tape *tape, bool first)
 {
@@ -435,7 +498,7 @@ int main(int count, char **words)
         { "fresh", fresh }, { "torn", torn }, { "nights", nights }, { "rewound", rewound }, { "defect", defect },
         { "sparse", sparse }, { "long", long_one }, { "many", many }, { "odd", odd },
         { "spellings", spellings }, { "padded", padded }, { "unreadable", unreadable },
-        { "full", full }, { "ansi", ansi }, { "ansi_worn", ansi_worn },
+        { "full", full }, { "folders", folders }, { "ansi", ansi }, { "ansi_worn", ansi_worn },
         { "ansi_many", ansi_many },
     };
     struct sample sample;
@@ -449,6 +512,6 @@ int main(int count, char **words)
         return 0;
     }
     fputs("usage: make_sample fresh|torn|nights|rewound|defect|sparse|long|many|extents|odd|spellings|padded|unreadable|full|"
-          "ansi|ansi_worn|ansi_many DIR\n", stderr);
+          "folders|ansi|ansi_worn|ansi_many DIR\n", stderr);
     return 2;
 }

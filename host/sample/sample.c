@@ -72,7 +72,9 @@ static void tag(struct index_text *index, int depth, const char *tag)
 static void value(struct index_text *index, int depth, const char *name, const char *text)
 {
     new_line(index, depth);
-    put(&index->text, "<%s>%s</%s>", name, text, name);
+    put(&index->text, "<%s>", name);
+    put_bytes(&index->text, text, strlen(text));
+    put(&index->text, "</%s>", name);
 }
 
 static void number(struct index_text *index, int depth, const char *name, uint64_t number)
@@ -206,6 +208,23 @@ struct buffer index_of_size(size_t size, bool indented)
         index_file(&index, name, 4096, &extent, 1);
     }
     index_end(&index);
+    return index.text;
+}
+
+struct buffer index_of_names(size_t size, const char *character)
+{
+    enum { CHARACTERS = 255 };
+    struct index_head head = { .generation = 7, .letter = 'a', .block = 5 };
+    struct index_text index;
+    struct buffer name = { 0 };
+    for (int i = 0; i < CHARACTERS; i++)
+        put(&name, "%s", character);
+    put_byte(&name, '\0', 1);
+    index_begin(&index, &head);
+    while (index.text.length + 2 * name.length + 1024 < size)
+        index_file(&index, (const char *)name.bytes, 0, NULL, 0);
+    index_end(&index);
+    buffer_free(&name);
     return index.text;
 }
 

@@ -59,6 +59,9 @@ void index_attributes(struct index_text *index, const char *name, int nesting);
 /* A text of about this many bytes and no more: files of one extent each. */
 struct buffer index_of_size(size_t size, bool indented);
 
+/* The same of files without extents whose names are this character, as often as a name has room for it. */
+struct buffer index_of_names(size_t size, const char *character);
+
 /* The same of directories: so many one in the other, the rest in the innermost; contents stand before the fileuid. */
 struct buffer nested_index(size_t size, int depth);
 

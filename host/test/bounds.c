@@ -154,10 +154,8 @@ static void smallest_indexes(void)
     expect_zeros("its file", KLAPOUZEN_FILE);
     expect("read_rows of nothing", klapouzen_read_rows(NONE, GIVEN, 'a', 5, 0, NONE, filled()), 4);
     expect_zeros("its count", 1);
-    expect("read_files of nothing", klapouzen_read_files(NONE, GIVEN, 'a', 5, NONE, filled()), 4);
-    expect_zeros("its count", 1);
-    expect("read_all_rows of nothing", klapouzen_read_all_rows(NONE, GIVEN, 'a', 5, NONE, filled()), 4);
-    expect_zeros("its count", 1);
+    expect("read_whole of nothing", klapouzen_read_whole(NONE, GIVEN, 'a', 5, NONE, NONE, filled()), 4);
+    expect_zeros("its header", KLAPOUZEN_INDEX);
     expect("index of nothing", klapouzen_index(NONE, NONE, GIVEN, 'a', 0, filled()), 2);
     expect_zeros("its header", KLAPOUZEN_CHOSEN);
     expect("byte_at without rows", klapouzen_byte_at(NONE, 1, 4096, 0, filled()), 0);
@@ -168,6 +166,21 @@ static void smallest_indexes(void)
     expect("its block", out[KLAPOUZEN_BYTE_BLOCK], 11);
     expect("its byte", out[KLAPOUZEN_BYTE_OFFSET], 0);
     expect("byte_at 9000", klapouzen_byte_at(rows, KLAPOUZEN_ROW, 9000, 4096, 9000, filled()), 2);
+}
+
+static void smallest_paths(void)
+{
+    uint64_t entries[KLAPOUZEN_ENTRY] = { 0 };
+    expect("decode of nothing", klapouzen_decode(NONE, NONE, filled()), 0);
+    expect_zeros("its bytes", 1);
+    expect("decode to nothing", klapouzen_decode(TEXT("&lt;"), NONE, filled()), 10);
+    expect_zeros("its bytes", 1);
+    expect("path in no entries", klapouzen_path(NONE, NONE, 0, NONE, filled()), 2);
+    expect_zeros("its bytes", 1);
+    expect("path in a part of an entry", klapouzen_path(NONE, entries, 1, 1, NONE, filled()), 14);
+    expect("path of the root", klapouzen_path(NONE, entries, KLAPOUZEN_ENTRY, 0, NONE, filled()), 0);
+    expect_zeros("its bytes", 1);
+    expect("path behind the root", klapouzen_path(NONE, entries, KLAPOUZEN_ENTRY, 1, NONE, filled()), 2);
 }
 
 static void smallest_ansi(void)
@@ -355,6 +368,8 @@ static void expect_index(const char *what, struct index_text *index, size_t leng
     struct slice text = guarded(&index->text);
     expect(what, klapouzen_read_index(SLICE(text), GIVEN, 'a', 5, filled()), wanted);
     expect(what, out[KLAPOUZEN_INDEX_GENERATION], wanted == 0 ? 7 : 0);
+    expect(what, klapouzen_read_whole(SLICE(text), GIVEN, 'a', 5, NONE, NONE, filled()), wanted == 0 ? 10 : wanted);
+    expect_zeros(what, KLAPOUZEN_INDEX);
     drop(text);
 }
 
@@ -381,26 +396,35 @@ static void rows_of(const char *what, size_t count, uint64_t wanted)
     free(extents);
 }
 
-/* An index with so many files of the most rows; the rows' blocks count on from file to file. */
-static struct slice index_of_rows(size_t files)
+/* An index with so many rows in files of the most rows; the rows' blocks count on from file to file. */
+static struct buffer text_of_rows(size_t rows)
 {
     struct extent extents[KLAPOUZEN_MAX_ROWS];
     struct index_text index;
     index_begin(&index, &head);
-    for (size_t file = 0; file < files; file++) {
-        for (size_t i = 0; i < KLAPOUZEN_MAX_ROWS; i++)
-            extents[i] = (struct extent){ 'b', KLAPOUZEN_MAX_ROWS * file + i, 0, 1, i };
-        index_file(&index, "f", KLAPOUZEN_MAX_ROWS, extents, KLAPOUZEN_MAX_ROWS);
+    for (size_t put = 0; put < rows;) {
+        size_t count = 0;
+        while (count < KLAPOUZEN_MAX_ROWS && put < rows) {
+            extents[count] = (struct extent){ 'b', put++, 0, 1, count };
+            count++;
+        }
+        index_file(&index, "f", KLAPOUZEN_MAX_ROWS, extents, count);
     }
     index_end(&index);
-    return guarded(&index.text);
+    return index.text;
+}
+
+static struct slice index_of_rows(size_t rows)
+{
+    struct buffer text = text_of_rows(rows);
+    return guarded(&text);
 }
 
 /* All rows of a file into exactly their room, and into a number less. */
 static void row_room(void)
 {
     enum { NUMBERS = KLAPOUZEN_ROW * KLAPOUZEN_MAX_ROWS };
-    struct slice text = index_of_rows(1);
+    struct slice text = index_of_rows(KLAPOUZEN_MAX_ROWS);
     uint64_t *rows = guarded_room(NUMBERS * sizeof *rows);
     memset(rows, 0xa5, NUMBERS * sizeof *rows);
     expect("short rows", klapouzen_read_rows(SLICE(text), GIVEN, 'a', 5, 0, rows, NUMBERS - 1, filled()), 10);
@@ -414,73 +438,298 @@ static void row_room(void)
     drop(text);
 }
 
-/* ---- All files and all rows ---- */
+/* ---- Whole indexes ---- */
 
-typedef __typeof__(klapouzen_read_files) read_all;
+enum { FILLING = 0xa5 };
 
-/* What a reader puts into exactly its room, after it refused a number less of it and changed nothing. */
-static uint64_t *all_of(const char *what, read_all *read, struct slice text, uint64_t count, size_t each)
+/* What klapouzen_read_whole puts into exactly its room. */
+struct whole {
+    struct slice text;
+    uint64_t count, row_count;
+    uint64_t *entries, *rows;
+};
+
+static uint64_t *filled_room(size_t numbers)
 {
-    size_t numbers = count * each;
     uint64_t *room = guarded_room(numbers * sizeof *room);
     for (size_t i = 0; i < numbers; i++)
-        room[i] = 0xa5a5a5a5a5a5a5a5;
-    expect(what, read(SLICE(text), GIVEN, 'a', 5, NONE, filled()), 10);
-    expect(what, read(SLICE(text), GIVEN, 'a', 5, room, numbers - 1, filled()), 10);
-    expect_zeros(what, 1);
-    for (size_t i = 0; i < numbers; i++)
-        expect("an unchanged number", room[i], 0xa5a5a5a5a5a5a5a5);
-    expect(what, read(SLICE(text), GIVEN, 'a', 5, room, numbers, filled()), 0);
-    expect(what, out[0], count);
+        room[i] = FILLING;
     return room;
 }
 
-/* The most files of one extent each, which are below the most entries. */
+static void expect_filled(const char *what, const uint64_t *room, size_t numbers)
+{
+    for (size_t i = 0; i < numbers; i++)
+        expect(what, room[i], FILLING);
+}
+
+/* Rooms that are too short: refused, and nothing is changed. */
+static void expect_short(const char *what, const struct whole *whole, size_t entries, size_t rows)
+{
+    expect(what, klapouzen_read_whole(SLICE(whole->text), GIVEN, 'a', 5, whole->entries, entries, whole->rows, rows,
+                                      filled()), 10);
+    expect_zeros(what, KLAPOUZEN_INDEX);
+    expect_filled("an unchanged entry", whole->entries, KLAPOUZEN_ENTRY * whole->count);
+    expect_filled("an unchanged row", whole->rows, KLAPOUZEN_ROW * whole->row_count);
+}
+
+/* A sound index of so many entries and rows. */
+static struct whole read_whole(const char *what, struct slice text, uint64_t count, uint64_t row_count)
+{
+    uint64_t header[KLAPOUZEN_INDEX];
+    size_t entries = KLAPOUZEN_ENTRY * count, rows = KLAPOUZEN_ROW * row_count;
+    struct whole whole = { text, count, row_count, filled_room(entries), filled_room(rows) };
+    expect(what, klapouzen_read_index(SLICE(text), GIVEN, 'a', 5, header), 0);
+    expect(what, header[KLAPOUZEN_INDEX_DIRECTORIES] + header[KLAPOUZEN_INDEX_FILES], count);
+    expect(what, header[KLAPOUZEN_INDEX_ROWS], row_count);
+    expect_short(what, &whole, entries - 1, rows);
+    if (rows > 0)
+        expect_short(what, &whole, entries, rows - 1);
+    expect(what, klapouzen_read_whole(SLICE(text), GIVEN, 'a', 5, whole.entries, entries, whole.rows, rows, filled()), 0);
+    expect(what, memcmp(out, header, sizeof header) != 0, 0);
+    return whole;
+}
+
+static void drop_whole(struct whole *whole)
+{
+    guarded_free(whole->entries, KLAPOUZEN_ENTRY * whole->count * sizeof *whole->entries);
+    guarded_free(whole->rows, KLAPOUZEN_ROW * whole->row_count * sizeof *whole->rows);
+    drop(whole->text);
+}
+
+static uint64_t number_of(const struct whole *whole, uint64_t entry, enum klapouzen_entry which)
+{
+    return whole->entries[KLAPOUZEN_ENTRY * entry + which];
+}
+
+/* A path into exactly its room, after a byte less of it was refused and nothing changed. */
+static void expect_path(const char *what, const struct whole *whole, uint64_t entry, struct buffer wanted)
+{
+    size_t numbers = KLAPOUZEN_ENTRY * whole->count;
+    uint8_t *room = guarded_room(wanted.length);
+    memset(room, FILLING, wanted.length);
+    expect(what, klapouzen_path(SLICE(whole->text), whole->entries, numbers, entry, room, wanted.length - 1, filled()), 10);
+    expect_zeros(what, 1);
+    for (size_t i = 0; i < wanted.length; i++)
+        expect("an unchanged byte", room[i], FILLING);
+    expect(what, klapouzen_path(SLICE(whole->text), whole->entries, numbers, entry, room, wanted.length, filled()), 0);
+    expect(what, out[0], wanted.length);
+    expect(what, memcmp(room, wanted.bytes, wanted.length) != 0, 0);
+    guarded_free(room, wanted.length);
+    buffer_free(&wanted);
+}
+
+/* The most files of one extent each: some of them are as the readers of a file have them. */
 static void most_files(void)
 {
     struct buffer buffer = index_of_size(KLAPOUZEN_MAX_INDEX, false);
     struct slice text = guarded(&buffer);
     expect("their index", klapouzen_read_index(SLICE(text), GIVEN, 'a', 5, filled()), 0);
     uint64_t count = out[KLAPOUZEN_INDEX_FILES], row[KLAPOUZEN_ROW], rows_read;
-    uint64_t *files = all_of("most files", klapouzen_read_files, text, count, KLAPOUZEN_FILE);
-    uint64_t *rows = all_of("a row of each", klapouzen_read_all_rows, text, count, KLAPOUZEN_ROW);
+    struct whole whole = read_whole("most files", text, count + 1, count);
     for (uint64_t i = 0; i < count; i += count / 7) {
+        const uint64_t *entry = whole.entries + KLAPOUZEN_ENTRY * (i + 1);
         expect("a file", klapouzen_read_file(SLICE(text), GIVEN, 'a', 5, i, filled()), 0);
-        expect("as alone", memcmp(out, files + KLAPOUZEN_FILE * i, KLAPOUZEN_FILE * sizeof *out) != 0, 0);
+        expect("its length", entry[KLAPOUZEN_ENTRY_LENGTH], out[KLAPOUZEN_FILE_LENGTH]);
+        expect("its name", entry[KLAPOUZEN_ENTRY_NAME], out[KLAPOUZEN_FILE_NAME]);
+        expect("its name's length", entry[KLAPOUZEN_ENTRY_NAME_LENGTH], out[KLAPOUZEN_FILE_NAME_LENGTH]);
+        expect("its rows", entry[KLAPOUZEN_ENTRY_ROWS], out[KLAPOUZEN_FILE_ROWS]);
         expect("its row", klapouzen_read_rows(SLICE(text), GIVEN, 'a', 5, i, row, KLAPOUZEN_ROW, &rows_read), 0);
-        expect("as alone", memcmp(row, rows + KLAPOUZEN_ROW * i, sizeof row) != 0, 0);
+        expect("as alone", memcmp(row, whole.rows + KLAPOUZEN_ROW * i, sizeof row) != 0, 0);
+        struct buffer path = { 0 };
+        put(&path, "recording %05" PRIu64 ".wav", i);
+        expect_path("its path", &whole, i + 1, path);
     }
-    guarded_free(files, KLAPOUZEN_FILE * count * sizeof *files);
-    guarded_free(rows, KLAPOUZEN_ROW * count * sizeof *rows);
-    drop(text);
+    drop_whole(&whole);
 }
 
-/* As many files of the most rows as an index has room for. */
+/* An entry in the fewest bytes, the kind's own elements as given. */
+static void put_small_entry(struct index_text *index, uint64_t uid, const char *kind, const char *own)
+{
+    static const char *const times[] = { "creation", "change", "modify", "access", "backup" };
+    put(&index->text, "<%s><fileuid>%" PRIu64 "</fileuid><name>f</name><readonly>0</readonly>%s", kind, uid, own);
+    for (int i = 0; i < 5; i++)
+        put(&index->text, "<%stime>" SAMPLE_TIME "</%stime>", times[i], times[i]);
+    put(&index->text, "</%s>", kind);
+}
+
+/* As many lawful entries as an index has room for, which are below 4,096: directories and files by turns. */
+static void most_entries(void)
+{
+    struct index_text index;
+    uint64_t count = 1;
+    index_begin(&index, &head);
+    while (index.text.length + 512 < KLAPOUZEN_MAX_INDEX) {
+        bool file = count % 2 == 0;
+        count++;
+        put_small_entry(&index, count, file ? "file" : "directory", file ? "<length>9</length>" : "<contents/>");
+    }
+    index_end(&index);
+    struct whole whole = read_whole("most entries", guarded(&index.text), count, 0);
+    for (uint64_t i = 1; i < count; i++) {
+        expect("its kind", number_of(&whole, i, KLAPOUZEN_ENTRY_KIND), i % 2 == 0);
+        expect("its parent", number_of(&whole, i, KLAPOUZEN_ENTRY_PARENT), 0);
+        expect("files before it", number_of(&whole, i, KLAPOUZEN_ENTRY_FILE), (i - 1) / 2);
+        expect("its fileuid", number_of(&whole, i, KLAPOUZEN_ENTRY_UID), i + 1);
+        expect("its length", number_of(&whole, i, KLAPOUZEN_ENTRY_LENGTH), i % 2 == 0 ? 9 : 0);
+    }
+    drop_whole(&whole);
+}
+
+static void whole_rows(size_t count)
+{
+    size_t files = (count + KLAPOUZEN_MAX_ROWS - 1) / KLAPOUZEN_MAX_ROWS;
+    struct whole whole = read_whole("many rows", index_of_rows(count), files + 1, count);
+    for (uint64_t i = 0; i < count; i++) {
+        expect("a block", whole.rows[KLAPOUZEN_ROW * i + KLAPOUZEN_ROW_STARTBLOCK], i);
+        expect("a position", whole.rows[KLAPOUZEN_ROW * i + KLAPOUZEN_ROW_FILEOFFSET], i % KLAPOUZEN_MAX_ROWS);
+    }
+    for (uint64_t i = 1; i <= files; i++) {
+        uint64_t before = KLAPOUZEN_MAX_ROWS * (i - 1), left = count - before;
+        expect("its first row", number_of(&whole, i, KLAPOUZEN_ENTRY_FIRST_ROW), before);
+        expect("its rows", number_of(&whole, i, KLAPOUZEN_ENTRY_ROWS),
+               left < KLAPOUZEN_MAX_ROWS ? left : KLAPOUZEN_MAX_ROWS);
+    }
+    drop_whole(&whole);
+}
+
+/* As many rows as an index has room for. */
 static void most_rows(void)
 {
-    enum { FILES = 6, COUNT = FILES * KLAPOUZEN_MAX_ROWS };
-    struct slice text = index_of_rows(FILES);
-    uint64_t *rows = all_of("most rows", klapouzen_read_all_rows, text, COUNT, KLAPOUZEN_ROW);
-    for (uint64_t i = 0; i < COUNT; i++) {
-        expect("a block", rows[KLAPOUZEN_ROW * i + KLAPOUZEN_ROW_STARTBLOCK], i);
-        expect("a position", rows[KLAPOUZEN_ROW * i + KLAPOUZEN_ROW_FILEOFFSET], i % KLAPOUZEN_MAX_ROWS);
+    size_t count = 6 * KLAPOUZEN_MAX_ROWS, length = 0;
+    while (length <= KLAPOUZEN_MAX_INDEX) {
+        count += 32;
+        struct buffer text = text_of_rows(count);
+        length = text.length;
+        buffer_free(&text);
     }
-    guarded_free(rows, KLAPOUZEN_ROW * COUNT * sizeof *rows);
+    whole_rows(count - 32);
+}
+
+/* Directories as deep as they may stand, the innermost ones side by side. */
+static void deepest_paths(void)
+{
+    enum { DEPTH = 30 };
+    struct buffer text = nested_index(KLAPOUZEN_MAX_INDEX, DEPTH);
+    struct slice slice = guarded(&text);
+    expect("its index", klapouzen_read_index(SLICE(slice), GIVEN, 'a', 5, filled()), 0);
+    struct whole whole = read_whole("deepest", slice, out[KLAPOUZEN_INDEX_DIRECTORIES], 0);
+    for (uint64_t i = 1; i < whole.count; i++) {
+        expect("its parent", number_of(&whole, i, KLAPOUZEN_ENTRY_PARENT), i < DEPTH ? i - 1 : DEPTH - 1);
+        expect("its fileuid", number_of(&whole, i, KLAPOUZEN_ENTRY_UID), i + 1);
+    }
+    struct buffer path = { 0 };
+    for (int i = 1; i < DEPTH; i++)
+        put(&path, "nested/");
+    put(&path, "innermost");
+    expect_path("the deepest path", &whole, whole.count - 1, path);
+    drop_whole(&whole);
+}
+
+/* In directories as deep as a file may stand: one with an extent, and one whose attributes go down to this nesting. */
+static struct slice index_of_nesting(int nesting)
+{
+    enum { FILE_AND_ATTRIBUTES = 2 };
+    struct extent extent = { 'b', 4, 0, 1, 0 };
+    struct index_text index;
+    index_begin(&index, &head);
+    while (index.depth < KLAPOUZEN_MAX_NESTING - 5)
+        index_directory(&index, "d");
+    index_file(&index, "rows", 1, &extent, 1);
+    index_attributes(&index, "attributes", nesting - index.depth - FILE_AND_ATTRIBUTES);
+    index_end(&index);
+    return guarded(&index.text);
+}
+
+static void deepest_elements(void)
+{
+    enum { DIRECTORIES = 29 };
+    struct slice deeper = index_of_nesting(KLAPOUZEN_MAX_NESTING + 1);
+    struct whole whole = read_whole("nesting 64", index_of_nesting(KLAPOUZEN_MAX_NESTING), DIRECTORIES + 2, 1);
+    for (int i = 0; i < 2; i++) {
+        expect("its parent", number_of(&whole, DIRECTORIES + i, KLAPOUZEN_ENTRY_PARENT), DIRECTORIES - 1);
+        expect("files before it", number_of(&whole, DIRECTORIES + i, KLAPOUZEN_ENTRY_FILE), i);
+        expect("rows before it", number_of(&whole, DIRECTORIES + i, KLAPOUZEN_ENTRY_FIRST_ROW), i);
+        expect("its rows", number_of(&whole, DIRECTORIES + i, KLAPOUZEN_ENTRY_ROWS), 1 - i);
+    }
+    expect("nesting 65", klapouzen_read_whole(SLICE(deeper), GIVEN, 'a', 5, NONE, NONE, filled()), 4);
+    drop_whole(&whole);
+    drop(deeper);
+}
+
+/* A path of the longest names, each character a reference. */
+static void longest_path(void)
+{
+    enum { DEPTH = 30, CHARACTERS = 255 };
+    char name[6 * CHARACTERS + 1];
+    struct buffer path = { 0 };
+    struct index_text index;
+    for (int i = 0; i < CHARACTERS; i++)
+        memcpy(name + 6 * i, "&quot;", 7);
+    index_begin(&index, &head);
+    for (int i = 0; i < DEPTH; i++) {
+        index_directory(&index, name);
+        put_byte(&path, '/', i > 0);
+        put_byte(&path, '"', CHARACTERS);
+    }
+    index_end(&index);
+    struct whole whole = read_whole("longest names", guarded(&index.text), DEPTH + 1, 0);
+    expect_path("the longest path", &whole, DEPTH, path);
+    drop_whole(&whole);
+}
+
+/* A table that no index has: each entry in the one before it, as many as there may be elements. */
+static void longest_table(void)
+{
+    enum { COUNT = KLAPOUZEN_MAX_ELEMENTS };
+    struct buffer path = { 0 };
+    struct whole whole = { { guarded_copy("x", 1), 1 }, COUNT, 0, filled_room(KLAPOUZEN_ENTRY * COUNT), NULL };
+    for (uint64_t i = 0; i < COUNT; i++) {
+        uint64_t *entry = whole.entries + KLAPOUZEN_ENTRY * i;
+        entry[KLAPOUZEN_ENTRY_PARENT] = i - (i > 0);
+        entry[KLAPOUZEN_ENTRY_NAME] = 0;
+        entry[KLAPOUZEN_ENTRY_NAME_LENGTH] = 1;
+    }
+    for (int i = 1; i < COUNT; i++)
+        put_bytes(&path, i > 1 ? "/x" : "x", i > 1 ? 2 : 1);
+    expect_path("the longest table's path", &whole, COUNT - 1, path);
+    drop_whole(&whole);
+}
+
+/* So many times a spelling and what is left of it, into exactly its room and into a byte less. */
+static void decode_of(const char *spelled, const char *decoded, size_t times)
+{
+    struct buffer buffer = { 0 };
+    size_t length = times * strlen(decoded);
+    for (size_t i = 0; i < times; i++)
+        put_bytes(&buffer, spelled, strlen(spelled));
+    struct slice text = guarded(&buffer);
+    uint8_t *room = guarded_room(length);
+    memset(room, FILLING, length);
+    expect("a long text", klapouzen_decode(SLICE(text), room, length - 1, filled()), 10);
+    expect_zeros("its bytes", 1);
+    expect("an unchanged byte", room[0] == FILLING && room[length - 1] == FILLING, true);
+    expect("a long text", klapouzen_decode(SLICE(text), room, length, filled()), 0);
+    expect("its bytes", out[0], length);
+    for (size_t i = 0; i < length; i += strlen(decoded))
+        expect("decoded", memcmp(room + i, decoded, strlen(decoded)) != 0, 0);
+    guarded_free(room, length);
     drop(text);
 }
 
-/* An index without files needs no room. */
+/* An index without files needs no room for rows. */
 static void no_files(void)
 {
     struct index_text index;
     index_begin(&index, &head);
     index_end(&index);
-    struct slice text = guarded(&index.text);
-    expect("no files", klapouzen_read_files(SLICE(text), GIVEN, 'a', 5, NONE, filled()), 0);
-    expect_zeros("their count", 1);
-    expect("no rows", klapouzen_read_all_rows(SLICE(text), GIVEN, 'a', 5, NONE, filled()), 0);
-    expect_zeros("their count", 1);
-    drop(text);
+    struct whole whole = read_whole("no files", guarded(&index.text), 1, 0);
+    const uint64_t wanted[KLAPOUZEN_ENTRY] = { 0, 0, 0, 1, number_of(&whole, 0, KLAPOUZEN_ENTRY_NAME), strlen("sample") };
+    expect("the root directory", memcmp(whole.entries, wanted, sizeof wanted) != 0, 0);
+    expect("its name", memcmp(whole.text.start + wanted[KLAPOUZEN_ENTRY_NAME], "sample", strlen("sample")) != 0, 0);
+    expect("its path", klapouzen_path(SLICE(whole.text), wanted, KLAPOUZEN_ENTRY, 0, NONE, filled()), 0);
+    expect_zeros("its bytes", 1);
+    drop_whole(&whole);
 }
 
 static void map_of(size_t count, uint64_t wanted)
@@ -505,9 +754,24 @@ static void largest_indexes(void)
     row_room();
     no_files();
     most_files();
+    most_entries();
+    whole_rows(4096);
+    whole_rows(4097);
     most_rows();
     map_of(1024, 0);
     map_of(1025, 15);
+}
+
+static void largest_paths(void)
+{
+    deepest_paths();
+    deepest_elements();
+    longest_path();
+    longest_table();
+    decode_of("&amp;", "&", KLAPOUZEN_MAX_INDEX / 5);
+    decode_of("&amp;lt;&lt", "&lt;&lt", KLAPOUZEN_MAX_INDEX / 11);
+    decode_of("&", "&", KLAPOUZEN_MAX_STORE);
+    decode_of("x", "x", KLAPOUZEN_MAX_STORE);
 }
 
 /* ---- The largest volume ---- */
@@ -764,12 +1028,14 @@ int main(void)
     smallest_lists();
     smallest_texts();
     smallest_indexes();
+    smallest_paths();
     smallest_ansi();
     largest_lists();
     most_constructs(false);
     most_constructs(true);
     largest_texts();
     largest_indexes();
+    largest_paths();
     largest_volume(false);
     largest_volume(true);
     largest_lost_index();

@@ -21,7 +21,7 @@
 #define FUNCTIONS(X) \
     X(check_list) X(keep) X(block) X(constructs) X(check_form) X(read_vol1) X(write_vol1) \
     X(read_label) X(write_label) X(check_labels) X(read_index) X(read_file) X(read_rows) \
-    X(read_files) X(read_all_rows) X(index) X(byte_at) X(verdict) X(rescue) X(ansi) X(ansi_place)
+    X(read_whole) X(decode) X(path) X(index) X(byte_at) X(verdict) X(rescue) X(ansi) X(ansi_place)
 
 #define DECLARE(name) extern __typeof__(klapouzen_##name) reference_##name;
 #define MEMBER(name) __typeof__(klapouzen_##name) *name;
@@ -41,18 +41,21 @@ static const struct functions sides[2] = {
 
 /* ---- Answers ---- */
 
-enum { NUMBERS = 20, LENT = 4096, ROWS = 256, REFUSALS = KLAPOUZEN_UNREADABLE_BLOCK + 1 };
+enum { NUMBERS = 20, LENT = 4096, ROWS = 512, ENTRIES = 720, REFUSALS = KLAPOUZEN_UNREADABLE_BLOCK + 1 };
 
 struct answer {
     uint64_t refusal;
     uint64_t out[NUMBERS];
     uint8_t lent[LENT];
-    uint64_t rows[ROWS];
+    uint64_t rows[ROWS], entries[ENTRIES];
 };
 
 static struct answer answers[2];
 static uint32_t tables[2][KLAPOUZEN_CONSTRUCT_TABLE];
 static uint64_t seed, differences, calls, vectors, refusals[REFUSALS];
+
+/* How many indexes were read whole, how many paths had a / in them, and the refusals of paths. */
+static uint64_t wholes, deep_paths, path_refusals[REFUSALS];
 
 /* The same other data on both sides. */
 static void fill(struct answer *answer)
@@ -96,6 +99,17 @@ static void compare(const char *what)
         } \
         compare(what); \
     } while (0)
+
+/* A large buffer, one that fits, one a byte short, and none: the first call says what fits. */
+enum { ROOMS = 4 };
+
+static void fit_rooms(size_t rooms[ROOMS], int at)
+{
+    if (at > 0 || answers[1].refusal != 0 || answers[1].out[0] == 0)
+        return;
+    rooms[1] = answers[1].out[0];
+    rooms[2] = answers[1].out[0] - 1;
+}
 
 /* ---- Slices ---- */
 
@@ -204,33 +218,113 @@ struct given {
 #define GIVEN(given) SLICE((given)->uuid), (given)->index, (given)->data, (given)->block_size
 
 /* How much room so many numbers take, as far as there is any. */
-static size_t room_for(uint64_t numbers)
+static size_t room_for(uint64_t numbers, size_t most)
 {
-    return numbers < ROWS ? (size_t)numbers : ROWS;
+    return numbers < most ? (size_t)numbers : most;
 }
 
 #define AT SLICE(text), GIVEN(given), letter, block
 
-/* All files, or all their rows, into a large buffer, one that fits, one a number short, and none. */
-static void compare_all(struct slice text, const struct given *given, uint8_t letter, uint64_t block, bool rows)
+/* ---- Names and paths ---- */
+
+/* Some bytes of a text: many, or few from a reference on, which may be cut off. */
+static struct slice part_of_text(struct slice text, uint64_t n)
 {
-    size_t rooms[4] = { ROWS, 0, 0, 0 };
-    for (int i = 0; i < 4; i++) {
-        if (rows)
-            BOTH("read_all_rows", f->read_all_rows(AT, a->rows, rooms[i], a->out));
-        else
-            BOTH("read_files", f->read_files(AT, a->rows, rooms[i], a->out));
-        if (i == 0 && answers[1].refusal == 0 && answers[1].out[0] > 0) {
-            rooms[1] = room_for((rows ? KLAPOUZEN_ROW : KLAPOUZEN_FILE) * answers[1].out[0]);
-            rooms[2] = rooms[1] - 1;
-        }
+    if (text.length == 0)
+        return text;
+    size_t from = n * 7919 % text.length, most = LENT / 2;
+    const uint8_t *reference = memchr(text.start + from, '&', text.length - from);
+    if (n % 2 == 1 && reference != NULL) {
+        from = (size_t)(reference - text.start);
+        most = n / 2 % 12;
     }
+    return (struct slice){ text.start + from, text.length - from < most ? text.length - from : most };
+}
+
+static void compare_decode(struct slice text)
+{
+    size_t rooms[ROOMS] = { LENT };
+    for (int i = 0; i < ROOMS; i++) {
+        BOTH("decode", f->decode(SLICE(text), a->lent, rooms[i], a->out));
+        fit_rooms(rooms, i);
+    }
+}
+
+/* By a table of so many numbers. */
+static void compare_path(struct slice text, const uint64_t *entries, size_t length, uint64_t entry)
+{
+    size_t rooms[ROOMS] = { LENT };
+    for (int i = 0; i < ROOMS; i++) {
+        BOTH("path", f->path(SLICE(text), entries, length, entry, a->lent, rooms[i], a->out));
+        if (i == 0) {
+            path_refusals[answers[1].refusal]++;
+            deep_paths += memchr(answers[1].lent, '/', answers[1].out[0]) != NULL;
+        }
+        fit_rooms(rooms, i);
+    }
+}
+
+/* A number of the table changed: a parent or a name, most often, to one near a bound. */
+static void damage_table(uint64_t *entries, size_t length, uint64_t n, uint64_t text_length)
+{
+    static const int numbers[] = { KLAPOUZEN_ENTRY_PARENT, KLAPOUZEN_ENTRY_NAME, KLAPOUZEN_ENTRY_NAME_LENGTH,
+                                   KLAPOUZEN_ENTRY_UID };
+    size_t entry = n / 4 % (length / KLAPOUZEN_ENTRY), at = KLAPOUZEN_ENTRY * entry + numbers[n % 4];
+    const uint64_t values[] = { entry, entry + 1, 0, text_length, text_length + 1, UINT64_MAX, entries[at] + 1, entry / 2 };
+    entries[at] = values[n / 64 % 8];
+}
+
+/* Each entry's path, and that of one behind the last. */
+static void compare_table(struct slice text, const uint64_t *table, size_t length)
+{
+    size_t size = length * sizeof *table;
+    uint64_t *entries = guarded_copy(table, size);
+    for (uint64_t entry = 0; entry <= length / KLAPOUZEN_ENTRY; entry++)
+        compare_path(text, entries, length, entry);
+    compare_path(text, entries, length, UINT64_MAX);
+    compare_path((struct slice){ NULL, 0 }, entries, length, length / KLAPOUZEN_ENTRY - 1);
+    guarded_free(entries, size);
+}
+
+/* By what was read, by a damaged table, and by one that is no table. */
+static void compare_paths(struct slice text, const uint64_t *whole, size_t length)
+{
+    uint64_t table[ENTRIES];
+    memcpy(table, whole, length * sizeof *table);
+    compare_table(text, table, length);
+    compare_path(text, table, length - 1 - seed % (KLAPOUZEN_ENTRY - 1), seed % 3);
+    damage_table(table, length, seed, text.length);
+    compare_table(text, table, length);
+}
+
+/* ---- Whole indexes ---- */
+
+/* Into large buffers, into such that fit, and with each of them a number short, or none. */
+static void compare_whole(struct slice text, const struct given *given, uint8_t letter, uint64_t block)
+{
+    BOTH("read_whole", f->read_whole(AT, a->entries, ENTRIES, a->rows, ROWS, a->out));
+    const uint64_t *header = answers[1].out;
+    uint64_t count = header[KLAPOUZEN_INDEX_DIRECTORIES] + header[KLAPOUZEN_INDEX_FILES];
+    size_t entries = room_for(KLAPOUZEN_ENTRY * count, ENTRIES);
+    size_t rows = room_for(KLAPOUZEN_ROW * header[KLAPOUZEN_INDEX_ROWS], ROWS);
+    if (answers[1].refusal == 0) {
+        wholes++;
+        compare_paths(text, answers[0].entries, entries);
+    }
+    BOTH("read_whole", f->read_whole(AT, a->entries, entries, a->rows, rows, a->out));
+    if (entries > 0)
+        BOTH("read_whole", f->read_whole(AT, a->entries, entries - 1, a->rows, rows, a->out));
+    if (rows > 0)
+        BOTH("read_whole", f->read_whole(AT, a->entries, entries, a->rows, rows - 1, a->out));
+    BOTH("read_whole", f->read_whole(AT, a->entries, entries, NULL, 0, a->out));
+    BOTH("read_whole", f->read_whole(AT, NULL, 0, a->rows, rows, a->out));
+    BOTH("read_whole", f->read_whole(AT, NULL, 0, NULL, 0, a->out));
 }
 
 static void compare_rows(struct slice text, const struct given *given, uint8_t letter, uint64_t block, uint64_t file)
 {
     BOTH("read_file", f->read_file(AT, file, a->out));
-    size_t exact = answers[1].refusal == 0 ? room_for(KLAPOUZEN_ROW * answers[1].out[KLAPOUZEN_FILE_ROWS]) : 0;
+    size_t exact = answers[1].refusal == 0 ? room_for(KLAPOUZEN_ROW * answers[1].out[KLAPOUZEN_FILE_ROWS], ROWS) : 0;
     BOTH("read_rows", f->read_rows(AT, file, a->rows, ROWS, a->out));
     BOTH("read_rows", f->read_rows(AT, file, a->rows, exact, a->out));
     if (exact > 0)
@@ -244,8 +338,7 @@ static void compare_index(struct slice text, const struct given *given, uint8_t 
     for (uint64_t file = 0; file <= files; file++)
         compare_rows(text, given, letter, block, file);
     BOTH("read_file", f->read_file(AT, UINT64_MAX, a->out));
-    compare_all(text, given, letter, block, false);
-    compare_all(text, given, letter, block, true);
+    compare_whole(text, given, letter, block);
 }
 
 static void compare_constructs(struct slice list, struct slice store, const struct given *given,
@@ -266,6 +359,7 @@ static void index_case(void)
     struct given given = { parts[1], (uint8_t)random.numbers[0], (uint8_t)random.numbers[1],
                            random.numbers[2] };
     compare_index(parts[0], &given, (uint8_t)random.numbers[3], random.numbers[4]);
+    compare_decode(part_of_text(parts[0], seed));
     BOTH("check_form", f->check_form(SLICE(parts[0])));
     struct slice longer = stretched(parts[0], 100, KLAPOUZEN_MAX_INDEX);
     BOTH("read_index", f->read_index(SLICE(longer), GIVEN(&given), (uint8_t)random.numbers[3],
@@ -396,18 +490,14 @@ static void volume_case(void)
 
 /* ---- Labels and rows ---- */
 
-/* Into a large buffer, one that fits, and one a byte short. */
 static void compare_label_writer(const struct slice parts[4], const uint64_t *n)
 {
-    size_t rooms[3] = { LENT, 0, 0 };
-    for (int i = 0; i < 3; i++) {
+    size_t rooms[ROOMS] = { LENT };
+    for (int i = 0; i < ROOMS; i++) {
         BOTH("write_label",
              f->write_label(a->lent, rooms[i], SLICE(parts[1]), SLICE(parts[2]), SLICE(parts[3]),
                             (uint8_t)n[0], (uint8_t)n[1], (uint8_t)n[2], n[3], n[4], a->out));
-        if (i == 0 && answers[1].refusal == 0) {
-            rooms[1] = answers[1].out[0];
-            rooms[2] = answers[1].out[0] - 1;
-        }
+        fit_rooms(rooms, i);
     }
 }
 
@@ -552,6 +642,9 @@ static uint64_t print_counts(uint64_t cases)
         printf(" %d:%" PRIu64, i, refusals[i]);
         never += refusals[i] == 0;
     }
+    printf("; %" PRIu64 " indexes read whole, %" PRIu64 " paths with a / in them, of all %" PRIu64 " refused 2 and %" PRIu64
+           " 14", wholes, deep_paths, path_refusals[KLAPOUZEN_MISSING], path_refusals[KLAPOUZEN_BAD_ARGUMENT]);
+    never += wholes == 0 || deep_paths == 0;
     putchar('\n');
     return cases < ENOUGH ? 0 : never;
 }

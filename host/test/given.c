@@ -18,7 +18,7 @@ static int failures;
 #define WORD(text) (const uint8_t *)(text), strlen(text)
 
 /* What a function may write, filled before each call. */
-static uint64_t out[KLAPOUZEN_CHOSEN], numbers[KLAPOUZEN_ROW];
+static uint64_t out[KLAPOUZEN_CHOSEN], numbers[KLAPOUZEN_ROW], entries[KLAPOUZEN_ENTRY];
 static uint8_t buffer[KLAPOUZEN_MAX_LABEL];
 static uint32_t table[KLAPOUZEN_CONSTRUCT_TABLE];
 
@@ -26,6 +26,7 @@ static void fill(void)
 {
     memset(out, 0xa5, sizeof out);
     memset(numbers, 0xa5, sizeof numbers);
+    memset(entries, 0xa5, sizeof entries);
     memset(buffer, 0xa5, sizeof buffer);
     memset(table, 0xa5, sizeof table);
 }
@@ -50,7 +51,8 @@ static int is_as_refused(size_t handed)
     static const uint64_t zeros[KLAPOUZEN_CHOSEN];
     size_t size = handed * sizeof *out;
     return memcmp(out, zeros, size) == 0 && is_filled(out + handed, sizeof out - size)
-        && is_filled(numbers, sizeof numbers) && is_filled(buffer, sizeof buffer) && is_filled(table, sizeof table);
+        && is_filled(numbers, sizeof numbers) && is_filled(entries, sizeof entries)
+        && is_filled(buffer, sizeof buffer) && is_filled(table, sizeof table);
 }
 
 /* The answer; where it is a refusal, what the function leaves in memory too. */
@@ -95,8 +97,9 @@ static void read_with(const struct volume_given *v)
     expect("read_index", v->what, klapouzen_read_index(TEXT, out), wanted, KLAPOUZEN_INDEX);
     expect("read_file", v->what, klapouzen_read_file(TEXT, 0, out), wanted, KLAPOUZEN_FILE);
     expect("read_rows", v->what, klapouzen_read_rows(TEXT, 0, numbers, KLAPOUZEN_ROW, out), wanted, 1);
-    expect("read_files", v->what, klapouzen_read_files(TEXT, numbers, KLAPOUZEN_ROW, out), wanted, 1);
-    expect("read_all_rows", v->what, klapouzen_read_all_rows(TEXT, numbers, KLAPOUZEN_ROW, out), wanted, 1);
+    expect("read_whole", v->what,
+           klapouzen_read_whole(TEXT, entries, KLAPOUZEN_ENTRY, numbers, KLAPOUZEN_ROW, out), wanted, KLAPOUZEN_INDEX);
+    expect("read_whole, no room", v->what, klapouzen_read_whole(TEXT, NONE, NONE, out), wanted, KLAPOUZEN_INDEX);
     expect("index", v->what,
            klapouzen_index(NONE, NONE, WORD(v->uuid), v->index, v->data, v->size, v->letter, 0, out), missing,
            KLAPOUZEN_CHOSEN);
@@ -248,6 +251,68 @@ static void map_with(const char *what, uint8_t letter, size_t length, uint64_t s
     expect("byte_at", what, klapouzen_byte_at(row, length, 1, size, 0, out), wanted, KLAPOUZEN_BYTE);
 }
 
+/* ---- Paths ---- */
+
+/* The root, a directory in it, and a file in that. What is wrong is in the directory. */
+static void path_with(const char *what, uint64_t parent, uint64_t name, uint64_t name_length, uint64_t wanted)
+{
+    static const char text[] = "abc&lt;d";
+    const uint64_t given[3 * KLAPOUZEN_ENTRY] = {
+        9, 9, 9, 9, 99, 99, 9, 9, 9, /* the root's numbers are not looked at */
+        9, parent, 9, 9, name, name_length, 9, 9, 9, 9, 1, 9, 9, 2, 6, 9, 9, 9,
+    };
+#define PATH(length, entry) WORD(text), given, length, entry, buffer, sizeof buffer, out
+    expect("path of the root", what, klapouzen_path(PATH(27, 0)), 0, 1);
+    expect("path of the directory", what, klapouzen_path(PATH(27, 1)), wanted, 1);
+    expect("path of the file", what, klapouzen_path(PATH(27, 2)), wanted, 1);
+    expect("path, no such entry", what, klapouzen_path(PATH(27, 3)), KLAPOUZEN_MISSING, 1);
+    expect("path, no such entry", what, klapouzen_path(PATH(18, 2)), KLAPOUZEN_MISSING, 1);
+    expect("path, no such number", what, klapouzen_path(PATH(27, UINT64_MAX)), KLAPOUZEN_MISSING, 1);
+    for (size_t length = 19; length < 27; length++)
+        expect("path, no table", what, klapouzen_path(PATH(length, 9)), 14, 1);
+    expect("path, no room", what, klapouzen_path(WORD(text), given, 27, 2, buffer, 2, out),
+           wanted == 0 ? KLAPOUZEN_SHORT_OUTPUT : wanted, 1);
+#undef PATH
+}
+
+static void paths_with(void)
+{
+    path_with("nothing wrong", 0, 0, 2, 0);
+    path_with("a name of all bytes", 0, 0, 8, 0);
+    path_with("an empty name at the end", 0, 8, 0, 0);
+    path_with("itself as its parent", 1, 0, 2, 14);
+    path_with("a parent behind it", 2, 0, 2, 14);
+    path_with("a parent that is none", UINT64_MAX, 0, 2, 14);
+    path_with("a name behind the text", 0, 9, 0, 14);
+    path_with("a name that goes on behind the text", 0, 7, 2, 14);
+    path_with("a name far behind the text", 0, UINT64_MAX, 1, 14);
+    path_with("a name without end", 0, 2, UINT64_MAX, 14);
+    path_with("a name whose end is past 64 bits", 0, UINT64_MAX, UINT64_MAX, 14);
+}
+
+/* No refusal but 10, whatever the bytes are. */
+static void decode_with(const char *text, size_t length, uint64_t wanted)
+{
+    expect("decode", text, klapouzen_decode((const uint8_t *)text, length, buffer, sizeof buffer, out), 0, 1);
+    expect("decode, no room", text, klapouzen_decode((const uint8_t *)text, length, buffer, wanted - 1, out),
+           KLAPOUZEN_SHORT_OUTPUT, 1);
+    klapouzen_decode((const uint8_t *)text, length, buffer, sizeof buffer, out);
+    if (out[0] != wanted || !is_filled(buffer + wanted, sizeof buffer - wanted))
+        fail("decode", text, out[0]);
+    fill();
+}
+
+static void decodes_with(void)
+{
+    decode_with("a", 1, 1);
+    decode_with("&amp;&lt;&gt;&quot;&apos;", 25, 5);
+    decode_with("&amp;lt;", 8, 4);
+    decode_with("&amp", 4, 4);
+    decode_with("&am&amp;p;", 10, 6);
+    decode_with("&AMP;&#38;&nbsp;", 16, 16);
+    decode_with("\0\xff&gt;\xc3", 7, 4);
+}
+
 /* ---- ANSI labelled tapes ---- */
 
 /* No 14: they take slices alone, of any bytes. */
@@ -281,6 +346,8 @@ int main(void)
 {
     fill();
     ansi_with();
+    paths_with();
+    decodes_with();
     digits_with();
     blocks_with();
     for (size_t i = 0; i < sizeof volumes / sizeof volumes[0]; i++) {

@@ -16,7 +16,9 @@ enum { STACK = 8 << 20, PAINT = 0x6b, OWN = 16384, CONSTRUCTS = 2000 };
 static struct sample volume;
 static struct buffer index_text;
 static uint32_t table[KLAPOUZEN_CONSTRUCT_TABLE];
-static uint64_t files[KLAPOUZEN_FILE * 3], rows[KLAPOUZEN_ROW * KLAPOUZEN_MAX_ROWS];
+static uint64_t rows[KLAPOUZEN_ROW * KLAPOUZEN_MAX_ROWS];
+static uint64_t entries[KLAPOUZEN_ENTRY * KLAPOUZEN_MAX_ELEMENTS];
+static uint8_t path[2 * KLAPOUZEN_MAX_ELEMENTS];
 static struct tape ansi;
 static uint8_t ansi_files[KLAPOUZEN_ANSI_FILE * KLAPOUZEN_MAX_ANSI_FILES];
 
@@ -118,10 +120,12 @@ static void call_labels(void)
 }
 
 /* The root directory, at nesting 2, and below it one at every second nesting up to 62. */
+enum { DIRECTORIES = 31, FILES = 3 };
+
 static void check_index(const uint64_t header[KLAPOUZEN_INDEX])
 {
-    must(header[KLAPOUZEN_INDEX_DIRECTORIES] == 31);
-    must(header[KLAPOUZEN_INDEX_FILES] == 3);
+    must(header[KLAPOUZEN_INDEX_DIRECTORIES] == DIRECTORIES);
+    must(header[KLAPOUZEN_INDEX_FILES] == FILES);
 }
 
 static void call_indexes(void)
@@ -132,11 +136,29 @@ static void call_indexes(void)
     check_index(out);
     answered(klapouzen_read_file(GIVEN, 2, out));
     answered(klapouzen_read_rows(GIVEN, 0, rows, sizeof rows / sizeof rows[0], out));
-    answered(klapouzen_read_files(GIVEN, files, sizeof files / sizeof files[0], out));
-    answered(klapouzen_read_all_rows(GIVEN, rows, sizeof rows / sizeof rows[0], out));
+    answered(klapouzen_read_whole(GIVEN, entries, sizeof entries / sizeof entries[0], rows, sizeof rows / sizeof rows[0],
+                                  out));
+    check_index(out);
+    answered(klapouzen_path(index_text.bytes, index_text.length, entries, KLAPOUZEN_ENTRY * (DIRECTORIES + FILES),
+                            DIRECTORIES + FILES - 1, path, sizeof path, out));
+    must(out[0] == 2 * (DIRECTORIES - 2) + strlen("last"));
+    must(index_text.length > sizeof path);
+    answered(klapouzen_decode(index_text.bytes, sizeof path, path, sizeof path, out));
     answered(klapouzen_byte_at(rows, sizeof rows / sizeof rows[0], KLAPOUZEN_MAX_ROWS, 4096, 0, out));
     answered(klapouzen_index(TAPE(volume.sides[1]), UUID, 'a', 'b', 4096, 'b', CONSTRUCTS - 1, out));
     check_index(out + KLAPOUZEN_CHOSEN_HEADER);
+}
+
+/* Of a table in which each entry is in the one before it. */
+static void call_paths(void)
+{
+    uint64_t count;
+    for (uint64_t i = 1; i < KLAPOUZEN_MAX_ELEMENTS; i++)
+        memcpy(entries + KLAPOUZEN_ENTRY * i, (uint64_t[KLAPOUZEN_ENTRY]){ [KLAPOUZEN_ENTRY_PARENT] = i - 1,
+               [KLAPOUZEN_ENTRY_NAME_LENGTH] = 1 }, KLAPOUZEN_ENTRY * sizeof *entries);
+    answered(klapouzen_path(UUID, entries, sizeof entries / sizeof entries[0], KLAPOUZEN_MAX_ELEMENTS - 1, path,
+                            sizeof path, &count));
+    must(count == 2 * (KLAPOUZEN_MAX_ELEMENTS - 1) - 1);
 }
 
 static void call_volumes(void)
@@ -164,6 +186,7 @@ static void *run(void *nothing)
     call_ansi();
     call_labels();
     call_indexes();
+    call_paths();
     call_volumes();
     return nothing;
 }

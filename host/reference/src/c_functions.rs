@@ -9,13 +9,14 @@
 
 use crate::ansi;
 use crate::extents::{self, FileByte};
-use crate::index::{self, File, Index, Place};
+use crate::index::{self, Index, Place};
 use crate::label::{self, Label};
 use crate::structure::only;
 use crate::tape::{self, Letters, Partition, Side};
-use crate::values::Version;
+use crate::values::{decode_bytes, Version};
 use crate::vol1::Vol1;
 use crate::volume::{self, Verdict};
+use crate::whole::{self, Whole};
 use crate::xml::{self, Element};
 use crate::{require, Refusal};
 use std::slice;
@@ -318,7 +319,7 @@ fn place_at(letter: u8, block: u64) -> Place {
     }
 }
 
-fn index_numbers(text: &[u8], index: &Index) -> [u64; 13] {
+fn index_numbers(text: &[u8], index: &Index) -> [u64; 14] {
     let time = spelled(only(&tree(text), "updatetime"));
     let back = index.back_pointer.unwrap_or(place_at(0, 0));
     [
@@ -335,6 +336,7 @@ fn index_numbers(text: &[u8], index: &Index) -> [u64; 13] {
         index.highest_file_uid,
         index.directories.len() as u64,
         index.files.len() as u64,
+        index.files.iter().map(|file| file.rows.len() as u64).sum(),
     ]
 }
 
@@ -381,45 +383,13 @@ pub unsafe extern "C" fn reference_read_file(
 
 fn file_numbers(text: &[u8], index: &Index, number: u64) -> Result<[u64; 4], Refusal> {
     let at = usize::try_from(number).map_err(|_| Refusal::Missing)?;
-    let files = all_file_numbers(text, index);
-    files.get(at).copied().ok_or(Refusal::Missing)
-}
-
-fn all_file_numbers(text: &[u8], index: &Index) -> Vec<[u64; 4]> {
+    let file = index.files.get(at).ok_or(Refusal::Missing)?;
     let root = tree(text);
     let entries = index::all_entries(&root);
-    let elements = entries.iter().filter(|entry| entry.name == "file");
-    let numbers = |(file, element): (&File, &&Element)| {
-        let name = spelled(only(element, "name"));
-        [file.length, name[0], name[1], file.rows.len() as u64]
-    };
-    index.files.iter().zip(elements).map(numbers).collect()
-}
-
-#[no_mangle]
-pub unsafe extern "C" fn reference_read_files(
-    text: *const u8,
-    length: usize,
-    uuid: *const u8,
-    uuid_length: usize,
-    index_letter: u8,
-    data_letter: u8,
-    block_size: u64,
-    letter: u8,
-    block: u64,
-    files: *mut u64,
-    files_length: usize,
-    count: *mut u64,
-) -> u64 {
-    let text = shared(text, length);
-    let label = given_label(uuid, uuid_length, index_letter, data_letter, block_size);
-    let place = place_at(letter, block);
-    let read = index::read(text, &label, place).and_then(|index| {
-        let numbers = all_file_numbers(text, &index);
-        index::put_numbers(&numbers.concat(), lent(files, files_length))?;
-        Ok([numbers.len() as u64])
-    });
-    answer(read, count)
+    let mut elements = entries.iter().filter(|(_, entry)| entry.name == "file");
+    let (_, element) = elements.nth(at).expect("a file that was read");
+    let name = spelled(only(element, "name"));
+    Ok([file.length, name[0], name[1], file.rows.len() as u64])
 }
 
 #[no_mangle]
@@ -451,7 +421,7 @@ pub unsafe extern "C" fn reference_read_rows(
 }
 
 #[no_mangle]
-pub unsafe extern "C" fn reference_read_all_rows(
+pub unsafe extern "C" fn reference_read_whole(
     text: *const u8,
     length: usize,
     uuid: *const u8,
@@ -461,14 +431,73 @@ pub unsafe extern "C" fn reference_read_all_rows(
     block_size: u64,
     letter: u8,
     block: u64,
+    entries: *mut u64,
+    entries_length: usize,
     rows: *mut u64,
     rows_length: usize,
+    out: *mut u64,
+) -> u64 {
+    let text = shared(text, length);
+    let label = given_label(uuid, uuid_length, index_letter, data_letter, block_size);
+    let read = whole::read(text, &label, place_at(letter, block)).and_then(|whole| {
+        put_whole(
+            &whole,
+            lent(entries, entries_length),
+            lent(rows, rows_length),
+        )?;
+        Ok(index_numbers(text, &whole.index))
+    });
+    answer(read, out)
+}
+
+/// Both or none.
+fn put_whole(whole: &Whole, entries: &mut [u64], rows: &mut [u64]) -> Result<(), Refusal> {
+    let (entry_numbers, row_numbers) = (whole.entries.concat(), whole.rows.concat());
+    require(rows.len() >= row_numbers.len(), Refusal::ShortOutput)?;
+    index::put(&entry_numbers, entries)?;
+    index::put(&row_numbers, rows)
+}
+
+/// Bytes at the front of a lent buffer, and how many.
+unsafe fn answer_bytes(
+    found: Result<Vec<u8>, Refusal>,
+    buffer: *mut u8,
+    buffer_length: usize,
     count: *mut u64,
 ) -> u64 {
-    let label = given_label(uuid, uuid_length, index_letter, data_letter, block_size);
-    let place = place_at(letter, block);
-    let read = index::all_rows(shared(text, length), &label, place, lent(rows, rows_length));
-    answer(read.map(|rows| [rows as u64]), count)
+    let written = found.and_then(|bytes| {
+        index::put(&bytes, lent(buffer, buffer_length))?;
+        Ok([bytes.len() as u64])
+    });
+    answer(written, count)
+}
+
+#[no_mangle]
+pub unsafe extern "C" fn reference_decode(
+    text: *const u8,
+    length: usize,
+    buffer: *mut u8,
+    buffer_length: usize,
+    count: *mut u64,
+) -> u64 {
+    let decoded = decode_bytes(shared(text, length));
+    answer_bytes(Ok(decoded), buffer, buffer_length, count)
+}
+
+#[no_mangle]
+pub unsafe extern "C" fn reference_path(
+    text: *const u8,
+    length: usize,
+    entries: *const u64,
+    entries_length: usize,
+    entry: u64,
+    buffer: *mut u8,
+    buffer_length: usize,
+    count: *mut u64,
+) -> u64 {
+    let entries = shared(entries, entries_length);
+    let path = whole::path(shared(text, length), entries, entry);
+    answer_bytes(path, buffer, buffer_length, count)
 }
 
 #[no_mangle]
@@ -500,7 +529,7 @@ pub unsafe extern "C" fn reference_index(
             offset(side.store, text),
             text.len() as u64,
         ];
-        let mut numbers = [0; 17];
+        let mut numbers = [0; 18];
         numbers[..4].copy_from_slice(&place);
         numbers[4..].copy_from_slice(&index_numbers(text, &index));
         numbers

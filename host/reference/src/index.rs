@@ -216,26 +216,29 @@ fn check_file(file: &Element) -> Result<(), Refusal> {
 
 // ---- Counts, refusal 15 ----
 
-/// Directories and files in text order, the root directory first. Skipped
-/// elements are not looked into.
-fn entries<'a>(directory: &'a Element, found: &mut Vec<&'a Element>) {
-    found.push(directory);
+/// Directories and files in text order, each with the place there of the
+/// directory that holds it. Skipped elements are not looked into.
+fn entries<'a>(directory: &'a Element, parent: usize, found: &mut Vec<(usize, &'a Element)>) {
+    let own = found.len();
+    found.push((parent, directory));
     for entry in &only(directory, "contents").children {
         if entry.name == "directory" {
-            entries(entry, found);
+            entries(entry, own, found);
         } else {
-            found.push(entry);
+            found.push((own, entry));
         }
     }
 }
 
-pub(crate) fn all_entries(root: &Element) -> Vec<&Element> {
+/// The root directory first, which is said to hold itself.
+pub(crate) fn all_entries(root: &Element) -> Vec<(usize, &Element)> {
     let mut found = Vec::new();
-    entries(only(root, "directory"), &mut found);
+    entries(only(root, "directory"), 0, &mut found);
     found
 }
 
-fn extent_elements(file: &Element) -> &[Element] {
+/// A directory has none.
+pub(crate) fn extent_elements(file: &Element) -> &[Element] {
     match optional(file, "extentinfo") {
         Some(info) => &info.children,
         None => &[],
@@ -247,7 +250,7 @@ fn check_counts(root: &Element) -> Result<(), Refusal> {
     require(entries.len() <= MAX_ENTRIES, Refusal::TooLong)?;
     let extents_bounded = entries
         .iter()
-        .all(|entry| extent_elements(entry).len() <= MAX_EXTENTS);
+        .all(|(_, entry)| extent_elements(entry).len() <= MAX_EXTENTS);
     require(extents_bounded, Refusal::TooLong)
 }
 
@@ -273,7 +276,7 @@ fn read_values(root: &Element, version: Version) -> Result<Index, Refusal> {
         files: Vec::new(),
     };
     require(index.generation >= 1, Refusal::Value)?;
-    for (at, element) in all_entries(root).into_iter().enumerate() {
+    for (at, (_, element)) in all_entries(root).into_iter().enumerate() {
         let entry = read_entry(element, at == 0)?;
         if element.name == "directory" {
             index.directories.push(entry);
@@ -344,11 +347,11 @@ fn file_uids_lawful(index: &Index) -> bool {
 
 // ---- Rows ----
 
-/// Numbers at the front of a lent buffer. The rest of the buffer, and on the
+/// Items at the front of a lent buffer. The rest of the buffer, and on the
 /// refusal all of it, keeps its values.
-pub(crate) fn put_numbers(numbers: &[u64], buffer: &mut [u64]) -> Result<(), Refusal> {
-    require(buffer.len() >= numbers.len(), Refusal::ShortOutput)?;
-    buffer[..numbers.len()].copy_from_slice(numbers);
+pub(crate) fn put<T: Copy>(items: &[T], buffer: &mut [T]) -> Result<(), Refusal> {
+    require(buffer.len() >= items.len(), Refusal::ShortOutput)?;
+    buffer[..items.len()].copy_from_slice(items);
     Ok(())
 }
 
@@ -367,28 +370,15 @@ pub fn file_rows(
         .and_then(|n| index.files.get(n))
         .ok_or(Refusal::Missing)?;
     let numbers: Vec<u64> = file.rows.iter().flat_map(|row| row.numbers()).collect();
-    put_numbers(&numbers, buffer)?;
+    put(&numbers, buffer)?;
     Ok((file.rows.len(), file.length))
-}
-
-/// The rows of all files, those of the first file first; answers how many.
-pub fn all_rows(
-    text: &[u8],
-    label: &Label,
-    place: Place,
-    buffer: &mut [u64],
-) -> Result<usize, Refusal> {
-    let index = read(text, label, place)?;
-    let rows: Vec<&Row> = index.files.iter().flat_map(|file| &file.rows).collect();
-    let numbers: Vec<u64> = rows.iter().flat_map(|row| row.numbers()).collect();
-    put_numbers(&numbers, buffer)?;
-    Ok(rows.len())
 }
 
 #[cfg(test)]
 mod tests {
     use super::*;
     use crate::tape::Letters;
+    use crate::whole;
 
     const UUID: &str = "30a91a08-daae-48d1-ae75-69804e61d2ea";
     const TIME: &str = "2010-01-28T19:39:57.245954278Z";
@@ -899,22 +889,25 @@ mod tests {
     }
 
     #[test]
-    fn all_rows_into_a_lent_buffer() {
+    fn whole_index() {
         let text = sample_text();
-        let rows = |place: Place, buffer: &mut [u64]| {
-            all_rows(text.as_bytes(), &sample_label(), place, buffer)
-        };
-        let mut buffer = [7; 17];
-        assert_eq!(rows(PLACE, &mut buffer), Ok(3));
-        assert_eq!(buffer[..5], [97, 4, 0, 5, 0]);
-        assert_eq!(buffer[5..], [98, 30, 0, 4, 6, 97, 40, 4095, 3, 0, 7, 7]);
-        let mut short = [7; 14];
-        assert_eq!(rows(PLACE, &mut short), Err(Refusal::ShortOutput));
-        assert_eq!(short, [7; 14]);
-        let elsewhere = Place {
-            start_block: 7,
-            ..PLACE
-        };
-        assert_eq!(rows(elsewhere, &mut []), Err(Refusal::Location));
+        let whole = whole::read(text.as_bytes(), &sample_label(), PLACE).unwrap();
+        assert_eq!(whole.index, read_at_place(&text).unwrap());
+        let rows = [[97, 4, 0, 5, 0], [98, 30, 0, 4, 6], [97, 40, 4095, 3, 0]];
+        assert_eq!(whole.rows, rows);
+        let place = |name: &str| (text.find(&format!("<name>{name}<")).unwrap() + 6) as u64;
+        let wanted = [
+            [0, 0, 0, 1, place("Volume"), 6, 0, 0, 0],
+            [0, 0, 0, 2, place("inner"), 5, 0, 0, 0],
+            [1, 1, 0, 4, place("one"), 3, 5, 0, 1],
+            [1, 0, 1, 9, place("two"), 3, 12, 1, 2],
+            [0, 0, 2, 3, place("last"), 4, 0, 3, 0],
+        ];
+        assert_eq!(whole.entries, wanted);
+        let paths = ["", "inner", "inner/one", "two", "last"];
+        for (entry, path) in paths.iter().enumerate() {
+            let found = whole::path(text.as_bytes(), &wanted.concat(), entry as u64);
+            assert_eq!(found, Ok(path.as_bytes().into()));
+        }
     }
 }

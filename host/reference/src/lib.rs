@@ -16,6 +16,7 @@ pub mod tape;
 pub mod values;
 pub mod vol1;
 pub mod volume;
+pub mod whole;
 pub mod xml;
 
 /// Why something is refused. The discriminants are the specification's numbers.

@@ -289,7 +289,7 @@ fn name(random: &mut Random) -> String {
         0 => " spaced ".into(),
         1 => "a]]>b".into(),
         2 => ".".into(),
-        3 => "A&B".into(),
+        3 => "A&lt;B&amp;".into(),
         4 => "日本:語".into(),
         5 => "é".repeat(255),
         _ => format!("file{}", random.below(1000)),
@@ -635,12 +635,25 @@ fn entry_nodes(random: &mut Random, uid: u64, name: String) -> Vec<Node> {
     nodes
 }
 
+/// How deep directories nest, and that one entry in so many is a directory.
+pub struct Tree {
+    pub depth: usize,
+    pub directories: usize,
+}
+
+/// That of the indexes of a volume.
+pub const SHALLOW: Tree = Tree {
+    depth: 3,
+    directories: 3,
+};
+
 /// What the entries of an index are drawn from.
 struct Pool<'a> {
     blocks: &'a [DataBlock],
     block_size: u64,
     next_uid: u64,
     uid_step: u64,
+    directories: usize,
 }
 
 impl Pool<'_> {
@@ -693,7 +706,7 @@ fn directory_node(random: &mut Random, pool: &mut Pool, root: bool, depth: usize
     let mut nodes = entry_nodes(random, uid, directory_name);
     let mut contents = Vec::new();
     for _ in 0..random.below(4) {
-        if depth > 0 && random.one_in(3) {
+        if depth > 0 && random.one_in(pool.directories) {
             contents.push(directory_node(random, pool, false, depth - 1));
         } else {
             contents.push(file_node(random, pool));
@@ -719,6 +732,7 @@ pub fn index_node(
     label: &Label,
     header: &Header,
     blocks: &[DataBlock],
+    tree: &Tree,
 ) -> Node {
     let update_policy = random.one_in(2);
     let version = Version(2, 0, *random.pick(&[&0u16, &1, &9, &65_535]));
@@ -727,8 +741,9 @@ pub fn index_node(
         block_size: label.block_size,
         next_uid: 1,
         uid_step: 1 + random.draw() % 9,
+        directories: tree.directories,
     };
-    let directory = directory_node(random, &mut pool, true, 3);
+    let directory = directory_node(random, &mut pool, true, tree.depth);
     let highest = if random.one_in(4) { 0 } else { pool.next_uid };
     let mut nodes = vec![
         Node::value("creator", creator(random)),
@@ -794,7 +809,11 @@ pub fn index_case(random: &mut Random) -> (Node, Label, Place) {
             },
         })
         .collect();
-    let node = index_node(random, &label, &header, &blocks);
+    let tree = Tree {
+        depth: *random.pick(&[&3, &3, &12]),
+        directories: 2 + random.below(3),
+    };
+    let node = index_node(random, &label, &header, &blocks, &tree);
     (node, label, location)
 }
 
@@ -937,7 +956,7 @@ impl Writer<'_> {
         if self.fault() {
             label.uuid = another_uuid(self.random, &label.uuid);
         }
-        let mut node = index_node(self.random, &label, &header, &blocks);
+        let mut node = index_node(self.random, &label, &header, &blocks, &SHALLOW);
         if self.fault() {
             damage_node(self.random, &mut node);
         }

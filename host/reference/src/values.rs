@@ -1,14 +1,26 @@
 //! Values as they stand in the text of labels and indexes.
 
+use crate::xml::REFERENCES;
+
 /// Replaces the five references. The text is one that the XML form allows, so
 /// every `&` begins one of them.
 pub fn decode(raw: &str) -> String {
-    // `&amp;` goes last, so that the `&` it yields begins no other reference.
-    raw.replace("&lt;", "<")
-        .replace("&gt;", ">")
-        .replace("&quot;", "\"")
-        .replace("&apos;", "'")
-        .replace("&amp;", "&")
+    String::from_utf8(decode_bytes(raw.as_bytes())).expect("references are ASCII")
+}
+
+/// The same of any bytes; an `&` that begins no reference stays.
+pub fn decode_bytes(raw: &[u8]) -> Vec<u8> {
+    let mut decoded = Vec::new();
+    let mut rest = raw;
+    while let Some(first) = rest.first() {
+        let mut meant = REFERENCES.iter().zip(b"&<>\"'");
+        let (taken, byte) = meant
+            .find(|(reference, _)| rest.starts_with(reference.as_bytes()))
+            .map_or((1, first), |(reference, byte)| (reference.len(), byte));
+        decoded.push(*byte);
+        rest = &rest[taken..];
+    }
+    decoded
 }
 
 /// Decimal digits, at least one, up to 2^64 - 1.
@@ -155,6 +167,20 @@ pub fn version(text: &[u8]) -> Option<Version> {
 #[cfg(test)]
 mod tests {
     use super::*;
+
+    #[test]
+    fn references() {
+        for (raw, decoded) in [
+            ("&amp;&lt;&gt;&quot;&apos;", "&<>\"'"),
+            ("&amp;lt;", "&lt;"),
+            ("&&lt;&lt", "&<&lt"),
+            ("&LT; &#38; &;", "&LT; &#38; &;"),
+            ("", ""),
+        ] {
+            assert_eq!(decode(raw), decoded);
+        }
+        assert_eq!(decode_bytes(b"\xff&gt;\0&a"), b"\xff>\0&a");
+    }
 
     #[test]
     fn numbers() {

@@ -10,7 +10,8 @@ use crate::values::is_xml_char;
 pub const DECLARATION: &str = "<?xml version=\"1.0\" encoding=\"UTF-8\"?>";
 pub const MAX_NESTING: usize = 64;
 
-const REFERENCES: [&str; 5] = ["&amp;", "&lt;", "&gt;", "&quot;", "&apos;"];
+/// Those of `&`, `<`, `>`, `"` and `'`.
+pub(crate) const REFERENCES: [&str; 5] = ["&amp;", "&lt;", "&gt;", "&quot;", "&apos;"];
 
 #[derive(Clone, Debug, PartialEq, Eq)]
 pub struct Attribute {

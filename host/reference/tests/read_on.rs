@@ -147,7 +147,7 @@ fn write_index(
         location,
         back_pointer,
     };
-    let node = random::index_node(random, label, &header, &[]);
+    let node = random::index_node(random, label, &header, &[], &random::SHALLOW);
     let text = random::document(random, &node);
     side.index(&text, label.block_size);
     location

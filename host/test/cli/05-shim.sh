@@ -30,3 +30,25 @@ extracted() {
     checks=$((checks + 1))
     python3 -I -S "$PARTS/../extracted.py" "$1" listing "$2" "$3" ${4:+"$4"} > out 2>&1 || fail "$3 is not file $2 of $1" "$(tail -1 out)"
 }
+
+# lose FROM TO SIDE:N..: a copy of a cartridge, with these blocks as the drive leaves them that could not read them.
+# SIDE:N+ adds an unreadable block before element N, or behind the last.
+lose() {
+    rm -rf "$2" && cp -r "$1" "$2"
+    python3 -I -S - "${@:2}" <<'PYTHON' || fail "no cartridge $2"
+import sys
+folder = sys.argv[1]
+for word in sys.argv[2:]:
+    side, number = word.rstrip("+").split(":")
+    codes, store = (open(f"{folder}/{side}.{part}", "rb").read() for part in ("list", "store"))
+    at = begin = 0
+    for _ in range(int(number)):
+        size = 5 if codes[at] == 2 else 1
+        begin += int.from_bytes(codes[at + 1:at + size], "big")
+        at += size
+    size = 0 if word.endswith("+") else 5 if codes[at] == 2 else 1
+    end = begin + int.from_bytes(codes[at + 1:at + size], "big")
+    open(f"{folder}/{side}.list", "wb").write(codes[:at] + b"\3" + codes[at + size:])
+    open(f"{folder}/{side}.store", "wb").write(store[:begin] + store[end:])
+PYTHON
+}

@@ -40,5 +40,5 @@ cp -r nights behind && printf '\001' >> behind/data.list
 is 1 "$K" check behind
 says out "break 3: index 4 of the data partition is unsound or breaks the chain of back pointers; cut keeps 13 + 71 of 13 + 79"
 is 1 "$K" check --json sparse
-says out '"break":{"which":5,"number":5,"text":"file 5 of the last index does not lie on the tape"}'
+says out '"break":{"which":5,"number":5,"text":"file 5 of the last index does not lie on the tape","path":"past the block"}'
 is_json out

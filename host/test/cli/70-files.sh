@@ -8,11 +8,11 @@ says out "1 directory, 1 file"
 is 0 "$K" files nights --data --construct 0
 says out "1 directory, 0 files"
 is 1 "$K" files nights --construct 9
-says err "refused 2: no such element, construct, file or file position (index side: index.store, index construct 9)"
+says err "refused 2: no such element, construct, file, entry or file position (index side: index.store, index construct 9)"
 is 2 "$K" files nights --construct x
 is 0 "$K" files sparse --json
-says out '{"file":0,"length":80000,"name":"gaps & <more>","extents":[{"partition":"b","startblock":7,'
-says out '"past the block","extents":[{"partition":"b","startblock":9,"byteoffset":2000,"bytecount":10,"fileoffset":0,"unreadable_blocks":0}]}'
+says out '{"file":0,"length":80000,"name":"gaps & <more>","path":"gaps & <more>","fileuid":2,"extents":[{"partition":"b","startblock":7,'
+says out '"past the block","fileuid":7,"extents":[{"partition":"b","startblock":9,"byteoffset":2000,"bytecount":10,"fileoffset":0,"unreadable_blocks":0}]}'
 is 0 "$K" files many
 says out "1 directory, 2,533 files"
 says out "  2528              10  2528.wav"
@@ -46,9 +46,9 @@ is 0 "$K" extract sparse 2 --output none
 checks=$((checks + 1))
 [ -e none ] && [ ! -s none ] || fail "no empty file"
 is 1 "$K" extract sparse twice
-says err "sparse: twice: several files have this name"
+says err "sparse: twice: several files have this path in index 0 of the index partition; give --number"
 is 1 "$K" extract sparse nobody
-says err "sparse: nobody: no file has this name"
+says err "sparse: nobody: no file has this path or name in index 0 of the index partition"
 is 1 "$K" extract sparse 6
 says err "sparse: 6: no file has this number"
 is 1 "$K" extract sparse 5 --output past

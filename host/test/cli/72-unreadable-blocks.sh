@@ -2,32 +2,10 @@
 "$SAMPLE" unreadable worn || exit 2
 NAME="worn  KLA001  30a91a08-daae-48d1-ae75-69804e61d2ea"
 
-# lose FROM TO SIDE:N..: a copy of a cartridge, with these blocks as the drive leaves them that could not read them.
-# SIDE:N+ adds an unreadable block before element N, or behind the last.
-lose() {
-    rm -rf "$2" && cp -r "$1" "$2"
-    python3 -I -S - "${@:2}" <<'PYTHON' || fail "no cartridge $2"
-import sys
-folder = sys.argv[1]
-for word in sys.argv[2:]:
-    side, number = word.rstrip("+").split(":")
-    codes, store = (open(f"{folder}/{side}.{part}", "rb").read() for part in ("list", "store"))
-    at = begin = 0
-    for _ in range(int(number)):
-        size = 5 if codes[at] == 2 else 1
-        begin += int.from_bytes(codes[at + 1:at + size], "big")
-        at += size
-    size = 0 if word.endswith("+") else 5 if codes[at] == 2 else 1
-    end = begin + int.from_bytes(codes[at + 1:at + size], "big")
-    open(f"{folder}/{side}.list", "wb").write(codes[:at] + b"\3" + codes[at + size:])
-    open(f"{folder}/{side}.store", "wb").write(store[:begin] + store[end:])
-PYTHON
-}
-
 # ---- Check ----
 
 is 1 "$K" check worn
-says out "$NAME  break 5: file 2 of the last index does not lie on the tape; cut keeps 11 + 26 of 21 + 74 elements, generation 2; 2 unreadable blocks on the index side, 3 on the data side"
+says out "$NAME  break 5: file 2 of the last index does not lie on the tape: wednesday.wav; cut keeps 11 + 26 of 21 + 74 elements, generation 2; 2 unreadable blocks on the index side, 3 on the data side"
 says out "1 cartridge: 0 consistent, 1 to cut, 0 without a cut, 0 refused, 0 unreadable; 1 of all with unreadable blocks"
 is 1 "$K" check --json worn
 is_json out
@@ -54,7 +32,7 @@ is 0 "$K" check one
 says out "  consistent; cut keeps all 187 + 304 elements, generation 61; 2 unreadable blocks on the data side"
 lose kept one data:31
 is 1 "$K" check one
-says out "break 5: file 2 of the last index does not lie on the tape; cut keeps 10 + 25 of 13 + 71 elements, generation 2; 1 unreadable block on the data side"
+says out "break 5: file 2 of the last index does not lie on the tape: wednesday.wav; cut keeps 10 + 25 of 13 + 71 elements, generation 2; 1 unreadable block on the data side"
 lose kept one index:11
 is 1 "$K" check one
 says out "break 4: the last index of the index partition, index 2, is unsound"
@@ -256,7 +234,7 @@ says_not out unreadable
 
 # The cut keeps an index without the file: which one it is.
 is 1 "$K" extract worn wednesday.wav
-says err "worn: wednesday.wav: no file has this name in index 1 of the index partition"
+says err "worn: wednesday.wav: no file has this path or name in index 1 of the index partition"
 is 1 "$K" extract worn --data --construct 2 --number 12
 says err "worn: 12: no file has this number in index 2 of the data partition"
 

@@ -6,6 +6,9 @@ checks=$((checks + 2))
 [ "$(stat -c %s l1)" -eq 378 ] || fail "the label is not 378 bytes"
 is 0 "$K" label $ID --creator 'a & b' --owner Me --block-size=4096 --compression false --location b v2 l2
 says l2 "<creator>a &amp; b</creator>"
+is 0 "$K" label $ID --creator 'a & b <c> &amp; "d"' --into spelled_creator --fresh
+is 0 "$K" show spelled_creator
+says out ', by a & b <c> &amp; "d"'
 says l2 "<location><partition>b</partition></location>"
 says v2 "Me            "
 is 2 "$K" label $ID --creator LTFS v1 l3
