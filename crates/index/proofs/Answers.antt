@@ -79,7 +79,7 @@ module _ (g : Given) (letter block release : ℕ) (k : Forest) where
             unfolding childrenRead
             children-read f = rw (a, b, c, d, e, f)
 
-files-length : (l : List IndexElement) → length (filesOf l) ≡ fileCount l
+pub files-length : (l : List IndexElement) → length (filesOf l) ≡ fileCount l
 unfolding filesOf many
 files-length [] = refl
 files-length (e ∷ l) = go (eqb (e .sort) file) (files-length l)

@@ -43,7 +43,7 @@ sat-many n h = go (ltb n 5000) refl
     go true e = simp e at h
     go false e = omega (arith, ltb-false n 5000 e)
 
-uids-many : (l : List IndexElement) → length (uidsOf l) ≡ entriesOf l
+pub uids-many : (l : List IndexElement) → length (uidsOf l) ≡ entriesOf l
 unfolding uidsOf many
 uids-many [] = refl
 uids-many (e ∷ l) = go (isEntry (e .sort)) (uids-many l)

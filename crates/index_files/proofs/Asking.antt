@@ -58,11 +58,6 @@ module _ (g : Given) (letter block : ℕ) (text : List ℕ) where
         let (x, w, z) = mapped summary (indexOf g letter block text) t e in
         ap next (files-left g letter block text x (sym w)) ∙ ap (λ (a : Answer Index). andThen a (λ x. next (x .files))) w
 
-  pub files-counted : (t : Summary) → answer t ≡ summaryOf (indexOf g letter block text) → t .files ≡ length (filesFrom text 38)
-  files-counted t e =
-      let (x, w, z) = mapped summary (indexOf g letter block text) t e in
-      ap (λ (h : Summary). h .files) z ∙ sym (ap length (files-left g letter block text x (sym w)))
-
   pub tags-found : (t : Summary) → answer t ≡ summaryOf (indexOf g letter block text) → fileTagsFrom text 38 ≡ allFileTags text
   tags-found t e = let (x, w, z) = mapped summary (indexOf g letter block text) t e in tags-left g letter block text x (sym w)
 

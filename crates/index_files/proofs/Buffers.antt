@@ -1,20 +1,14 @@
--- Numbers into a buffer: stores one after the other, rows from a place on, files from the front on.
-use mathlib.Core.Path.{_≡_, refl, ap, sym, _∙_, subst}
-use mathlib.Core.List.{List, [], _∷_, _++_, append-assoc}
+-- Numbers into a buffer: stores one after the other, rows from a place on.
+use mathlib.Core.Path.{_≡_, refl, ap, sym, _∙_}
+use mathlib.Core.List.{List, [], _∷_, _++_}
 use Prim.Native.Nat.{ℕ, _+_, _*_, _≤_}
 use native.Mathlib.Omega.{arith}
-use lib.ListN.{length, take, drop, set, length-append, take-append-drop}
-use lib.Seq.{drop-drop}
+use lib.ListN.{length, set, length-append}
 use Rattle.slices.specs.Slices.{written}
-use Rattle.slices.proofs.Writing.{written-set, written-snoc, written-then, written-nil, length-written, front-written, drop-written}
-use Rattle.elements.specs.Reading.{childrenAt}
+use Rattle.slices.proofs.Writing.{written-set, written-snoc, written-then, written-nil, length-written}
 use Rattle.extents.specs.Rows.{Row, five, numbersOf}
 use Rattle.extents.proofs.Rows.{length-numbers}
-use Rattle.index.specs.Index.{File, fileOf}
-use Rattle.index_files.specs.AskedSteps.{HeadOf}
-use Rattle.index_files.specs.Filling.{SaysFiles, HoldsFiles}
-use Rattle.index_files.specs.FillingSteps.{WritesRows, headNumbers}
-use Rattle.index_files.specs.declared.asked.FileHead.{FileHead}
+use Rattle.index_files.specs.FillingSteps.{WritesRows}
 
 -- four and five numbers, one after the other
 pub four-written : (at a b c d : ℕ) (o0 o1 o2 o3 o4 : List ℕ) → at + 4 ≤ length o0 → o1 ≡ set o0 at a → o2 ≡ set o1 (at + 1) b
@@ -84,60 +78,3 @@ module _ {end : List ℕ} {last : ℕ} {before o : List ℕ} {k : ℕ} {l : List
     pub row-on : {o′ : List ℕ} → o′ ≡ written k (five x) o → Writing end last before o′ (k + 5) r
     unfolding numbersOf
     row-on q = writing-on (x ∷ []) r e record { holds = q; upTo = refl }
-
--- files written one after the other: those still to be told from k on
-pub record Telling (s : List ℕ) (ts : List (List ℕ)) (fs : List File) (before o : List ℕ) (k : ℕ) (tl : List (List ℕ)) (l : List File) : Type 0 where
-  pub says : (v : List ℕ) → SaysFiles s tl l v → SaysFiles s ts fs (take k o ++ v)
-  pub rest : drop k o ≡ drop k before
-  pub upTo : length fs * 4 ≡ k + length l * 4
-  pub room : length fs * 4 ≤ length o
-  pub long : length o ≡ length before
-
-pub telling-first : (s : List ℕ) (ts : List (List ℕ)) (fs : List File) (o : List ℕ) → length fs * 4 ≤ length o → Telling s ts fs o o 0 ts fs
-telling-first s ts fs o h = record { says = λ v q. q; rest = refl; upTo = omega arith; room = h; long = refl }
-
-module _ {s : List ℕ} {ts : List (List ℕ)} {fs : List File} {before o : List ℕ} {k : ℕ} {tl : List (List ℕ)} {l : List File} (t : Telling s ts fs before o k tl l) where
-  pub telling-done : l ≡ [] → HoldsFiles s ts fs before o
-  unfolding SaysFiles
-  telling-done e =
-      let n : length fs * 4 ≡ k = omega (arith, t .upTo, ap length e) in
-      record {
-        says = subst (SaysFiles s ts fs) (take-append-drop k o) (t .says (drop k o) (subst (λ (y : List File). SaysFiles s tl y (drop k o)) (sym e) tt));
-        rest = subst (λ (m : ℕ). drop m o ≡ drop m before) (sym n) (t .rest);
-        long = t .long;
-      }
-
-  module _ (n : ℕ) (r : List File) (e : l ≡ fileOf (childrenAt s n) ∷ r) where
-    pub telling-fits : k + 4 ≤ length o
-    telling-fits = omega (arith, t .upTo, t .room, ap length e)
-
-    pub telling-on : (tr : List (List ℕ)) → tl ≡ drop n s ∷ tr → (h : FileHead) → HeadOf s n h → (o′ : List ℕ) → o′ ≡ written k (headNumbers h) o
-        → Telling s ts fs before o′ (k + 4) tr r
-    unfolding SaysFiles
-    telling-on tr d h w o′ q =
-        let i : k ≤ length o = omega (arith, telling-fits) in
-        let z : length o′ ≡ length o = ap length q ∙ length-written k (headNumbers h) o telling-fits in
-        let f : take k o ++ headNumbers h ≡ take (k + 4) o′ = sym (ap (take (k + 4)) q ∙ front-written k (headNumbers h) o i) in
-        record {
-          says =
-              λ v p.
-              subst (λ (y : List ℕ). SaysFiles s ts fs (y ++ v)) f
-              (subst (SaysFiles s ts fs) (sym (append-assoc (take k o) (headNumbers h) v))
-              (t .says (headNumbers h ++ v)
-              (subst (λ (y : List File). SaysFiles s tl y (headNumbers h ++ v)) (sym e)
-              (subst (λ (y : List (List ℕ)). SaysFiles s y (fileOf (childrenAt s n) ∷ r) (headNumbers h ++ v)) (sym d)
-              (record { length = w .length; name = record { part = w .name .part; inside = w .name .inside }; place = w .place; rows = w .rows }, p)))));
-          rest =
-              ap (drop (k + 4)) q
-              ∙ drop-written k (headNumbers h) o i
-              ∙ sym (drop-drop 4 k o)
-              ∙ ap (drop 4) (t .rest)
-              ∙ drop-drop 4 k before;
-          upTo = omega (arith, t .upTo, ap length e);
-          room = omega (arith, t .room, z);
-          long = z ∙ t .long;
-        }
-
--- the same tags
-pub holds-as : {s : List ℕ} {ts us : List (List ℕ)} {fs : List File} {before o : List ℕ} → ts ≡ us → HoldsFiles s ts fs before o → HoldsFiles s us fs before o
-holds-as {s} {fs = fs} {before = before} {o = o} e h = subst (λ (l : List (List ℕ)). HoldsFiles s l fs before o) e h

@@ -7,5 +7,5 @@ pub mod AllFiles
 pub mod Asking
 pub mod Buffers
 pub mod Putting
-pub mod AllRows
+pub mod Handing
 pub mod ByteMap

@@ -1,7 +1,7 @@
--- Files and rows in a lent buffer of numbers (01, Index and Extents): four numbers of each file, five of each row, from the front on.
--- Refusals: those of what is asked for, then 10 for a buffer too short, which is left as it was.
+-- A file's four numbers, and rows in a lent buffer (01, Index and Extents), five numbers each, from the front on. Refusals: those of what is asked for,
+-- then 10 for a buffer too short, which is left as it was.
 use mathlib.Core.Path.{_≡_}
-use mathlib.Core.List.{List, [], _∷_, _++_}
+use mathlib.Core.List.{List}
 use Prim.Native.Nat.{ℕ, _+_, _*_}
 use lib.Dec.{leb}
 use lib.ListN.{length, take, drop, getD}
@@ -11,7 +11,7 @@ use Rattle.slices.specs.Slices.{written}
 use Rattle.elements.specs.declared.heads.Span.{Span}
 use Rattle.elements.specs.Reading.{Spans}
 use Rattle.extents.specs.Rows.{Row, numbersOf}
-use Rattle.index.specs.Index.{Index, File}
+use Rattle.index.specs.Index.{File}
 use Rattle.index_files.specs.Names.{namePlace}
 
 module _ {A : Type 0} where
@@ -47,24 +47,6 @@ pub record SaysFile (s t : List ℕ) (f : File) (out : List ℕ) : Type 0 where
   pub place : placeTold out 1 ≡ namePlace s t
   pub rows : getD out 3 0 ≡ lib.ListN.length (f .rows)
 
--- each four numbers from the front on say a file; the files have the tags ts
-unfoldable pub SaysFiles : List ℕ → List (List ℕ) → List File → List ℕ → Type 0
-SaysFiles s ts [] out = Unit {0}
-SaysFiles s [] (f ∷ fs) out = ⊥
-SaysFiles s (t ∷ ts) (f ∷ fs) out = SaysFile s t f out × SaysFiles s ts fs (drop 4 out)
-
--- the buffer after: files at its front, and the rest as it was
-pub record HoldsFiles (s : List ℕ) (ts : List (List ℕ)) (fs : List File) (before after : List ℕ) : Type 0 where
-  pub says : SaysFiles s ts fs after
-  pub rest : drop (length fs * 4) after ≡ drop (length fs * 4) before
-  pub long : length after ≡ length before
-
--- where a buffer of so many numbers has room for them: the rows of a file, the files of an index, the rows of all its files
+-- where a buffer of so many numbers has room for the rows of a file
 abbrev pub rowsFor : ℕ → Answer File → Answer (List Row)
 rowsFor room a = andThen a (λ f. withRoom 5 room (f .rows))
-
-abbrev pub filesFor : ℕ → Answer Index → Answer (List File)
-filesFor room a = andThen a (λ x. withRoom 4 room (x .files))
-
-abbrev pub allRowsFor : ℕ → Answer Index → Answer (List Row)
-allRowsFor room a = andThen a (λ x. withRoom 5 room (allRows (x .files)))

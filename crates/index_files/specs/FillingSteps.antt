@@ -1,4 +1,4 @@
--- What filling a lent buffer with files or rows owes.
+-- What filling a lent buffer with rows owes.
 use mathlib.Core.Path.{_≡_}
 use mathlib.Core.List.{List, [], _∷_}
 use Prim.Native.Nat.{ℕ, _+_, _*_}
@@ -6,7 +6,6 @@ use lib.ListN.{length}
 use Rattle.refusals.specs.Refusals.{Answer, refused, answer, andThen}
 use Rattle.slices.specs.Slices.{written}
 use Rattle.extents.specs.Rows.{Row, numbersOf}
-use Rattle.index_files.specs.declared.asked.FileHead.{FileHead}
 use Rattle.index_files.specs.declared.filling.Filled.{Filled}
 use Rattle.index_files.specs.declared.filling.Filled.the-variants.{Count, Refused}
 use Rattle.index_files.specs.Filling.{Stored}
@@ -29,7 +28,3 @@ module _ {A : Type 0} where
 pub record WritesRows (k : ℕ) (l : List Row) (before after : List ℕ) (end : ℕ) : Type 0 where
   pub holds : after ≡ written k (numbersOf l) before
   pub upTo : end ≡ k + length l * 5
-
--- the numbers of a file that is handed out
-abbrev pub headNumbers : FileHead → List ℕ
-headNumbers h = h .length .0 ∷ h .name .from ∷ h .name .len ∷ h .rows ∷ []

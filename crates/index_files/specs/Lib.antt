@@ -4,6 +4,8 @@ pub mod RowSteps
 pub mod MetSteps
 pub mod Asked
 pub mod Filling
+pub mod Whole
+pub mod WholeSteps
 pub mod Steps
 pub mod AskedSteps
 pub mod FillingSteps

@@ -6,11 +6,10 @@ use Rattle.quantities.specs.declared.BlockNumber.{BlockNumber}
 use Rattle.extents.specs.Rows.{Row}
 use Rattle.index.specs.Index.{indexOf}
 use Rattle.index_values.specs.Tests.{Given}
-use Rattle.index_files.specs.Names.{allFileTags, fileTag}
-use Rattle.index_files.specs.FileSteps.{filesFrom, fileTagsFrom}
+use Rattle.index_files.specs.Names.{fileTag}
 use Rattle.index_files.specs.Asked.{fileIn}
 use Rattle.index_files.specs.AskedSteps.{Locates, ReadsFile}
-use Rattle.index_files.specs.Filling.{withRoom, rowsFor, filesFor, allRowsFor, HoldsRows, HoldsFiles}
+use Rattle.index_files.specs.Filling.{withRoom, rowsFor, HoldsRows}
 use Rattle.index_files.specs.FillingSteps.{FillsBuffer}
 use Rattle.index_files.specs.declared.asked.FileTag.{FileTag}
 use Rattle.index_files.specs.declared.asked.FileRead.{FileRead}
@@ -24,21 +23,11 @@ module _ (s : List ℕ) (g : Given) (letter : ℕ) (block : BlockNumber) (k : �
   abbrev pub ReadsNumbered : FileRead → Type 0
   ReadsNumbered r = ReadsFile s (fileTag s k) (fileIn k (indexOf g letter (block .0) s)) r
 
--- the files that are read along the text s
-abbrev pub WritesFiles : List ℕ → List ℕ → List ℕ → Type 0
-WritesFiles s before after = HoldsFiles s (fileTagsFrom s 38) (filesFrom s 38) before after
-
 -- some rows, where there is room for them
 abbrev pub PutsRows : List Row → List ℕ → List ℕ → Filled → Type 0
 PutsRows l before after r = FillsBuffer HoldsRows (withRoom 5 (length before) l) before after r
 
--- of the index with the text s at that partition letter and block: the rows of its k-th file, all its files, the rows of them all
+-- of the index with the text s at that partition letter and block: the rows of its k-th file
 module _ (s : List ℕ) (g : Given) (letter : ℕ) (block : BlockNumber) (before after : List ℕ) where
   abbrev pub PutsFileRows : ℕ → Filled → Type 0
   PutsFileRows k r = FillsBuffer HoldsRows (rowsFor (length before) (fileIn k (indexOf g letter (block .0) s))) before after r
-
-  abbrev pub PutsFiles : Filled → Type 0
-  PutsFiles r = FillsBuffer (HoldsFiles s (allFileTags s)) (filesFor (length before) (indexOf g letter (block .0) s)) before after r
-
-  abbrev pub PutsAllRows : Filled → Type 0
-  PutsAllRows r = FillsBuffer HoldsRows (allRowsFor (length before) (indexOf g letter (block .0) s)) before after r

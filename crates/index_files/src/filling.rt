@@ -13,7 +13,7 @@ ghost use Rattle.index_values.specs.Tests.{rowsIn};
 ghost use Rattle.index_files.specs.RowSteps.{rowIs};
 ghost use Rattle.index_files.specs.FillingSteps.{WritesRows};
 
-// How many files or rows were written.
+// How many rows were written.
 pub enum Filled {
     Count(u64),
     Refused(Refusal),

@@ -1,4 +1,4 @@
-// The files of an index's text and their rows (01, Index and Extents), one after the other, by their numbers, and all at once.
+// The files of an index's text and their rows (01, Index and Extents), one after the other and by their numbers; and all of an index at once.
 mod asked;
 mod extent_rows;
 mod files;
@@ -16,5 +16,4 @@ pub use extent_rows::next_row;
 pub use files::NextFile;
 pub use files::next_file;
 pub use filling::Filled;
-pub use whole::all_files;
-pub use whole::all_rows;
+pub use whole::read_whole;

@@ -1,11 +1,5 @@
-// All files of an index at once, and all their rows.
-use crate::asked;
-use crate::asked::FileHead;
-use crate::extent_rows;
-use crate::files;
-use crate::files::NextFile;
-use crate::filling;
-use crate::filling::Filled;
+// All of an index at once: its header, its entries and all rows, by one walk over its text.
+use index::Header;
 use index::Read;
 use index_values::Partitions;
 use quantities::BlockNumber;
@@ -13,138 +7,97 @@ use refusals::Refusal;
 ghost use mathlib.Core.Path.{_≡_};
 ghost use Prim.Native.Nat.{_+_, _*_, _≤_};
 ghost use lib.ListN.{length};
-ghost use Rattle.slices.specs.Slices.{written};
+ghost use Rattle.index.specs.Index.{indexOf};
 ghost use Rattle.index_values.specs.Steps.{given};
-ghost use Rattle.index_files.specs.FileSteps.{filesFrom};
-ghost use Rattle.index_files.specs.Filling.{withRoom, allRows, HoldsRows};
-ghost use Rattle.index_files.specs.FillingSteps.{countOf, countAnswered, headNumbers};
-ghost use Rattle.index_files.specs.Steps.{WritesFiles, PutsRows, PutsFiles, PutsAllRows};
+ghost use Rattle.index_files.specs.WholeSteps.{enough, HandsOver, ReadsWhole};
 
-// The four numbers of a file, into out from at on.
-fn put_file(out: &mut [u64], at: usize, h: FileHead)
-    requires { ⌜ at + 4 ≤ length (now out) ⌝ }
-    ensures { λ r. ⌜ now (out .exit) ≡ written at (headNumbers h) (now (out .entry)) ⌝ }
+// Whether so many numbers are enough for what a header counts.
+fn is_enough(h: Header, entries: usize, rows: usize) -> bool
+    ensures { λ r. ⌜ r ≡ enough h entries rows ⌝ }
 {
-    filling::store(out, at, h.length.0);
-    filling::store(out, at + 1, h.name.from as u64);
-    filling::store(out, at + 2, h.name.len as u64);
-    filling::store(out, at + 3, h.rows);
-}
-
-// The files of an index's text, into the front of out.
-fn write_files(text: &[u8], out: &mut [u64])
-    requires { ⌜ length (filesFrom (now text) 38) * 4 ≤ length (now out) ⌝ }
-    ensures { λ r. ⌜ WritesFiles (now (text .entry)) (now (out .entry)) (now (out .exit)) ⌝ }
-{
-    let mut i: usize = 38;
-    let mut k: usize = 0;
-    loop {
-        match files::next_file(text, i) {
-            NextFile::Done => {
-                return;
-            }
-            NextFile::File(n, next) => {
-                put_file(out, k, asked::head_at(text, n));
-                k += 4;
-                i = next;
-            }
-        }
+    let room = (entries / 9) as u64;
+    if room < h.directories {
+        return false;
     }
+    if room - h.directories < h.files {
+        return false;
+    }
+    h.rows <= (rows / 5) as u64
 }
 
-// The files of an index's text, four numbers each, into the front of out; the other parameters are those of reading it.
-pub fn all_files(
+// What a header counts, from the tables into the buffers.
+fn hand_over(
+    h: Header,
+    entry_table: &[u64],
+    row_table: &[u64],
+    entries: &mut [u64],
+    rows: &mut [u64],
+)
+    requires { ⌜ ((h .directories + h .files) * 9 ≤ length (now «entry_table»)) × (h .rows * 5 ≤ length (now «row_table»)) ⌝ }
+    ensures { λ r. ⌜ HandsOver h (now («entry_table» .entry)) (now («row_table» .entry)) (now (entries .entry)) (now (entries .exit))
+        (now (rows .entry)) (now (rows .exit)) ⌝ }
+{
+    let count = h.directories + h.files;
+    tables::copy(entry_table, count as usize * 9, entries, 0);
+    tables::copy(row_table, h.rows as usize * 5, rows, 0);
+}
+
+// All of an index's text by tables, whatever is in them. What is read stands there first, so that nothing is written where it is refused; the text of an
+// index that they have no room for is walked over again.
+fn read_by_tables(
     text: &[u8],
     uuid: &[u8],
     volume: Partitions,
     letter: u8,
     block: BlockNumber,
-    out: &mut [u64],
-) -> Filled
-    ensures { λ r. ⌜ PutsFiles (now (text .entry)) (given (now (uuid .entry)) volume) letter block (now (out .entry)) (now (out .exit)) r ⌝ }
+    entry_table: &mut [u64],
+    row_table: &mut [u64],
+    entries: &mut [u64],
+    rows: &mut [u64],
+) -> Read
+    ensures { λ r. ⌜ ReadsWhole (now (text .entry)) (indexOf (given (now (uuid .entry)) volume) letter (block .0) (now (text .entry)))
+        (now (entries .entry)) (now (entries .exit)) (now (rows .entry)) (now (rows .exit)) r ⌝ }
 {
-    match index::read_index(text, uuid, volume, letter, block) {
-        Read::Refused(r) => Filled::Refused(r),
+    match index::read_into(text, uuid, volume, letter, block, entry_table, row_table) {
+        Read::Refused(r) => Read::Refused(r),
         Read::Found(h) => {
-            if ((out.len() / 4) as u64) < h.files {
-                return Filled::Refused(Refusal::Short);
+            if !is_enough(h, entries.len(), rows.len()) {
+                return Read::Refused(Refusal::Short);
             }
-            write_files(text, out);
-            Filled::Count(h.files)
+            if !is_enough(h, entry_table.len(), row_table.len()) {
+                return index::read_into(text, uuid, volume, letter, block, entries, rows);
+            }
+            hand_over(h, entry_table, row_table, entries, rows);
+            Read::Found(h)
         }
     }
 }
 
-// How many rows all files of an index's text have, if a buffer of so many numbers has room for them.
-fn count_all(text: &[u8], room: u64) -> Filled
-    ensures { λ r. ⌜ countAnswered r ≡ countOf (withRoom 5 room (allRows (filesFrom (now (text .entry)) 38))) ⌝ }
-{
-    let most = room / 5;
-    let mut i: usize = 38;
-    let mut n: u64 = 0;
-    loop {
-        match files::next_file(text, i) {
-            NextFile::Done => {
-                return Filled::Count(n);
-            }
-            NextFile::File(tag, next) => {
-                let m = asked::count_rows(text, extent_rows::first_row(text, tag));
-                if most - n < m {
-                    return Filled::Refused(Refusal::Short);
-                }
-                n += m;
-                i = next;
-            }
-        }
-    }
-}
-
-// The rows of all files of an index's text, into the front of out.
-fn write_all(text: &[u8], out: &mut [u64])
-    requires { ⌜ length (allRows (filesFrom (now text) 38)) * 5 ≤ length (now out) ⌝ }
-    ensures { λ r. ⌜ HoldsRows (allRows (filesFrom (now (text .entry)) 38)) (now (out .entry)) (now (out .exit)) ⌝ }
-{
-    let mut i: usize = 38;
-    let mut end: usize = 0;
-    loop {
-        match files::next_file(text, i) {
-            NextFile::Done => {
-                return;
-            }
-            NextFile::File(n, next) => {
-                end = filling::write_rows(text, extent_rows::first_row(text, n), end, out);
-                i = next;
-            }
-        }
-    }
-}
-
-// The same, if out has room for all of them.
-fn put_all(text: &[u8], out: &mut [u64]) -> Filled
-    ensures { λ r. ⌜ PutsRows (allRows (filesFrom (now (text .entry)) 38)) (now (out .entry)) (now (out .exit)) r ⌝ }
-{
-    match count_all(text, out.len() as u64) {
-        Filled::Refused(r) => Filled::Refused(r),
-        Filled::Count(n) => {
-            write_all(text, out);
-            Filled::Count(n)
-        }
-    }
-}
-
-// The rows of all files of an index's text, file after file, five numbers each, into the front of out; the other parameters are those of reading it.
-pub fn all_rows(
+// All of an index's text: entries and rows go into the fronts of the buffers; the other parameters are those of reading it. The tables have room for all
+// entries, and for 4,096 rows.
+pub fn read_whole(
     text: &[u8],
     uuid: &[u8],
     volume: Partitions,
     letter: u8,
     block: BlockNumber,
-    out: &mut [u64],
-) -> Filled
-    ensures { λ r. ⌜ PutsAllRows (now (text .entry)) (given (now (uuid .entry)) volume) letter block (now (out .entry)) (now (out .exit)) r ⌝ }
+    entries: &mut [u64],
+    rows: &mut [u64],
+) -> Read
+    ensures { λ r. ⌜ ReadsWhole (now (text .entry)) (indexOf (given (now (uuid .entry)) volume) letter (block .0) (now (text .entry)))
+        (now (entries .entry)) (now (entries .exit)) (now (rows .entry)) (now (rows .exit)) r ⌝ }
 {
-    match index::read_index(text, uuid, volume, letter, block) {
-        Read::Refused(r) => Filled::Refused(r),
-        Read::Found(_) => put_all(text, out),
-    }
+    let mut entry_table = [0u64; 36864];
+    let mut row_table = [0u64; 20480];
+    read_by_tables(
+        text,
+        uuid,
+        volume,
+        letter,
+        block,
+        &mut entry_table,
+        &mut row_table,
+        entries,
+        rows,
+    )
 }
