@@ -49,9 +49,10 @@ says-header s h d =
       highestfileuid = refl;
       directories = refl;
       files = refl;
+      rows = refl;
     }
 
-pub says-index : (s : List ℕ) (a : Answer Index) (h : Header) {out : List ℕ} → ReadsIndex s a (Found h) → out ≡ headerNumbers h → ShownAs 13 (SaysIndex s) a 0 out
+pub says-index : (s : List ℕ) (a : Answer Index) (h : Header) {out : List ℕ} → ReadsIndex s a (Found h) → out ≡ headerNumbers h → ShownAs 14 (SaysIndex s) a 0 out
 says-index s a h {out} w q =
     let (x, g, p) = mapped summary a _ (w .answers) in
     tells x g (subst (λ (o : List ℕ). SaysIndex s x o) (sym q) (subst (λ (t : Summary). SaysHeader s t (headerNumbers h)) p (says-header s h (w .header))))
@@ -71,7 +72,7 @@ says-place s p h i =
     whole = omega (arith, length-drop (p .from) s, i .text)
 
 pub says-construct : (s : List ℕ) (a : Answer Indexed) (p : Bounds) (h : Header) {out : List ℕ} → Chooses s a (chosenIs.Found p h)
-    → out ≡ constructNumbers p h → ShownAs 17 (SaysConstruct s) a 0 out
+    → out ≡ constructNumbers p h → ShownAs 18 (SaysConstruct s) a 0 out
 says-construct s a p h w q =
     tells (indexedIn s p h) (w .answers) (subst (λ (o : List ℕ). SaysConstruct s (indexedIn s p h) o) (sym q) (says-place s p h (w .inside)))
 

@@ -8,32 +8,30 @@ use Rattle.refusals.specs.Refusals.{Answer}
 use Rattle.values.specs.Values.{sameUuid}
 use Rattle.index.specs.Index.{Index}
 use Rattle.index.proofs.Spellings.{index-respelled}
-use Rattle.index_files.specs.Names.{allFileTags, fileTag}
+use Rattle.index_files.specs.Names.{fileTag}
 use Rattle.index_files.specs.Asked.{fileIn}
-use Rattle.index_files.specs.Filling.{SaysFile, rowsFor, filesFor, allRowsFor, HoldsRows, HoldsFiles}
+use Rattle.index_files.specs.Filling.{SaysFile, rowsFor, HoldsRows}
 use Rattle.volume.specs.Chosen.{Indexed}
 use Rattle.volume.proofs.Spellings.{chosen-respelled}
 use Rattle.api.specs.Outputs.{ShownAs}
-use Rattle.api.specs.Indexes.{SaysIndex, SaysConstruct, FillsOut, ReadsIndexOut, ReadsFileOut, FillsRows, FillsFiles, FillsAllRows, ReadsConstructOut}
+use Rattle.api.specs.Indexes.{SaysIndex, SaysConstruct, FillsOut, ShowsWhole, ReadsIndexOut, ReadsFileOut, FillsRows, ReadsWholeOut, ReadsConstructOut}
 
 module _ (u w : List ℕ) (e : sameUuid u w ≡ true) (index other size : ℕ) where
-  -- the promises of klapouzen_read_index, _read_file, _read_rows, _read_files and _read_all_rows, and of klapouzen_index
+  -- the promises of klapouzen_read_index, _read_file, _read_rows and _read_whole, and of klapouzen_index
   pub record SamePromises : Type 1 where
     pub readIndex : (s : List ℕ) (letter block : ℕ) → ReadsIndexOut u index other size s letter block ≡ ReadsIndexOut w index other size s letter block
     pub readFile : (s : List ℕ) (letter block file : ℕ) → ReadsFileOut u index other size s letter block file ≡ ReadsFileOut w index other size s letter block file
     pub readRows : (s : List ℕ) (letter block file : ℕ) (rows : List ℕ) → FillsRows u index other size s letter block file rows ≡ FillsRows w index other size s letter block file rows
-    pub readFiles : (s : List ℕ) (letter block : ℕ) (files : List ℕ) → FillsFiles u index other size s letter block files ≡ FillsFiles w index other size s letter block files
-    pub readAllRows : (s : List ℕ) (letter block : ℕ) (rows : List ℕ) → FillsAllRows u index other size s letter block rows ≡ FillsAllRows w index other size s letter block rows
+    pub readWhole : (s : List ℕ) (letter block : ℕ) → ReadsWholeOut u index other size s letter block ≡ ReadsWholeOut w index other size s letter block
     pub indexOfConstruct : (l s : List ℕ) (letter number : ℕ) → ReadsConstructOut u index other size l s letter number ≡ ReadsConstructOut w index other size l s letter number
 
   pub either-spelling : SamePromises
   either-spelling =
       let read = index-respelled u w e index other size in
       record {
-        readIndex = λ s letter block. ap (λ (a : Answer Index). ShownAs 13 (SaysIndex s) a) (read letter block s);
+        readIndex = λ s letter block. ap (λ (a : Answer Index). ShownAs 14 (SaysIndex s) a) (read letter block s);
         readFile = λ s letter block file. ap (λ (a : Answer Index). ShownAs 4 (SaysFile s (fileTag s file)) (fileIn file a)) (read letter block s);
         readRows = λ s letter block file rows. ap (λ (a : Answer Index). FillsOut HoldsRows (rowsFor (length rows) (fileIn file a)) rows) (read letter block s);
-        readFiles = λ s letter block files. ap (λ (a : Answer Index). FillsOut (HoldsFiles s (allFileTags s)) (filesFor (length files) a) files) (read letter block s);
-        readAllRows = λ s letter block rows. ap (λ (a : Answer Index). FillsOut HoldsRows (allRowsFor (length rows) a) rows) (read letter block s);
-        indexOfConstruct = λ l s letter number. ap (λ (a : Answer Indexed). ShownAs 17 (SaysConstruct s) a) (chosen-respelled u w e index other size letter number l s);
+        readWhole = λ s letter block. ap (λ (a : Answer Index). ShowsWhole s a) (read letter block s);
+        indexOfConstruct = λ l s letter number. ap (λ (a : Answer Indexed). ShownAs 18 (SaysConstruct s) a) (chosen-respelled u w e index other size letter number l s);
       }

@@ -8,9 +8,10 @@ use Rattle.refusals.specs.Refusals.{Answer}
 use Rattle.quantities.specs.Addresses.{Address}
 use Rattle.index.specs.Index.{Index, Summary, summary, indexOf}
 use Rattle.index.specs.Places.{updateTimePlace}
-use Rattle.index_files.specs.Names.{allFileTags, fileTag}
+use Rattle.index_files.specs.Names.{fileTag}
 use Rattle.index_files.specs.Asked.{fileIn}
-use Rattle.index_files.specs.Filling.{TellsPart, Stored, SaysFile, rowsFor, filesFor, allRowsFor, HoldsRows, HoldsFiles}
+use Rattle.index_files.specs.Filling.{TellsPart, Stored, SaysFile, rowsFor, HoldsRows}
+use Rattle.index_files.specs.Whole.{wholeFor, HoldsWhole}
 use Rattle.volume.specs.Chosen.{Indexed, chosenIn}
 use Rattle.api.specs.Outputs.{ShownAs, Shown, bit, one}
 
@@ -19,8 +20,8 @@ abbrev pub backNumbers : Option Address → List ℕ
 backNumbers none = 0 ∷ 0 ∷ 0 ∷ []
 backNumbers (some p) = 1 ∷ p .letter ∷ p .block ∷ []
 
--- thirteen numbers say what an index says: the R of its version, its generation, the place of its update time in s, its text, and its length, its
--- location's letter and block, its back pointer, the policy's boolean, the highest file UID, and how many directories and files it has
+-- fourteen numbers say what an index says: the R of its version, its generation, the place of its update time in s, its text, and its length, its
+-- location's letter and block, its back pointer, the policy's boolean, the highest file UID, and how many directories, files and rows it has
 pub record SaysHeader (s : List ℕ) (x : Summary) (out : List ℕ) : Type 0 where
   pub release : getD out 0 0 ≡ x .heading .release
   pub generation : getD out 1 0 ≡ x .heading .generation
@@ -33,12 +34,13 @@ pub record SaysHeader (s : List ℕ) (x : Summary) (out : List ℕ) : Type 0 whe
   pub highestfileuid : getD out 10 0 ≡ x .heading .highestfileuid
   pub directories : getD out 11 0 ≡ x .heading .directories
   pub files : getD out 12 0 ≡ x .files
+  pub rows : getD out 13 0 ≡ x .rows
 
 abbrev pub SaysIndex : List ℕ → Index → List ℕ → Type 0
 SaysIndex s x out = SaysHeader s (summary x) out
 
--- seventeen numbers say where a construct lies and what its index says: its first block, the elements through its closing mark, where its text begins
--- in the store s and its length; then the thirteen of its index, whose places are in that text
+-- eighteen numbers say where a construct lies and what its index says: its first block, the elements through its closing mark, where its text begins
+-- in the store s and its length; then the fourteen of its index, whose places are in that text
 pub record SaysConstruct (s : List ℕ) (c : Indexed) (out : List ℕ) : Type 0 where
   pub first : getD out 0 0 ≡ c .first
   pub end : getD out 1 0 ≡ c .end
@@ -57,15 +59,20 @@ module _ {A : Type 0} where
     pub answers : Shown 1 howMany a returned (one told)
     pub stored : Stored holds a before after
 
+-- what reading all of an index returns, its header, and what the buffers for entries and rows hold after
+pub record ShowsWhole (s : List ℕ) (a : Answer Index) (e e′ o o′ : List ℕ) (returned : ℕ) (out : List ℕ) : Type 0 where
+  pub answers : ShownAs 14 (SaysIndex s) (wholeFor s (length e) (length o) a) returned out
+  pub stored : HoldsWhole s e e′ o o′ (wholeFor s (length e) (length o) a)
+
 -- the volume with that UUID, those letters and that block size
 module _ (uuid : List ℕ) (index other size : ℕ) where
-  -- the index that a text is, at a partition letter and a block number: its header, a file by its number, the rows of a file, all files, all rows
+  -- the index that a text is, at a partition letter and a block number: its header, a file by its number, the rows of a file, all of it
   module _ (s : List ℕ) (letter block : ℕ) where
     abbrev pub indexIn : Answer Index
     indexIn = indexOf (record { uuid = uuid; indexLetter = index; dataLetter = other; blockSize = size }) letter block s
 
     abbrev pub ReadsIndexOut : ℕ → List ℕ → Type 0
-    ReadsIndexOut = ShownAs 13 (SaysIndex s) indexIn
+    ReadsIndexOut = ShownAs 14 (SaysIndex s) indexIn
 
     abbrev pub ReadsFileOut : ℕ → ℕ → List ℕ → Type 0
     ReadsFileOut file = ShownAs 4 (SaysFile s (fileTag s file)) (fileIn file indexIn)
@@ -73,13 +80,10 @@ module _ (uuid : List ℕ) (index other size : ℕ) where
     abbrev pub FillsRows : ℕ → List ℕ → List ℕ → ℕ → ℕ → Type 0
     FillsRows file rows = FillsOut HoldsRows (rowsFor (length rows) (fileIn file indexIn)) rows
 
-    abbrev pub FillsFiles : List ℕ → List ℕ → ℕ → ℕ → Type 0
-    FillsFiles files = FillsOut (HoldsFiles s (allFileTags s)) (filesFor (length files) indexIn) files
-
-    abbrev pub FillsAllRows : List ℕ → List ℕ → ℕ → ℕ → Type 0
-    FillsAllRows rows = FillsOut HoldsRows (allRowsFor (length rows) indexIn) rows
+    abbrev pub ReadsWholeOut : List ℕ → List ℕ → List ℕ → List ℕ → ℕ → List ℕ → Type 0
+    ReadsWholeOut = ShowsWhole s indexIn
 
   -- the index of a construct of a partition, by its number
   abbrev pub ReadsConstructOut : List ℕ → List ℕ → ℕ → ℕ → ℕ → List ℕ → Type 0
   ReadsConstructOut l s letter number =
-      ShownAs 17 (SaysConstruct s) (chosenIn (record { uuid = uuid; indexLetter = index; dataLetter = other; blockSize = size }) letter number l s)
+      ShownAs 18 (SaysConstruct s) (chosenIn (record { uuid = uuid; indexLetter = index; dataLetter = other; blockSize = size }) letter number l s)

@@ -11,7 +11,7 @@ abbrev pub headerNumbers : Header → List ℕ
 headerNumbers h =
     h .release ∷ h .generation .0 ∷ h .time .from ∷ h .time .len ∷ h .letter ∷ h .block .0
     ∷ bit (h .back) ∷ h .«back_letter» ∷ h .«back_block» .0
-    ∷ bit (h .allow) ∷ h .highest ∷ h .directories ∷ h .files ∷ []
+    ∷ bit (h .allow) ∷ h .highest ∷ h .directories ∷ h .files ∷ h .rows ∷ []
 
 -- that of a construct that was found in a store, with its place
 abbrev pub constructNumbers : Bounds → Header → List ℕ

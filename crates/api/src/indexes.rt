@@ -11,10 +11,10 @@ use volume::Chosen;
 ghost use mathlib.Core.Path.{_≡_};
 ghost use Rattle.index_files.specs.FillingSteps.{countAnswered};
 ghost use Rattle.api.specs.Outputs.{Shown, one};
-ghost use Rattle.api.specs.Indexes.{ReadsIndexOut, ReadsFileOut, FillsRows, FillsFiles, FillsAllRows, ReadsConstructOut};
+ghost use Rattle.api.specs.Indexes.{ReadsIndexOut, ReadsFileOut, FillsRows, ReadsWholeOut, ReadsConstructOut};
 ghost use Rattle.api.specs.Steps.{headerNumbers, constructNumbers};
 
-fn in_numbers(h: Header) -> [u64; 13]
+fn in_numbers(h: Header) -> [u64; 14]
     ensures { λ r. ⌜ r ≡ headerNumbers h ⌝ }
 {
     [
@@ -31,6 +31,7 @@ fn in_numbers(h: Header) -> [u64; 13]
         h.highest,
         h.directories,
         h.files,
+        h.rows,
     ]
 }
 
@@ -45,7 +46,7 @@ pub extern "C" fn klapouzen_read_index(
     block_size: u64,
     letter: u8,
     block: u64,
-    out: &mut [u64; 13],
+    out: &mut [u64; 14],
 ) -> u64
     ensures { λ r. ⌜ ReadsIndexOut (now (uuid .entry)) «index_letter» «data_letter» «block_size» (now (text .entry)) letter block
         r (now (out .exit)) ⌝ }
@@ -61,7 +62,7 @@ pub extern "C" fn klapouzen_read_index(
             0
         }
         Read::Refused(r) => {
-            *out = [0; 13];
+            *out = [0; 14];
             refusals::number(r)
         }
     }
@@ -142,9 +143,9 @@ pub extern "C" fn klapouzen_read_rows(
     counted(filled, count)
 }
 
-// All files of an index's text, four numbers each, into the front of files.
+// All of an index's text: its header, nine numbers of each entry into the front of entries, and five of each row into the front of rows.
 #[no_mangle]
-pub extern "C" fn klapouzen_read_files(
+pub extern "C" fn klapouzen_read_whole(
     text: &[u8],
     uuid: &[u8],
     index_letter: u8,
@@ -152,48 +153,40 @@ pub extern "C" fn klapouzen_read_files(
     block_size: u64,
     letter: u8,
     block: u64,
-    files: &mut [u64],
-    count: &mut u64,
-) -> u64
-    ensures { λ r. ⌜ FillsFiles (now (uuid .entry)) «index_letter» «data_letter» «block_size» (now (text .entry)) letter block
-        (now (files .entry)) (now (files .exit)) r (now (count .exit)) ⌝ }
-{
-    let volume = Partitions {
-        index_letter,
-        data_letter,
-        block_size,
-    };
-    let filled = index_files::all_files(text, uuid, volume, letter, BlockNumber(block), files);
-    counted(filled, count)
-}
-
-// The rows of all files of an index's text, file after file, five numbers each, into the front of rows.
-#[no_mangle]
-pub extern "C" fn klapouzen_read_all_rows(
-    text: &[u8],
-    uuid: &[u8],
-    index_letter: u8,
-    data_letter: u8,
-    block_size: u64,
-    letter: u8,
-    block: u64,
+    entries: &mut [u64],
     rows: &mut [u64],
-    count: &mut u64,
+    out: &mut [u64; 14],
 ) -> u64
-    ensures { λ r. ⌜ FillsAllRows (now (uuid .entry)) «index_letter» «data_letter» «block_size» (now (text .entry)) letter block
-        (now (rows .entry)) (now (rows .exit)) r (now (count .exit)) ⌝ }
+    ensures { λ r. ⌜ ReadsWholeOut (now (uuid .entry)) «index_letter» «data_letter» «block_size» (now (text .entry)) letter block
+        (now (entries .entry)) (now (entries .exit)) (now (rows .entry)) (now (rows .exit)) r (now (out .exit)) ⌝ }
 {
     let volume = Partitions {
         index_letter,
         data_letter,
         block_size,
     };
-    let filled = index_files::all_rows(text, uuid, volume, letter, BlockNumber(block), rows);
-    counted(filled, count)
+    match index_files::read_whole(
+        text,
+        uuid,
+        volume,
+        letter,
+        BlockNumber(block),
+        entries,
+        rows,
+    ) {
+        Read::Found(h) => {
+            *out = in_numbers(h);
+            0
+        }
+        Read::Refused(r) => {
+            *out = [0; 14];
+            refusals::number(r)
+        }
+    }
 }
 
 // A construct's place in a store, and its header.
-fn in_place(p: Bounds, h: Header) -> [u64; 17]
+fn in_place(p: Bounds, h: Header) -> [u64; 18]
     ensures { λ r. ⌜ r ≡ constructNumbers p h ⌝ }
 {
     let a = in_numbers(h);
@@ -215,6 +208,7 @@ fn in_place(p: Bounds, h: Header) -> [u64; 17]
         a[10],
         a[11],
         a[12],
+        a[13],
     ]
 }
 
@@ -229,7 +223,7 @@ pub extern "C" fn klapouzen_index(
     block_size: u64,
     letter: u8,
     number: u64,
-    out: &mut [u64; 17],
+    out: &mut [u64; 18],
 ) -> u64
     ensures { λ r. ⌜ ReadsConstructOut (now (uuid .entry)) «index_letter» «data_letter» «block_size» (now (list .entry)) (now (store .entry))
         letter number r (now (out .exit)) ⌝ }
@@ -245,7 +239,7 @@ pub extern "C" fn klapouzen_index(
             0
         }
         Chosen::Refused(r) => {
-            *out = [0; 17];
+            *out = [0; 18];
             refusals::number(r)
         }
     }

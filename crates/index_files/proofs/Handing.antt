@@ -180,6 +180,7 @@ module _ (h : Header) (entries rows : ℕ) where
       go false e = e ∙ sym (lt-leb (h .rows) (rows / 5) (omega (arith, leb-false (h .rows * 5) rows e)))
 
   pub enough-parts : enough h entries rows ≡ true → ((h .directories + h .files) * 9 ≤ entries) × (h .rows * 5 ≤ rows)
-  enough-parts q =
-      (leb-true ((h .directories + h .files) * 9) entries (and-left _ (leb (h .rows * 5) rows) q),
-      leb-true (h .rows * 5) rows (and-right (leb ((h .directories + h .files) * 9) entries) _ q))
+  enough-parts q = (
+    leb-true ((h .directories + h .files) * 9) entries (and-left _ (leb (h .rows * 5) rows) q),
+    leb-true (h .rows * 5) rows (and-right (leb ((h .directories + h .files) * 9) entries) _ q),
+  )

@@ -48,6 +48,9 @@ array-read-t44 c = search needs
 array-read-t47 : tie.Need-array-read-t47
 array-read-t47 c = search needs
 
+array-read-t50 : tie.Need-array-read-t50
+array-read-t50 c = search needs
+
 returns : tie.Need-returns
 returns c = rw (c .before .in-numbers .ensures, c .between .ensures)
 
@@ -70,4 +73,5 @@ in-place-spec =
     array-read-t41
     array-read-t44
     array-read-t47
+    array-read-t50
     returns)
