@@ -8,4 +8,5 @@ pub mod Asking
 pub mod Buffers
 pub mod Putting
 pub mod Handing
+pub mod EntriesPlaced
 pub mod ByteMap
