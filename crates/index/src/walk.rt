@@ -85,14 +85,13 @@ fn is_done(kind: usize, seen: &[u64; 16]) -> bool
         return true;
     }
     let needed = index_names::must_in(kind);
-    let mut j: usize = 16;
-    while 0 < j {
-        j -= 1;
-        if !is_once(needed, j, seen[j]) {
-            return false;
-        }
+    let mut j: usize = 0;
+    let mut done = true;
+    while j < 16 {
+        done = done & is_once(needed, j, seen[j]);
+        j += 1;
     }
-    true
+    done
 }
 
 // The row is over.
@@ -161,6 +160,9 @@ fn fits_at(text: &[u8], h: Start, sort: usize) -> bool
 fn is_entry(sort: usize) -> bool
     ensures { λ r. ⌜ r ≡ isEntry sort ⌝ }
 {
+    if FILE < sort {
+        return false;
+    }
     if sort == ROOT {
         return true;
     }
@@ -186,7 +188,7 @@ fn enter(text: &[u8], uuid: &[u8], h: Start, sort: usize, volume: Partitions, a:
     ensures { λ r. ⌜ r ≡ begun (given (now (uuid .entry)) volume) sort (headAt (now (text .entry)) (h .at)) (childrenAt (now (text .entry)) (h .at)) a ⌝ }
 {
     let good = fits_at(text, h, sort);
-    let raw = elements::part(text, h.text);
+    let raw = index_rows::lying(text, h.text);
     Sums {
         structure: both(a.structure, good),
         few: a.few,
@@ -395,7 +397,7 @@ fn number_at(text: &[u8], h: Start, kind: usize) -> usize
     requires { ⌜ Shape (now text) h ⌝ }
     ensures { λ r. ⌜ r ≡ nameNumber kind (headAt (now (text .entry)) (h .at)) ⌝ }
 {
-    index_names::number_in(kind, elements::part(text, h.name))
+    index_names::number_in(kind, index_rows::lying(text, h.name))
 }
 
 // An element of such a row is met: its name is seen, its place noted; its sort.

@@ -4,11 +4,21 @@ use elements::Span;
 ghost use mathlib.Core.Path.{_≡_};
 ghost use Prim.Native.Nat.{_≤_};
 ghost use lib.ListN.{length};
-ghost use Rattle.elements.specs.Reading.{forestAt};
+ghost use Rattle.elements.specs.Reading.{forestAt, partAt, Inside};
 ghost use Rattle.elements.specs.TagSteps.{Behind};
 ghost use Rattle.children.specs.Children.{textOfFirst, childrenOfFirst};
 ghost use Rattle.children.specs.RowSteps.{seat};
 ghost use Rattle.index_rows.specs.Steps.{noted, Placed, TextSeated};
+
+// A part of a text that lies in it, so that nothing is tested for each element.
+pub fn lying(text: &[u8], span: Span) -> &[u8]
+    requires { ⌜ Inside (now text) (span .from) (span .len) ⌝ }
+    ensures { λ r. ⌜ now r ≡ partAt (now (text .entry)) span ⌝ }
+{
+    let from = span.from;
+    let end = from + span.len;
+    &text[from..end]
+}
 
 // Where the first element of each number stands, 0 where there is none, and where reading goes on behind the row.
 pub struct RowPlaces {
@@ -45,7 +55,7 @@ pub fn read_row(text: &[u8], at: usize, kind: usize) -> RowPlaces
                 return RowPlaces { places, at: n };
             }
             Next::Opens(h) => {
-                let j = index_names::number_in(kind, elements::part(text, h.name));
+                let j = index_names::number_in(kind, lying(text, h.name));
                 note(&mut places, j, h.at);
                 if h.leaf {
                     i = h.next;

@@ -57,8 +57,13 @@ returns-2 c =
 enum-known-h : tie.Need-enum-known-h Inv-loop μ-loop
 enum-known-h c = search needs
 
-part-requires : tie.Need-part-requires Inv-loop μ-loop
-part-requires c κs = search needs
+lying-requires : tie.Need-lying-requires Inv-loop μ-loop
+lying-requires c κs =
+    let s = c .before .before .before .before .before .before .args .text .now in
+    let l = c .before .before .before .before .loop in
+    let x = c .before .h .given .0 .0 in
+    let o : NextStart s (l .i) (Opens x) = subst (NextStart s (l .i)) (c .before .h .given .1) (c .before .before .before .next-start .ensures) in
+    o .shape .name .inside
 
 number-in-requires : tie.Need-number-in-requires Inv-loop μ-loop
 number-in-requires c κs = search needs
@@ -86,7 +91,7 @@ loop-again c =
     let first : FirstOf s (l .i) (x .at) (x .next) = o .next (c .if1 .taken) in (
       omega (arith, l .inv .0, first .place, first .after),
       l .inv .1 ∙ first .tagsKept,
-      noting-more s (a .kind) (c .before .before .before .number-in .result) (l .places) (c .before .note .last .0) first (c .before .before .before .number-in .ensures ∙ ap (numberIn (names (a .kind))) (c .before .before .before .before .part .ensures ∙ o .shape .name .part)) (c .before .note .ensures) (a .at) (l .inv .2),
+      noting-more s (a .kind) (c .before .before .before .number-in .result) (l .places) (c .before .note .last .0) first (c .before .before .before .number-in .ensures ∙ ap (numberIn (names (a .kind))) (c .before .before .before .before .lying .ensures ∙ o .shape .name .part)) (c .before .note .ensures) (a .at) (l .inv .2),
     )
 
 leave-requires : tie.Need-leave-requires Inv-loop μ-loop
@@ -112,7 +117,7 @@ loop-again-2 c =
     let first : FirstOf s (l .i) (x .at) (c .leave .result) = inner-first o (c .before .if1 .left) (c .leave .ensures) in (
       omega (arith, l .inv .0, first .place, first .after),
       l .inv .1 ∙ first .tagsKept,
-      noting-more s (a .kind) (c .before .before .before .before .number-in .result) (l .places) (c .before .before .note .last .0) first (c .before .before .before .before .number-in .ensures ∙ ap (numberIn (names (a .kind))) (c .before .before .before .before .before .part .ensures ∙ o .shape .name .part)) (c .before .before .note .ensures) (a .at) (l .inv .2),
+      noting-more s (a .kind) (c .before .before .before .before .number-in .result) (l .places) (c .before .before .note .last .0) first (c .before .before .before .before .number-in .ensures ∙ ap (numberIn (names (a .kind))) (c .before .before .before .before .before .lying .ensures ∙ o .shape .name .part)) (c .before .before .note .ensures) (a .at) (l .inv .2),
     )
 
 pub read-row-spec : {M : Type 1} → statement M
@@ -128,7 +133,7 @@ read-row-spec =
     enum-known-n
     returns-2
     enum-known-h
-    part-requires
+    lying-requires
     number-in-requires
     note-requires
     loop-less

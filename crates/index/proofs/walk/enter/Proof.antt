@@ -13,8 +13,8 @@ use Rattle.index.proofs.walk.enter.Tie as tie
 fits-at-requires : tie.Need-fits-at-requires
 fits-at-requires c κs = c .before .before .pre
 
-part-requires : tie.Need-part-requires
-part-requires c κs = search needs
+lying-requires : tie.Need-lying-requires
+lying-requires c κs = c .before .before .before .pre .text .inside
 
 both-requires : tie.Need-both-requires
 both-requires c κs = search needs
@@ -47,7 +47,7 @@ returns c =
     let n = c .before .before .before .before .before .before .before .before .before .before .before .before .args .h .at in
     let q = c .before .before .before .before .before .before .before .before .before .before .before .before .args .sort in
     let g = given (c .before .before .before .before .before .before .before .before .before .before .before .before .args .uuid .now) (c .before .before .before .before .before .before .before .before .before .before .before .before .args .volume) in
-    let raw = c .before .before .before .before .before .before .before .before .part .ensures ∙ c .before .before .before .before .before .before .before .before .before .before .before .before .pre .text .part in
+    let raw = c .before .before .before .before .before .before .before .before .lying .ensures ∙ c .before .before .before .before .before .before .before .before .before .before .before .before .pre .text .part in
     begun-parts g q (headAt s n) (childrenAt s n) a _
     (c .before .before .before .before .before .before .before .both .ensures ∙ ap (λ (b : Bool). a .structure && b) (c .before .before .before .before .before .before .before .before .before .fits-at .ensures))
     refl
@@ -63,7 +63,7 @@ enter-spec =
     tie.close
     (tie.spec
     fits-at-requires
-    part-requires
+    lying-requires
     both-requires
     is-valued-requires
     both-requires-2
