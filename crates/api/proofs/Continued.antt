@@ -6,6 +6,7 @@ use mathlib.Core.List.{List}
 use mathlib.Core.Option.{some}
 use Prim.Native.Nat.{ℕ, _<_}
 use native.Mathlib.Omega.{arith}
+use lib.ListN.{take}
 use Rattle.refusals.specs.Refusals.{Answer, refused, answer}
 use Rattle.refusals.proofs.Numbers.{not-zero}
 use Rattle.tape.specs.Continued.{Continued}
@@ -14,7 +15,7 @@ use Rattle.verdict.proofs.Continued.{at-least}
 use Rattle.volume.specs.Answers.{cutOf, rescued}
 use Rattle.volume.proofs.Continued.{rescues-on, cut-continued}
 use Rattle.api.specs.Outputs.{Shown}
-use Rattle.api.specs.Volumes.{cutNumbers, RescuesOut}
+use Rattle.api.specs.Volumes.{cutNumbers, ShowsCut, RescuesOut}
 use Rattle.api.specs.Continued.{KeptAlikeOut, RescuesOnOut}
 
 -- what is shown of a cut: 0, and its numbers
@@ -30,28 +31,36 @@ as-told : (a b : Cut) → (b ≡ a) ⊎ (a .indexConstruct < b .indexConstruct) 
 as-told a b (inl e) = inl (ap cutNumbers e)
 as-told a b (inr m) = inr m
 
-module _ {il is dl ds il′ is′ dl′ ds′ told : List ℕ} (first : RescuesOut il is dl ds 0 told) where
-  module _ {told′ : List ℕ} {returned : ℕ} (second : RescuesOut il′ is′ dl′ ds′ returned told′) where
-    pub read-again : KeptAlikeOut il is dl ds il′ is′ dl′ ds′ told → RescuesOnOut told returned told′
-    read-again k =
-        let (a, h, p) = cut-shown (rescued (first .rescue)) (first .shows) refl in
-        let on = rescues-on (first .rescues) a h (second .rescues) (rw p at (k .inIndex)) (rw p at (k .inData)) in
-        let b = on .neverHurts .cut in
-        let (zero, q) = cut-told (rescued (second .rescue)) b (second .shows) (on .neverHurts .answers) in
-        record {
-          cut = zero;
-          asMany = rw (p, q) (at-least a b (on .neverHurts .sameOrMore));
-          sameOrMore = rw (p, q) (as-told a b (on .neverHurts .sameOrMore));
-        }
+-- of the five numbers
+module _ {il is dl ds il′ is′ dl′ ds′ told : List ℕ} (first : ShowsCut il is dl ds 0 told) where
+  again : {told′ : List ℕ} {returned : ℕ} → ShowsCut il′ is′ dl′ ds′ returned told′ → KeptAlikeOut il is dl ds il′ is′ dl′ ds′ told → RescuesOnOut told returned told′
+  again second k =
+      let (a, h, p) = cut-shown (rescued (first .rescue)) (first .shows) refl in
+      let on = rescues-on (first .rescues) a h (second .rescues) (rw p at (k .inIndex)) (rw p at (k .inData)) in
+      let b = on .neverHurts .cut in
+      let (zero, q) = cut-told (rescued (second .rescue)) b (second .shows) (on .neverHurts .answers) in
+      record {
+        cut = zero;
+        asMany = rw (p, q) (at-least a b (on .neverHurts .sameOrMore));
+        sameOrMore = rw (p, q) (as-told a b (on .neverHurts .sameOrMore));
+      }
+
+  alike : Continued il is il′ is′ → Continued dl ds dl′ ds′ → KeptAlikeOut il is dl ds il′ is′ dl′ ds′ told
+  alike onIndex onData =
+      let (a, h, p) = cut-shown (rescued (first .rescue)) (first .shows) refl in
+      let (x, y) = cut-continued (first .rescues) a h onIndex onData in
+      record { inIndex = rw p x; inData = rw p y }
+
+module _ {il is dl ds il′ is′ dl′ ds′ out : List ℕ} (first : RescuesOut il is dl ds 0 out) where
+  pub read-again : {out′ : List ℕ} {returned : ℕ} → RescuesOut il′ is′ dl′ ds′ returned out′ → KeptAlikeOut il is dl ds il′ is′ dl′ ds′ (take 5 out)
+      → RescuesOnOut (take 5 out) returned (take 5 out′)
+  read-again second = again (first .numbers) (second .numbers)
 
   module _ (onIndex : Continued il is il′ is′) (onData : Continued dl ds dl′ ds′) where
     -- what continues a read has all that its cut keeps
-    pub cut-stays : KeptAlikeOut il is dl ds il′ is′ dl′ ds′ told
-    cut-stays =
-        let (a, h, p) = cut-shown (rescued (first .rescue)) (first .shows) refl in
-        let (x, y) = cut-continued (first .rescues) a h onIndex onData in
-        record { inIndex = rw p x; inData = rw p y }
+    pub cut-stays : KeptAlikeOut il is dl ds il′ is′ dl′ ds′ (take 5 out)
+    cut-stays = alike (first .numbers) onIndex onData
 
     -- the request's own sentence
-    pub read-on : {told′ : List ℕ} {returned : ℕ} → RescuesOut il′ is′ dl′ ds′ returned told′ → RescuesOnOut told returned told′
+    pub read-on : {out′ : List ℕ} {returned : ℕ} → RescuesOut il′ is′ dl′ ds′ returned out′ → RescuesOnOut (take 5 out) returned (take 5 out′)
     read-on second = read-again second cut-stays

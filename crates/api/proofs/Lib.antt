@@ -1,4 +1,5 @@
 pub mod Showing
+pub mod Fronts
 pub mod Keeping
 pub mod ConstructRows
 pub mod Saying

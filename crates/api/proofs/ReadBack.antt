@@ -79,8 +79,8 @@ vol1-stored {i} {o} {before} {after} {r} {n} = stores (areFields i o) (vol1 i o)
 
 read-as-label : (f : Label) → f .release ≡ 1 → isGiven f ≡ true → ReadAsLabel f (labelText f)
 read-as-label f e g r out q =
-    let t : ShownAs 12 (SaysLabel (labelText f) (textPlaces (labelText f))) (answer f) r out
-    = subst (λ (a : Answer Label). ShownAs 12 (SaysLabel (labelText f) (textPlaces (labelText f))) a r out) (text-reads f g e) q in
+    let t : ShownAs 12 (SaysLabel (labelText f) (textPlaces (labelText f))) (answer f) r (take 12 out)
+    = subst (λ (a : Answer Label). ShownAs 12 (SaysLabel (labelText f) (textPlaces (labelText f))) a r (take 12 out)) (text-reads f g e) (q .numbers) in
     (t .refusal, t .tells)
 
 pub label-stored : (compression : ℕ) {f : Label} {before after : List ℕ} {r n : ℕ} → f .release ≡ 1 → WritesOut (isWritable compression f) (labelText f) before after r n

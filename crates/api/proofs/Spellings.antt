@@ -10,11 +10,12 @@ use Rattle.index.specs.Index.{Index}
 use Rattle.index.proofs.Spellings.{index-respelled}
 use Rattle.index_files.specs.Names.{fileTag}
 use Rattle.index_files.specs.Asked.{fileIn}
-use Rattle.index_files.specs.Filling.{SaysFile, rowsFor, HoldsRows}
-use Rattle.volume.specs.Chosen.{Indexed}
+use Rattle.index_files.specs.Filling.{SaysFile, rowsFor}
+use Rattle.volume.specs.Chosen.{Indexed, textAsked}
 use Rattle.volume.proofs.Spellings.{chosen-respelled}
 use Rattle.api.specs.Outputs.{ShownAs}
-use Rattle.api.specs.Indexes.{SaysIndex, SaysConstruct, FillsOut, ShowsWhole, ReadsIndexOut, ReadsFileOut, FillsRows, ReadsWholeOut, ReadsConstructOut}
+use Rattle.api.specs.Fronts.{WithFront}
+use Rattle.api.specs.Indexes.{SaysIndex, SaysConstruct, ShowsRows, ShowsWhole, ReadsIndexOut, ReadsFileOut, FillsRows, ReadsWholeOut, ReadsConstructOut}
 
 module _ (u w : List ℕ) (e : sameUuid u w ≡ true) (index other size : ℕ) where
   -- the promises of klapouzen_read_index, _read_file, _read_rows and _read_whole, and of klapouzen_index
@@ -29,9 +30,9 @@ module _ (u w : List ℕ) (e : sameUuid u w ≡ true) (index other size : ℕ) w
   either-spelling =
       let read = index-respelled u w e index other size in
       record {
-        readIndex = λ s letter block. ap (λ (a : Answer Index). ShownAs 14 (SaysIndex s) a) (read letter block s);
-        readFile = λ s letter block file. ap (λ (a : Answer Index). ShownAs 4 (SaysFile s (fileTag s file)) (fileIn file a)) (read letter block s);
-        readRows = λ s letter block file rows. ap (λ (a : Answer Index). FillsOut HoldsRows (rowsFor (length rows) (fileIn file a)) rows) (read letter block s);
-        readWhole = λ s letter block. ap (λ (a : Answer Index). ShowsWhole s a) (read letter block s);
-        indexOfConstruct = λ l s letter number. ap (λ (a : Answer Indexed). ShownAs 18 (SaysConstruct s) a) (chosen-respelled u w e index other size letter number l s);
+        readIndex = λ s letter block. ap (λ (a : Answer Index). WithFront 14 s (ShownAs 14 (SaysIndex s) a)) (read letter block s);
+        readFile = λ s letter block file. ap (λ (a : Answer Index). WithFront 4 s (ShownAs 4 (SaysFile s (fileTag s file)) (fileIn file a))) (read letter block s);
+        readRows = λ s letter block file rows. ap (λ (a : Answer Index). ShowsRows s (rowsFor (length rows) (fileIn file a)) rows) (read letter block s);
+        readWhole = λ s letter block. ap {B = List ℕ → List ℕ → List ℕ → List ℕ → ℕ → List ℕ → Type 0} (λ (a : Answer Index) e e′ o o′. WithFront 14 s (ShowsWhole s a e e′ o o′)) (read letter block s);
+        indexOfConstruct = λ l s letter number. ap (λ (a : Answer Indexed). WithFront 18 (textAsked size number l s) (ShownAs 18 (SaysConstruct s) a)) (chosen-respelled u w e index other size letter number l s);
       }

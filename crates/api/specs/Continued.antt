@@ -6,7 +6,7 @@ use Prim.Native.Nat.{ℕ, _≤_, _<_}
 use lib.ListN.{getD}
 use Rattle.tape.specs.Answers.{keeping}
 
--- told is the cut that the rescue told of the first read: it keeps the same bytes of the second, on each side
+-- told are the five numbers of the cut that the rescue told of the first read: it keeps the same bytes of the second, on each side
 pub record KeptAlikeOut (indexList indexStore dataList dataStore indexList′ indexStore′ dataList′ dataStore′ told : List ℕ) : Type 0 where
   pub inIndex : keeping (getD told 2 0) indexList′ indexStore′ ≡ keeping (getD told 2 0) indexList indexStore
   pub inData : keeping (getD told 3 0) dataList′ dataStore′ ≡ keeping (getD told 3 0) dataList dataStore

@@ -6,14 +6,16 @@ use Prim.Native.Nat.{ℕ}
 use lib.ListN.{length, take, drop, getD}
 use Rattle.refusals.specs.Refusals.{Answer}
 use Rattle.quantities.specs.Addresses.{Address}
+use Rattle.extents.specs.Rows.{Row}
 use Rattle.index.specs.Index.{Index, Summary, summary, indexOf}
 use Rattle.index.specs.Places.{updateTimePlace}
 use Rattle.index_files.specs.Names.{fileTag}
 use Rattle.index_files.specs.Asked.{fileIn}
 use Rattle.index_files.specs.Filling.{TellsPart, Stored, SaysFile, rowsFor, HoldsRows}
 use Rattle.index_files.specs.Whole.{wholeFor, HoldsWhole}
-use Rattle.volume.specs.Chosen.{Indexed, chosenIn}
+use Rattle.volume.specs.Chosen.{Indexed, textAsked, chosenIn}
 use Rattle.api.specs.Outputs.{ShownAs, Shown, bit, one}
+use Rattle.api.specs.Fronts.{TellsFront, WithFront}
 
 -- whether there is a back pointer, its letter, its block
 abbrev pub backNumbers : Option Address → List ℕ
@@ -59,6 +61,11 @@ module _ {A : Type 0} where
     pub answers : Shown 1 howMany a returned (one told)
     pub stored : Stored holds a before after
 
+-- what reading the rows of a file of the index s returns, how many it tells, what the buffer holds after, and the front
+pub record ShowsRows (s : List ℕ) (a : Answer (List Row)) (before after : List ℕ) (returned count front : ℕ) : Type 0 where
+  pub fills : FillsOut HoldsRows a before after returned count
+  pub place : TellsFront s returned front
+
 -- what reading all of an index returns, its header, and what the buffers for entries and rows hold after
 pub record ShowsWhole (s : List ℕ) (a : Answer Index) (e e′ o o′ : List ℕ) (returned : ℕ) (out : List ℕ) : Type 0 where
   pub answers : ShownAs 14 (SaysIndex s) (wholeFor s (length e) (length o) a) returned out
@@ -72,18 +79,19 @@ module _ (uuid : List ℕ) (index other size : ℕ) where
     indexIn = indexOf (record { uuid = uuid; indexLetter = index; dataLetter = other; blockSize = size }) letter block s
 
     abbrev pub ReadsIndexOut : ℕ → List ℕ → Type 0
-    ReadsIndexOut = ShownAs 14 (SaysIndex s) indexIn
+    ReadsIndexOut = WithFront 14 s (ShownAs 14 (SaysIndex s) indexIn)
 
     abbrev pub ReadsFileOut : ℕ → ℕ → List ℕ → Type 0
-    ReadsFileOut file = ShownAs 4 (SaysFile s (fileTag s file)) (fileIn file indexIn)
+    ReadsFileOut file = WithFront 4 s (ShownAs 4 (SaysFile s (fileTag s file)) (fileIn file indexIn))
 
-    abbrev pub FillsRows : ℕ → List ℕ → List ℕ → ℕ → ℕ → Type 0
-    FillsRows file rows = FillsOut HoldsRows (rowsFor (length rows) (fileIn file indexIn)) rows
+    abbrev pub FillsRows : ℕ → List ℕ → List ℕ → ℕ → ℕ → ℕ → Type 0
+    FillsRows file rows = ShowsRows s (rowsFor (length rows) (fileIn file indexIn)) rows
 
     abbrev pub ReadsWholeOut : List ℕ → List ℕ → List ℕ → List ℕ → ℕ → List ℕ → Type 0
-    ReadsWholeOut = ShowsWhole s indexIn
+    ReadsWholeOut e e′ o o′ = WithFront 14 s (ShowsWhole s indexIn e e′ o o′)
 
   -- the index of a construct of a partition, by its number
   abbrev pub ReadsConstructOut : List ℕ → List ℕ → ℕ → ℕ → ℕ → List ℕ → Type 0
   ReadsConstructOut l s letter number =
-      ShownAs 18 (SaysConstruct s) (chosenIn (record { uuid = uuid; indexLetter = index; dataLetter = other; blockSize = size }) letter number l s)
+      WithFront 18 (textAsked size number l s)
+      (ShownAs 18 (SaysConstruct s) (chosenIn (record { uuid = uuid; indexLetter = index; dataLetter = other; blockSize = size }) letter number l s))

@@ -4,7 +4,7 @@ use mathlib.Core.Bool.{Bool, _&&_}
 use mathlib.Core.List.{List, [], _∷_}
 use Prim.Native.Nat.{ℕ}
 use lib.Dec.{leb, eqb}
-use lib.ListN.{getD}
+use lib.ListN.{getD, take}
 use Rattle.elements.specs.Reading.{Inside}
 use Rattle.texts.specs.Decoded.{decoded}
 use Rattle.vol1.specs.Vol1.{Vol1Fields, identifierAt, identifierLength, ownerAt, ownerLength, vol1Of, areFields, vol1}
@@ -16,6 +16,7 @@ use Rattle.labels.specs.Labels.{labelsIn}
 use Rattle.labels.specs.Places.{placesOn}
 use Rattle.index_files.specs.Filling.{partTold, TellsPart}
 use Rattle.api.specs.Outputs.{Shown, ShownAs, Stores, bit}
+use Rattle.api.specs.Fronts.{WithFront, WithSide}
 
 -- the places and lengths of VOL1's identifier and owner
 abbrev pub vol1Places : Vol1Fields → List ℕ
@@ -59,15 +60,17 @@ pub record SaysLabel (s : List ℕ) (w : TextPlaces) (f : Label) (out : List ℕ
 
 -- what the reader of a label answers of a text
 abbrev pub ReadsLabelOut : List ℕ → ℕ → List ℕ → Type 0
-ReadsLabelOut s = ShownAs 12 (SaysLabel s (textPlaces s)) (labelOf s)
+ReadsLabelOut s = WithFront 12 s (ShownAs 12 (SaysLabel s (textPlaces s)) (labelOf s))
 
 -- what the check of the labels of two sides answers, the places being in the index store
 abbrev pub ChecksOut : List ℕ → List ℕ → List ℕ → List ℕ → ℕ → List ℕ → Type 0
-ChecksOut indexList indexStore dataList dataStore = ShownAs 12 (SaysLabel indexStore (placesOn (tapeIn indexList indexStore))) (labelsIn indexList indexStore dataList dataStore)
+ChecksOut indexList indexStore dataList dataStore =
+    WithSide 12 indexList indexStore dataList dataStore
+    (ShownAs 12 (SaysLabel indexStore (placesOn (tapeIn indexList indexStore))) (labelsIn indexList indexStore dataList dataStore))
 
 -- it reads the text as that label
 abbrev pub ReadAsLabel : Label → List ℕ → Type 0
-ReadAsLabel f s = (r : ℕ) (out : List ℕ) → ReadsLabelOut s r out → (r ≡ 0) × SaysLabel s (textPlaces s) f out
+ReadAsLabel f s = (r : ℕ) (out : List ℕ) → ReadsLabelOut s r out → (r ≡ 0) × SaysLabel s (textPlaces s) f (take 12 out)
 
 -- the label that a caller gives, its compression as a number
 abbrev pub givenLabel : List ℕ → List ℕ → List ℕ → ℕ → ℕ → ℕ → ℕ → ℕ → Label

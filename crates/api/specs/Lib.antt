@@ -1,4 +1,5 @@
 pub mod Outputs
+pub mod Fronts
 pub mod Partitions
 pub mod Labels
 pub mod Files

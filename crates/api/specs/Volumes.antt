@@ -9,6 +9,7 @@ use Rattle.volume.specs.Volume.{verdictIn}
 use Rattle.volume.specs.Answers.{VerdictOwes, rescued, Rescues}
 use Rattle.volume.specs.declared.answers.Rescue.{Rescue}
 use Rattle.api.specs.Outputs.{Shown}
+use Rattle.api.specs.Fronts.{WithSide}
 
 -- which of the five breaks, 0 for none, and its number
 abbrev pub breakNumbers : Option Break → List ℕ
@@ -24,12 +25,18 @@ abbrev pub NoBreak : ℕ → List ℕ → Type 0
 NoBreak returned out = (returned ≡ 0) × (getD out 0 0 ≡ 0)
 
 -- the answers, and demand 3 of what is told
-pub record JudgesOut (indexList indexStore dataList dataStore : List ℕ) (returned : ℕ) (out : List ℕ) : Type 0 where
+pub record Judges (indexList indexStore dataList dataStore : List ℕ) (returned : ℕ) (out : List ℕ) : Type 0 where
   pub answers : Shown 2 breakNumbers (verdictIn indexList indexStore dataList dataStore) returned out
   pub demand : VerdictOwes indexList indexStore dataList dataStore (NoBreak returned out)
 
+abbrev pub JudgesOut : List ℕ → List ℕ → List ℕ → List ℕ → ℕ → List ℕ → Type 0
+JudgesOut il is dl ds = WithSide 2 il is dl ds (Judges il is dl ds)
+
 -- the rescue's answer, which keeps demand 3, and how it is shown
-pub record RescuesOut (indexList indexStore dataList dataStore : List ℕ) (returned : ℕ) (out : List ℕ) : Type 0 where
+pub record ShowsCut (indexList indexStore dataList dataStore : List ℕ) (returned : ℕ) (out : List ℕ) : Type 0 where
   pub rescue : Rescue
   pub rescues : Rescues indexList indexStore dataList dataStore rescue
   pub shows : Shown 5 cutNumbers (rescued rescue) returned out
+
+abbrev pub RescuesOut : List ℕ → List ℕ → List ℕ → List ℕ → ℕ → List ℕ → Type 0
+RescuesOut il is dl ds = WithSide 5 il is dl ds (ShowsCut il is dl ds)

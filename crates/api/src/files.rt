@@ -1,23 +1,30 @@
 // Texts, and the bytes of files.
 use extents::ByteAt;
 use quantities::ByteCount;
+use refusals::Place;
 use refusals::Refusal;
 use xml::FormChecked;
-ghost use mathlib.Core.Path.{_≡_};
-ghost use Rattle.refusals.specs.Refusals.{answer, shownNumber};
-ghost use Rattle.xml.specs.CheckSteps.{requireForm};
 ghost use Rattle.extents.specs.Map.{byteMap};
 ghost use Rattle.api.specs.Outputs.{Shown};
-ghost use Rattle.api.specs.Files.{bytePlace};
+ghost use Rattle.api.specs.Files.{bytePlace, ChecksForm};
 
 // Whether a text is in the XML form.
 #[no_mangle]
-pub extern "C" fn klapouzen_check_form(text: &[u8]) -> u64
-    ensures { λ r. ⌜ r ≡ shownNumber (requireForm (now (text .entry)) (answer (now (text .entry)))) ⌝ }
+pub extern "C" fn klapouzen_check_form(text: &[u8], front: &mut u64) -> u64
+    ensures { λ r. ⌜ ChecksForm (now (text .entry)) r (now (front .exit)) ⌝ }
 {
     match xml::check(text) {
-        FormChecked::Good => 0,
-        FormChecked::Broken(_) => refusals::number(Refusal::Form),
+        FormChecked::Good => {
+            *front = 0;
+            0
+        }
+        FormChecked::Broken(n) => {
+            *front = n as u64;
+            refusals::number(Refusal::Form(Place {
+                front: n,
+                on_data: false,
+            }))
+        }
     }
 }
 

@@ -1,5 +1,6 @@
 // Indexes: an index's text read, its files, and their rows.
 use crate::numbers::flag;
+use crate::numbers::front;
 use constructs::Bounds;
 use index::Header;
 use index::Read;
@@ -10,11 +11,11 @@ use quantities::BlockNumber;
 use volume::Chosen;
 ghost use mathlib.Core.Path.{_≡_};
 ghost use Rattle.index_files.specs.FillingSteps.{countAnswered};
-ghost use Rattle.api.specs.Outputs.{Shown, one};
 ghost use Rattle.api.specs.Indexes.{ReadsIndexOut, ReadsFileOut, FillsRows, ReadsWholeOut, ReadsConstructOut};
-ghost use Rattle.api.specs.Steps.{headerNumbers, constructNumbers};
+ghost use Rattle.api.specs.Steps.{headerNumbers, constructNumbers, Counts};
 
-fn in_numbers(h: Header) -> [u64; 14]
+// The last number is the place of the front.
+fn in_numbers(h: Header) -> [u64; 15]
     ensures { λ r. ⌜ r ≡ headerNumbers h ⌝ }
 {
     [
@@ -32,6 +33,7 @@ fn in_numbers(h: Header) -> [u64; 14]
         h.directories,
         h.files,
         h.rows,
+        0,
     ]
 }
 
@@ -46,7 +48,7 @@ pub extern "C" fn klapouzen_read_index(
     block_size: u64,
     letter: u8,
     block: u64,
-    out: &mut [u64; 14],
+    out: &mut [u64; 15],
 ) -> u64
     ensures { λ r. ⌜ ReadsIndexOut (now (uuid .entry)) «index_letter» «data_letter» «block_size» (now (text .entry)) letter block
         r (now (out .exit)) ⌝ }
@@ -62,7 +64,8 @@ pub extern "C" fn klapouzen_read_index(
             0
         }
         Read::Refused(r) => {
-            *out = [0; 14];
+            *out = [0; 15];
+            out[14] = front(r);
             refusals::number(r)
         }
     }
@@ -79,7 +82,7 @@ pub extern "C" fn klapouzen_read_file(
     letter: u8,
     block: u64,
     file: u64,
-    out: &mut [u64; 4],
+    out: &mut [u64; 5],
 ) -> u64
     ensures { λ r. ⌜ ReadsFileOut (now (uuid .entry)) «index_letter» «data_letter» «block_size» (now (text .entry)) letter block file
         r (now (out .exit)) ⌝ }
@@ -91,27 +94,30 @@ pub extern "C" fn klapouzen_read_file(
     };
     match index_files::file(text, uuid, volume, letter, BlockNumber(block), file) {
         FileRead::Found(h) => {
-            *out = [h.length.0, h.name.from as u64, h.name.len as u64, h.rows];
+            *out = [h.length.0, h.name.from as u64, h.name.len as u64, h.rows, 0];
             0
         }
         FileRead::Refused(r) => {
-            *out = [0; 4];
+            *out = [0; 5];
+            out[4] = front(r);
             refusals::number(r)
         }
     }
 }
 
-// How many were written; 0 where refused.
-fn counted(filled: Filled, count: &mut u64) -> u64
-    ensures { λ r. ⌜ Shown 1 one (countAnswered filled) r (one (now (count .exit))) ⌝ }
+// How many were written, 0 where refused; and the front.
+fn counted(filled: Filled, count: &mut u64, place: &mut u64) -> u64
+    ensures { λ r. ⌜ Counts (countAnswered filled) r (now (count .exit)) (now (place .exit)) ⌝ }
 {
     match filled {
         Filled::Count(n) => {
             *count = n;
+            *place = 0;
             0
         }
         Filled::Refused(r) => {
             *count = 0;
+            *place = front(r);
             refusals::number(r)
         }
     }
@@ -130,9 +136,10 @@ pub extern "C" fn klapouzen_read_rows(
     file: u64,
     rows: &mut [u64],
     count: &mut u64,
+    place: &mut u64,
 ) -> u64
     ensures { λ r. ⌜ FillsRows (now (uuid .entry)) «index_letter» «data_letter» «block_size» (now (text .entry)) letter block file
-        (now (rows .entry)) (now (rows .exit)) r (now (count .exit)) ⌝ }
+        (now (rows .entry)) (now (rows .exit)) r (now (count .exit)) (now (place .exit)) ⌝ }
 {
     let volume = Partitions {
         index_letter,
@@ -140,7 +147,7 @@ pub extern "C" fn klapouzen_read_rows(
         block_size,
     };
     let filled = index_files::rows(text, uuid, volume, letter, BlockNumber(block), file, rows);
-    counted(filled, count)
+    counted(filled, count, place)
 }
 
 // All of an index's text: its header, nine numbers of each entry into the front of entries, and five of each row into the front of rows.
@@ -155,7 +162,7 @@ pub extern "C" fn klapouzen_read_whole(
     block: u64,
     entries: &mut [u64],
     rows: &mut [u64],
-    out: &mut [u64; 14],
+    out: &mut [u64; 15],
 ) -> u64
     ensures { λ r. ⌜ ReadsWholeOut (now (uuid .entry)) «index_letter» «data_letter» «block_size» (now (text .entry)) letter block
         (now (entries .entry)) (now (entries .exit)) (now (rows .entry)) (now (rows .exit)) r (now (out .exit)) ⌝ }
@@ -179,14 +186,15 @@ pub extern "C" fn klapouzen_read_whole(
             0
         }
         Read::Refused(r) => {
-            *out = [0; 14];
+            *out = [0; 15];
+            out[14] = front(r);
             refusals::number(r)
         }
     }
 }
 
 // A construct's place in a store, and its header.
-fn in_place(p: Bounds, h: Header) -> [u64; 18]
+fn in_place(p: Bounds, h: Header) -> [u64; 19]
     ensures { λ r. ⌜ r ≡ constructNumbers p h ⌝ }
 {
     let a = in_numbers(h);
@@ -209,6 +217,7 @@ fn in_place(p: Bounds, h: Header) -> [u64; 18]
         a[11],
         a[12],
         a[13],
+        a[14],
     ]
 }
 
@@ -223,7 +232,7 @@ pub extern "C" fn klapouzen_index(
     block_size: u64,
     letter: u8,
     number: u64,
-    out: &mut [u64; 18],
+    out: &mut [u64; 19],
 ) -> u64
     ensures { λ r. ⌜ ReadsConstructOut (now (uuid .entry)) «index_letter» «data_letter» «block_size» (now (list .entry)) (now (store .entry))
         letter number r (now (out .exit)) ⌝ }
@@ -239,7 +248,8 @@ pub extern "C" fn klapouzen_index(
             0
         }
         Chosen::Refused(r) => {
-            *out = [0; 18];
+            *out = [0; 19];
+            out[18] = front(r);
             refusals::number(r)
         }
     }

@@ -1,5 +1,7 @@
 // Labels: read, written, and the labels of a volume.
 use crate::numbers::flag;
+use crate::numbers::front;
+use crate::numbers::side;
 use label::Label;
 use label::LabelFields;
 use label_writer::Given;
@@ -8,10 +10,12 @@ use slices::Written;
 use vol1::Vol1;
 use vol1::Vol1Read;
 ghost use mathlib.Core.Path.{_≡_};
+ghost use mathlib.Core.List.{[], _∷_, _++_};
 ghost use Rattle.api.specs.Labels.{givenLabel, ReadsVol1Out, WritesVol1, ReadsLabelOut, ChecksOut, WritesLabel};
 ghost use Rattle.api.specs.Steps.{labelNumbers};
 
-fn in_numbers(f: LabelFields) -> [u64; 12]
+// The last number is the place of the front.
+fn in_numbers(f: LabelFields) -> [u64; 13]
     ensures { λ r. ⌜ r ≡ labelNumbers f ⌝ }
 {
     [
@@ -27,6 +31,7 @@ fn in_numbers(f: LabelFields) -> [u64; 12]
         f.data_letter as u64,
         f.block_size,
         flag(f.compression),
+        0,
     ]
 }
 
@@ -76,7 +81,7 @@ pub extern "C" fn klapouzen_write_vol1(
 
 // Reads an LTFS label.
 #[no_mangle]
-pub extern "C" fn klapouzen_read_label(text: &[u8], out: &mut [u64; 12]) -> u64
+pub extern "C" fn klapouzen_read_label(text: &[u8], out: &mut [u64; 13]) -> u64
     ensures { λ r. ⌜ ReadsLabelOut (now (text .entry)) r (now (out .exit)) ⌝ }
 {
     match label::read(text) {
@@ -85,7 +90,8 @@ pub extern "C" fn klapouzen_read_label(text: &[u8], out: &mut [u64; 12]) -> u64
             0
         }
         Label::Refused(r) => {
-            *out = [0; 12];
+            *out = [0; 13];
+            out[12] = front(r);
             refusals::number(r)
         }
     }
@@ -131,6 +137,29 @@ pub extern "C" fn klapouzen_write_label(
     }
 }
 
+// The last number is the place of the side.
+fn on_volume(f: LabelFields) -> [u64; 14]
+    ensures { λ r. ⌜ r ≡ labelNumbers f ++ 0 ∷ [] ⌝ }
+{
+    let a = in_numbers(f);
+    [
+        a[0],
+        a[1],
+        a[2],
+        a[3],
+        a[4],
+        a[5],
+        a[6],
+        a[7],
+        a[8],
+        a[9],
+        a[10],
+        a[11],
+        a[12],
+        0,
+    ]
+}
+
 // The labels of a volume: what the index side's label says, its places being in the index store.
 #[no_mangle]
 pub extern "C" fn klapouzen_check_labels(
@@ -138,18 +167,20 @@ pub extern "C" fn klapouzen_check_labels(
     index_store: &[u8],
     data_list: &[u8],
     data_store: &[u8],
-    out: &mut [u64; 12],
+    out: &mut [u64; 14],
 ) -> u64
     ensures { λ r. ⌜ ChecksOut (now («index_list» .entry)) (now («index_store» .entry)) (now («data_list» .entry)) (now («data_store» .entry))
         r (now (out .exit)) ⌝ }
 {
     match labels::check(index_list, index_store, data_list, data_store) {
         Label::Says(f) => {
-            *out = in_numbers(f);
+            *out = on_volume(f);
             0
         }
         Label::Refused(r) => {
-            *out = [0; 12];
+            *out = [0; 14];
+            out[12] = front(r);
+            out[13] = side(r);
             refusals::number(r)
         }
     }

@@ -1,4 +1,6 @@
 // A volume: its verdict, and the rescue.
+use crate::numbers::front;
+use crate::numbers::side;
 use volume::Rescue;
 use volume::Verdict;
 ghost use Rattle.api.specs.Volumes.{JudgesOut, RescuesOut};
@@ -10,22 +12,24 @@ pub extern "C" fn klapouzen_verdict(
     index_store: &[u8],
     data_list: &[u8],
     data_store: &[u8],
-    out: &mut [u64; 2],
+    out: &mut [u64; 4],
 ) -> u64
     ensures { λ r. ⌜ JudgesOut (now («index_list» .entry)) (now («index_store» .entry)) (now («data_list» .entry)) (now («data_store» .entry))
         r (now (out .exit)) ⌝ }
 {
     match volume::find_break(index_list, index_store, data_list, data_store) {
         Verdict::Consistent => {
-            *out = [0; 2];
+            *out = [0; 4];
             0
         }
         Verdict::Break(which, number) => {
-            *out = [which, number];
+            *out = [which, number, 0, 0];
             0
         }
         Verdict::Refused(r) => {
-            *out = [0; 2];
+            *out = [0; 4];
+            out[2] = front(r);
+            out[3] = side(r);
             refusals::number(r)
         }
     }
@@ -38,7 +42,7 @@ pub extern "C" fn klapouzen_rescue(
     index_store: &[u8],
     data_list: &[u8],
     data_store: &[u8],
-    out: &mut [u64; 5],
+    out: &mut [u64; 7],
 ) -> u64
     ensures { λ r. ⌜ RescuesOut (now («index_list» .entry)) (now («index_store» .entry)) (now («data_list» .entry)) (now («data_store» .entry))
         r (now (out .exit)) ⌝ }
@@ -51,11 +55,15 @@ pub extern "C" fn klapouzen_rescue(
                 k.index_kept,
                 k.data_kept,
                 k.generation.0,
+                0,
+                0,
             ];
             0
         }
         Rescue::Refused(r) => {
-            *out = [0; 5];
+            *out = [0; 7];
+            out[5] = front(r);
+            out[6] = side(r);
             refusals::number(r)
         }
     }

@@ -16,7 +16,7 @@ use Rattle.quantities.specs.Letters.{isLetter}
 use Rattle.quantities.specs.Sizes.{isBlockSize}
 use Rattle.quantities.specs.Addresses.{Address}
 use Rattle.xml.specs.Tree.{Head, Forest, none as noElement, node, top, opened}
-use Rattle.xml.specs.CheckSteps.{inForm}
+use Rattle.xml.specs.CheckSteps.{inForm, front}
 use Rattle.elements.specs.Tags.{Tags, tagsAt, tagsIn}
 use Rattle.elements.specs.TagSteps.{NextTag}
 use Rattle.elements.specs.declared.tags.Tag.the-variants.{Open, Empty}
@@ -160,9 +160,9 @@ module _ (g : Given) (letter block : ℕ) (text : List ℕ) where
     index-15 b = rw (a, b)
 
     module _ (b : leb (length text) 1048576 ≡ true) where
-      pub index-4 : inForm text ≡ false → indexOf g letter block text ≡ refused Form
+      pub index-4 : (n : ℕ) → inForm text ≡ false → n ≡ front text → indexOf g letter block text ≡ refused (Form (record { front = n; «on_data» = false }))
       unfolding indexOf
-      index-4 c = rw (a, b, c)
+      index-4 n c z = rw (a, b, c, z)
 
       pub index-read : inForm text ≡ true → rootRead g letter block (forestAt text 38) ≡ indexOf g letter block text
       unfolding indexOf

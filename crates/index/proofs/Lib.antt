@@ -12,3 +12,4 @@ pub mod Derivation
 pub mod EachFile
 pub mod Spellings
 pub mod ByValue
+pub mod Fronts

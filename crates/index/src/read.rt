@@ -5,6 +5,7 @@ use elements::Tag;
 use index_values::Partitions;
 use quantities::BlockNumber;
 use quantities::Generation;
+use refusals::Place;
 use refusals::Refusal;
 use values::Boolean;
 use values::Version;
@@ -268,7 +269,10 @@ pub fn read_into(
         return Read::Refused(Refusal::TooMany);
     }
     match xml::check(text) {
-        FormChecked::Broken(_) => Read::Refused(Refusal::Form),
+        FormChecked::Broken(front) => Read::Refused(Refusal::Form(Place {
+            front,
+            on_data: false,
+        })),
         FormChecked::Good => {
             read_root(text, uuid, entry_table, row_table, volume, letter, block)
         }

@@ -7,6 +7,7 @@ use Prim.Native.Nat.{ℕ}
 use native.Mathlib.Omega.{arith}
 use lib.Dec.{leb}
 use lib.ListN.{length}
+use Rattle.refusals.proofs.Refusing.{passed}
 use Rattle.refusals.specs.Refusals.{Answer, answer, require}
 use Rattle.refusals.specs.declared.Refusal.{Refusal}
 use Rattle.refusals.specs.declared.Refusal.the-variants.{Caller, TooMany, Form, Structure, Version, Value, Foreign, Extents, Location}
@@ -15,7 +16,7 @@ use Rattle.slices.specs.Words.{bytes}
 use Rattle.slices.proofs.Booleans.{and-left, and-right}
 use Rattle.xml.specs.Tree.{Head, Forest, none, node}
 use Rattle.xml.specs.FormSteps.{Reads}
-use Rattle.xml.specs.CheckSteps.{inForm, requireForm}
+use Rattle.xml.specs.CheckSteps.{inForm, front, requireForm}
 use Rattle.xml.proofs.Form.{form-reads, in-form}
 use Rattle.elements.specs.Reading.{forestAt}
 use Rattle.elements.proofs.Roots.{root-row}
@@ -38,12 +39,6 @@ pub record Accepted (g : Given) (letter : ℕ) (text : List ℕ) (x : Index) : T
   pub valued : allValued (elements index kids) ≡ true
   pub lawful : allLawful g (elements index kids) ≡ true
   pub says : x ≡ indexWith release kids
-
-module _ {A : Type 0} (r : Refusal) (next : Answer A) (x : A) where
-  -- a check was passed, where an answer was given
-  passed : (b : Bool) → require b r next ≡ answer x → (b ≡ true) × (next ≡ answer x)
-  passed true e = (refl, e)
-  passed false e = let z : _≡_ {A = ℕ} 0 1 = cc in absurd (omega arith)
 
 module _ (g : Given) (letter block : ℕ) (x : Index) where
   children-accepted : (release : ℕ) (k : Forest) → childrenRead g letter block release k ≡ answer x → (structured k ≡ true) × (allValued (elements index k) ≡ true) × (allLawful g (elements index k) ≡ true) × (x ≡ indexWith release k)
@@ -95,6 +90,6 @@ accepted g letter block text x e =
     let a1 = requireForm text a2 in
     let p0 = passed Caller (require (leb (length text) 1048576) TooMany a1) x (callerRight g letter) e in
     let p1 = passed TooMany a1 x (leb (length text) 1048576) (p0 .1) in
-    let p2 = passed Form a2 x (inForm text) (p1 .1) in
+    let p2 = passed (Form (record { front = front text; «on_data» = false })) a2 x (inForm text) (p1 .1) in
     let (h, k, r) = form-reads text (in-form text (p2 .0)) in
     root-accepted g letter block x text h k (p0 .0) r (ap (rootRead g letter block) (sym (root-row r)) ∙ p2 .1)

@@ -10,3 +10,4 @@ pub mod Putting
 pub mod Handing
 pub mod EntriesPlaced
 pub mod ByteMap
+pub mod Fronts

@@ -5,3 +5,4 @@ pub mod Values
 pub mod Tests
 pub mod Derivation
 pub mod Agreed
+pub mod Fronts

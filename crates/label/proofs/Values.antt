@@ -9,7 +9,7 @@ use Rattle.refusals.specs.declared.Refusal.the-variants.{Form, Structure, Value
 use Rattle.quantities.specs.Sizes.{isBlockSize}
 use borrow.Author.Tests.{le-leb, lt-leb}
 use lib.ListN.{length}
-use Rattle.xml.specs.CheckSteps.{inForm}
+use Rattle.xml.specs.CheckSteps.{inForm, front}
 use Rattle.xml.specs.Tree.{Head, Forest, none, node}
 use Rattle.elements.specs.Reading.{forestAt}
 use Rattle.texts.specs.Decoded.{decoded}
@@ -129,9 +129,9 @@ module _ (s : List ℕ) where
   too-long h = rw (lt-leb _ _ h)
 
   module _ (h : length s ≤ 4096) where
-    pub unformed : inForm s ≡ false → refused Form ≡ labelOf s
+    pub unformed : (n : ℕ) → inForm s ≡ false → n ≡ front s → refused (Form (record { front = n; «on_data» = false })) ≡ labelOf s
     unfolding labelOf
-    unformed e = rw (le-leb _ _ h, e)
+    unformed n e z = rw (le-leb _ _ h, e, z)
 
     module _ (e : inForm s ≡ true) where
       pub no-first : forestAt s 38 ≡ none → refused Structure ≡ labelOf s

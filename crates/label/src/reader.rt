@@ -2,6 +2,7 @@
 use digits::Number;
 use elements::Child;
 use elements::Span;
+use refusals::Place;
 use refusals::Refusal;
 use values::Boolean;
 use values::Letter;
@@ -226,11 +227,14 @@ pub fn read(text: &[u8]) -> Label
     if 4096 < text.len() {
         return Label::Refused(Refusal::TooMany);
     }
-    let FormChecked::Good = xml::check(text) else {
-        return Label::Refused(Refusal::Form);
-    };
-    match elements::next_child(text, 38) {
-        Child::Done => Label::Refused(Refusal::Structure),
-        Child::At(n, _) => read_root(text, n),
+    match xml::check(text) {
+        FormChecked::Broken(front) => Label::Refused(Refusal::Form(Place {
+            front,
+            on_data: false,
+        })),
+        FormChecked::Good => match elements::next_child(text, 38) {
+            Child::Done => Label::Refused(Refusal::Structure),
+            Child::At(n, _) => read_root(text, n),
+        },
     }
 }

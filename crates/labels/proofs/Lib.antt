@@ -3,3 +3,4 @@ pub mod Blocks
 pub mod Moving
 pub mod Sides
 pub mod Fronts
+pub mod TextFronts

@@ -9,7 +9,7 @@ use lib.ListN.{length, take, drop}
 use lib.Seq.{length-take-le}
 use Rattle.refusals.specs.declared.Refusal.{Refusal}
 use Rattle.refusals.specs.declared.Refusal.the-variants as refusal
-use Rattle.refusals.specs.Refusals.{refused, answer, require}
+use Rattle.refusals.specs.Refusals.{refused, answer, require, onDataSide}
 use Rattle.slices.specs.Slices.{same}
 use Rattle.tape.specs.Tape.{Tape}
 use Rattle.tape.specs.Answers.{tapeIn}
@@ -47,9 +47,9 @@ module _ (v s w t : List ℕ) where
       no-label e = rw (e₀, e₁, e)
 
       module _ {f : Label} (e₂ : labelOf s ≡ answer f) where
-        pub no-data-label : {r : Refusal} → labelOf t ≡ refused r → refused r ≡ labelsFrom v s w t
+        pub no-data-label : {r q : Refusal} → labelOf t ≡ refused r → q ≡ onDataSide r → refused q ≡ labelsFrom v s w t
         unfolding labelsFrom
-        no-data-label e = rw (e₀, e₁, e₂, e)
+        no-data-label e z = rw (e₀, e₁, e₂, e, z)
 
         module _ {g : Label} (e₃ : labelOf t ≡ answer g) where
           pub disagreed : agree v f w g ≡ false → refused refusal.Foreign ≡ labelsFrom v s w t

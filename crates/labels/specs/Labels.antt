@@ -5,7 +5,7 @@ use mathlib.Core.List.{List, []}
 use mathlib.Core.Option.{Option, none, some}
 use Prim.Native.Nat.{ℕ}
 use lib.ListN.{getElem?}
-use Rattle.refusals.specs.Refusals.{Answer, answer, require, andThen}
+use Rattle.refusals.specs.Refusals.{Answer, refused, answer, require, andThen, onDataSide}
 use Rattle.refusals.specs.declared.Refusal.the-variants.{Layout, Foreign}
 use Rattle.tape.specs.Tape.{Element, mark, block, unreadable, content, Tape}
 use Rattle.tape.specs.Answers.{tapeIn}
@@ -37,13 +37,18 @@ bytesIn (some e) = content e
 abbrev pub bytesAt : Tape → ℕ → List ℕ
 bytesAt t n = bytesIn (getElem? t n)
 
+-- what is read on the data side: a text outside the form is that side's (02, Item 6)
+abbrev pub onData : {A : Type 0} → Answer A → Answer A
+onData (refused r) = refused (onDataSide r)
+onData (answer a) = answer a
+
 -- VOL1 v and label text s of the index side, w and t of the data side: 3, the label text, 8; what the index side's label says
 unfoldable pub labelsFrom : List ℕ → List ℕ → List ℕ → List ℕ → Answer Label
 labelsFrom v s w t =
     andThen (vol1Of v) (λ x.
     andThen (vol1Of w) (λ y.
     andThen (labelOf s) (λ f.
-    andThen (labelOf t) (λ g.
+    andThen (onData (labelOf t)) (λ g.
     require (agree v f w g) Foreign (answer f)))))
 
 -- the labels of the index partition i and the data partition d

@@ -111,7 +111,7 @@ fn read_sides(v: &[u8], s: &[u8], w: &[u8], t: &[u8]) -> Label
     match label::read(s) {
         Label::Refused(r) => Label::Refused(r),
         Label::Says(f) => match label::read(t) {
-            Label::Refused(r) => Label::Refused(r),
+            Label::Refused(r) => Label::Refused(refusals::on_data_side(r)),
             Label::Says(g) => {
                 if label::labels_agree(v, s, f, w, t, g) {
                     Label::Says(f)

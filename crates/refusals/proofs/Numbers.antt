@@ -12,7 +12,7 @@ tested : (r : Refusal) → eqb (numberOf r) 0 ≡ false
 tested refusal.List = refl
 tested refusal.Missing = refl
 tested refusal.Vol1 = refl
-tested refusal.Form = refl
+tested (refusal.Form p) = refl
 tested refusal.Structure = refl
 tested refusal.Value = refl
 tested refusal.Version = refl

@@ -1,9 +1,11 @@
 -- Refusals and answers (01, Refusal numbers): the number of each refusal, what a function answers, and the order of checks.
 use mathlib.Core.Path.{_≡_}
-use mathlib.Core.Bool.{Bool, true, false}
+use mathlib.Core.Bool.{Bool, true, false, cond}
 use mathlib.Core.List.{List, []}
 use mathlib.Core.Option.{Option, some, none}
 use Prim.Native.Nat.{ℕ}
+use lib.Dec.{eqb}
+use Rattle.refusals.specs.declared.Place.{Place}
 use Rattle.refusals.specs.declared.Refusal.{Refusal}
 use Rattle.refusals.specs.declared.Refusal.the-variants as refusal
 
@@ -12,7 +14,7 @@ abbrev pub numberOf : Refusal → ℕ
 numberOf refusal.List = 1
 numberOf refusal.Missing = 2
 numberOf refusal.Vol1 = 3
-numberOf refusal.Form = 4
+numberOf (refusal.Form p) = 4
 numberOf refusal.Structure = 5
 numberOf refusal.Value = 6
 numberOf refusal.Version = 7
@@ -28,6 +30,36 @@ numberOf refusal.Labels = 16
 numberOf refusal.EndOfVolume = 17
 numberOf refusal.BlockCount = 18
 numberOf refusal.Unreadable = 19
+
+-- 02, Item 6: no text left the form
+abbrev pub nowhere : Place
+nowhere = record { front = 0; «on_data» = false }
+
+-- where a text left the form: with 4 alone
+abbrev pub placeOf : Refusal → Place
+placeOf refusal.List = nowhere
+placeOf refusal.Missing = nowhere
+placeOf refusal.Vol1 = nowhere
+placeOf (refusal.Form p) = p
+placeOf refusal.Structure = nowhere
+placeOf refusal.Value = nowhere
+placeOf refusal.Version = nowhere
+placeOf refusal.Foreign = nowhere
+placeOf refusal.Layout = nowhere
+placeOf refusal.Short = nowhere
+placeOf refusal.Extents = nowhere
+placeOf refusal.Location = nowhere
+placeOf refusal.NoCut = nowhere
+placeOf refusal.Caller = nowhere
+placeOf refusal.TooMany = nowhere
+placeOf refusal.Labels = nowhere
+placeOf refusal.EndOfVolume = nowhere
+placeOf refusal.BlockCount = nowhere
+placeOf refusal.Unreadable = nowhere
+
+-- the refusal of the data side's label, among the labels of a volume
+abbrev pub onDataSide : Refusal → Refusal
+onDataSide r = cond (eqb (numberOf r) 4) (refusal.Form (record { front = placeOf r .front; «on_data» = true })) r
 
 -- a refusal, or what was asked for
 pub data Answer (A : Type 0) : Type 0 where
@@ -55,6 +87,11 @@ module _ {A B : Type 0} where
 abbrev pub shownNumber : {A : Type 0} → Answer A → ℕ
 shownNumber (refused r) = numberOf r
 shownNumber (answer a) = 0
+
+-- and where a text left the form, zeros but with 4
+abbrev pub shownPlace : {A : Type 0} → Answer A → Place
+shownPlace (refused r) = placeOf r
+shownPlace (answer a) = nowhere
 
 -- the bytes that it hands out: none where it is refused
 abbrev pub shownBytes : Answer (List ℕ) → List ℕ

@@ -1,6 +1,14 @@
 // The refusals of document 01 and of 02's requests, each under the name of what is wrong.
 ghost use mathlib.Core.Path.{_≡_};
-ghost use Rattle.refusals.specs.Refusals.{numberOf};
+ghost use Rattle.refusals.specs.Refusals.{numberOf, placeOf, onDataSide};
+
+// Where a text leaves the XML form (02, Item 6).
+pub struct Place {
+    // How long the longest front of it is that some text in the form begins with.
+    pub front: usize,
+    // Among the labels of a volume: whether it is the data side's.
+    pub on_data: bool,
+}
 
 pub enum Refusal {
     // The block list or its store.
@@ -10,7 +18,7 @@ pub enum Refusal {
     // The VOL1 label.
     Vol1,
     // A text outside the XML form.
-    Form,
+    Form(Place),
     // An element or an attribute of a text.
     Structure,
     // A value outside its rule.
@@ -51,7 +59,7 @@ pub fn number(refusal: Refusal) -> u64
         Refusal::List => 1,
         Refusal::Missing => 2,
         Refusal::Vol1 => 3,
-        Refusal::Form => 4,
+        Refusal::Form(_) => 4,
         Refusal::Structure => 5,
         Refusal::Value => 6,
         Refusal::Version => 7,
@@ -68,4 +76,30 @@ pub fn number(refusal: Refusal) -> u64
         Refusal::BlockCount => 18,
         Refusal::Unreadable => 19,
     }
+}
+
+// The place that a refusal tells: zeros but for 4.
+pub fn place_told(refusal: Refusal) -> Place
+    ensures { λ r. ⌜ r ≡ placeOf refusal ⌝ }
+{
+    let Refusal::Form(p) = refusal else {
+        return Place {
+            front: 0,
+            on_data: false,
+        };
+    };
+    p
+}
+
+// The refusal of the data side's label, among the labels of a volume.
+pub fn on_data_side(refusal: Refusal) -> Refusal
+    ensures { λ r. ⌜ r ≡ onDataSide refusal ⌝ }
+{
+    let Refusal::Form(p) = refusal else {
+        return refusal;
+    };
+    Refusal::Form(Place {
+        front: p.front,
+        on_data: true,
+    })
 }

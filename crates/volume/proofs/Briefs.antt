@@ -21,7 +21,8 @@ use Rattle.xml.specs.CheckSteps.{requireForm, inForm, form, formRun, ended}
 use Rattle.elements.specs.Reading.{forestAt}
 use Rattle.verdict.specs.Verdict.{IndexLinks, Volume, readText, follows}
 use Rattle.volume.specs.Volume.{soundly, volumeWith}
-use Rattle.volume.specs.Steps.{linkOf, briefLink, joined, textBytes}
+use Rattle.volume.specs.Chosen.{textBytes}
+use Rattle.volume.specs.Steps.{linkOf, briefLink, joined}
 use Rattle.volume.specs.declared.sound.Brief.{Brief}
 
 -- an empty text is no index

@@ -10,3 +10,4 @@ pub mod Answering
 pub mod Continued
 pub mod Choosing
 pub mod Spellings
+pub mod TextFronts

@@ -30,7 +30,8 @@ use Rattle.constructs.proofs.Texts.{table-at, TextIs, text-at, texts-standing, 
 use Rattle.constructs.proofs.Fronts.{Below, below-first}
 use Rattle.verdict.specs.Verdict.{endsWith}
 use Rattle.verdict.specs.Rescue.{through}
-use Rattle.volume.specs.Steps.{boundsText, boundsOf, textBytes, Located, Listed, ListsOf, ReachesOf, EndsAt, FillsOf}
+use Rattle.volume.specs.Chosen.{textBytes}
+use Rattle.volume.specs.Steps.{boundsText, boundsOf, Located, Listed, ListsOf, ReachesOf, EndsAt, FillsOf}
 use Rattle.volume.specs.ChosenSteps.{TextAt}
 
 same-answer : {A : Type 0} (a b : A) → answer a ≡ answer b → a ≡ b

@@ -1,6 +1,7 @@
 -- The index of a partition by its construct's number (01, Refusal numbers; 02, Item 7: 14, 1, 2, 19, then its text).
 use mathlib.Core.Bool.{cond}
 use mathlib.Core.List.{List, [], _∷_}
+use mathlib.Core.Option.{Option, none, some}
 use Prim.Native.Nat.{ℕ}
 use lib.Dec.{eqb}
 use lib.ListN.{length}
@@ -16,6 +17,19 @@ use Rattle.index_values.specs.Tests.{Given}
 unfoldable pub constructAt : ℕ → List Construct → Answer Construct
 constructAt k [] = refused Missing
 constructAt k (c ∷ cs) = cond (eqb (length cs) k) (answer c) (constructAt k cs)
+
+-- the bytes that are read as a construct's text
+abbrev pub textBytes : Option (List ℕ) → List ℕ
+textBytes none = []
+textBytes (some x) = x
+
+abbrev pub textFound : Answer Construct → List ℕ
+textFound (refused r) = []
+textFound (answer c) = textBytes (c .text)
+
+-- where the one with number k of a partition is asked for
+unfoldable pub textAsked : ℕ → ℕ → List ℕ → List ℕ → List ℕ
+textAsked B k l s = textFound (andThen (tapeIn l s) (λ t. constructAt k (standing B t)))
 
 -- a construct that has a text, where that begins in the store, and the summary of its index
 pub record Indexed : Type 0 where

@@ -26,6 +26,7 @@ use Rattle.verdict.specs.Verdict.{IndexLinks, Volume, Break, orElse, unless, nu
 use Rattle.verdict.specs.Rescue.{generationOf, target, through, chain, attempt, cutAmong, rescue}
 use Rattle.verdict.specs.Steps.{beginnings, firsts}
 use Rattle.volume.specs.Volume.{volumeWith, rowsOfEach}
+use Rattle.volume.specs.Chosen.{textBytes}
 use Rattle.volume.specs.declared.sound.Brief.{Brief}
 use Rattle.volume.specs.declared.filling.TablesFilled.{TablesFilled}
 use Rattle.volume.specs.declared.judge.Judgement.{Judgement}
@@ -51,11 +52,6 @@ boundsOf t c =
       from = bytesBefore t (c .first);
       to = textEnd (isHoled (c .text)) (bytesBefore t (c .first)) (bytesBefore t (c .end - 1));
     }
-
--- the bytes that are read as a construct's text
-abbrev pub textBytes : Option (List ℕ) → List ℕ
-textBytes none = []
-textBytes (some x) = x
 
 -- a construct lies at a spot of the store
 pub record Located (s : List ℕ) (p : Bounds) (c : Construct) : Type 0 where

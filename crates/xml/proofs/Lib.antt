@@ -18,5 +18,6 @@ pub mod Accepted
 pub mod Trees
 pub mod Lawful
 pub mod Form
+pub mod Checked
 pub mod Written
 pub mod Spelled

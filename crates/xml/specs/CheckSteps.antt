@@ -11,6 +11,8 @@ use Rattle.refusals.specs.declared.Refusal.the-variants.{Form}
 use Rattle.xml.specs.Bytes.{isSpace, isAsciiLetter, isNameByte, declaration}
 use Rattle.xml.specs.declared.FormChecked.{FormChecked}
 use Rattle.xml.specs.declared.FormChecked.the-variants.{Good, Broken}
+use Rattle.xml.specs.declared.Ending.{Ending}
+use Rattle.xml.specs.declared.Ending.the-variants as ending
 
 -- what an element holds so far: white space alone; text that ends in 0, 1, or 2 or more `]`; elements
 pub data Held : Type 0 where
@@ -179,12 +181,25 @@ isGood (broken u) = false
 unfoldable pub inForm : List ℕ → Bool
 inForm s = isGood (form s)
 
-module _ {A : Type 0} where
-  -- refused 4 where the text is not in the form; else what follows
-  abbrev pub requireForm : List ℕ → Answer A → Answer A
-  requireForm s next = require (inForm s) Form next
+-- how many of n bytes are read
+abbrev pub readOf : ℕ → Outcome → ℕ
+readOf n good = n
+readOf n (broken u) = n - u
 
--- the outcome that `check` answers
-abbrev pub outcomeOf : FormChecked → Outcome
-outcomeOf Good = good
-outcomeOf (Broken u) = broken u
+-- the part of a text that is read, all of it where it is in the form: its longest front that some text in the form begins with (specs/Form)
+unfoldable pub front : List ℕ → ℕ
+front s = readOf (length s) (form s)
+
+module _ {A : Type 0} where
+  -- refused 4, with the front, where the text is not in the form; else what follows
+  abbrev pub requireForm : List ℕ → Answer A → Answer A
+  requireForm s next = require (inForm s) (Form (record { front = front s; «on_data» = false })) next
+
+-- what `check` answers
+abbrev pub formChecked : List ℕ → FormChecked
+formChecked s = cond (inForm s) Good (Broken (front s))
+
+-- the outcome by its parts
+abbrev pub outcomeOf : Ending → Outcome
+outcomeOf ending.Good = good
+outcomeOf (ending.Broken u) = broken u

@@ -10,3 +10,8 @@ pub record LongestFront (s : List ℕ) (n : ℕ) : Type 0 where
   pub inside : n ≤ length s
   pub begins : (t : List ℕ) × (f : Forest) × Document f (take n s ++ t)
   pub last : (m : ℕ) (t : List ℕ) (f : Forest) → n < m → m ≤ length s → Document f (take m s ++ t) → ⊥
+
+-- s is not in the form, and its longest front has n bytes
+pub record LeavesForm (s : List ℕ) (n : ℕ) : Type 0 where
+  pub outside : (f : Forest) → Document f s → ⊥
+  pub longest : LongestFront s n

@@ -1,11 +1,11 @@
-// The XML form (01, The XML form): whether a text is in it, and if not, how many of its bytes are unread where it leaves the form.
+// The XML form (01, The XML form): whether a text is in it, and if not, where it leaves the form (02, Item 6).
 ghost use mathlib.Core.Path.{_≡_};
 ghost use mathlib.Core.Bool.{_&&_};
 ghost use mathlib.Core.List.{[], _∷_};
 ghost use Prim.Native.Nat.{_≤_};
 ghost use lib.Dec.{ltb};
 ghost use lib.ListN.{length, drop};
-ghost use Rattle.xml.specs.CheckSteps.{at, before, after, content, blank, formRun, form, outcomeOf};
+ghost use Rattle.xml.specs.CheckSteps.{at, before, after, content, blank, formRun, form, outcomeOf, formChecked};
 ghost use Rattle.xml.specs.ScanSteps.{Kinds, OpensTurn, Reaches, NextTurn, part};
 
 mod bytes;
@@ -23,8 +23,14 @@ use tags::end_tag;
 use tags::inner_tag;
 use tags::start_tag;
 
-// A text in the form, or one with so many bytes left unread.
+// A text in the form, or the length of its longest front that some text in the form begins with.
 pub enum FormChecked {
+    Good,
+    Broken(usize),
+}
+
+// How a text ends: in the form, or with so many bytes left unread.
+enum Ending {
     Good,
     Broken(usize),
 }
@@ -119,19 +125,19 @@ fn next_tag(
 }
 
 // White space after the root element.
-fn finish(text: &[u8], from: usize, kinds: &[u8; 256]) -> FormChecked
+fn finish(text: &[u8], from: usize, kinds: &[u8; 256]) -> Ending
     requires { ⌜ (from ≤ length (now text)) × Kinds (now kinds) ⌝ }
     ensures { λ r. ⌜ outcomeOf r ≡ formRun (at after []) (drop from (now (text .entry))) ⌝ }
 {
     let i = past_spaces(text, from, kinds);
     if i == text.len() {
-        return FormChecked::Good;
+        return Ending::Good;
     }
-    FormChecked::Broken(text.len() - i)
+    Ending::Broken(text.len() - i)
 }
 
 // The content of the root element, whose name is from start to end, and what follows it.
-fn elements(text: &[u8], from: usize, start: usize, end: usize, kinds: &[u8; 256]) -> FormChecked
+fn elements(text: &[u8], from: usize, start: usize, end: usize, kinds: &[u8; 256]) -> Ending
     requires { ⌜ (from ≤ length (now text)) × (start ≤ end) × (end ≤ length (now text)) × Kinds (now kinds) ⌝ }
     ensures { λ r. ⌜ outcomeOf r ≡ formRun (at (content blank) (part (now (text .entry)) start end ∷ [])) (drop from (now (text .entry))) ⌝ }
 {
@@ -164,36 +170,46 @@ fn elements(text: &[u8], from: usize, start: usize, end: usize, kinds: &[u8; 256
                 children = true;
                 i = j;
             }
-            Turn::Broken(u) => return FormChecked::Broken(u),
+            Turn::Broken(u) => return Ending::Broken(u),
         }
     }
-    FormChecked::Broken(text.len() - i)
+    Ending::Broken(text.len() - i)
 }
 
 // What follows the declaration.
-fn root(text: &[u8], from: usize, kinds: &[u8; 256]) -> FormChecked
+fn root(text: &[u8], from: usize, kinds: &[u8; 256]) -> Ending
     requires { ⌜ (from ≤ length (now text)) × Kinds (now kinds) ⌝ }
     ensures { λ r. ⌜ outcomeOf r ≡ formRun (at before []) (drop from (now (text .entry))) ⌝ }
 {
     let i = past_spaces(text, from, kinds);
     if byte(text, i) != b'<' {
-        return FormChecked::Broken(text.len() - i);
+        return Ending::Broken(text.len() - i);
     }
     let start = i + 1;
     match start_tag(text, start, kinds) {
         Start::Open(e, j) => elements(text, j, start, e, kinds),
         Start::Empty(j) => finish(text, j, kinds),
-        Start::Broken(u) => FormChecked::Broken(u),
+        Start::Broken(u) => Ending::Broken(u),
     }
 }
 
-// Whether the text is in the form.
-pub fn check(text: &[u8]) -> FormChecked
+// How the whole text ends.
+fn read_all(text: &[u8]) -> Ending
     ensures { λ r. ⌜ outcomeOf r ≡ form (now (text .entry)) ⌝ }
 {
     let kinds = KINDS;
     match word_end(text, 0, b"<?xml version=\"1.0\" encoding=\"UTF-8\"?>") {
         Scan::At(j) => root(text, j, &kinds),
-        Scan::Broken(u) => FormChecked::Broken(u),
+        Scan::Broken(u) => Ending::Broken(u),
+    }
+}
+
+// Whether the text is in the form.
+pub fn check(text: &[u8]) -> FormChecked
+    ensures { λ r. ⌜ r ≡ formChecked (now (text .entry)) ⌝ }
+{
+    match read_all(text) {
+        Ending::Good => FormChecked::Good,
+        Ending::Broken(u) => FormChecked::Broken(text.len() - u),
     }
 }

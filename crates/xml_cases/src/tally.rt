@@ -41,11 +41,11 @@ fn say(what: &[u8], text: &[u8]) {
     io::write_all(STDOUT_FILENO, text);
 }
 
-// Whether the text is in the form, or can still be: nothing of it is unread.
+// Whether the text is in the form, or can still be: all of it begins a text in the form.
 fn fits(text: &[u8]) -> bool {
     match xml::check(text) {
         xml::FormChecked::Good => true,
-        xml::FormChecked::Broken(u) => u == 0,
+        xml::FormChecked::Broken(front) => front == text.len(),
     }
 }
 
@@ -90,8 +90,8 @@ fn leaves(tally: Tally, text: &[u8], left: usize) -> Tally {
             say(b"in the form: ", text);
             tally
         }
-        xml::FormChecked::Broken(u) => {
-            if u == left {
+        xml::FormChecked::Broken(front) => {
+            if std::num::wrapping_sub_usize(text.len(), front) == left {
                 return one_refused(tally);
             }
             say(b"refused elsewhere: ", text);

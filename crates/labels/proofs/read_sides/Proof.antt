@@ -7,6 +7,12 @@ use Rattle.labels.proofs.Sides.{vol1-refused, no-vol1, no-data-vol1, no
 use borrow.Author.Needs.{needs}
 use Rattle.labels.proofs.read_sides.Statement.{statement}
 use Rattle.labels.proofs.read_sides.Tie as tie
+use Rattle.labels.proofs.read_sides.Reads as reads
+use Rattle.labels.proofs.read_sides.Lts as lts
+use Rattle.label.proofs.labels_agree.Reads as labels-agree-reads
+use Rattle.label.proofs.read.Reads as read-reads
+use Rattle.refusals.proofs.on_data_side.Reads as on-data-side-reads
+use Rattle.vol1.proofs.read_vol1.Reads as read-vol1-reads
 
 read-vol1-requires : tie.Need-read-vol1-requires
 read-vol1-requires c κs = search needs
@@ -47,6 +53,9 @@ read-requires-2 c κs = search needs
 enum-known-r-2 : tie.Need-enum-known-r-2
 enum-known-r-2 c = search needs
 
+on-data-side-requires : tie.Need-on-data-side-requires
+on-data-side-requires c κs = search needs
+
 enum-known-g : tie.Need-enum-known-g
 enum-known-g c = search needs
 
@@ -57,7 +66,7 @@ returns-3 : tie.Need-returns-3
 returns-3 c = refuses (no-label (c .before .before .before .before .before .before .before .before .before .before .before .before .before .before .args .v .now) (c .before .before .before .before .before .before .before .before .before .before .before .before .before .before .args .s .now) (c .before .before .before .before .before .before .before .before .before .before .before .before .before .before .args .w .now) (c .before .before .before .before .before .before .before .before .before .before .before .before .before .before .args .t .now) (sym (c .before .before .before .before .before .before .before .before .before .read-vol1 .ensures) ∙ ap (meansVol1 (c .before .before .before .before .before .before .before .before .before .before .before .before .before .before .args .v .now)) (c .before .before .before .before .before .before .before .enum-told .given .1)) (sym (c .before .before .before .before .before .before .read-vol12 .ensures) ∙ ap (meansVol1 (c .before .before .before .before .before .before .before .before .before .before .before .before .before .before .args .w .now)) (c .before .before .before .before .enum-told3 .given .1)) (sym (c .before .before .before .read .ensures .says) ∙ ap (means (c .before .before .before .before .before .before .before .before .before .before .before .before .before .before .args .s .now)) (c .before .r .given .1)))
 
 returns-4 : tie.Need-returns-4
-returns-4 c = refuses (no-data-label (c .before .before .before .before .before .before .before .before .before .before .before .before .before .before .before .before .before .before .args .v .now) (c .before .before .before .before .before .before .before .before .before .before .before .before .before .before .before .before .before .before .args .s .now) (c .before .before .before .before .before .before .before .before .before .before .before .before .before .before .before .before .before .before .args .w .now) (c .before .before .before .before .before .before .before .before .before .before .before .before .before .before .before .before .before .before .args .t .now) (sym (c .before .before .before .before .before .before .before .before .before .before .before .before .before .read-vol1 .ensures) ∙ ap (meansVol1 (c .before .before .before .before .before .before .before .before .before .before .before .before .before .before .before .before .before .before .args .v .now)) (c .before .before .before .before .before .before .before .before .before .before .before .enum-told .given .1)) (sym (c .before .before .before .before .before .before .before .before .before .before .read-vol12 .ensures) ∙ ap (meansVol1 (c .before .before .before .before .before .before .before .before .before .before .before .before .before .before .before .before .before .before .args .w .now)) (c .before .before .before .before .before .before .before .before .enum-told3 .given .1)) (sym (c .before .before .before .before .before .before .before .read .ensures .says) ∙ ap (means (c .before .before .before .before .before .before .before .before .before .before .before .before .before .before .before .before .before .before .args .s .now)) (c .before .before .before .before .before .f .given .1)) (sym (c .before .before .before .read2 .ensures .says) ∙ ap (means (c .before .before .before .before .before .before .before .before .before .before .before .before .before .before .before .before .before .before .args .t .now)) (c .before .r2 .given .1)))
+returns-4 c = refuses (no-data-label (c .before .before .before .before .before .before .before .before .before .before .before .before .before .before .before .before .before .before .before .args .v .now) (c .before .before .before .before .before .before .before .before .before .before .before .before .before .before .before .before .before .before .before .args .s .now) (c .before .before .before .before .before .before .before .before .before .before .before .before .before .before .before .before .before .before .before .args .w .now) (c .before .before .before .before .before .before .before .before .before .before .before .before .before .before .before .before .before .before .before .args .t .now) (sym (c .before .before .before .before .before .before .before .before .before .before .before .before .before .before .read-vol1 .ensures) ∙ ap (meansVol1 (c .before .before .before .before .before .before .before .before .before .before .before .before .before .before .before .before .before .before .before .args .v .now)) (c .before .before .before .before .before .before .before .before .before .before .before .before .enum-told .given .1)) (sym (c .before .before .before .before .before .before .before .before .before .before .before .read-vol12 .ensures) ∙ ap (meansVol1 (c .before .before .before .before .before .before .before .before .before .before .before .before .before .before .before .before .before .before .before .args .w .now)) (c .before .before .before .before .before .before .before .before .before .enum-told3 .given .1)) (sym (c .before .before .before .before .before .before .before .before .read .ensures .says) ∙ ap (means (c .before .before .before .before .before .before .before .before .before .before .before .before .before .before .before .before .before .before .before .args .s .now)) (c .before .before .before .before .before .before .f .given .1)) (sym (c .before .before .before .before .read2 .ensures .says) ∙ ap (means (c .before .before .before .before .before .before .before .before .before .before .before .before .before .before .before .before .before .before .before .args .t .now)) (c .before .before .r2 .given .1)) (c .on-data-side .ensures))
 
 returns-5 : tie.Need-returns-5
 returns-5 c =
@@ -87,6 +96,7 @@ read-sides-spec =
     enum-known-f
     read-requires-2
     enum-known-r-2
+    on-data-side-requires
     enum-known-g
     labels-agree-requires
     returns-3

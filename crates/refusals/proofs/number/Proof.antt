@@ -2,6 +2,8 @@
 use borrow.Author.Needs.{needs}
 use Rattle.refusals.proofs.number.Statement.{statement}
 use Rattle.refusals.proofs.number.Tie as tie
+use Rattle.refusals.proofs.number.Reads as reads
+use Rattle.refusals.proofs.number.Lts as lts
 
 enum-told : tie.Need-enum-told
 enum-told c = search needs

@@ -1,50 +1,32 @@
--- `check` meets its contract: the declaration, and then the root.
-use mathlib.Core.Path.{refl, ap, _∙_, sym}
-use mathlib.Core.List.{[]}
+-- `check` meets its contract: what is not unread is the front.
+use mathlib.Core.Path.{ap, _∙_, sym}
 use borrow.Author.Needs.{needs}
-use Rattle.slices.specs.Words.{bytes}
-use Rattle.xml.specs.Bytes.{isSpace, isAsciiLetter, isNameByte, declaration}
-use Rattle.xml.specs.CheckSteps.{before, at, reads, form}
-use Rattle.xml.specs.ScanSteps.{isText, kindOf, goesOn}
-use Rattle.xml.proofs.KindTable.{right, table-kinds}
-use Rattle.xml.proofs.Scanned.{scan-bounds}
+use Rattle.xml.specs.CheckSteps.{outcomeOf}
+use Rattle.xml.proofs.Fronts.{unread-inside}
+use Rattle.xml.proofs.Checked.{good-checked, broken-checked}
 use Rattle.xml.proofs.check.Statement.{statement}
 use Rattle.xml.proofs.check.Tie as tie
+use Rattle.xml.proofs.check.Reads as reads
+use Rattle.xml.proofs.check.Lts as lts
+use Rattle.xml.proofs.read_all.Reads as read-all-reads
 
-slice-aggregate-word-end : tie.Need-slice-aggregate-word-end
-slice-aggregate-word-end c = search needs
+read-all-requires : tie.Need-read-all-requires
+read-all-requires c κs = search needs
 
-word-end-requires : tie.Need-word-end-requires
-word-end-requires c κs = search needs
-
-enum-known-j : tie.Need-enum-known-j
-enum-known-j c = search needs
-
-root-requires : tie.Need-root-requires
-unfolding right kindOf isText isSpace isAsciiLetter isNameByte
-root-requires c κs =
-    let b = scan-bounds (c .before .before .j .given .0 .0) (c .before .before .before .before .word-end .ensures before) (c .before .before .j .given .1) in
-    (b .1, table-kinds _ refl tt)
+enum-told : tie.Need-enum-told
+enum-told c = search needs
 
 enum-known-u : tie.Need-enum-known-u
 enum-known-u c = search needs
 
+sub-t6 : tie.Need-sub-t6
+sub-t6 c = unread-inside (c .before .before .before .before .before .args .text .now) _ (sym (c .before .before .before .read-all .ensures) ∙ ap outcomeOf (c .before .u .given .1))
+
 returns : tie.Need-returns
-unfolding form declaration reads bytes
-returns c = c .root .ensures ∙ sym (c .before .before .before .before .before .word-end .ensures before .runs [] ∙ ap (goesOn (c .before .before .before .before .before .before .before .before .args .text .now) (at before [])) (c .before .before .before .j .given .1))
+returns c = good-checked (c .before .before .before .before .args .text .now) (sym (c .before .before .read-all .ensures) ∙ ap outcomeOf (c .enum-told .given .1))
 
 returns-2 : tie.Need-returns-2
-unfolding form declaration reads bytes
-returns-2 c = sym (c .before .before .before .word-end .ensures before .runs [] ∙ ap (goesOn (c .before .before .before .before .before .before .args .text .now) (at before [])) (c .before .u .given .1))
+returns-2 c = broken-checked (c .before .before .before .before .before .args .text .now) _ (sym (c .before .before .before .read-all .ensures) ∙ ap outcomeOf (c .before .u .given .1))
 
 pub check-spec : {M : Type 1} → statement M
-check-spec =
-    tie.close
-    (tie.spec
-    slice-aggregate-word-end
-    word-end-requires
-    enum-known-j
-    root-requires
-    enum-known-u
-    returns
-    returns-2)
+check-spec = tie.close (tie.spec read-all-requires enum-told enum-known-u sub-t6 returns returns-2)

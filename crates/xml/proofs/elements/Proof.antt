@@ -174,5 +174,3 @@ elements-spec =
     returns-2
     sub-t39
     returns-3)
-
--- unused:

@@ -2,6 +2,10 @@
 use borrow.Author.Needs.{needs}
 use Rattle.api.proofs.indexes.in_place.Statement.{statement}
 use Rattle.api.proofs.indexes.in_place.Tie as tie
+use Rattle.api.proofs.indexes.in_place.Reads as reads
+use Rattle.api.proofs.indexes.in_place.Lts as lts
+use Rattle.api.proofs.indexes.in_numbers.Reads as in-numbers-reads
+use Rattle.volume.proofs.between.Reads as between-reads
 
 in-numbers-requires : tie.Need-in-numbers-requires
 in-numbers-requires c κs = search needs
@@ -51,6 +55,9 @@ array-read-t47 c = search needs
 array-read-t50 : tie.Need-array-read-t50
 array-read-t50 c = search needs
 
+array-read-t53 : tie.Need-array-read-t53
+array-read-t53 c = search needs
+
 returns : tie.Need-returns
 returns c = rw (c .before .in-numbers .ensures, c .between .ensures)
 
@@ -74,4 +81,5 @@ in-place-spec =
     array-read-t44
     array-read-t47
     array-read-t50
+    array-read-t53
     returns)

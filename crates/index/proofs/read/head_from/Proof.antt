@@ -130,7 +130,3 @@ head-from-spec =
     number-placed-requires-2
     sub-t36
     returns)
-
--- unused: sub-t35 : tie.Need-sub-t35
--- unused: sub-t35 c = omega (arith, @pre)
--- unused:
