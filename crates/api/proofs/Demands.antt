@@ -12,7 +12,7 @@ use Rattle.verdict.specs.Verdict.{Break}
 use Rattle.volume.specs.Volume.{verdictIn}
 use Rattle.volume.proofs.Demands.{verdict-owes, breaks-named}
 use Rattle.api.specs.Outputs.{Shown}
-use Rattle.api.specs.Volumes.{breakNumbers, NoBreak, Judges}
+use Rattle.api.specs.Volumes.{breakNumbers, NoBreak, ShowsBreak}
 
 -- the numbers tell that no break is answered
 no-break-told : (a : Answer (Option Break)) → ((b : Break) → a ≡ answer (some b) → 1 ≤ b .which) → {n : ℕ} {out : List ℕ} → Shown 2 breakNumbers a n out
@@ -28,7 +28,7 @@ no-break-told (answer (some b)) w {n} {out} s = (
 )
 
 module _ {il is dl ds : List ℕ} {n : ℕ} {out : List ℕ} where
-  pub judges-out : Shown 2 breakNumbers (verdictIn il is dl ds) n out → Judges il is dl ds n out
+  pub judges-out : Shown 2 breakNumbers (verdictIn il is dl ds) n out → ShowsBreak il is dl ds n out
   judges-out s =
       record {
         answers = s;

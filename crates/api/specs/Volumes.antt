@@ -25,12 +25,12 @@ abbrev pub NoBreak : ℕ → List ℕ → Type 0
 NoBreak returned out = (returned ≡ 0) × (getD out 0 0 ≡ 0)
 
 -- the answers, and demand 3 of what is told
-pub record Judges (indexList indexStore dataList dataStore : List ℕ) (returned : ℕ) (out : List ℕ) : Type 0 where
+pub record ShowsBreak (indexList indexStore dataList dataStore : List ℕ) (returned : ℕ) (out : List ℕ) : Type 0 where
   pub answers : Shown 2 breakNumbers (verdictIn indexList indexStore dataList dataStore) returned out
   pub demand : VerdictOwes indexList indexStore dataList dataStore (NoBreak returned out)
 
 abbrev pub JudgesOut : List ℕ → List ℕ → List ℕ → List ℕ → ℕ → List ℕ → Type 0
-JudgesOut il is dl ds = WithSide 2 il is dl ds (Judges il is dl ds)
+JudgesOut il is dl ds = WithSide 2 il is dl ds (ShowsBreak il is dl ds)
 
 -- the rescue's answer, which keeps demand 3, and how it is shown
 pub record ShowsCut (indexList indexStore dataList dataStore : List ℕ) (returned : ℕ) (out : List ℕ) : Type 0 where
