@@ -47,18 +47,28 @@
  *   - answers a refusal number, enum klapouzen_refusal, 0 for none. The
  *     comments name the numbers that a function can answer in the order in
  *     which it looks for them: the first that applies is answered;
- *   - fills all of `out`, *count, *length and *place: with its answer, or on a
- *     refusal with zeros. On a refusal `buffer`, `entries`, `rows` and `table`
- *     keep every byte;
+ *   - fills all of `out`, *count, *length, *place and *front: with its answer, or
+ *     on a refusal with zeros, but for the front that goes with 4 (below). On a
+ *     refusal `buffer`, `entries`, `rows` and `table` keep every byte;
  *   - takes NULL for a slice of length 0, and takes any bytes in a slice: there
  *     is nothing that a caller must check before;
  *   - writes only to the memory named in its comment, keeps no pointer,
  *     allocates nothing, and may be called from several threads at once.
  *
+ * Where a text goes wrong. Every function that can answer 4, a text outside the XML
+ * form (klapouzen_check_form), tells with it the text's front: how many bytes at
+ * the beginning of the text some text in the form, of any length, begins with. It
+ * is the offset of the first byte that can't stand where it does, or the text's
+ * length where it only ends too early. It stands in a place of its own, the last
+ * of the numbers handed out (*front, or in `out` the number whose name ends in
+ * _FRONT), which is 0 with every other answer. The functions that read both labels
+ * of a volume tell behind it whose label's text it is (_SIDE), 0 the index
+ * partition's, 1 the data partition's; it is 0 with every other answer.
+ *
  * A slice is a pointer and a length: in bytes, or for 64-bit numbers (`entries`,
  * `rows`) in numbers. Slices that are only read may overlap each other. What a
- * function writes (`out`, *count, *length, *place, `table`, and where they are
- * not const `buffer`, `entries` and `rows`) must not overlap anything else that
+ * function writes (`out`, *count, *length, *place, *front, `table`, and where they
+ * are not const `buffer`, `entries` and `rows`) must not overlap anything else that
  * it is given. `out`, `table` and the pointers to single numbers must not be
  * NULL, and must have room for as many numbers as the declaration says. The names
  * of the numbers in `out`, in an entry and in a row are an enum above the
@@ -236,10 +246,11 @@ uint64_t klapouzen_constructs(const uint8_t *list, size_t list_length,
  * names of ASCII letters, digits, _ - and .; no more than one attribute in a
  * tag; of references only &amp; &lt; &gt; &quot; and &apos;; no comments, CDATA,
  * DOCTYPE or instructions; nothing but white space beside child elements; and
- * elements nested no deeper than KLAPOUZEN_MAX_NESTING.
+ * elements nested no deeper than KLAPOUZEN_MAX_NESTING. *front: with 4, how many
+ * bytes at its beginning some text in the form begins with.
  * Refusals: 4.
  */
-uint64_t klapouzen_check_form(const uint8_t *text, size_t length);
+uint64_t klapouzen_check_form(const uint8_t *text, size_t length, uint64_t *front);
 
 /*
  * Reads a VOL1 label, the whole block. Where the two fields stand, padding
@@ -289,6 +300,7 @@ enum klapouzen_label {
     KLAPOUZEN_LABEL_DATA_LETTER,
     KLAPOUZEN_LABEL_BLOCK_SIZE,
     KLAPOUZEN_LABEL_COMPRESSION, /* 0 or 1 */
+    KLAPOUZEN_LABEL_FRONT,       /* of the text, with 4 */
     KLAPOUZEN_LABEL
 };
 
@@ -322,17 +334,22 @@ uint64_t klapouzen_write_label(uint8_t *buffer, size_t buffer_length,
 /*
  * Checks the labels of both partitions, and that they are of one volume. out:
  * what klapouzen_read_label says of the index partition's label, but offsets
- * count from the beginning of index_store. The data partition's label may spell
- * the same UUID differently.
+ * count from the beginning of index_store; then, with 4, whose text the front is
+ * of. The data partition's label may spell the same UUID differently.
  * Refusals: 1, 9 (also for an unreadable block among the first four elements), 3,
  * those of klapouzen_read_label, each of these four steps on the index side
  * first; then 8 (the two disagree).
  */
+enum klapouzen_labels {
+    KLAPOUZEN_LABELS_SIDE = KLAPOUZEN_LABEL, /* with 4: 0 the index partition's label, 1 the data partition's */
+    KLAPOUZEN_LABELS
+};
+
 uint64_t klapouzen_check_labels(const uint8_t *index_list, size_t index_list_length,
                                 const uint8_t *index_store, size_t index_store_length,
                                 const uint8_t *data_list, size_t data_list_length,
                                 const uint8_t *data_store, size_t data_store_length,
-                                uint64_t out[KLAPOUZEN_LABEL]);
+                                uint64_t out[KLAPOUZEN_LABELS]);
 
 /* ---- Indexes ---- */
 
@@ -367,7 +384,8 @@ enum klapouzen_index_header {
     KLAPOUZEN_INDEX_HIGHEST_UID,
     KLAPOUZEN_INDEX_DIRECTORIES, /* the root directory too */
     KLAPOUZEN_INDEX_FILES,
-    KLAPOUZEN_INDEX_ROWS, /* extents of all files */
+    KLAPOUZEN_INDEX_ROWS,  /* extents of all files */
+    KLAPOUZEN_INDEX_FRONT, /* of the text, with 4 */
     KLAPOUZEN_INDEX
 };
 
@@ -387,6 +405,7 @@ enum klapouzen_file {
     KLAPOUZEN_FILE_NAME,        /* from the beginning of the index's text */
     KLAPOUZEN_FILE_NAME_LENGTH, /* in bytes of that text */
     KLAPOUZEN_FILE_ROWS,        /* how many extents it has */
+    KLAPOUZEN_FILE_FRONT,       /* of the index's text, with 4 */
     KLAPOUZEN_FILE
 };
 
@@ -399,7 +418,8 @@ uint64_t klapouzen_read_file(const uint8_t *text, size_t length,
 /*
  * A file's extents as rows of KLAPOUZEN_ROW numbers at the front of `rows`, in
  * the order of the text; the rest of it is unchanged. rows_length counts
- * numbers, *count rows. The numbers have the names of an extent's elements.
+ * numbers, *count rows. The numbers have the names of an extent's elements. *front:
+ * of the index's text, with 4.
  * Refusals: as klapouzen_read_index, then 2 (no such file), 10 (rows_length is
  * below KLAPOUZEN_ROW times the file's rows).
  */
@@ -417,7 +437,7 @@ uint64_t klapouzen_read_rows(const uint8_t *text, size_t length,
                              uint8_t index_letter, uint8_t data_letter,
                              uint64_t block_size, uint8_t letter, uint64_t block,
                              uint64_t file, uint64_t *rows, size_t rows_length,
-                             uint64_t *count);
+                             uint64_t *count, uint64_t *front);
 
 /*
  * All of an index in one reading. out: what klapouzen_read_index says. Each
@@ -489,7 +509,9 @@ uint64_t klapouzen_path(const uint8_t *text, size_t length,
  * where the construct is, then what klapouzen_read_index says of its text, so
  * that the generation is out[KLAPOUZEN_CHOSEN_HEADER +
  * KLAPOUZEN_INDEX_GENERATION]. The offset of the text counts from the store's
- * beginning, that of the time, KLAPOUZEN_INDEX_TIME, from the text's.
+ * beginning, that of the time, KLAPOUZEN_INDEX_TIME, and the front, which is the
+ * last number, from the text's. Where the text is refused, klapouzen_constructs
+ * says where it lies.
  * Refusals: 14 (as klapouzen_read_index), 1, 2 (no such construct), 19 (one with
  * an unreadable block), then those of klapouzen_read_index.
  */
@@ -552,6 +574,8 @@ uint64_t klapouzen_byte_at(const uint64_t *rows, size_t rows_length,
 enum klapouzen_break {
     KLAPOUZEN_BREAK_WHICH,  /* 0 to 5 */
     KLAPOUZEN_BREAK_NUMBER, /* of 3 and 4 the construct's, of 5 the file's, else 0 */
+    KLAPOUZEN_BREAK_FRONT,  /* of a label's text, with 4 */
+    KLAPOUZEN_BREAK_SIDE,   /* with 4: 0 the index partition's label, 1 the data partition's */
     KLAPOUZEN_BREAK
 };
 
@@ -580,6 +604,8 @@ enum klapouzen_cut {
     KLAPOUZEN_CUT_INDEX_KEPT,      /* how many elements to keep of the index partition */
     KLAPOUZEN_CUT_DATA_KEPT,       /* of the data partition */
     KLAPOUZEN_CUT_GENERATION,      /* of the last index kept on the index partition */
+    KLAPOUZEN_CUT_FRONT,           /* of a label's text, with 4 */
+    KLAPOUZEN_CUT_SIDE,            /* with 4: 0 the index partition's label, 1 the data partition's */
     KLAPOUZEN_CUT
 };
 
