@@ -59,6 +59,36 @@ unsafe fn answer<const N: usize>(result: Result<[u64; N], Refusal>, out: *mut u6
     number
 }
 
+/// With refusal 4 the front of the text, and 1 where it is the data partition's
+/// label; else zeros.
+fn front_and_side<T>(result: &Result<T, Refusal>) -> [u64; 2] {
+    match result {
+        Err(Refusal::Form {
+            front,
+            of_data_label,
+        }) => [*front as u64, u64::from(*of_data_label)],
+        _ => [0; 2],
+    }
+}
+
+/// An answer about a text, and behind its values the front.
+unsafe fn answer_of_text<const N: usize>(result: Result<[u64; N], Refusal>, out: *mut u64) -> u64 {
+    let [front, _] = front_and_side(&result);
+    out.add(N).write(front);
+    answer(result, out)
+}
+
+/// An answer about a volume, and behind its values the front and the side.
+unsafe fn answer_of_volume<const N: usize>(
+    result: Result<[u64; N], Refusal>,
+    out: *mut u64,
+) -> u64 {
+    let [front, side] = front_and_side(&result);
+    out.add(N).write(front);
+    out.add(N + 1).write(side);
+    answer(result, out)
+}
+
 /// Where `part`, which is a part of `whole`, begins.
 fn offset(whole: &[u8], part: &[u8]) -> u64 {
     (part.as_ptr() as usize - whole.as_ptr() as usize) as u64
@@ -183,11 +213,13 @@ fn construct_rows(tape: &Partition, block_size: u64) -> Vec<[u32; 4]> {
 // ---- Texts and labels ----
 
 #[no_mangle]
-pub unsafe extern "C" fn reference_check_form(text: *const u8, length: usize) -> u64 {
-    match xml::check_form(shared(text, length)) {
-        Ok(()) => 0,
-        Err(_) => Refusal::Form.number(),
-    }
+pub unsafe extern "C" fn reference_check_form(
+    text: *const u8,
+    length: usize,
+    front: *mut u64,
+) -> u64 {
+    let form = xml::check_form(shared(text, length)).map_err(Refusal::form);
+    answer_of_text(form.map(|()| []), front)
 }
 
 #[no_mangle]
@@ -225,7 +257,7 @@ pub unsafe extern "C" fn reference_read_label(
     out: *mut u64,
 ) -> u64 {
     let text = shared(text, length);
-    answer(
+    answer_of_text(
         label::read(text).map(|label| label_numbers(text, &label, 0)),
         out,
     )
@@ -357,7 +389,7 @@ pub unsafe extern "C" fn reference_read_index(
     let label = given_label(uuid, uuid_length, index_letter, data_letter, block_size);
     let place = place_at(letter, block);
     let read = index::read(text, &label, place);
-    answer(read.map(|index| index_numbers(text, &index)), out)
+    answer_of_text(read.map(|index| index_numbers(text, &index)), out)
 }
 
 #[no_mangle]
@@ -378,7 +410,7 @@ pub unsafe extern "C" fn reference_read_file(
     let label = given_label(uuid, uuid_length, index_letter, data_letter, block_size);
     let place = place_at(letter, block);
     let read = index::read(text, &label, place);
-    answer(read.and_then(|index| file_numbers(text, &index, file)), out)
+    answer_of_text(read.and_then(|index| file_numbers(text, &index, file)), out)
 }
 
 fn file_numbers(text: &[u8], index: &Index, number: u64) -> Result<[u64; 4], Refusal> {
@@ -407,6 +439,7 @@ pub unsafe extern "C" fn reference_read_rows(
     rows: *mut u64,
     rows_length: usize,
     count: *mut u64,
+    front: *mut u64,
 ) -> u64 {
     let label = given_label(uuid, uuid_length, index_letter, data_letter, block_size);
     let place = place_at(letter, block);
@@ -417,6 +450,8 @@ pub unsafe extern "C" fn reference_read_rows(
         file,
         lent(rows, rows_length),
     );
+    let [of_text, _] = front_and_side(&read);
+    front.write(of_text);
     answer(read.map(|(rows, _)| [rows as u64]), count)
 }
 
@@ -447,7 +482,7 @@ pub unsafe extern "C" fn reference_read_whole(
         )?;
         Ok(index_numbers(text, &whole.index))
     });
-    answer(read, out)
+    answer_of_text(read, out)
 }
 
 /// Both or none.
@@ -534,7 +569,7 @@ pub unsafe extern "C" fn reference_index(
         numbers[4..].copy_from_slice(&index_numbers(text, &index));
         numbers
     });
-    answer(numbers, out)
+    answer_of_text(numbers, out)
 }
 
 #[no_mangle]
@@ -582,7 +617,7 @@ macro_rules! of_volume {
                 index_store_length,
             );
             let data = side(data_list, data_list_length, data_store, data_store_length);
-            answer($numbers(index, data), out)
+            answer_of_volume($numbers(index, data), out)
         }
     };
 }

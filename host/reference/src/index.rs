@@ -576,8 +576,10 @@ mod tests {
             "<dataplacementpolicy a='b'>",
             Refusal::Structure,
         );
-        refused("<size>x</size>", "<size>x</size>t", Refusal::Form);
-        refused("<size>x</size>", "<size>x</size>&amp;", Refusal::Form);
+        let size = "<size>x</size>";
+        let behind = Refusal::form(sample_text().find(size).unwrap() + size.len());
+        refused(size, "<size>x</size>t", behind);
+        refused(size, "<size>x</size>&amp;", behind);
     }
 
     #[test]
@@ -739,7 +741,7 @@ mod tests {
             ("<length>5</length>", "", Refusal::Structure),
             ("2.0.0", "3.0.0", Refusal::Version),
             ("ltfsindex version=", "ltfsindex v=", Refusal::Structure),
-            ("</ltfsindex>", "</ltfsindex>.", Refusal::Form),
+            ("<?xml", "<?XML", Refusal::form(2)),
         ] {
             assert!(text.contains(from), "{from}");
             text = text.replacen(from, to, 1);
@@ -801,7 +803,7 @@ mod tests {
             ),
             Err(Refusal::Argument)
         );
-        assert_eq!(read(b"", &good, PLACE), Err(Refusal::Form));
+        assert_eq!(read(b"", &good, PLACE), Err(Refusal::form(0)));
     }
 
     #[test]
@@ -848,10 +850,9 @@ mod tests {
             nested = directory(uid, "d", &nested);
         }
         // 32 directories put values at 65.
-        assert_eq!(
-            read_at_place(&text_with(&directory(1, "", &nested))),
-            Err(Refusal::Form)
-        );
+        let text = text_with(&directory(1, "", &nested));
+        let first_value = text.find("<fileuid>100<").unwrap();
+        assert_eq!(read_at_place(&text), Err(Refusal::form(first_value + 1)));
         let mut nested = directory(100, "d", "");
         for uid in (2..31).rev() {
             nested = directory(uid, "d", &nested);

@@ -332,7 +332,8 @@ mod tests {
     #[test]
     fn refusals() {
         let is = |from, to, refusal| assert_eq!(changed(from, to), Err(refusal), "{from} -> {to}");
-        is("<?xml", " <?xml", Refusal::Form);
+        is("<?xml", " <?xml", Refusal::form(0));
+        is("LTFS", "LT&FS", Refusal::form(78));
         is(
             "<ltfslabel version=\"2.0.1\">",
             "<ltfslabel>",
@@ -390,7 +391,9 @@ mod tests {
                 .replace("</ltfslabel>", end)
         };
         let refusal = |text: String| read(text.as_bytes()).unwrap_err();
-        assert_eq!(refusal(text("9", "x", "<y/>")), Refusal::Form);
+        let open = text("9", "x", "<y/>");
+        let front = open.len();
+        assert_eq!(refusal(open), Refusal::form(front));
         assert_eq!(
             refusal(text("9", "x", "<y/></ltfslabel>")),
             Refusal::Version

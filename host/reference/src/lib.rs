@@ -19,52 +19,93 @@ pub mod volume;
 pub mod whole;
 pub mod xml;
 
-/// Why something is refused. The discriminants are the specification's numbers.
+/// Why something is refused.
 #[derive(Clone, Copy, Debug, PartialEq, Eq)]
 pub enum Refusal {
     /// The block list or its store is malformed.
-    List = 1,
+    List,
     /// No such element, construct, file or file position.
-    Missing = 2,
+    Missing,
     /// Not a VOL1 label.
-    Vol1 = 3,
-    /// Text outside the XML form.
-    Form = 4,
+    Vol1,
+    /// Text outside the XML form: the length of its longest front that some text in
+    /// the form begins with, and whether it is the data partition's label.
+    Form { front: usize, of_data_label: bool },
     /// Wrong root, or a missing, repeated, unknown or misplaced element or attribute.
-    Structure = 5,
+    Structure,
     /// A value outside its rule.
-    Value = 6,
+    Value,
     /// Not a version 2.0.R.
-    Version = 7,
+    Version,
     /// Labels disagree, or an index belongs to another volume.
-    Disagreement = 8,
+    Disagreement,
     /// The partition does not begin with a label construct.
-    LabelConstruct = 9,
+    LabelConstruct,
     /// The lent output is too short.
-    ShortOutput = 10,
+    ShortOutput,
     /// Extents are unlawful.
-    Extents = 11,
+    Extents,
     /// An index does not stand where it says.
-    Location = 12,
+    Location,
     /// No consistent cut exists.
-    NoCut = 13,
+    NoCut,
     /// A caller's field or number is outside its rule.
-    Argument = 14,
+    Argument,
     /// Text too long, or too many entries or extents.
-    TooLong = 15,
+    TooLong,
     /// Not laid out as an ANSI labelled tape, or a label of it is wrong.
-    AnsiLabels = 16,
+    AnsiLabels,
     /// An EOV1 label in the place of EOF1.
-    EndOfVolume = 17,
+    EndOfVolume,
     /// EOF1's block count is not that of the data blocks present.
-    BlockCount = 18,
+    BlockCount,
     /// A block that the drive couldn't read, or an index with one in it.
-    Unreadable = 19,
+    Unreadable,
 }
 
 impl Refusal {
+    /// Of any text but the data partition's label.
+    pub fn form(front: usize) -> Refusal {
+        Refusal::Form {
+            front,
+            of_data_label: false,
+        }
+    }
+
+    /// The same refusal, of the data partition's label.
+    pub fn of_data_label(self) -> Refusal {
+        match self {
+            Refusal::Form { front, .. } => Refusal::Form {
+                front,
+                of_data_label: true,
+            },
+            other => other,
+        }
+    }
+
+    /// The specification's number.
     pub fn number(self) -> u64 {
-        self as u64
+        match self {
+            Refusal::List => 1,
+            Refusal::Missing => 2,
+            Refusal::Vol1 => 3,
+            Refusal::Form { .. } => 4,
+            Refusal::Structure => 5,
+            Refusal::Value => 6,
+            Refusal::Version => 7,
+            Refusal::Disagreement => 8,
+            Refusal::LabelConstruct => 9,
+            Refusal::ShortOutput => 10,
+            Refusal::Extents => 11,
+            Refusal::Location => 12,
+            Refusal::NoCut => 13,
+            Refusal::Argument => 14,
+            Refusal::TooLong => 15,
+            Refusal::AnsiLabels => 16,
+            Refusal::EndOfVolume => 17,
+            Refusal::BlockCount => 18,
+            Refusal::Unreadable => 19,
+        }
     }
 }
 

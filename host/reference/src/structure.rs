@@ -10,12 +10,18 @@ use crate::{require, Refusal};
 /// its one attribute, the version.
 pub fn open(text: &[u8], longest: usize, root_name: &str) -> Result<(Element, Version), Refusal> {
     require(text.len() <= longest, Refusal::TooLong)?;
-    let root = xml::parse(text).ok_or(Refusal::Form)?;
+    let root = xml::parse(text).ok_or_else(|| outside_form(text))?;
     require(root.name == root_name, Refusal::Structure)?;
     let attribute = root.attribute.as_ref().ok_or(Refusal::Structure)?;
     require(attribute.name == "version", Refusal::Structure)?;
     let version = values::version(decode(&attribute.raw).as_bytes()).ok_or(Refusal::Version)?;
     Ok((root, version))
+}
+
+/// Of a text that has no tree.
+fn outside_form(text: &[u8]) -> Refusal {
+    let front = xml::check_form(text).expect_err("both readings refuse the text");
+    Refusal::form(front)
 }
 
 #[derive(Clone, Copy, PartialEq, Eq)]

@@ -29,7 +29,7 @@ fn read_labels(index: &Partition, data: &Partition) -> Result<VolumeLabels, Refu
     let index_vol1 = Vol1::read(index.block(0)?)?;
     let data_vol1 = Vol1::read(data.block(0)?)?;
     let index_label = label::read(index.block(2)?)?;
-    let data_label = label::read(data.block(2)?)?;
+    let data_label = label::read(data.block(2)?).map_err(Refusal::of_data_label)?;
     let labels = VolumeLabels {
         index: SideLabels {
             vol1: index_vol1,

@@ -212,8 +212,12 @@ fn label_refusals_in_volume_order() {
     let mut data = data;
     data.elements[2] = Block(label_text(b'a'));
     assert_eq!(refusal(&index, &data), Some(Refusal::Disagreement));
-    data.elements[2] = Block(b"x".to_vec());
-    assert_eq!(refusal(&index, &data), Some(Refusal::Form));
+    data.elements[2] = Block(b"<?x".to_vec());
+    let of_data = Refusal::Form {
+        front: 3,
+        of_data_label: true,
+    };
+    assert_eq!(refusal(&index, &data), Some(of_data));
     data.elements[2] = Block(vec![b'x'; 4097]);
     assert_eq!(refusal(&index, &data), Some(Refusal::TooLong));
     data.elements[0] = Block(b"VOL1".to_vec());
@@ -231,9 +235,11 @@ fn index_side_goes_first() {
         let files = VolumeFiles::of(index, data);
         check_labels(files.index(), files.data()).err()
     };
-    index.elements[2] = Block(b"x".to_vec());
+    index.elements[2] = Block(b"<x".to_vec());
+    data.elements[2] = Block(b"<?x".to_vec());
+    assert_eq!(refusal(&index, &data), Some(Refusal::form(1)));
     data.elements[2] = Block(vec![b'x'; 4097]);
-    assert_eq!(refusal(&index, &data), Some(Refusal::Form));
+    assert_eq!(refusal(&index, &data), Some(Refusal::form(1)));
     // VOL1 of the data side comes before the label text of the index side.
     data.elements[0] = Block(b"VOL1".to_vec());
     assert_eq!(refusal(&index, &data), Some(Refusal::Vol1));

@@ -111,6 +111,13 @@ fn run(name: &str, input: &Json) -> Json {
             );
             Json::List(vec![Json::Number(if good { 0 } else { 4 })])
         }
+        "xml_front" => {
+            let (refusal, front) = match xml::check_form(&bytes("text")) {
+                Ok(()) => (0, 0),
+                Err(front) => (4, front as u64),
+            };
+            Json::List(vec![Json::Number(refusal), Json::Number(front)])
+        }
         "index_read" => match index::read(
             &bytes("text"),
             &label_of(input.get("label")),
