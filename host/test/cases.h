@@ -14,6 +14,7 @@ struct random_case {
 };
 
 struct random_case random_volume(uint64_t seed);
+struct random_case random_form(uint64_t seed);
 struct random_case random_label(uint64_t seed);
 struct random_case random_index(uint64_t seed);
 struct random_case random_vol1(uint64_t seed);

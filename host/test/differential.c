@@ -57,6 +57,31 @@ static uint64_t seed, differences, calls, vectors, refusals[REFUSALS];
 /* How many indexes were read whole, how many paths had a / in them, and the refusals of paths. */
 static uint64_t wholes, deep_paths, path_refusals[REFUSALS];
 
+/* The functions that tell a front: where the side stands that goes with it, if one does, and how often by that side. */
+static struct {
+    const char *function;
+    int side;
+    uint64_t times[2];
+} fronts[] = {
+    { .function = "check_form" }, { .function = "read_label" }, { .function = "read_index" },
+    { .function = "read_file" }, { .function = "read_rows" }, { .function = "read_whole" }, { .function = "index" },
+    { .function = "check_labels", .side = KLAPOUZEN_LABELS_SIDE },
+    { .function = "verdict", .side = KLAPOUZEN_BREAK_SIDE },
+    { .function = "rescue", .side = KLAPOUZEN_CUT_SIDE },
+};
+
+enum { FRONTS = sizeof fronts / sizeof fronts[0] };
+
+/* How many volumes had both labels outside the form. */
+static uint64_t both_labels;
+
+static void count_front(const char *what)
+{
+    for (int i = 0; i < FRONTS; i++)
+        if (strcmp(fronts[i].function, what) == 0)
+            fronts[i].times[fronts[i].side > 0 && answers[1].out[fronts[i].side] == 1]++;
+}
+
 /* The same other data on both sides. */
 static void fill(struct answer *answer)
 {
@@ -82,6 +107,8 @@ static void differ(const char *what)
 static void compare(const char *what)
 {
     calls++;
+    if (answers[1].refusal == KLAPOUZEN_BAD_FORM)
+        count_front(what);
     if (answers[1].refusal < REFUSALS)
         refusals[answers[1].refusal]++;
     if (memcmp(&answers[0], &answers[1], sizeof answers[0]) != 0)
@@ -325,10 +352,10 @@ static void compare_rows(struct slice text, const struct given *given, uint8_t l
 {
     BOTH("read_file", f->read_file(AT, file, a->out));
     size_t exact = answers[1].refusal == 0 ? room_for(KLAPOUZEN_ROW * answers[1].out[KLAPOUZEN_FILE_ROWS], ROWS) : 0;
-    BOTH("read_rows", f->read_rows(AT, file, a->rows, ROWS, a->out));
-    BOTH("read_rows", f->read_rows(AT, file, a->rows, exact, a->out));
+    BOTH("read_rows", f->read_rows(AT, file, a->rows, ROWS, a->out, a->out + 1));
+    BOTH("read_rows", f->read_rows(AT, file, a->rows, exact, a->out, a->out + 1));
     if (exact > 0)
-        BOTH("read_rows", f->read_rows(AT, file, a->rows, exact - 1, a->out));
+        BOTH("read_rows", f->read_rows(AT, file, a->rows, exact - 1, a->out, a->out + 1));
 }
 
 static void compare_index(struct slice text, const struct given *given, uint8_t letter, uint64_t block)
@@ -360,12 +387,30 @@ static void index_case(void)
                            random.numbers[2] };
     compare_index(parts[0], &given, (uint8_t)random.numbers[3], random.numbers[4]);
     compare_decode(part_of_text(parts[0], seed));
-    BOTH("check_form", f->check_form(SLICE(parts[0])));
+    BOTH("check_form", f->check_form(SLICE(parts[0]), a->out));
     struct slice longer = stretched(parts[0], 100, KLAPOUZEN_MAX_INDEX);
     BOTH("read_index", f->read_index(SLICE(longer), GIVEN(&given), (uint8_t)random.numbers[3],
                                      random.numbers[4], a->out));
     guarded_free(longer.start, longer.length);
     drop_case(random, parts);
+}
+
+/* ---- Texts of any elements ---- */
+
+/* Each is broken somewhere else: as it is, as a label and as an index. */
+static void form_cases(void)
+{
+    enum { TEXTS_OF_A_CASE = 4 };
+    const struct given given = { { (uint8_t *)SAMPLE_UUID, strlen(SAMPLE_UUID) }, 'a', 'b', 4096 };
+    for (uint64_t i = 0; i < TEXTS_OF_A_CASE; i++) {
+        struct random_case random = random_form(TEXTS_OF_A_CASE * seed + i);
+        struct slice parts[4];
+        guard_case(&random, parts);
+        BOTH("check_form", f->check_form(SLICE(parts[0]), a->out));
+        BOTH("read_label", f->read_label(SLICE(parts[0]), a->out));
+        compare_index(parts[0], &given, 'a', 5);
+        drop_case(random, parts);
+    }
 }
 
 /* ---- Reading on ---- */
@@ -458,6 +503,15 @@ static void compare_read_on(const struct slice parts[4], const uint64_t label[KL
 
 /* ---- Volumes ---- */
 
+/* Whether the data side's label is outside the form, in a volume of which the index side's is. */
+static bool is_data_label_outside(const struct slice parts[4])
+{
+    uint64_t block[KLAPOUZEN_BLOCK], label[KLAPOUZEN_LABEL];
+    return reference_block(VOLUME(parts), 'a', 'b', 'b', 2, block) == 0
+        && reference_read_label(parts[3].start + block[KLAPOUZEN_BLOCK_OFFSET], block[KLAPOUZEN_BLOCK_LENGTH], label)
+               == KLAPOUZEN_BAD_FORM;
+}
+
 static void volume_case(void)
 {
     struct random_case random = random_volume(seed);
@@ -466,6 +520,8 @@ static void volume_case(void)
     guard_case(&random, parts);
     BOTH("check_labels", f->check_labels(VOLUME(parts), a->out));
     uint64_t refusal = answers[1].refusal;
+    if (refusal == KLAPOUZEN_BAD_FORM && answers[1].out[KLAPOUZEN_LABELS_SIDE] == 0)
+        both_labels += is_data_label_outside(parts);
     memcpy(label, answers[1].out, sizeof label);
     struct given given = { { NULL, 0 }, 'a', 'b', 4096 };
     if (refusal == 0) {
@@ -507,7 +563,7 @@ static void label_case(void)
     struct slice parts[4];
     guard_case(&random, parts);
     BOTH("read_label", f->read_label(SLICE(parts[0]), a->out));
-    BOTH("check_form", f->check_form(SLICE(parts[0])));
+    BOTH("check_form", f->check_form(SLICE(parts[0]), a->out));
     compare_label_writer(parts, random.numbers);
     struct slice longer = stretched(parts[0], 20, KLAPOUZEN_MAX_LABEL);
     BOTH("read_label", f->read_label(SLICE(longer), a->out));
@@ -626,8 +682,28 @@ static void ansi_place_vector(const struct random_case *vector)
         guarded_free(parts[i].start, parts[i].length);
 }
 
-/* So many cases meet every refusal, and are read on both ways to another cut; fewer say nothing of the generator. */
+/*
+ * So many cases meet every refusal, 4 in each function that tells a front, and are read on both ways to another cut;
+ * fewer say nothing of the generator.
+ */
 enum { ENOUGH = 1000 };
+
+/* Answers how many are missing, of the functions, of the sides where they tell one, and of both labels. */
+static uint64_t print_fronts(void)
+{
+    uint64_t never = both_labels == 0;
+    printf("; fronts:");
+    for (int i = 0; i < FRONTS; i++) {
+        printf(" %s %" PRIu64, fronts[i].function, fronts[i].times[0]);
+        never += fronts[i].times[0] == 0;
+        if (fronts[i].side > 0) {
+            printf("+%" PRIu64, fronts[i].times[1]);
+            never += fronts[i].times[1] == 0;
+        }
+    }
+    printf(", %" PRIu64 " volumes with both labels outside", both_labels);
+    return never;
+}
 
 static uint64_t print_counts(uint64_t cases)
 {
@@ -645,6 +721,7 @@ static uint64_t print_counts(uint64_t cases)
     printf("; %" PRIu64 " indexes read whole, %" PRIu64 " paths with a / in them, of all %" PRIu64 " refused 2 and %" PRIu64
            " 14", wholes, deep_paths, path_refusals[KLAPOUZEN_MISSING], path_refusals[KLAPOUZEN_BAD_ARGUMENT]);
     never += wholes == 0 || deep_paths == 0;
+    never += print_fronts();
     putchar('\n');
     return cases < ENOUGH ? 0 : never;
 }
@@ -660,6 +737,7 @@ int main(int count, char **words)
         volume_case();
         index_case();
         label_case();
+        form_cases();
         vol1_case();
         rows_case();
         many_rows_case();

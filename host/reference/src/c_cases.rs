@@ -115,6 +115,13 @@ pub extern "C" fn random_volume(seed: u64) -> Case {
     case_of(buffers, Vec::new(), &numbers)
 }
 
+/// A text of any elements, in the form or broken. Bytes: the text.
+#[no_mangle]
+pub extern "C" fn random_form(seed: u64) -> Case {
+    let text = random::form_text(&mut Random::new(seed));
+    case_of(vec![text], Vec::new(), &[])
+}
+
 /// A label. Bytes: a text; creator, time and UUID to write. Numbers: location,
 /// letters, block size, compression.
 #[no_mangle]

@@ -7,7 +7,7 @@ use crate::label::Label;
 use crate::tape::{Letters, Side};
 use crate::values::Version;
 use crate::vol1::Vol1;
-use crate::xml::DECLARATION;
+use crate::xml::{DECLARATION, MAX_NESTING};
 
 // ---- The generator of numbers ----
 
@@ -203,6 +203,47 @@ fn padded(random: &mut Random, number: &str) -> String {
         random.pick(&["", "", "0", "00000000000000000000000"]),
         random.pick(&white)
     )
+}
+
+/// A text of any elements, in which all that the form has may stand; broken or not.
+pub fn form_text(random: &mut Random) -> Vec<u8> {
+    let node = match random.one_in(12) {
+        true => nested_node(random),
+        false => any_node(random, 2),
+    };
+    let mut text = document(random, &node);
+    match random.below(8) {
+        0 => {}
+        1 => damage_text(random, &mut text),
+        _ => break_text(random, &mut text),
+    }
+    text
+}
+
+fn any_node(random: &mut Random, depth: usize) -> Node {
+    const NAMES: [&str; 4] = ["a", "ab", "a.b-c_1", "Z"];
+    const TEXTS: [&str; 7] = ["", "", "x", "&", "<\"'>]]>", "é\u{D7FF}\u{10FFFF}", "]] >"];
+    let mut node = Node::value(random.pick(&NAMES), "");
+    if random.one_in(2) {
+        node = node.with_attribute(random.pick(&NAMES), random.pick(&TEXTS));
+    }
+    match depth > 0 && random.one_in(2) {
+        true => {
+            let children = 1 + random.below(2);
+            node.children = (0..children).map(|_| any_node(random, depth - 1)).collect();
+        }
+        false => node.text = random.pick(&TEXTS).into(),
+    }
+    node
+}
+
+/// Elements one in the other, to the bound or one more.
+fn nested_node(random: &mut Random) -> Node {
+    let mut node = Node::value("a", "");
+    for _ in 0..MAX_NESTING - random.below(2) {
+        node = Node::parent("a", vec![node]);
+    }
+    node
 }
 
 // ---- Values ----
@@ -962,7 +1003,10 @@ impl Writer<'_> {
         }
         let mut text = document(self.random, &node);
         if self.fault() {
-            damage_text(self.random, &mut text);
+            match self.random.one_in(2) {
+                true => damage_text(self.random, &mut text),
+                false => lose_form(self.random, &mut text),
+            }
         }
         let mut construct = self.construct_of(text, on_data || self.is_last);
         self.side(letter).elements.append(&mut construct.elements);
@@ -1101,6 +1145,9 @@ pub fn damaged_volume(random: &mut Random) -> VolumeFiles {
         };
         damage_elements(random, side);
     }
+    if random.one_in(16) {
+        break_labels(random, &mut index, &mut data);
+    }
     let mut files = VolumeFiles::of(&index, &data);
     if random.one_in(8) {
         damage_files(random, &mut files);
@@ -1178,6 +1225,31 @@ fn damage_elements(random: &mut Random, side: &mut TapeSide) {
     }
 }
 
+/// The text of one label or of both broken.
+fn break_labels(random: &mut Random, index: &mut TapeSide, data: &mut TapeSide) {
+    let sides = match random.below(3) {
+        0 => vec![index],
+        1 => vec![data],
+        _ => vec![index, data],
+    };
+    for side in sides {
+        if let Some(text) = side.elements.get_mut(2).and_then(TapeElement::bytes_mut) {
+            lose_form(random, text);
+        }
+    }
+}
+
+/// The text broken, or any other in its place; a block has a byte at least.
+fn lose_form(random: &mut Random, text: &mut Vec<u8>) {
+    match random.one_in(3) {
+        true => *text = form_text(random),
+        false => break_text(random, text),
+    }
+    if text.is_empty() {
+        text.push(b'<');
+    }
+}
+
 /// Changes one of the four files by itself, or exchanges the sides.
 pub fn damage_files(random: &mut Random, files: &mut VolumeFiles) {
     match random.below(6) {
@@ -1215,6 +1287,34 @@ pub fn damage_bytes(random: &mut Random, bytes: &mut Vec<u8>) {
                     random.draw() as u8
                 };
             }
+        }
+    }
+}
+
+/// Breaks a text at any of its bytes: it ends there, or a byte is set in, another
+/// one or missing. It may still be in the form.
+pub fn break_text(random: &mut Random, text: &mut Vec<u8>) {
+    const BYTES: &[u8] = b"<>&;/='\"]!?: \nax0\0\x1f\x7f\x80\xbf\xc3\xed\xef\xf4\xff";
+    // Mostly behind the declaration, and often where tags and references begin and end.
+    let behind = DECLARATION.len().min(text.len());
+    let marks: Vec<usize> = (behind..text.len())
+        .filter(|at| !text[*at].is_ascii_alphanumeric())
+        .collect();
+    let at = match random.below(8) {
+        0 => random.below(text.len() + 1),
+        1..=3 if !marks.is_empty() => marks[random.below(marks.len())] + random.below(2),
+        _ => behind + random.below(text.len() - behind + 1),
+    };
+    let end = (at + 1).min(text.len());
+    let byte = BYTES[random.below(BYTES.len())];
+    match random.below(4) {
+        0 => text.truncate(at),
+        1 => text.insert(at, byte),
+        2 => {
+            text.drain(at..end);
+        }
+        _ => {
+            text.splice(at..end, [byte]);
         }
     }
 }

@@ -209,6 +209,7 @@ struct OpenElement {
     has_text: bool,
 }
 
+#[derive(Debug)]
 enum State {
     /// This many bytes of the declaration are read.
     Declaration(usize),
@@ -808,6 +809,70 @@ mod tests {
                 }
             }
         }
+    }
+
+    /// The state in which a text leaves the form, or what else refuses its next byte.
+    fn place_of(text: &[u8]) -> Option<(String, &'static str)> {
+        let front = check_form(text).err()?;
+        let mut reader = FormReader::new();
+        assert!(text[..front].iter().all(|byte| reader.step(*byte)));
+        let open = reader.open.last();
+        let why = match (&reader.state, text.get(front)) {
+            (_, None) => "ends",
+            (State::ContentTag, _) if reader.open.len() == MAX_NESTING => "too deep",
+            (State::ContentTag, _) if open.is_some_and(|open| open.has_text) => "beside text",
+            (State::Content { .. }, _) if open.is_some_and(|open| open.has_child) => {
+                "beside a child"
+            }
+            (State::Content { brackets: 2 }, Some(b'>')) => "]]>",
+            _ => "goes on",
+        };
+        let state = format!("{:?}", reader.state);
+        let name = state.split([' ', '(']).next().expect("the state's name");
+        Some((name.to_string(), why))
+    }
+
+    /// The cases of the tests in C have texts that leave the form in every state.
+    #[test]
+    fn random_texts_leave_the_form_everywhere() {
+        use crate::random::{form_text, Random};
+        const STATES: [&str; 20] = [
+            "Declaration",
+            "BeforeRoot",
+            "RootTag",
+            "StartName",
+            "BeforeAttribute",
+            "AttributeName",
+            "AfterAttributeName",
+            "BeforeValue",
+            "Value",
+            "ValueReference",
+            "ValueCharacter",
+            "AfterValue",
+            "EmptySlash",
+            "Content",
+            "ContentReference",
+            "ContentCharacter",
+            "ContentTag",
+            "EndName",
+            "AfterEndName",
+            "AfterRoot",
+        ];
+        let mut places = std::collections::BTreeMap::new();
+        for seed in 0..4_000 {
+            if let Some(place) = place_of(&form_text(&mut Random::new(seed))) {
+                *places.entry(place).or_insert(0) += 1;
+            }
+        }
+        println!("{places:#?}");
+        let found = |state: &str, why| places.contains_key(&(state.to_string(), why));
+        for state in STATES {
+            // White space may follow a root without end, so that a text may end there.
+            assert!(found(state, "ends") != (state == "AfterRoot"), "{state}");
+            assert!(found(state, "goes on"), "{state}");
+        }
+        assert!(found("ContentTag", "too deep") && found("ContentTag", "beside text"));
+        assert!(found("Content", "beside a child") && found("Content", "]]>"));
     }
 
     /// The two readers agree on every text of up to five of these pieces. So no
