@@ -115,7 +115,7 @@ static void smallest_lists(void)
     expect("constructs of large blocks",
            klapouzen_constructs(NONE, NONE, 1048577, table, filled()), 14);
     expect("check_labels of nothing", klapouzen_check_labels(NO_VOLUME, filled()), 9);
-    expect_zeros("its label", KLAPOUZEN_LABEL);
+    expect_zeros("its label", KLAPOUZEN_LABELS);
     expect("verdict on nothing", klapouzen_verdict(NO_VOLUME, filled()), 9);
     expect_zeros("its break", KLAPOUZEN_BREAK);
     expect("rescue of nothing", klapouzen_rescue(NO_VOLUME, filled()), 9);
@@ -124,7 +124,8 @@ static void smallest_lists(void)
 
 static void smallest_texts(void)
 {
-    expect("check_form of nothing", klapouzen_check_form(NONE), 4);
+    expect("check_form of nothing", klapouzen_check_form(NONE, filled()), 4);
+    expect_zeros("its front", 1);
     expect("read_vol1 of nothing", klapouzen_read_vol1(NONE, filled()), 3);
     expect_zeros("its fields", KLAPOUZEN_VOL1);
     expect("write_vol1 to nothing",
@@ -152,8 +153,8 @@ static void smallest_indexes(void)
     expect("read_index, no UUID", klapouzen_read_index(NONE, NONE, 'a', 'b', 4096, 'a', 5, filled()), 14);
     expect("read_file of nothing", klapouzen_read_file(NONE, GIVEN, 'a', 5, 0, filled()), 4);
     expect_zeros("its file", KLAPOUZEN_FILE);
-    expect("read_rows of nothing", klapouzen_read_rows(NONE, GIVEN, 'a', 5, 0, NONE, filled()), 4);
-    expect_zeros("its count", 1);
+    expect("read_rows of nothing", klapouzen_read_rows(NONE, GIVEN, 'a', 5, 0, NONE, filled(), out + 1), 4);
+    expect_zeros("its count and its front", 2);
     expect("read_whole of nothing", klapouzen_read_whole(NONE, GIVEN, 'a', 5, NONE, NONE, filled()), 4);
     expect_zeros("its header", KLAPOUZEN_INDEX);
     expect("index of nothing", klapouzen_index(NONE, NONE, GIVEN, 'a', 0, filled()), 2);
@@ -299,10 +300,21 @@ static struct slice nested(int depth)
     return guarded(&text);
 }
 
-static void expect_form(const char *what, struct slice text, uint64_t wanted)
+static void expect_form(const char *what, struct slice text, uint64_t wanted, uint64_t front)
 {
-    expect(what, klapouzen_check_form(SLICE(text)), wanted);
+    expect(what, klapouzen_check_form(SLICE(text), filled()), wanted);
+    expect(what, out[0], front);
     drop(text);
+}
+
+/* The same text with another byte for its last. */
+static struct slice ending_in(struct slice text, uint8_t last)
+{
+    struct buffer other = { 0 };
+    put_bytes(&other, text.start, text.length - 1);
+    put_byte(&other, last, 1);
+    drop(text);
+    return guarded(&other);
 }
 
 /* A written label, filled up with white space to this length. */
@@ -346,9 +358,12 @@ static void creator_of(size_t length, uint64_t wanted)
 
 static void largest_texts(void)
 {
-    expect_form("a text of 16 MiB", text_of(KLAPOUZEN_MAX_STORE), 0);
-    expect_form("nesting 64", nested(64), 0);
-    expect_form("nesting 65", nested(65), 4);
+    enum { MOST = KLAPOUZEN_MAX_STORE, DECLARATION = sizeof declaration - 1 };
+    expect_form("a text of 16 MiB", text_of(MOST), 0, 0);
+    expect_form("one with another last byte", ending_in(text_of(MOST), '<'), 4, MOST - 1);
+    expect_form("one that ends too early", ending_in(text_of(MOST), ' '), 4, MOST);
+    expect_form("nesting 64", nested(64), 0, 0);
+    expect_form("nesting 65", nested(65), 4, DECLARATION + 64 * strlen("<a>") + 1);
     label_of(KLAPOUZEN_MAX_LABEL, 0);
     label_of(KLAPOUZEN_MAX_LABEL + 1, 15);
     label_room();
@@ -427,10 +442,12 @@ static void row_room(void)
     struct slice text = index_of_rows(KLAPOUZEN_MAX_ROWS);
     uint64_t *rows = guarded_room(NUMBERS * sizeof *rows);
     memset(rows, 0xa5, NUMBERS * sizeof *rows);
-    expect("short rows", klapouzen_read_rows(SLICE(text), GIVEN, 'a', 5, 0, rows, NUMBERS - 1, filled()), 10);
+    expect("short rows", klapouzen_read_rows(SLICE(text), GIVEN, 'a', 5, 0, rows, NUMBERS - 1, filled(), out + 1), 10);
+    expect_zeros("their count and their front", 2);
     expect("an unchanged number", rows[0], 0xa5a5a5a5a5a5a5a5);
-    expect("all rows", klapouzen_read_rows(SLICE(text), GIVEN, 'a', 5, 0, rows, NUMBERS, filled()), 0);
+    expect("all rows", klapouzen_read_rows(SLICE(text), GIVEN, 'a', 5, 0, rows, NUMBERS, filled(), out + 1), 0);
     expect("their count", out[0], KLAPOUZEN_MAX_ROWS);
+    expect("their front", out[1], 0);
     expect("the last position", rows[NUMBERS - 1], KLAPOUZEN_MAX_ROWS - 1);
     expect("its byte", klapouzen_byte_at(rows, NUMBERS, 1024, 4096, 1023, filled()), 0);
     expect("its block", out[KLAPOUZEN_BYTE_BLOCK], 1023);
@@ -525,7 +542,7 @@ static void most_files(void)
     struct buffer buffer = index_of_size(KLAPOUZEN_MAX_INDEX, false);
     struct slice text = guarded(&buffer);
     expect("their index", klapouzen_read_index(SLICE(text), GIVEN, 'a', 5, filled()), 0);
-    uint64_t count = out[KLAPOUZEN_INDEX_FILES], row[KLAPOUZEN_ROW], rows_read;
+    uint64_t count = out[KLAPOUZEN_INDEX_FILES], row[KLAPOUZEN_ROW], rows_read, front;
     struct whole whole = read_whole("most files", text, count + 1, count);
     for (uint64_t i = 0; i < count; i += count / 7) {
         const uint64_t *entry = whole.entries + KLAPOUZEN_ENTRY * (i + 1);
@@ -534,7 +551,7 @@ static void most_files(void)
         expect("its name", entry[KLAPOUZEN_ENTRY_NAME], out[KLAPOUZEN_FILE_NAME]);
         expect("its name's length", entry[KLAPOUZEN_ENTRY_NAME_LENGTH], out[KLAPOUZEN_FILE_NAME_LENGTH]);
         expect("its rows", entry[KLAPOUZEN_ENTRY_ROWS], out[KLAPOUZEN_FILE_ROWS]);
-        expect("its row", klapouzen_read_rows(SLICE(text), GIVEN, 'a', 5, i, row, KLAPOUZEN_ROW, &rows_read), 0);
+        expect("its row", klapouzen_read_rows(SLICE(text), GIVEN, 'a', 5, i, row, KLAPOUZEN_ROW, &rows_read, &front), 0);
         expect("as alone", memcmp(row, whole.rows + KLAPOUZEN_ROW * i, sizeof row) != 0, 0);
         struct buffer path = { 0 };
         put(&path, "recording %05" PRIu64 ".wav", i);

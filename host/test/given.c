@@ -96,7 +96,7 @@ static void read_with(const struct volume_given *v)
 #define TEXT NONE, WORD(v->uuid), v->index, v->data, v->size, v->letter, 5
     expect("read_index", v->what, klapouzen_read_index(TEXT, out), wanted, KLAPOUZEN_INDEX);
     expect("read_file", v->what, klapouzen_read_file(TEXT, 0, out), wanted, KLAPOUZEN_FILE);
-    expect("read_rows", v->what, klapouzen_read_rows(TEXT, 0, numbers, KLAPOUZEN_ROW, out), wanted, 1);
+    expect("read_rows", v->what, klapouzen_read_rows(TEXT, 0, numbers, KLAPOUZEN_ROW, out, out + 1), wanted, 2);
     expect("read_whole", v->what,
            klapouzen_read_whole(TEXT, entries, KLAPOUZEN_ENTRY, numbers, KLAPOUZEN_ROW, out), wanted, KLAPOUZEN_INDEX);
     expect("read_whole, no room", v->what, klapouzen_read_whole(TEXT, NONE, NONE, out), wanted, KLAPOUZEN_INDEX);

@@ -74,6 +74,7 @@ for target in volume label index form rows ansi; do
     start "fuzz $target" $T/fuzz/${target}_mutate $T/fuzz/corpus/$target "${FUZZ_SECONDS:-3}"
 done
 start "smallest and largest sizes" $T/test/bounds
+start "what goes with 4" $T/test/fronts
 start "what 14 is" $T/test/given
 start "numbers" $T/test/numbers
 start "stack" $T/test/stack

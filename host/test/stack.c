@@ -109,7 +109,7 @@ static void call_lists(void)
 
 static void call_labels(void)
 {
-    uint64_t out[KLAPOUZEN_LABEL], length;
+    uint64_t out[KLAPOUZEN_LABELS], length;
     uint8_t buffer[KLAPOUZEN_MAX_LABEL];
     answered(klapouzen_write_vol1(buffer, sizeof buffer, WORD(SAMPLE_UUID, 6), WORD(SAMPLE_UUID, 14), &length));
     answered(klapouzen_read_vol1(buffer, length, out));
@@ -131,11 +131,11 @@ static void check_index(const uint64_t header[KLAPOUZEN_INDEX])
 static void call_indexes(void)
 {
     uint64_t out[KLAPOUZEN_CHOSEN];
-    answered(klapouzen_check_form(index_text.bytes, index_text.length));
+    answered(klapouzen_check_form(index_text.bytes, index_text.length, out));
     answered(klapouzen_read_index(GIVEN, out));
     check_index(out);
     answered(klapouzen_read_file(GIVEN, 2, out));
-    answered(klapouzen_read_rows(GIVEN, 0, rows, sizeof rows / sizeof rows[0], out));
+    answered(klapouzen_read_rows(GIVEN, 0, rows, sizeof rows / sizeof rows[0], out, out + 1));
     answered(klapouzen_read_whole(GIVEN, entries, sizeof entries / sizeof entries[0], rows, sizeof rows / sizeof rows[0],
                                   out));
     check_index(out);
@@ -171,6 +171,43 @@ static void call_volumes(void)
     must(out[KLAPOUZEN_CUT_DATA_CONSTRUCT] == CONSTRUCTS - 1);
 }
 
+static void outside(uint64_t refusal)
+{
+    must(refusal == KLAPOUZEN_BAD_FORM);
+}
+
+/* The same index with a zero byte for its last, alone and as a construct. */
+static void call_outside(void)
+{
+    uint64_t out[KLAPOUZEN_CHOSEN];
+    struct buffer *store = &volume.sides[1].store;
+    uint8_t *last = &index_text.bytes[index_text.length - 1], *stored = &store->bytes[store->length - 1];
+    uint8_t byte = *last;
+    *last = *stored = 0;
+    outside(klapouzen_check_form(index_text.bytes, index_text.length, out));
+    must(out[0] == index_text.length - 1);
+    outside(klapouzen_read_index(GIVEN, out));
+    outside(klapouzen_read_file(GIVEN, 0, out));
+    outside(klapouzen_read_rows(GIVEN, 0, rows, sizeof rows / sizeof rows[0], out, out + 1));
+    outside(klapouzen_read_whole(GIVEN, entries, sizeof entries / sizeof entries[0], rows, sizeof rows / sizeof rows[0],
+                                 out));
+    outside(klapouzen_index(TAPE(volume.sides[1]), UUID, 'a', 'b', 4096, 'b', CONSTRUCTS - 1, out));
+    *last = *stored = byte;
+}
+
+/* The data side's label with one for its first. */
+static void call_labels_outside(void)
+{
+    uint64_t out[KLAPOUZEN_LABELS];
+    uint8_t *first = &volume.sides[1].store.bytes[KLAPOUZEN_VOL1_LENGTH];
+    *first = 0;
+    outside(klapouzen_check_labels(SAMPLE(&volume), out));
+    must(out[KLAPOUZEN_LABELS_SIDE] == 1);
+    outside(klapouzen_verdict(SAMPLE(&volume), out));
+    outside(klapouzen_rescue(SAMPLE(&volume), out));
+    *first = '<';
+}
+
 static void call_ansi(void)
 {
     uint64_t count, place;
@@ -186,8 +223,10 @@ static void *run(void *nothing)
     call_ansi();
     call_labels();
     call_indexes();
+    call_outside();
     call_paths();
     call_volumes();
+    call_labels_outside();
     return nothing;
 }
 
