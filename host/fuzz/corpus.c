@@ -150,6 +150,7 @@ int main(int count, char **words)
         write_random(random_label(seed), write_label);
         write_random(random_vol1(seed), write_label);
         write_random(random_index(seed), write_index);
+        write_random(random_form(seed), write_form);
         write_random(random_rows(seed), write_rows);
         write_random(random_ansi(seed), write_ansi);
     }

@@ -28,7 +28,7 @@ struct fuzz_count {
     uint64_t times;
 };
 
-enum { FUZZ_COUNTS = 2 };
+enum { FUZZ_COUNTS = 4 };
 
 extern struct fuzz_count fuzz_counts[FUZZ_COUNTS];
 
@@ -109,7 +109,17 @@ static inline uint64_t answered(unsigned what, uint64_t refusal, const uint64_t 
     return refusal;
 }
 
+/* The same of a function that tells a front behind so many numbers: with 4 no more than the text's length, else 0. */
+static inline uint64_t told(unsigned what, uint64_t refusal, const uint64_t *out, size_t front, size_t length)
+{
+    answered(what, refusal, out, front);
+    must(out[front] <= (refusal == KLAPOUZEN_BAD_FORM ? length : 0));
+    saw(what + 1 + (unsigned)front, out[front]);
+    return refusal;
+}
+
 #define FILLED(out) fill(out, sizeof(out) / sizeof(out)[0])
 #define ANSWERED(call, out) answered(__LINE__, (call), out, sizeof(out) / sizeof(out)[0])
+#define TOLD(call, out, length) told(__LINE__, (call), out, sizeof(out) / sizeof(out)[0] - 1, length)
 
 #endif

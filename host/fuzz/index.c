@@ -39,13 +39,13 @@ static void must_be_filled(const uint64_t *from, const uint64_t *to)
 /* A file alone, and its rows, are as they were read with all the others. */
 static void try_file(const struct index *index, uint64_t number, const uint64_t *as, const uint64_t *as_rows)
 {
-    uint64_t file[KLAPOUZEN_FILE], count[1];
+    uint64_t file[KLAPOUZEN_FILE], count[1], front[1];
     must(klapouzen_read_file(GIVEN(index), number, FILLED(file)) == 0);
     must(memcmp(file, as, sizeof file) == 0);
     must(file[KLAPOUZEN_FILE_NAME] + file[KLAPOUZEN_FILE_NAME_LENGTH] <= index->text.length);
     fill(rows, NUMBERS);
-    must(klapouzen_read_rows(GIVEN(index), number, rows, NUMBERS, FILLED(count)) == 0);
-    must(count[0] == file[KLAPOUZEN_FILE_ROWS]);
+    must(klapouzen_read_rows(GIVEN(index), number, rows, NUMBERS, FILLED(count), FILLED(front)) == 0);
+    must(count[0] == file[KLAPOUZEN_FILE_ROWS] && front[0] == 0);
     must(memcmp(rows, as_rows, KLAPOUZEN_ROW * count[0] * sizeof *rows) == 0);
     must_be_filled(rows + KLAPOUZEN_ROW * count[0], rows + NUMBERS);
     try_rows(index, file[KLAPOUZEN_FILE_LENGTH], count[0]);
@@ -142,7 +142,7 @@ static void try_entries(const struct index *index, const struct whole *whole)
         if (i >= SOME)
             continue;
         const uint64_t file[KLAPOUZEN_FILE] = { entry[KLAPOUZEN_ENTRY_LENGTH], entry[KLAPOUZEN_ENTRY_NAME],
-                                                entry[KLAPOUZEN_ENTRY_NAME_LENGTH], entry[KLAPOUZEN_ENTRY_ROWS] };
+                                                entry[KLAPOUZEN_ENTRY_NAME_LENGTH], entry[KLAPOUZEN_ENTRY_ROWS], 0 };
         try_path(index, whole, i);
         if (entry[KLAPOUZEN_ENTRY_KIND] == 1)
             try_file(index, entry[KLAPOUZEN_ENTRY_FILE], file,
@@ -197,7 +197,7 @@ static void try_spelling(const struct index *index, uint64_t refusal, const uint
     must(refusal != 0 || another == KLAPOUZEN_DISAGREEMENT);
 }
 
-/* The same answer where the numbers are padded; the update time stands elsewhere then. */
+/* The same answer where the numbers are padded; the update time stands elsewhere then. A front has them padded too. */
 static void try_padded(const struct index *index, uint64_t refusal, uint64_t header[KLAPOUZEN_INDEX])
 {
     uint64_t padded_header[KLAPOUZEN_INDEX];
@@ -205,10 +205,27 @@ static void try_padded(const struct index *index, uint64_t refusal, uint64_t hea
     struct index padded = *index;
     padded.text = (struct slice){ text.bytes, text.length };
     uint64_t answer = klapouzen_read_index(GIVEN(&padded), FILLED(padded_header));
-    padded_header[KLAPOUZEN_INDEX_TIME] = header[KLAPOUZEN_INDEX_TIME];
-    if (text.length <= KLAPOUZEN_MAX_INDEX)
-        must(answer == refusal && memcmp(header, padded_header, sizeof padded_header) == 0);
+    struct buffer front = pad_numbers(index->text.start, header[KLAPOUZEN_INDEX_FRONT]);
+    if (text.length <= KLAPOUZEN_MAX_INDEX) {
+        must(answer == refusal && padded_header[KLAPOUZEN_INDEX_FRONT] == front.length);
+        padded_header[KLAPOUZEN_INDEX_TIME] = header[KLAPOUZEN_INDEX_TIME];
+        padded_header[KLAPOUZEN_INDEX_FRONT] = header[KLAPOUZEN_INDEX_FRONT];
+        must(memcmp(header, padded_header, sizeof padded_header) == 0);
+    }
+    buffer_free(&front);
     buffer_free(&text);
+}
+
+/* Each of its readers tells the front of the form check. */
+static void try_front(const struct index *index, uint64_t refusal, const uint64_t header[KLAPOUZEN_INDEX])
+{
+    uint64_t form[1], count[1], front[1], outside = klapouzen_check_form(SLICE(index->text), FILLED(form));
+    int is_looked_at = refusal != KLAPOUZEN_BAD_ARGUMENT && index->text.length <= KLAPOUZEN_MAX_INDEX;
+    must((refusal == KLAPOUZEN_BAD_FORM) == (is_looked_at && outside != 0));
+    must(header[KLAPOUZEN_INDEX_FRONT] == (refusal == KLAPOUZEN_BAD_FORM ? form[0] : 0));
+    uint64_t answer = ANSWERED(klapouzen_read_rows(GIVEN(index), 0, NULL, 0, FILLED(count), FILLED(front)), count);
+    must(refusal == 0 || answer == refusal);
+    must(front[0] == header[KLAPOUZEN_INDEX_FRONT]);
 }
 
 /* Number by number: the expressions of an initializer list are evaluated in any order. */
@@ -229,10 +246,12 @@ int LLVMFuzzerTestOneInput(const uint8_t *input, size_t size)
 {
     uint64_t header[KLAPOUZEN_INDEX], file[KLAPOUZEN_FILE];
     struct index index = take_index((struct slice){ input, size });
-    uint64_t refusal = judged(ANSWERED(klapouzen_read_index(GIVEN(&index), FILLED(header)), header));
+    uint64_t refusal = judged(TOLD(klapouzen_read_index(GIVEN(&index), FILLED(header)), header, index.text.length));
     uint64_t files = header[KLAPOUZEN_INDEX_FILES];
-    must(ANSWERED(klapouzen_read_file(GIVEN(&index), files, FILLED(file)), file)
+    must(TOLD(klapouzen_read_file(GIVEN(&index), files, FILLED(file)), file, index.text.length)
          == (refusal != 0 ? refusal : KLAPOUZEN_MISSING));
+    must(file[KLAPOUZEN_FILE_FRONT] == header[KLAPOUZEN_INDEX_FRONT]);
+    try_front(&index, refusal, header);
     try_whole(&index, refusal, header);
     try_decode(&index, index.block);
     if (refusal != KLAPOUZEN_BAD_ARGUMENT)

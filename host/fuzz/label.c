@@ -1,4 +1,4 @@
-/* A text as a label and as a VOL1; what is read, written again, reads the same. */
+/* A text as a label and as a VOL1; what is read, written again, reads the same. One outside the form has its front. */
 #include "fuzz.h"
 #include "sample.h"
 
@@ -24,16 +24,19 @@ static void write_again(struct slice text, const uint64_t label[KLAPOUZEN_LABEL]
     must(memcmp(text.start + label[KLAPOUZEN_LABEL_UUID], written + again[KLAPOUZEN_LABEL_UUID], 36) == 0);
 }
 
-/* The same answer where the block size is padded: all but where the texts stand. */
+/* The same answer where the block size is padded: all but where the texts stand. A front has its numbers padded too. */
 static void try_padded(struct slice text, uint64_t refusal, const uint64_t label[KLAPOUZEN_LABEL])
 {
     uint64_t fields[KLAPOUZEN_LABEL];
     struct buffer padded = pad_numbers(SLICE(text));
     uint64_t answer = klapouzen_read_label(padded.bytes, padded.length, FILLED(fields));
     if (padded.length <= KLAPOUZEN_MAX_LABEL) {
+        struct buffer front = pad_numbers(text.start, label[KLAPOUZEN_LABEL_FRONT]);
         must(answer == refusal);
         must(memcmp(&label[KLAPOUZEN_LABEL_LOCATION], &fields[KLAPOUZEN_LABEL_LOCATION],
-                    (KLAPOUZEN_LABEL - KLAPOUZEN_LABEL_LOCATION) * sizeof *fields) == 0);
+                    (KLAPOUZEN_LABEL_FRONT - KLAPOUZEN_LABEL_LOCATION) * sizeof *fields) == 0);
+        must(fields[KLAPOUZEN_LABEL_FRONT] == front.length);
+        buffer_free(&front);
     }
     buffer_free(&padded);
 }
@@ -52,12 +55,13 @@ static void try_vol1(struct slice block)
 int LLVMFuzzerTestOneInput(const uint8_t *input, size_t size)
 {
     struct slice text = { input, size };
-    uint64_t label[KLAPOUZEN_LABEL];
-    uint64_t refusal = judged(ANSWERED(klapouzen_read_label(SLICE(text), FILLED(label)), label));
-    if (refusal == 0) {
-        must(klapouzen_check_form(SLICE(text)) == 0);
+    uint64_t label[KLAPOUZEN_LABEL], form[1];
+    uint64_t refusal = judged(TOLD(klapouzen_read_label(SLICE(text), FILLED(label)), label, size));
+    uint64_t outside = klapouzen_check_form(SLICE(text), FILLED(form));
+    must((refusal == KLAPOUZEN_BAD_FORM) == (outside != 0 && size <= KLAPOUZEN_MAX_LABEL));
+    must(label[KLAPOUZEN_LABEL_FRONT] == (refusal == KLAPOUZEN_BAD_FORM ? form[0] : 0));
+    if (refusal == 0)
         write_again(text, label);
-    }
     try_padded(text, refusal, label);
     try_vol1(text);
     return 0;

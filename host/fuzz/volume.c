@@ -9,6 +9,9 @@ struct volume {
     struct slice parts[4];
 };
 
+/* What is counted. */
+enum { FIRST_CUT, OTHER_CUT, INDEX_FRONT, DATA_FRONT };
+
 static uint32_t table[KLAPOUZEN_CONSTRUCT_TABLE];
 
 /* Keeping m elements and then n is keeping the smaller of the two. */
@@ -129,12 +132,13 @@ static void try_indexes(const struct volume *volume, int side, const uint64_t la
     for (uint64_t i = 0; i < standing[0] && i < 3; i++) {
         const uint32_t *row = table + KLAPOUZEN_CONSTRUCT * i;
         uint32_t begin = row[KLAPOUZEN_CONSTRUCT_BEGIN], length = row[KLAPOUZEN_CONSTRUCT_END] - begin;
-        uint64_t refusal = ANSWERED(klapouzen_index(SIDE(volume, side), GIVEN, i, FILLED(index)), index);
+        uint64_t refusal = TOLD(klapouzen_index(SIDE(volume, side), GIVEN, i, FILLED(index)), index, length);
         must((refusal == KLAPOUZEN_UNREADABLE_BLOCK) == (length == 0));
         if (length == 0)
             continue;
         must(klapouzen_read_index(store + begin, length, GIVEN, row[KLAPOUZEN_CONSTRUCT_FIRST_BLOCK], FILLED(header))
              == refusal);
+        must(index[KLAPOUZEN_CHOSEN_HEADER + KLAPOUZEN_INDEX_FRONT] == header[KLAPOUZEN_INDEX_FRONT]);
         if (refusal != 0)
             continue;
         must(index[KLAPOUZEN_CHOSEN_FIRST_BLOCK] == row[KLAPOUZEN_CONSTRUCT_FIRST_BLOCK]
@@ -159,7 +163,7 @@ static uint64_t uuid_place(const struct volume *volume, int side)
 static void try_spelling(const struct volume *volume, int side, const uint64_t verdict[KLAPOUZEN_BREAK],
                          uint64_t no_cut, const uint64_t cut[KLAPOUZEN_CUT])
 {
-    uint64_t label[KLAPOUZEN_LABEL], other_verdict[KLAPOUZEN_BREAK], other_cut[KLAPOUZEN_CUT];
+    uint64_t label[KLAPOUZEN_LABELS], other_verdict[KLAPOUZEN_BREAK], other_cut[KLAPOUZEN_CUT];
     struct volume other = *volume;
     struct slice *store = &other.parts[2 * side + 1];
     uint8_t *bytes = malloc(store->length), *uuid = bytes + uuid_place(volume, side);
@@ -174,6 +178,36 @@ static void try_spelling(const struct volume *volume, int side, const uint64_t v
     must(klapouzen_check_labels(VOLUME(&other), FILLED(label)) == KLAPOUZEN_DISAGREEMENT);
     free(bytes);
 }
+
+/* ---- Labels outside the form ---- */
+
+/* The third element of a side, a block. */
+static struct slice label_text(const struct volume *volume, int side)
+{
+    struct walk walk = walk_to(&volume->parts[2 * side], 2);
+    return (struct slice){ volume->parts[2 * side + 1].start + walk.stored, next_length(&walk) };
+}
+
+/*
+ * A function that tells a label's front and side behind so many numbers: the front is what the label's reader tells, and
+ * before the data side's label the index side's is read.
+ */
+static uint64_t told_label(unsigned what, uint64_t refusal, const uint64_t *out, size_t front,
+                           const struct volume *volume)
+{
+    uint64_t label[KLAPOUZEN_LABEL], side = out[front + 1];
+    answered(what, refusal, out, front);
+    must(refusal == KLAPOUZEN_BAD_FORM ? side <= 1 : out[front] == 0 && side == 0);
+    if (refusal != KLAPOUZEN_BAD_FORM)
+        return refusal;
+    struct slice index = label_text(volume, 0), text = label_text(volume, (int)side);
+    must(klapouzen_read_label(SLICE(text), FILLED(label)) == KLAPOUZEN_BAD_FORM);
+    must(label[KLAPOUZEN_LABEL_FRONT] == out[front]);
+    must(side == 0 || klapouzen_read_label(SLICE(index), FILLED(label)) == 0);
+    return refusal;
+}
+
+#define TOLD_LABEL(call, out, volume) told_label(__LINE__, (call), out, sizeof(out) / sizeof(out)[0] - 2, volume)
 
 /* ---- Blocks that are lost ---- */
 
@@ -269,8 +303,6 @@ static void try_lost(const struct volume *volume, int side, uint64_t n, uint64_t
 
 /* ---- Reading on ---- */
 
-enum { FIRST_CUT, OTHER_CUT };
-
 /* What the rescue answers of two reads, the second of which has all that the first one's cut keeps. */
 static void try_second(const struct read *first, const struct read *second, const uint64_t cut[KLAPOUZEN_CUT],
                        uint64_t no_cut, const uint64_t after[KLAPOUZEN_CUT])
@@ -351,10 +383,11 @@ static void try_read_on(const struct volume *volume, uint64_t n, const uint64_t 
 
 static void try_volume(const struct volume *volume, uint64_t n)
 {
-    uint64_t label[KLAPOUZEN_LABEL], verdict[KLAPOUZEN_BREAK], cut[KLAPOUZEN_CUT];
-    uint64_t refusal = judged(ANSWERED(klapouzen_check_labels(VOLUME(volume), FILLED(label)), label));
-    must(ANSWERED(klapouzen_verdict(VOLUME(volume), FILLED(verdict)), verdict) == refusal);
-    uint64_t no_cut = ANSWERED(klapouzen_rescue(VOLUME(volume), FILLED(cut)), cut);
+    uint64_t label[KLAPOUZEN_LABELS], verdict[KLAPOUZEN_BREAK], cut[KLAPOUZEN_CUT];
+    uint64_t refusal = judged(TOLD_LABEL(klapouzen_check_labels(VOLUME(volume), FILLED(label)), label, volume));
+    must(TOLD_LABEL(klapouzen_verdict(VOLUME(volume), FILLED(verdict)), verdict, volume) == refusal);
+    uint64_t no_cut = TOLD_LABEL(klapouzen_rescue(VOLUME(volume), FILLED(cut)), cut, volume);
+    fuzz_counts[INDEX_FRONT + label[KLAPOUZEN_LABELS_SIDE]].times += refusal == KLAPOUZEN_BAD_FORM;
     must(refusal == 0 ? no_cut == 0 || no_cut == KLAPOUZEN_NO_CUT : no_cut == refusal);
     if (refusal == 0) {
         must(no_cut == 0 || verdict[0] != 0);
@@ -379,6 +412,8 @@ int LLVMFuzzerTestOneInput(const uint8_t *input, size_t size)
     struct volume volume;
     fuzz_counts[FIRST_CUT].name = "first reads with a cut";
     fuzz_counts[OTHER_CUT].name = "second ones with another";
+    fuzz_counts[INDEX_FRONT].name = "index labels outside the form";
+    fuzz_counts[DATA_FRONT].name = "data labels outside it";
     for (int i = 0; i < 4; i++)
         volume.parts[i] = take_slice(&rest);
     try_list(&volume, 0, n);
