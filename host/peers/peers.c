@@ -2,8 +2,9 @@
  * The form check beside other parsers: peers [CASES]. Every text that it accepts
  * expat and libxml2 accept, and expat with the tree of the reader of elements;
  * every text that it refuses and expat accepts is refused for one of document
- * 01's restrictions, which is named. Lawful indexes say the same to other
- * parsers' handlers as to the index reader.
+ * 01's restrictions, which is named. No text's front goes on behind a byte that
+ * either of them refuses. Lawful indexes say the same to other parsers' handlers
+ * as to the index reader.
  */
 #include <expat.h>
 #include <inttypes.h>
@@ -202,12 +203,79 @@ static void judge_refused(const struct seen *seen, bool taken, const uint8_t *te
         fail("refused, but expat accepts it and no restriction is named", text, length);
 }
 
+/* ---- Where a text goes wrong ---- */
+
+/*
+ * How many bytes a parser takes before it refuses one, whatever may come behind; all of them where it refuses none. They
+ * are given one by one: the place that a parser says is for some errors the byte, for others where its tag begins.
+ */
+static size_t taken_by_expat(const uint8_t *text, size_t length)
+{
+    XML_Parser parser = XML_ParserCreate(NULL);
+#if XML_MAJOR_VERSION > 2 || XML_MINOR_VERSION >= 6
+    XML_SetReparseDeferralEnabled(parser, XML_FALSE);
+#endif
+    size_t taken = 0;
+    while (taken < length && XML_Parse(parser, (const char *)text + taken, 1, 0) == XML_STATUS_OK)
+        taken++;
+    XML_ParserFree(parser);
+    return taken;
+}
+
+static size_t taken_by_libxml2(const uint8_t *text, size_t length)
+{
+    xmlSAXHandler handler = { .initialized = XML_SAX2_MAGIC };
+    xmlParserCtxtPtr parser = xmlCreatePushParserCtxt(&handler, NULL, NULL, 0, NULL);
+    xmlCtxtUseOptions(parser, XML_PARSE_NONET | XML_PARSE_NOERROR | XML_PARSE_NOWARNING | XML_PARSE_HUGE);
+    size_t taken = 0;
+    while (taken < length) {
+        xmlParseChunk(parser, (const char *)text + taken, 1, 0);
+        if (!parser->wellFormed)
+            break;
+        taken++;
+    }
+    xmlFreeParserCtxt(parser);
+    return taken;
+}
+
+/* The other parsers, in how many texts they refused a byte, and in how many it is the one behind the front. */
+static struct {
+    const char *name, *is_behind;
+    size_t (*taken)(const uint8_t *text, size_t length);
+    uint64_t places, same;
+} refusing[] = {
+    { "expat", "the front goes on behind a byte that expat refuses", taken_by_expat, 0, 0 },
+    { "libxml2", "the front goes on behind a byte that libxml2 refuses", taken_by_libxml2, 0, 0 },
+};
+
+enum { REFUSING = sizeof refusing / sizeof refusing[0] };
+
+/* The form is a part of XML: what begins no text of theirs begins none in the form. */
+static void judge_front(const uint8_t *text, size_t length, uint64_t front)
+{
+    if (front > length)
+        fail("the front goes on behind the text", text, length);
+    for (int i = 0; i < REFUSING; i++) {
+        size_t taken = refusing[i].taken(text, length);
+        if (front > taken)
+            fail(refusing[i].is_behind, text, length);
+        refusing[i].places += taken < length;
+        refusing[i].same += taken < length && front == taken;
+    }
+}
+
 static void judge(const uint8_t *text, size_t length)
 {
     struct seen *seen = calloc(1, sizeof *seen);
     bool taken = see(seen, text, length);
+    uint64_t front;
     texts++;
-    (klapouzen_check_form(text, length) == 0 ? judge_accepted : judge_refused)(seen, taken, text, length);
+    if (klapouzen_check_form(text, length, &front) == 0) {
+        judge_accepted(seen, taken, text, length);
+    } else {
+        judge_refused(seen, taken, text, length);
+        judge_front(text, length, front);
+    }
     buffer_free(&seen->tree);
     buffer_free(&seen->text);
     free(seen);
@@ -299,7 +367,8 @@ static void judge_index(const struct random_case *random)
 
 static void judge_line(const uint8_t *text, size_t length, bool in_form)
 {
-    if ((klapouzen_check_form(text, length) == 0) != in_form)
+    uint64_t front;
+    if ((klapouzen_check_form(text, length, &front) == 0) != in_form)
         fail("not as the case says", text, length);
     judge(text, length);
 }
@@ -333,9 +402,9 @@ static void judge_spelled(const struct random_case *text)
     judge_line(text->bytes[0], text->lengths[0], text->numbers[0] == 1);
 }
 
-static void judge_label(const struct random_case *label)
+static void judge_text(const struct random_case *text)
 {
-    judge(label->bytes[0], label->lengths[0]);
+    judge(text->bytes[0], text->lengths[0]);
 }
 
 static void judge_whole_index(const struct random_case *index)
@@ -347,16 +416,18 @@ static void judge_whole_index(const struct random_case *index)
 static void judge_vectors(void)
 {
     each_vector(TEXTS, judge_spelled);
-    each_vector(LABELS, judge_label);
+    each_vector(LABELS, judge_text);
     each_vector(INDEXES, judge_whole_index);
 }
 
 static void judge_random(uint64_t cases)
 {
     for (uint64_t seed = 0; seed < cases; seed++) {
-        struct random_case label = random_label(seed), index = random_index(seed);
-        judge_label(&label);
+        struct random_case form = random_form(seed), label = random_label(seed), index = random_index(seed);
+        judge_text(&form);
+        judge_text(&label);
         judge_whole_index(&index);
+        random_free(form);
         random_free(label);
         random_free(index);
     }
@@ -375,6 +446,11 @@ int main(int count, char **words)
         printf("  %-40s %" PRIu64 "\n", restriction_names[i], named[i]);
         if (named[i] == 0)
             failures++;
+    }
+    for (int i = 0; i < REFUSING; i++) {
+        printf("%" PRIu64 " bytes that %s refuses, %" PRIu64 " of them the one behind the front\n", refusing[i].places,
+               refusing[i].name, refusing[i].same);
+        failures += refusing[i].places == 0 || refusing[i].same == 0;
     }
     printf("%" PRIu64 " trees compared with expat's, %" PRIu64 " indexes with what expat and libxml2 say; %" PRIu64
            " failures\n", trees, indexes, failures);
