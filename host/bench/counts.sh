@@ -47,6 +47,8 @@ for text in flat Cyrillic kanji; do
     print_count "klapouzen_check_form, 1 MB, $text" "$form" "$form"
     print_count "  expat, with handlers that do nothing" "$(counted form_by_expat expat $text)" "$form"
 done
+count klapouzen_check_form form_broken "1 MB, flat, its last byte wrong"
+count klapouzen_read_index index_broken "1 MB, flat, its last byte wrong"
 count klapouzen_read_index padded "1 MB, flat, its numbers padded"
 count klapouzen_read_index zeros "1 MB, a number with zeros in front"
 count klapouzen_read_index signed_zeros "1 MB, a number with a sign and zeros in front"

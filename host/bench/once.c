@@ -97,6 +97,32 @@ static void given_once(void)
     expect(klapouzen_read_index(NULL, 0, WORD(SAMPLE_UUID), 'a', 'b', 4096, 'a', 5, header), KLAPOUZEN_BAD_FORM);
 }
 
+/* Its last byte can't stand there. */
+static struct buffer broken(void)
+{
+    struct buffer text = index_of_size(KLAPOUZEN_MAX_INDEX, false);
+    text.bytes[text.length - 1] = 0;
+    return text;
+}
+
+static void form_broken_once(void)
+{
+    struct buffer text = broken();
+    uint64_t front;
+    expect(klapouzen_check_form(SLICE_OF(&text), &front), KLAPOUZEN_BAD_FORM);
+    expect(front, text.length - 1);
+    buffer_free(&text);
+}
+
+static void index_broken_once(void)
+{
+    struct buffer text = broken();
+    uint64_t header[KLAPOUZEN_INDEX];
+    expect(klapouzen_read_index(SLICE_OF(&text), WORD(SAMPLE_UUID), 'a', 'b', 4096, 'a', 5, header), KLAPOUZEN_BAD_FORM);
+    expect(header[KLAPOUZEN_INDEX_FRONT], text.length - 1);
+    buffer_free(&text);
+}
+
 static void label_once(void)
 {
     uint8_t label[KLAPOUZEN_MAX_LABEL];
@@ -163,6 +189,7 @@ static const struct {
 } calls[] = {
     { "ansi", ansi_once }, { "given", given_once }, { "label", label_once },
     { "smallest", smallest_once }, { "respelled", respelled_once },
+    { "form_broken", form_broken_once }, { "index_broken", index_broken_once },
     { "padded", padded_once }, { "zeros", zeros_once }, { "signed_zeros", signed_zeros_once },
     { "blocks", blocks_once }, { "unreadable", unreadable_once }, { "data", data_once }, { "holed", holed_once },
 };

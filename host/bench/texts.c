@@ -24,7 +24,8 @@ static void need(bool holds, const char *what)
 void form_by_library(const void *input)
 {
     const struct buffer *text = input;
-    need(klapouzen_check_form(text->bytes, text->length) == 0, "the form check");
+    uint64_t front;
+    need(klapouzen_check_form(text->bytes, text->length, &front) == 0, "the form check");
 }
 
 static void XMLCALL no_start(void *data, const XML_Char *name, const XML_Char **attributes)

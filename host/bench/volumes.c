@@ -13,7 +13,7 @@
 
 static void run_labels(const void *input)
 {
-    uint64_t out[KLAPOUZEN_LABEL];
+    uint64_t out[KLAPOUZEN_LABELS];
     if (klapouzen_check_labels(SAMPLE((const struct sample *)input), out) != 0)
         exit(1);
 }
