@@ -41,7 +41,8 @@ static const struct functions sides[2] = {
 
 /* ---- Answers ---- */
 
-enum { NUMBERS = 20, LENT = 4096, ROWS = 512, ENTRIES = 720, REFUSALS = KLAPOUZEN_UNREADABLE_BLOCK + 1 };
+/* A number more than any function hands out. */
+enum { NUMBERS = KLAPOUZEN_CHOSEN + 1, LENT = 4096, ROWS = 512, ENTRIES = 720, REFUSALS = KLAPOUZEN_UNREADABLE_BLOCK + 1 };
 
 struct answer {
     uint64_t refusal;
@@ -692,16 +693,16 @@ enum { ENOUGH = 1000 };
 static uint64_t print_fronts(void)
 {
     uint64_t never = both_labels == 0;
-    printf("; fronts:");
+    printf("; refused 4:");
     for (int i = 0; i < FRONTS; i++) {
         printf(" %s %" PRIu64, fronts[i].function, fronts[i].times[0]);
         never += fronts[i].times[0] == 0;
         if (fronts[i].side > 0) {
-            printf("+%" PRIu64, fronts[i].times[1]);
+            printf(" (data side %" PRIu64 ")", fronts[i].times[1]);
             never += fronts[i].times[1] == 0;
         }
     }
-    printf(", %" PRIu64 " volumes with both labels outside", both_labels);
+    printf(", both labels of %" PRIu64 " volumes outside the form", both_labels);
     return never;
 }
 

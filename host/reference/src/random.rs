@@ -1005,7 +1005,7 @@ impl Writer<'_> {
         if self.fault() {
             match self.random.one_in(2) {
                 true => damage_text(self.random, &mut text),
-                false => lose_form(self.random, &mut text),
+                false => spoil_text(self.random, &mut text),
             }
         }
         let mut construct = self.construct_of(text, on_data || self.is_last);
@@ -1234,16 +1234,18 @@ fn break_labels(random: &mut Random, index: &mut TapeSide, data: &mut TapeSide) 
     };
     for side in sides {
         if let Some(text) = side.elements.get_mut(2).and_then(TapeElement::bytes_mut) {
-            lose_form(random, text);
+            spoil_text(random, text);
         }
     }
 }
 
 /// The text broken, or any other in its place; a block has a byte at least.
-fn lose_form(random: &mut Random, text: &mut Vec<u8>) {
-    match random.one_in(3) {
-        true => *text = form_text(random),
-        false => break_text(random, text),
+fn spoil_text(random: &mut Random, text: &mut Vec<u8>) {
+    match random.below(6) {
+        0 | 1 => *text = form_text(random),
+        // In the form, but of other elements.
+        2 => *text = document(random, &Node::value("a", "")),
+        _ => break_text(random, text),
     }
     if text.is_empty() {
         text.push(b'<');
