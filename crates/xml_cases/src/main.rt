@@ -69,4 +69,5 @@ fn run(path: &[u8]) {
 fn main() {
     run(b"cases");
     run(b"vectors");
+    run(b"fronts");
 }
