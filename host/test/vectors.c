@@ -264,6 +264,7 @@ static const struct vector_file {
     { ROW_LISTS, LINES, "../crates/extents_cases/stdin", read_row_line },
     { TEXTS, LINES, "../crates/xml_cases/data/cases", read_text_line },
     { TEXTS, LINES, "../crates/xml_cases/data/vectors", read_text_line },
+    { TEXTS, LINES, "../crates/xml_cases/data/fronts", read_text_line },
     { ANSI_TAPES, CASES, "../crates/ansi_cases/data/vectors", read_ansi },
     { ANSI_PLACES, CASES, "../crates/ansi_cases/data/places", read_ansi_place },
     { ANSI_PLACES, CASES, "../crates/ansi_cases/data/unreadable", read_ansi_place },
