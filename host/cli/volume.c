@@ -238,7 +238,7 @@ static struct bytes read_data_uuid(const struct volume *volume)
 
 uint64_t read_labels(const struct volume *volume, struct label *label)
 {
-    uint64_t out[KLAPOUZEN_LABEL];
+    uint64_t out[KLAPOUZEN_LABELS];
     uint64_t refusal = klapouzen_check_labels(VOLUME(volume), out);
     *label = (struct label){ 0 };
     if (refusal != 0)
