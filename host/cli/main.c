@@ -1,5 +1,6 @@
 /* klapouzen: the command line. */
 #include <errno.h>
+#include <locale.h>
 #include <pthread.h>
 #include <signal.h>
 #include <stdio.h>
@@ -127,5 +128,7 @@ int main(int count, char **words)
     struct work work = { .count = count, .words = words };
     /* A file past a limit is an error of writing, not the end of the program. */
     signal(SIGXFSZ, SIG_IGN);
+    /* For how wide a character is drawn, and for nothing else: what is read and written is bytes. */
+    setlocale(LC_CTYPE, "C.UTF-8");
     return work_on_thread(&work);
 }

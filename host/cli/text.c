@@ -3,6 +3,7 @@
 #include <inttypes.h>
 #include <stdlib.h>
 #include <string.h>
+#include <wchar.h>
 
 #include "common.h"
 
@@ -61,6 +62,26 @@ bool is_utf8(struct bytes text)
         text = rest_of(text, next.taken);
     }
     return all;
+}
+
+size_t count_characters(struct bytes text)
+{
+    size_t count = 0;
+    while (text.length > 0) {
+        text = rest_of(text, next_character(text).taken);
+        count++;
+    }
+    return count;
+}
+
+struct bytes character_at(struct bytes text, size_t byte)
+{
+    size_t begin = 0, end = 0;
+    while (end <= byte && end < text.length) {
+        begin = end;
+        end += next_character(rest_of(text, end)).taken;
+    }
+    return end > byte ? part_of(text, begin, end - begin) : part_of(text, end, 0);
 }
 
 /* What a terminal obeys, or shows nothing for, or XML has no place for. */
@@ -161,15 +182,21 @@ void print_json_name(FILE *out, const char *key, struct bytes text)
 
 /* ---- Columns ---- */
 
-/* As most fonts draw it: letters from East Asia and pictures are twice as wide. */
+/*
+ * As terminals draw it, by the C library's table of characters: a letter from East Asia or a picture takes two, an accent
+ * that is a character of its own none. Without a table all from these letters on take two.
+ */
 static size_t columns_of(struct character character)
 {
     if (is_unseen(character))
         return character.is_byte || character.code < 0x80 ? 4 : character.code > 0xffff ? 10 : 6;
-    return character.code == '\\' || character.code >= 0x1100 ? 2 : 1;
+    if (character.code == '\\')
+        return 2;
+    int columns = wcwidth((wchar_t)character.code);
+    return columns >= 0 ? (size_t)columns : character.code >= 0x1100 ? 2 : 1;
 }
 
-static size_t all_columns(struct bytes text)
+size_t all_columns(struct bytes text)
 {
     size_t all = 0;
     while (text.length > 0) {
@@ -196,6 +223,20 @@ struct bytes last_columns(struct bytes text, size_t columns)
         text = rest_of(text, next.taken);
     }
     return text;
+}
+
+struct bytes first_columns(struct bytes text, size_t columns)
+{
+    struct bytes rest = text;
+    size_t all = 0;
+    while (rest.length > 0) {
+        struct character next = next_character(rest);
+        all += columns_of(next);
+        if (all > columns)
+            break;
+        rest = rest_of(rest, next.taken);
+    }
+    return part_of(text, 0, text.length - rest.length);
 }
 
 /* ---- Comparing and counting ---- */

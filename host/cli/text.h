@@ -31,13 +31,23 @@ void print_json(FILE *out, struct bytes text);
 
 bool is_utf8(struct bytes text);
 
+/* How many characters a text has; a byte that is no UTF-8 counts as one. */
+size_t count_characters(struct bytes text);
+
+/* The character that has this byte of a text, or the byte alone; behind the last byte an empty one. */
+struct bytes character_at(struct bytes text, size_t byte);
+
 /* `"key":"text"`, and where that would lose bytes, being no UTF-8, `,"key_bytes":"hex"`. */
 void print_json_name(FILE *out, const char *key, struct bytes text);
 
 /* To a terminal, filled up with spaces to so many columns. */
 void print_padded(FILE *out, struct bytes text, size_t columns);
 
-/* The end of a text that takes at most so many columns where it is printed. */
+/* How many columns a text takes where it is printed. */
+size_t all_columns(struct bytes text);
+
+/* The front, and the end, of a text that takes at most so many. */
+struct bytes first_columns(struct bytes text, size_t columns);
 struct bytes last_columns(struct bytes text, size_t columns);
 
 /* Whether two texts have the same bytes. */
