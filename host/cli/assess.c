@@ -17,6 +17,20 @@ void assess_lists(const struct volume *volume, struct assessment *found)
     }
 }
 
+/* The breaks that name something. */
+enum { IN_DATA_CHAIN = 3, AT_LAST_INDEX = 4, NOT_ON_TAPE = 5 };
+
+static struct refused find_broken_index(const struct volume *volume, const struct assessment *found)
+{
+    int side = found->verdict[KLAPOUZEN_BREAK_WHICH] == IN_DATA_CHAIN ? DATA : INDEX;
+    struct constructs *standing = allocate(sizeof *standing);
+    read_constructs(&volume->sides[side], found->label.block_size, standing);
+    const uint32_t *row = construct_row(standing, found->verdict[KLAPOUZEN_BREAK_NUMBER]);
+    struct place place = construct_place(volume, &found->label, side, row);
+    free(standing);
+    return index_refused(&found->label, &place);
+}
+
 void assess(const struct volume *volume, struct assessment *found)
 {
     assess_lists(volume, found);
@@ -24,7 +38,15 @@ void assess(const struct volume *volume, struct assessment *found)
     if (found->refusal != 0)
         return;
     klapouzen_verdict(VOLUME(volume), found->verdict);
+    if (names_index(found))
+        found->broken_index = find_broken_index(volume, found);
     found->has_cut = klapouzen_rescue(VOLUME(volume), found->cut) == 0;
+}
+
+bool names_index(const struct assessment *found)
+{
+    uint64_t which = found->verdict[KLAPOUZEN_BREAK_WHICH];
+    return which == IN_DATA_CHAIN || which == AT_LAST_INDEX;
 }
 
 bool is_consistent(const struct assessment *found)
@@ -70,7 +92,6 @@ static void read_last(const struct volume *volume, const struct label *label, st
 bool find_broken_file(const struct volume *volume, const struct assessment *found, struct contents *contents,
                       uint64_t *entry)
 {
-    enum { NOT_ON_TAPE = 5 };
     if (found->refusal != 0 || found->verdict[KLAPOUZEN_BREAK_WHICH] != NOT_ON_TAPE)
         return false;
     read_last(volume, &found->label, contents);
@@ -81,7 +102,7 @@ static void print_assessed_verdict(FILE *out, const struct volume *volume, const
 {
     struct contents contents;
     uint64_t entry;
-    print_verdict(out, found->verdict);
+    print_verdict(out, found->verdict, &found->broken_index);
     if (!find_broken_file(volume, found, &contents, &entry))
         return;
     fputs(": ", out);

@@ -8,6 +8,7 @@ struct assessment {
     uint64_t refusal; /* of the labels; the rest holds where it is 0 */
     struct label label;
     uint64_t verdict[KLAPOUZEN_BREAK];
+    struct refused broken_index; /* that break 3 or 4 names; number 0 where it is sound, or none is named */
     bool has_cut;
     uint64_t cut[KLAPOUZEN_CUT];
     uint64_t elements[2];   /* of each list */
@@ -23,6 +24,9 @@ void assess_lists(const struct volume *volume, struct assessment *found);
 bool is_consistent(const struct assessment *found);
 
 bool has_unreadable(const struct assessment *found);
+
+/* Whether the verdict names an index, by the number of its construct. */
+bool names_index(const struct assessment *found);
 
 /* Elements kept of a side by the cut; all where there is none. */
 uint64_t kept_elements(const struct assessment *found, int side);

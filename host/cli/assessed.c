@@ -2,6 +2,7 @@
 
 #include <inttypes.h>
 
+#include "text_place.h"
 #include "words.h"
 
 void print_assessed(const struct volume *volume, const struct assessment *found)
@@ -30,16 +31,29 @@ void print_assessed(const struct volume *volume, const struct assessment *found)
 
 /* ---- JSON ---- */
 
+/* With 4: where the text goes wrong. */
+static void print_json_place(const struct refused *refused)
+{
+    if (refused->number != KLAPOUZEN_BAD_FORM)
+        return;
+    fputs(",\"place\":{", stdout);
+    print_json_text_place(stdout, refused->text, refused->front);
+    putchar('}');
+}
+
 static void print_json_refusal(const struct volume *volume, uint64_t refusal)
 {
     struct origin origin = origin_of(volume, refusal);
+    struct refused refused = volume_refused(volume);
     printf(",\"verdict\":\"refused\",\"refusal\":{\"number\":%" PRIu64 ",\"text\":\"%s\","
-           "\"side\":\"%s\",\"file\":\"%s\"}",
+           "\"side\":\"%s\",\"file\":\"%s\"",
            refusal, klapouzen_refusal_text(refusal), origin.side, origin.file);
+    print_json_place(&refused);
+    putchar('}');
 }
 
 /* Of an ANSI labelled tape: its identifier, its files, and where it is refused as such. */
-static void print_json_ansi(const struct volume *volume, uint64_t refusal)
+void print_json_ansi(const struct volume *volume, uint64_t refusal)
 {
     struct ansi_tape tape;
     if (!is_ansi(volume, refusal, &tape))
@@ -65,6 +79,22 @@ static void print_json_labels(const struct label *label)
     print_json(stdout, label->data_uuid);
 }
 
+/* Of break 3 and 4: why the index is not sound; null where it is. */
+static void print_json_broken_index(const struct assessment *found)
+{
+    const struct refused *index = &found->broken_index;
+    if (!names_index(found))
+        return;
+    if (index->number == 0) {
+        fputs(",\"refusal\":null", stdout);
+        return;
+    }
+    printf(",\"refusal\":{\"number\":%" PRIu64 ",\"text\":\"%s\"", index->number,
+           klapouzen_refusal_text(index->number));
+    print_json_place(index);
+    putchar('}');
+}
+
 static void print_json_verdict(const struct volume *volume, const struct assessment *found)
 {
     struct contents contents;
@@ -75,8 +105,9 @@ static void print_json_verdict(const struct volume *volume, const struct assessm
     }
     printf(",\"verdict\":\"break\",\"break\":{\"which\":%" PRIu64 ",\"number\":%" PRIu64 ",\"text\":\"",
            found->verdict[KLAPOUZEN_BREAK_WHICH], found->verdict[KLAPOUZEN_BREAK_NUMBER]);
-    print_break(stdout, found->verdict);
+    print_break(stdout, found->verdict, &found->broken_index);
     putchar('"');
+    print_json_broken_index(found);
     if (find_broken_file(volume, found, &contents, &entry)) {
         fputs(",\"path\":", stdout);
         print_json(stdout, path_of(&contents, entry));

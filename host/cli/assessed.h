@@ -8,4 +8,7 @@
 void print_assessed(const struct volume *volume, const struct assessment *found);
 void print_assessed_json(const struct volume *volume, const struct assessment *found);
 
+/* `,"ansi":{..}` of an ANSI labelled tape, whose labels are refused as an LTFS volume's; else nothing. */
+void print_json_ansi(const struct volume *volume, uint64_t refusal);
+
 #endif

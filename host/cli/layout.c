@@ -97,7 +97,8 @@ static void read_segment(struct segment *segment, const struct volume *volume,
                          const struct label *label, int side, const uint32_t *row)
 {
     struct place place = construct_place(volume, label, side, row);
-    segment->refusal = read_index_at(label, &place, segment->header);
+    uint64_t number = read_index_at(label, &place, segment->header);
+    segment->refused = (struct refused){ number, place.text, segment->header[KLAPOUZEN_INDEX_FRONT] };
 }
 
 static void read_standing(struct layout *layout, const struct volume *volume,
@@ -151,7 +152,7 @@ enum look look_of(const struct segment *segment)
     case LABELS:
         return LOOKS_LABELS;
     default:
-        return segment->stands && segment->refusal == 0 ? LOOKS_INDEX : LOOKS_UNSOUND;
+        return segment->stands && segment->refused.number == 0 ? LOOKS_INDEX : LOOKS_UNSOUND;
     }
 }
 

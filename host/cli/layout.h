@@ -19,7 +19,7 @@ struct segment {
     bool is_closed;           /* an index run with its closing mark */
     bool stands;
     uint64_t construct;       /* its number where it stands */
-    uint64_t refusal;         /* of its index */
+    struct refused refused;   /* its index, number 0 where it is sound */
     uint64_t header[KLAPOUZEN_INDEX];
 };
 

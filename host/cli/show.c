@@ -83,16 +83,22 @@ static void print_bar(const struct layout *layout, uint64_t kept)
 
 /* ---- The lines ---- */
 
+static void print_index_refusal(const struct segment *segment)
+{
+    fputs(colour_code(stdout, RED), stdout);
+    print_text_refusal(stdout, &segment->refused);
+    fputs(colour_code(stdout, PLAIN), stdout);
+    if (segment->refused.number != KLAPOUZEN_UNREADABLE_BLOCK)
+        return;
+    printf(", %s of ", grouped(segment->unreadable));
+    print_counted(stdout, segment->blocks, "block", "blocks");
+}
+
 static void print_index(const struct segment *segment)
 {
     const uint64_t *header = segment->header;
-    if (segment->refusal != 0) {
-        printf("%srefused %" PRIu64 "%s: %s", colour_code(stdout, RED), segment->refusal,
-               colour_code(stdout, PLAIN), klapouzen_refusal_text(segment->refusal));
-        if (segment->refusal == KLAPOUZEN_UNREADABLE_BLOCK) {
-            printf(", %s of ", grouped(segment->unreadable));
-            print_counted(stdout, segment->blocks, "block", "blocks");
-        }
+    if (segment->refused.number != 0) {
+        print_index_refusal(segment);
         return;
     }
     printf("generation %" PRIu64 ", ", header[KLAPOUZEN_INDEX_GENERATION]);
@@ -204,23 +210,63 @@ static bool is_shown(const struct layout *layout, size_t i, uint64_t kept, bool 
         || (layout->defect.what != NULL && is_near(layout, i, layout->defect.element));
 }
 
+/* How many runs from i on are left out. */
+static size_t count_left_out(const struct layout *layout, size_t i, uint64_t kept)
+{
+    size_t count = 0;
+    while (i + count < layout->count && !is_shown(layout, i + count, kept, false))
+        count++;
+    return count;
+}
+
+/* How many index runs that are not sound have each refusal; those with none do not stand. */
+struct unsound {
+    size_t all, by_refusal[KLAPOUZEN_UNREADABLE_BLOCK + 1];
+};
+
+static void count_unsound(struct unsound *unsound, const struct segment *segments, size_t count)
+{
+    for (size_t i = 0; i < count; i++) {
+        if (look_of(&segments[i]) != LOOKS_UNSOUND)
+            continue;
+        unsound->all++;
+        unsound->by_refusal[segments[i].refused.number]++;
+    }
+}
+
+/* "2 refused 4, 1 refused 19, 3 do not stand" */
+static void print_unsound(const struct unsound *unsound)
+{
+    const char *between = "";
+    for (int refusal = 1; refusal <= KLAPOUZEN_UNREADABLE_BLOCK; refusal++) {
+        if (unsound->by_refusal[refusal] == 0)
+            continue;
+        printf("%s%s refused %d", between, grouped(unsound->by_refusal[refusal]), refusal);
+        between = ", ";
+    }
+    if (unsound->by_refusal[0] == 0)
+        return;
+    fputs(between, stdout);
+    print_counted(stdout, unsound->by_refusal[0], "does not stand", "do not stand");
+}
+
 /* The runs from i on that are left out; answers how many. */
 static size_t print_left_out(const struct layout *layout, size_t i, uint64_t kept)
 {
-    size_t count = 0, unsound = 0;
-    uint64_t unreadable = 0;
-    while (i + count < layout->count && !is_shown(layout, i + count, kept, false)) {
-        unsound += look_of(&layout->segments[i + count]) == LOOKS_UNSOUND;
-        unreadable += layout->segments[i + count].unreadable;
-        count++;
-    }
+    size_t count = count_left_out(layout, i, kept);
+    const struct segment *first = &layout->segments[i], *last = first + count - 1;
+    uint64_t unreadable = unreadable_between(layout, first->first, last->first + last->elements);
+    struct unsound unsound = { 0 };
+    count_unsound(&unsound, first, count);
     printf("%s  %11s  ", colour_code(stdout, DIM), "...");
     print_counted(stdout, count, "run", "runs");
     fputs(" more", stdout);
-    if (unsound > 0)
-        printf(", %s of them not sound", grouped(unsound));
+    if (unsound.all > 0) {
+        printf(", %s of them not sound: ", grouped(unsound.all));
+        print_unsound(&unsound);
+    }
     if (unreadable > 0) {
-        fputs(", ", stdout);
+        fputs(unsound.all > 0 ? "; " : ", ", stdout);
         print_counted(stdout, unreadable, "unreadable block", "unreadable blocks");
     }
     printf("; --all shows them%s\n", colour_code(stdout, PLAIN));
@@ -280,12 +326,38 @@ static void print_labels(const struct label *label)
            label->compression ? "on" : "off");
 }
 
+/* Where a text that is refused is looked at. */
+static void print_see_why(const struct volume *volume)
+{
+    fputs("; see klapouzen why ", stdout);
+    print_bytes(stdout, bytes_of(volume->folder));
+}
+
+/* The indexes that stand and are not sound, where there are any. */
+static void print_unsound_indexes(const struct volume *volume, const struct layout layouts[2])
+{
+    struct unsound unsound = { 0 };
+    for (int side = INDEX; side <= DATA; side++)
+        count_unsound(&unsound, layouts[side].segments, layouts[side].count);
+    size_t standing = unsound.all - unsound.by_refusal[0];
+    unsound.by_refusal[0] = 0;
+    if (standing == 0)
+        return;
+    putchar('\n');
+    print_counted(stdout, standing, "index is not sound: ", "indexes are not sound: ");
+    print_unsound(&unsound);
+    print_see_why(volume);
+    putchar('\n');
+}
+
 static void print_head(const struct volume *volume, const struct assessment *found)
 {
     print_bytes(stdout, bytes_of(volume->folder));
     putchar('\n');
     if (found->refusal != 0) {
         print_refusal(stdout, TO_TERMINAL, volume, found->refusal);
+        if (found->refusal == KLAPOUZEN_BAD_FORM)
+            print_see_why(volume);
         putchar('\n');
         return;
     }
@@ -317,8 +389,10 @@ static int show(const struct volume *volume, const void *data)
         print_side_head(volume, &found, &layouts[side], side);
         print_bar(&layouts[side], kept);
         print_segments(&layouts[side], kept, wish->all);
-        layout_free(&layouts[side]);
     }
+    print_unsound_indexes(volume, layouts);
+    for (int side = INDEX; side <= DATA; side++)
+        layout_free(&layouts[side]);
     return !drawn ? FAILED : found.refusal != 0 ? NOT_SO : DONE;
 }
 

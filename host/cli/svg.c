@@ -81,7 +81,7 @@ static void put_head(const struct picture *picture)
     }
     put_labels(out, &found->label);
     begin_text(out, MARGIN, 88, "text");
-    print_verdict(out, found->verdict);
+    print_verdict(out, found->verdict, &found->broken_index);
     end_text(out);
     begin_text(out, MARGIN, 109, "text");
     print_cut_clause(out, found);
@@ -110,8 +110,8 @@ static void caption_of(char text[CAPTION], const struct segment *segment)
                  segment->blocks == 1 ? "" : "s");
     else if (!segment->stands)
         snprintf(text, CAPTION, segment->is_closed ? "no index" : "open");
-    else if (segment->refusal != 0)
-        snprintf(text, CAPTION, "refused %" PRIu64, segment->refusal);
+    else if (segment->refused.number != 0)
+        snprintf(text, CAPTION, "refused %" PRIu64, segment->refused.number);
     else
         snprintf(text, CAPTION, "gen %" PRIu64, segment->header[KLAPOUZEN_INDEX_GENERATION]);
 }
@@ -344,7 +344,7 @@ static const struct segment *arrow_end(const struct track *track, const struct d
 static const struct drawn *target_of(const struct picture *picture, const struct segment *segment)
 {
     const struct track *data = &picture->tracks[DATA];
-    if (segment == NULL || !segment->stands || segment->refusal != 0
+    if (segment == NULL || !segment->stands || segment->refused.number != 0
         || !segment->header[KLAPOUZEN_INDEX_HAS_BACK]
         || segment->header[KLAPOUZEN_INDEX_BACK_LETTER] != picture->found->label.letters[DATA])
         return NULL;

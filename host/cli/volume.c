@@ -206,20 +206,19 @@ bool unreadable_at(const struct unreadable *unreadable, uint64_t element)
 
 /* ---- Asking the library ---- */
 
-struct bytes block_of(const struct volume *volume, int side, uint64_t number)
+struct bytes block_of(const struct side *side, uint64_t number)
 {
-    /* The letters only name the sides here. */
+    /* As the index side of a tape that has no other, so that the other side's list can't refuse it. */
     uint64_t out[KLAPOUZEN_BLOCK];
-    if (klapouzen_block(VOLUME(volume), 'a', 'b', side == INDEX ? 'a' : 'b', number, out) != 0)
+    if (klapouzen_block(SIDE(side), NULL, 0, NULL, 0, 'a', 'b', 'a', number, out) != 0)
         return (struct bytes){ NULL, 0 };
-    return part_of(volume->sides[side].store, out[KLAPOUZEN_BLOCK_OFFSET],
-                   out[KLAPOUZEN_BLOCK_LENGTH]);
+    return part_of(side->store, out[KLAPOUZEN_BLOCK_OFFSET], out[KLAPOUZEN_BLOCK_LENGTH]);
 }
 
 static void read_vol1(const struct volume *volume, struct label *label)
 {
     uint64_t out[KLAPOUZEN_VOL1];
-    struct bytes block = block_of(volume, INDEX, 0);
+    struct bytes block = block_of(&volume->sides[INDEX], VOL1_ELEMENT);
     klapouzen_read_vol1(SLICE(block), out);
     label->identifier = part_of(block, out[KLAPOUZEN_VOL1_IDENTIFIER],
                                 out[KLAPOUZEN_VOL1_IDENTIFIER_LENGTH]);
@@ -229,9 +228,8 @@ static void read_vol1(const struct volume *volume, struct label *label)
 /* Of labels that agree. */
 static struct bytes read_data_uuid(const struct volume *volume)
 {
-    enum { LABEL_ELEMENT = 2 };
     uint64_t out[KLAPOUZEN_LABEL];
-    struct bytes block = block_of(volume, DATA, LABEL_ELEMENT);
+    struct bytes block = block_of(&volume->sides[DATA], LABEL_ELEMENT);
     klapouzen_read_label(SLICE(block), out);
     return part_of(block, out[KLAPOUZEN_LABEL_UUID], out[KLAPOUZEN_LABEL_UUID_LENGTH]);
 }
@@ -289,7 +287,16 @@ uint64_t read_index_at(const struct label *label, const struct place *place,
                        uint64_t header[KLAPOUZEN_INDEX])
 {
     /* The row of a construct with an unreadable block is told by this alone. */
-    if (place->text.length == 0)
+    if (place->text.length == 0) {
+        memset(header, 0, KLAPOUZEN_INDEX * sizeof *header);
         return KLAPOUZEN_UNREADABLE_BLOCK;
+    }
     return klapouzen_read_index(INDEX_AT(label, place), header);
+}
+
+struct refused index_refused(const struct label *label, const struct place *place)
+{
+    uint64_t header[KLAPOUZEN_INDEX];
+    uint64_t number = read_index_at(label, place, header);
+    return (struct refused){ number, place->text, header[KLAPOUZEN_INDEX_FRONT] };
 }

@@ -78,8 +78,18 @@ uint32_t unreadable_before(const struct unreadable *unreadable, uint64_t element
 
 bool unreadable_at(const struct unreadable *unreadable, uint64_t element);
 
-/* The block with this element number on one side; empty where there is none. */
-struct bytes block_of(const struct volume *volume, int side, uint64_t number);
+/* The block with this element number; empty where there is none, or the list is malformed. */
+struct bytes block_of(const struct side *side, uint64_t number);
+
+/* The blocks of a partition's labels. */
+enum { VOL1_ELEMENT = 0, LABEL_ELEMENT = 2, LABEL_ELEMENTS = 4 };
+
+/* Why a text is refused, number 0 where it isn't; with 4 the front tells where. */
+struct refused {
+    uint64_t number;
+    struct bytes text;
+    uint64_t front;
+};
 
 /* What the labels of a volume say. */
 struct label {
@@ -128,5 +138,8 @@ struct place construct_place(const struct volume *volume, const struct label *la
 /* The refusal of the index at the place of a construct, or 0 and its header; as klapouzen_index has it. */
 uint64_t read_index_at(const struct label *label, const struct place *place,
                        uint64_t header[KLAPOUZEN_INDEX]);
+
+/* The same without the header. */
+struct refused index_refused(const struct label *label, const struct place *place);
 
 #endif

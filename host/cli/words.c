@@ -6,6 +6,7 @@
 #include <unistd.h>
 
 #include "common.h"
+#include "text_place.h"
 
 /* ---- Colour ---- */
 
@@ -29,8 +30,6 @@ const char *colour_code(FILE *out, enum colour colour)
 
 /* ---- Refusals and verdicts ---- */
 
-enum { LABEL_ELEMENTS = 4 };
-
 /*
  * Of a list that the library took: the first element that is not as the labels' block, mark, block, mark, and whether
  * it is an unreadable block; LABEL_ELEMENTS where all four are.
@@ -50,21 +49,24 @@ static int wrong_label_element(struct bytes list, bool *is_unreadable)
     return LABEL_ELEMENTS;
 }
 
-static bool side_refuses(const struct volume *volume, int side, uint64_t refusal)
+/* A side as both sides of a volume: what is refused there but that the two are one is this side's. */
+struct refused labels_refused(const struct side *side)
 {
-    const struct side *tape = &volume->sides[side];
-    uint64_t out[KLAPOUZEN_LABEL];
-    bool is_unreadable;
-    switch (refusal) {
-    case KLAPOUZEN_BAD_LIST:
-        return klapouzen_check_list(SIDE(tape), out) == refusal;
-    case KLAPOUZEN_NO_LABELS:
-        return wrong_label_element(tape->list, &is_unreadable) < LABEL_ELEMENTS;
-    case KLAPOUZEN_BAD_VOL1:
-        return klapouzen_read_vol1(SLICE(block_of(volume, side, 0)), out) == refusal;
-    default:
-        return klapouzen_read_label(SLICE(block_of(volume, side, 2)), out) == refusal;
-    }
+    uint64_t out[KLAPOUZEN_LABELS];
+    uint64_t number = klapouzen_check_labels(SIDE(side), SIDE(side), out);
+    return (struct refused){
+        .number = number == KLAPOUZEN_DISAGREEMENT ? 0 : number,
+        .text = block_of(side, LABEL_ELEMENT),
+        .front = out[KLAPOUZEN_LABEL_FRONT],
+    };
+}
+
+struct refused volume_refused(const struct volume *volume)
+{
+    uint64_t out[KLAPOUZEN_LABELS];
+    uint64_t number = klapouzen_check_labels(VOLUME(volume), out);
+    const struct side *side = &volume->sides[out[KLAPOUZEN_LABELS_SIDE]];
+    return (struct refused){ number, block_of(side, LABEL_ELEMENT), out[KLAPOUZEN_LABEL_FRONT] };
 }
 
 /* "data.list", or "data.list, element 2 is unreadable" where that is why there are no labels; until the next call. */
@@ -79,6 +81,22 @@ static const char *list_without_labels(const struct side *side)
     return text;
 }
 
+struct origin origin_on(const struct volume *volume, int side, uint64_t refusal)
+{
+    const struct side *tape = &volume->sides[side];
+    bool index = side == INDEX;
+    switch (refusal) {
+    case KLAPOUZEN_BAD_LIST:
+        return (struct origin){ tape->name, index ? "index.list with index.store" : "data.list with data.store" };
+    case KLAPOUZEN_NO_LABELS:
+        return (struct origin){ tape->name, list_without_labels(tape) };
+    case KLAPOUZEN_BAD_VOL1:
+        return (struct origin){ tape->name, index ? "index.store, element 0" : "data.store, element 0" };
+    default:
+        return (struct origin){ tape->name, index ? "index.store, element 2" : "data.store, element 2" };
+    }
+}
+
 /* The index side is looked at first, as the library does. */
 struct origin origin_of(const struct volume *volume, uint64_t refusal)
 {
@@ -86,18 +104,13 @@ struct origin origin_of(const struct volume *volume, uint64_t refusal)
         return (struct origin){ "both", "index.store and data.store, the labels" };
     if (refusal == KLAPOUZEN_NO_CUT)
         return (struct origin){ "both", "index.list and data.list" };
-    bool index = side_refuses(volume, INDEX, refusal);
-    const char *side = index ? "index" : "data";
-    switch (refusal) {
-    case KLAPOUZEN_BAD_LIST:
-        return (struct origin){ side, index ? "index.list with index.store" : "data.list with data.store" };
-    case KLAPOUZEN_NO_LABELS:
-        return (struct origin){ side, list_without_labels(&volume->sides[index ? INDEX : DATA]) };
-    case KLAPOUZEN_BAD_VOL1:
-        return (struct origin){ side, index ? "index.store, element 0" : "data.store, element 0" };
-    default:
-        return (struct origin){ side, index ? "index.store, element 2" : "data.store, element 2" };
-    }
+    bool index = labels_refused(&volume->sides[INDEX]).number == refusal;
+    return origin_on(volume, index ? INDEX : DATA, refusal);
+}
+
+void print_origin(FILE *out, struct origin origin)
+{
+    fprintf(out, "%s side%s: %s", origin.side, strcmp(origin.side, "both") == 0 ? "s" : "", origin.file);
 }
 
 bool is_ansi(const struct volume *volume, uint64_t refusal, struct ansi_tape *tape)
@@ -129,6 +142,15 @@ static void print_ansi(FILE *out, enum form form, const struct volume *volume,
     print_text(out, form, bytes_of(volume->folder));
 }
 
+void print_text_refusal(FILE *out, const struct refused *refused)
+{
+    fprintf(out, "refused %" PRIu64 ": %s", refused->number, klapouzen_refusal_text(refused->number));
+    if (refused->number != KLAPOUZEN_BAD_FORM)
+        return;
+    fputs(" at ", out);
+    print_text_place(out, refused->text, refused->front);
+}
+
 void print_refusal(FILE *out, enum form form, const struct volume *volume, uint64_t refusal)
 {
     struct ansi_tape tape;
@@ -137,9 +159,14 @@ void print_refusal(FILE *out, enum form form, const struct volume *volume, uint6
         ansi_close(&tape);
         return;
     }
-    struct origin origin = origin_of(volume, refusal);
-    fprintf(out, "refused %" PRIu64 ": %s (%s side%s: %s)", refusal, klapouzen_refusal_text(refusal),
-            origin.side, strcmp(origin.side, "both") == 0 ? "s" : "", origin.file);
+    fprintf(out, "refused %" PRIu64 ": %s (", refusal, klapouzen_refusal_text(refusal));
+    print_origin(out, origin_of(volume, refusal));
+    if (refusal == KLAPOUZEN_BAD_FORM) {
+        struct refused refused = volume_refused(volume);
+        fputs(", ", out);
+        print_text_place(out, refused.text, refused.front);
+    }
+    fputc(')', out);
 }
 
 void complain_list(const struct volume *volume)
@@ -167,7 +194,17 @@ void complain_construct(const struct volume *volume, int side, uint64_t construc
              volume->folder, refusal, klapouzen_refusal_text(refusal), name, name, construct);
 }
 
-void print_break(FILE *out, const uint64_t verdict[KLAPOUZEN_BREAK])
+/* The end of a sentence on an index: that it is not sound and why, or that it is but. */
+static void print_unsound(FILE *out, const struct refused *index, const char *but)
+{
+    fputs(index->number != 0 ? " is not sound: " : " is sound but ", out);
+    if (index->number != 0)
+        print_text_refusal(out, index);
+    else
+        fputs(but, out);
+}
+
+void print_break(FILE *out, const uint64_t verdict[KLAPOUZEN_BREAK], const struct refused *index)
 {
     uint64_t number = verdict[KLAPOUZEN_BREAK_NUMBER];
     switch (verdict[KLAPOUZEN_BREAK_WHICH]) {
@@ -178,19 +215,19 @@ void print_break(FILE *out, const uint64_t verdict[KLAPOUZEN_BREAK])
         fputs("the data partition does not end with a whole index", out);
         break;
     case 3:
-        fprintf(out, "index %" PRIu64 " of the data partition is unsound or breaks the chain of"
-                     " back pointers", number);
+        fprintf(out, "index %" PRIu64 " of the data partition", number);
+        print_unsound(out, index, "breaks the chain");
         break;
     case 4:
-        fprintf(out, "the last index of the index partition, index %" PRIu64 ", is unsound or does"
-                     " not follow the data partition's last", number);
+        fprintf(out, "the last index of the index partition, index %" PRIu64 ",", number);
+        print_unsound(out, index, "does not follow the data partition's last");
         break;
     default:
         fprintf(out, "file %" PRIu64 " of the last index does not lie on the tape", number);
     }
 }
 
-void print_verdict(FILE *out, const uint64_t verdict[KLAPOUZEN_BREAK])
+void print_verdict(FILE *out, const uint64_t verdict[KLAPOUZEN_BREAK], const struct refused *index)
 {
     if (verdict[KLAPOUZEN_BREAK_WHICH] == 0) {
         fprintf(out, "%sconsistent%s", colour_code(out, GREEN), colour_code(out, PLAIN));
@@ -198,5 +235,5 @@ void print_verdict(FILE *out, const uint64_t verdict[KLAPOUZEN_BREAK])
     }
     fprintf(out, "%sbreak %" PRIu64 "%s: ", colour_code(out, YELLOW),
             verdict[KLAPOUZEN_BREAK_WHICH], colour_code(out, PLAIN));
-    print_break(out, verdict);
+    print_break(out, verdict, index);
 }

@@ -38,7 +38,24 @@ is 1 "$K" check torn_index
 says out "break 1: the index partition does not end with a whole index; no cut leaves"
 cp -r nights behind && printf '\001' >> behind/data.list
 is 1 "$K" check behind
-says out "break 3: index 4 of the data partition is unsound or breaks the chain of back pointers; cut keeps 13 + 71 of 13 + 79"
+says out "break 3: index 4 of the data partition is not sound: refused 4: the text is not in the XML form at byte 1, line 1, column 2; cut keeps 13 + 71 of 13 + 79"
+is 1 "$K" check --json behind
+says out '"break":{"which":3,"number":4,"text":"index 4 of the data partition is not sound: refused 4: the text is not in the XML form at byte 1, line 1, column 2","refusal":{"number":4,"text":"the text is not in the XML form","place":{"front":1,"line":1,"column":2}}}'
+is_json out
+# A sound index that breaks the chain, on each side: it points back to another place than it should.
+is 0 "$K" cut nights whole
+cp -r whole chain && sed -i 's|<startblock>5<\(/startblock></previous\)|<startblock>6<\1|' chain/data.store
+is 1 "$K" check chain
+says out "break 3: index 1 of the data partition is sound but breaks the chain; cut keeps "
+is 1 "$K" check --json chain
+says out '"break":{"which":3,"number":1,"text":"index 1 of the data partition is sound but breaks the chain","refusal":null}'
+is_json out
+rm -rf chain && cp -r whole chain && sed -i 's|<startblock>69<\(/startblock></previous\)|<startblock>29<\1|' chain/index.store
+is 1 "$K" check chain
+says out "break 4: the last index of the index partition, index 2, is sound but does not follow the data partition's last; cut keeps "
+is 1 "$K" check --json chain
+says out ", is sound but does not follow the data partition's last\",\"refusal\":null}"
+rm -rf whole
 is 1 "$K" check --json sparse
 says out '"break":{"which":5,"number":5,"text":"file 5 of the last index does not lie on the tape","path":"past the block"}'
 is_json out

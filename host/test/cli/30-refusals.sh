@@ -10,7 +10,7 @@ is 1 "$K" check bad3
 says out "refused 3: not a VOL1 label of an LTFS volume (data side: data.store, element 0)"
 cp -r fresh bad4 && printf '?' | dd of=bad4/index.store bs=1 seek=80 conv=notrunc status=none
 is 1 "$K" check --json bad4
-says out '"refusal":{"number":4,"text":"the text is not in the XML form","side":"index","file":"index.store, element 2"}'
+says out '"refusal":{"number":4,"text":"the text is not in the XML form","side":"index","file":"index.store, element 2","place":{"front":0,"line":1,"column":1}}'
 is_json out
 says out '"elements":{"index":7,"data":7},"unreadable_blocks":{"index":0,"data":0}}'
 cp -r fresh bad1i && printf '\004' >> bad1i/index.list
@@ -24,7 +24,7 @@ is 1 "$K" check bad3i
 says out "(index side: index.store, element 0)"
 cp -r fresh bad4d && printf '?' | dd of=bad4d/data.store bs=1 seek=80 conv=notrunc status=none
 is 1 "$K" check bad4d
-says out "refused 4: the text is not in the XML form (data side: data.store, element 2)"
+says out "refused 4: the text is not in the XML form (data side: data.store, element 2, byte 0, line 1, column 1)"
 mkdir headless && cp fresh/data.* headless && head -c 6 fresh/index.list > headless/index.list && head -c 80 fresh/index.store > headless/index.store
 is 1 "$K" check headless
 says out "refused 9: the partition does not begin with block, mark, block, mark (index side: index.list)"

@@ -12,11 +12,12 @@ says out "[LLLLIIIIIIiii]"
 says out "[LLLLIII===III!???]"
 says out "13  defect     a block longer than the block size"
 is 0 "$K" show long
-says out "46 runs more, 1 of them not sound; --all shows them"
+says out "46 runs more, 1 of them not sound: 1 refused 4; --all shows them"
 says_not out "index 30 "
 is 0 "$K" show long --all
 says out "index 30   generation 32, points back to b 157, 0 files"
-says out "index 31   refused 4: the text is not in the XML form"
+says out "index 31   refused 4: the text is not in the XML form at byte 0, line 1, column 1"
+says out "1 index is not sound: 1 refused 4; see klapouzen why long"
 # A cut and a defect far from the ends and from each other: generation 7's index unsound, an empty run in the middle.
 cp -r long long_torn
 printf '?' | dd of=long_torn/data.store bs=1 seek="$(offset_of 32 long/data.list)" conv=notrunc status=none

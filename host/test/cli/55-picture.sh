@@ -93,9 +93,9 @@ checks=$((checks + 1))
 # As many generations as fit: all of them drawn, the one unsound and the few dropped seen, and the file small.
 "$SAMPLE" full filled || exit 2
 is 1 "$K" check filled
-says out "break 4: the last index of the index partition, index 18092, is unsound or does not follow the data partition's last; cut keeps 54,283 + 63,329 of 54,283 + 63,332 elements, generation 18093"
+says out "break 4: the last index of the index partition, index 18092, is sound but does not follow the data partition's last; cut keeps 54,283 + 63,329 of 54,283 + 63,332 elements, generation 18093"
 is 0 "$K" show filled --svg filled.svg
-says out "18,078 runs more, 1 of them not sound; --all shows them"
+says out "18,078 runs more, 1 of them not sound: 1 refused 4; --all shows them"
 says filled.svg ">cut: keep 63,329, drop 3</text>"
 says filled.svg ">18,093 indexes</text>"
 says filled.svg ">4-63328</text>"

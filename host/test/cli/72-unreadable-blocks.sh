@@ -22,7 +22,7 @@ says out "  consistent; cut keeps all 13 + 71 elements, generation 4; 1 unreadab
 says_not out "data side"
 lose kept one data:29
 is 1 "$K" check one
-says out "break 3: index 2 of the data partition is unsound"
+says out "break 3: index 2 of the data partition is not sound: refused 19: an unreadable block; cut keeps "
 says out "; 1 unreadable block on the data side"
 says_not out "index side"
 
@@ -35,7 +35,7 @@ is 1 "$K" check one
 says out "break 5: file 2 of the last index does not lie on the tape: wednesday.wav; cut keeps 10 + 25 of 13 + 71 elements, generation 2; 1 unreadable block on the data side"
 lose kept one index:11
 is 1 "$K" check one
-says out "break 4: the last index of the index partition, index 2, is unsound"
+says out "break 4: the last index of the index partition, index 2, is not sound: refused 19: an unreadable block; cut keeps "
 
 # The last byte of a list; a list of nothing else; neither is malformed.
 lose fresh one data:7+
