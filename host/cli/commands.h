@@ -6,6 +6,7 @@
 
 int run_check(struct words *words);
 int run_show(struct words *words);
+int run_why(struct words *words);
 int run_cut(struct words *words);
 int run_compare(struct words *words);
 int run_files(struct words *words);

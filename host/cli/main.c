@@ -17,6 +17,7 @@ static const struct command {
 } commands[] = {
     { "check", run_check, "judge cartridges, a line each" },
     { "show", run_show, "draw a cartridge's two partitions as a map" },
+    { "why", run_why, "say what is refused of a cartridge, and where a text goes wrong" },
     { "cut", run_cut, "write the consistent fronts to a new folder" },
     { "compare", run_compare, "say where two reads of a tape differ, and which one rescues more" },
     { "files", run_files, "list the files of an index" },

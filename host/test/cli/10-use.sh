@@ -1,7 +1,7 @@
 # Help and bad use.
 is 0 "$K" --help
 says out "usage: klapouzen"
-for command in check show cut compare files extract label ansi; do
+for command in check show why cut compare files extract label ansi; do
     is 0 "$K" $command --help
     says out "usage: klapouzen $command"
     is 2 "$K" $command
@@ -9,7 +9,7 @@ for command in check show cut compare files extract label ansi; do
     is 2 "$K" $command --nonsense
     says err "unknown option: --nonsense"
 done
-for command in check show cut compare files extract label ansi; do
+for command in check show why cut compare files extract label ansi; do
     "$K" $command --help > wanted
     is 0 "$K" $command -h
     same out wanted

@@ -43,7 +43,7 @@ says out '{"folder":"not there \ufffd","folder_bytes":"6e6f7420746865726520ff","
 is_visible err
 
 # What is said on standard error: folders, files, options, commands.
-for words in "check:not there $ODD" "check:$ODD/index.list" "show:--$ODD" "$ODD:" "files:--construct:$ODD:fresh" "extract:fresh:$ODD" "extract:$ODD:7" \
+for words in "check:not there $ODD" "check:$ODD/index.list" "show:--$ODD" "$ODD:" "files:--construct:$ODD:fresh" "why:--construct:$ODD:fresh" "extract:fresh:$ODD" "extract:$ODD:7" \
     "cut:$ODD:$ODD" "cut:fresh:not there/$ODD"; do
     IFS=: read -ra words <<< "$words"
     checks=$((checks + 1))

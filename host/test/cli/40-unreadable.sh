@@ -22,7 +22,7 @@ says err "pipes/data.list: not a regular file"
 
 # No cartridge, which is not a bad one.
 mkdir no_cartridge && touch no_cartridge/notes
-for command in check show files; do
+for command in check show why files; do
     is 2 "$K" $command no_cartridge
     says err "no_cartridge: no cartridge here: no index.list, index.store, data.list or data.store"
     says_not out "refused 9"

@@ -1,5 +1,5 @@
 # Pipes and terminals.
-for words in "check fresh" "compare fresh nights" "compare --json fresh nights"; do
+for words in "check fresh" "why behind" "compare fresh nights" "compare --json fresh nights"; do
     is 2 bash -c "'$K' $words > /dev/full"
     says err "standard output: No space left on device"
     is 2 bash -c "'$K' $words >&-"
