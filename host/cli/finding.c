@@ -198,15 +198,13 @@ static void print_too_long(const struct finding *finding)
 /* The numbers of an index's unreadable blocks. */
 static void print_unreadable_numbers(const struct finding *finding, const char *between)
 {
-    struct unreadable unreadable = unreadable_read(tape_of(finding)->list);
     const char *before = "";
     for (uint64_t element = first_block(finding); element <= last_block(finding); element++) {
-        if (!unreadable_at(&unreadable, element))
+        if (!unreadable_at(finding->unreadable, element))
             continue;
         printf("%s%" PRIu64, before, element);
         before = between;
     }
-    unreadable_free(&unreadable);
 }
 
 static void print_unreadable(const struct finding *finding)

@@ -9,11 +9,13 @@ enum { BOTH = DATA + 1 };
 
 struct finding {
     const struct volume *volume;
-    const struct label *label; /* of the volume, where the labels agree */
     int side;
-    const uint32_t *row;       /* of an index: of its construct; of a label NULL */
-    uint64_t construct;
     struct refused refused;
+    /* Of an index; the row of a label is NULL. */
+    const uint32_t *row;
+    uint64_t construct;
+    const struct label *label;
+    const struct unreadable *unreadable; /* blocks of the side */
 };
 
 /* Some lines: which one it is, the refusal, what is known of it. */

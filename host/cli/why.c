@@ -85,11 +85,12 @@ static int why_refused(const struct volume *volume, uint64_t refusal, bool json)
 
 /* ---- Indexes ---- */
 
-/* A side with its constructs. */
+/* A side with its constructs and its unreadable blocks. */
 struct partition {
     const struct volume *volume;
     const struct label *label;
     int side;
+    struct unreadable unreadable;
     struct constructs standing;
 };
 
@@ -99,8 +100,8 @@ static bool tell_index(const struct partition *partition, uint64_t number, const
     const uint32_t *row = construct_row(&partition->standing, number);
     struct place place = construct_place(partition->volume, partition->label, partition->side, row);
     struct finding finding = {
-        .volume = partition->volume, .label = partition->label, .side = partition->side, .row = row,
-        .construct = number, .refused = index_refused(partition->label, &place),
+        .volume = partition->volume, .side = partition->side, .refused = index_refused(partition->label, &place),
+        .row = row, .construct = number, .label = partition->label, .unreadable = &partition->unreadable,
     };
     if (finding.refused.number != 0 || is_one(wish))
         tell(&finding, wish->json);
@@ -164,8 +165,10 @@ static int why_side(const struct volume *volume, const struct label *label, int 
     partition->volume = volume;
     partition->label = label;
     partition->side = side;
+    partition->unreadable = unreadable_read(volume->sides[side].list);
     read_constructs(&volume->sides[side], label->block_size, &partition->standing);
     int status = (is_one(wish) ? tell_one : tell_all)(partition, wish);
+    unreadable_free(&partition->unreadable);
     free(partition);
     return status;
 }
