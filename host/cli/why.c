@@ -40,6 +40,12 @@ static bool is_one(const struct wish *wish)
     return wish->choice.construct != NULL;
 }
 
+/* Whether more is told than the findings. */
+static bool has_summary(const struct wish *wish)
+{
+    return !wish->json && !is_one(wish);
+}
+
 static void tell(const struct finding *finding, bool json)
 {
     (json ? print_json_finding : print_finding)(finding);
@@ -90,6 +96,7 @@ struct partition {
     const struct volume *volume;
     const struct label *label;
     int side;
+    uint64_t unsound; /* indexes that were told of */
     struct unreadable unreadable;
     struct constructs standing;
 };
@@ -108,7 +115,7 @@ static bool tell_index(const struct partition *partition, uint64_t number, const
     return finding.refused.number == 0;
 }
 
-static int tell_one(const struct partition *partition, const struct wish *wish)
+static int tell_one(struct partition *partition, const struct wish *wish)
 {
     if (wish->construct < partition->standing.count)
         return tell_index(partition, wish->construct, wish) ? DONE : NOT_SO;
@@ -129,10 +136,11 @@ static uint64_t count_index_runs(struct bytes list)
 }
 
 /* "index partition: 1 of 3 indexes is not sound; 1 index run does not stand" */
-static void print_summary(const struct partition *partition, uint64_t unsound)
+static void print_summary(const struct partition *partition)
 {
     const struct side *tape = &partition->volume->sides[partition->side];
-    uint64_t count = partition->standing.count, others = count_index_runs(tape->list) - count;
+    uint64_t count = partition->standing.count, unsound = partition->unsound;
+    uint64_t others = count_index_runs(tape->list) - count;
     printf("%s partition: ", tape->name);
     if (count == 0)
         fputs("no index stands", stdout);
@@ -149,45 +157,59 @@ static void print_summary(const struct partition *partition, uint64_t unsound)
     putchar('\n');
 }
 
-static int tell_all(const struct partition *partition, const struct wish *wish)
+static int tell_all(struct partition *partition, const struct wish *wish)
 {
-    uint64_t unsound = 0;
     for (uint64_t number = 0; number < partition->standing.count; number++)
-        unsound += !tell_index(partition, number, wish);
-    if (!wish->json)
-        print_summary(partition, unsound);
-    return unsound == 0 ? DONE : NOT_SO;
+        partition->unsound += !tell_index(partition, number, wish);
+    return partition->unsound == 0 ? DONE : NOT_SO;
 }
 
-static int why_side(const struct volume *volume, const struct label *label, int side, const struct wish *wish)
+static struct partition *partition_read(const struct volume *volume, const struct label *label, int side)
 {
     struct partition *partition = allocate(sizeof *partition);
     partition->volume = volume;
     partition->label = label;
     partition->side = side;
+    partition->unsound = 0;
     partition->unreadable = unreadable_read(volume->sides[side].list);
     read_constructs(&volume->sides[side], label->block_size, &partition->standing);
-    int status = (is_one(wish) ? tell_one : tell_all)(partition, wish);
+    return partition;
+}
+
+static void partition_free(struct partition *partition)
+{
     unreadable_free(&partition->unreadable);
     free(partition);
-    return status;
 }
 
 /* ---- The command ---- */
+
+static int why_unsound(const struct volume *volume, const struct label *label, const struct wish *wish)
+{
+    int first = wish->choice.on_data ? DATA : INDEX, last = is_one(wish) ? first : DATA, status = DONE;
+    struct partition *partitions[2];
+    for (int side = first; side <= last; side++) {
+        partitions[side] = partition_read(volume, label, side);
+        if ((is_one(wish) ? tell_one : tell_all)(partitions[side], wish) != DONE)
+            status = NOT_SO;
+    }
+    for (int side = first; side <= last; side++) {
+        if (has_summary(wish))
+            print_summary(partitions[side]);
+        partition_free(partitions[side]);
+    }
+    return status;
+}
 
 static int why(const struct volume *volume, const void *data)
 {
     const struct wish *wish = data;
     struct assessment found;
-    int status = DONE;
     assess(volume, &found);
     if (found.refusal != 0)
         return why_refused(volume, found.refusal, wish->json);
-    int first = wish->choice.on_data ? DATA : INDEX, last = is_one(wish) ? first : DATA;
-    for (int side = first; side <= last; side++)
-        if (why_side(volume, &found.label, side, wish) != DONE)
-            status = NOT_SO;
-    if (!wish->json && !is_one(wish)) {
+    int status = why_unsound(volume, &found.label, wish);
+    if (has_summary(wish)) {
         fputs("verdict: ", stdout);
         print_outcome(stdout, volume, &found);
         putchar('\n');

@@ -107,6 +107,19 @@ static void rewound(struct sample *sample)
     put_files(sample, 0, runs, 1);
 }
 
+/* By software that writes names as they are: an index with a name that has an & is not in the XML form. */
+static void unescaped(struct sample *sample)
+{
+    struct run runs[] = { { "monday.wav", 0, 61000 }, { "salt & pepper.wav", 0, 9000 } };
+    sample_unmount(sample);
+    for (size_t i = 0; i < 2; i++) {
+        sample->generation++;
+        runs[i].first = put_run(sample, 1, (size_t)runs[i].length, (uint8_t)(40 * i));
+        put_files(sample, 1, runs, i + 1);
+        put_files(sample, 0, runs, i + 1);
+    }
+}
+
 /* A defect in the middle of the data side, and later constructs that stand no more. */
 static void defect(struct sample *sample)
 {
@@ -495,7 +508,8 @@ int main(int count, char **words)
 {
     static const struct { const char *name; void (*make)(struct sample *); } kinds[] = {
         { "extents", extents },
-        { "fresh", fresh }, { "torn", torn }, { "nights", nights }, { "rewound", rewound }, { "defect", defect },
+        { "fresh", fresh }, { "torn", torn }, { "nights", nights }, { "rewound", rewound },
+        { "unescaped", unescaped }, { "defect", defect },
         { "sparse", sparse }, { "long", long_one }, { "many", many }, { "odd", odd },
         { "spellings", spellings }, { "padded", padded }, { "unreadable", unreadable },
         { "full", full }, { "folders", folders }, { "ansi", ansi }, { "ansi_worn", ansi_worn },
@@ -511,7 +525,7 @@ int main(int count, char **words)
         sample_free(&sample);
         return 0;
     }
-    fputs("usage: make_sample fresh|torn|nights|rewound|defect|sparse|long|many|extents|odd|spellings|padded|unreadable|full|"
-          "folders|ansi|ansi_worn|ansi_many DIR\n", stderr);
+    fputs("usage: make_sample fresh|torn|nights|rewound|unescaped|defect|sparse|long|many|extents|odd|spellings|padded|"
+          "unreadable|full|folders|ansi|ansi_worn|ansi_many DIR\n", stderr);
     return 2;
 }

@@ -27,6 +27,39 @@ goes_wrong() {
     marked "$1" index 80 told
 }
 
+# ---- An index that software wrote without references ----
+
+"$SAMPLE" unescaped unescaped || exit 2
+is 1 "$K" why unescaped
+cat > wanted <<'END'
+index side: index.store, index construct 2, element 11
+  refused 4: the text is not in the XML form
+  byte 1473, line 2, column 1435 of a text of 2,032 bytes
+  byte 1473 of element 11, byte 4325 of index.store
+  found byte 0x20 ' ' within <name>
+     2 | ...</file><file><fileuid>3</fileuid><name>salt & pepper.wav</name><r...
+       |                                                 ^
+
+data side: data.store, index construct 2, element 29
+  refused 4: the text is not in the XML form
+  byte 1473, line 2, column 1435 of a text of 2,032 bytes
+  byte 1473 of element 29, byte 74218 of data.store
+  found byte 0x20 ' ' within <name>
+     2 | ...</file><file><fileuid>3</fileuid><name>salt & pepper.wav</name><r...
+       |                                                 ^
+
+index partition: 1 of 3 indexes is not sound
+data partition: 1 of 3 indexes is not sound
+verdict: break 3: index 2 of the data partition is not sound: refused 4: the text is not in the XML form at byte 1473, line 2, column 1435
+END
+same out wanted
+is 1 "$K" why --json unescaped
+cat > wanted <<'END'
+{"folder":"unescaped","side":"index","file":"index.store","construct":2,"element":11,"last_element":11,"length":2032,"refusal":{"number":4,"text":"the text is not in the XML form","place":{"front":1473,"line":2,"column":1435,"element":11,"byte":1473,"store_byte":4325,"found":32,"open":5,"within":"name"}}}
+{"folder":"unescaped","side":"data","file":"data.store","construct":2,"element":29,"last_element":29,"length":2032,"refusal":{"number":4,"text":"the text is not in the XML form","place":{"front":1473,"line":2,"column":1435,"element":29,"byte":1473,"store_byte":74218,"found":32,"open":5,"within":"name"}}}
+END
+same out wanted
+
 # ---- Nothing is refused ----
 
 is 0 "$K" why fresh
@@ -52,6 +85,8 @@ says out ',"refusal":null}'
 is_json out
 is 0 "$K" why defect
 says out 'data partition: all 2 indexes are sound; 1 index run does not stand'
+is 0 "$K" why torn
+says out 'data partition: no index stands; 1 index run does not stand'
 
 # ---- Bad use ----
 
@@ -88,16 +123,16 @@ goes_wrong later <<< "$DECLARATION
 </ltfsindex>"
 says out "  found byte 0x63 'c' within <ltfsindex>"
 # Line ends: CR LF, at the place too; a CR alone ends no line.
-printf '%s\r\n<a>\r\n  <b>one &%%HERE%% two</b>\r\n</a>\r\n' "$DECLARATION" | goes_wrong crlf
+goes_wrong crlf < <(printf '%s\r\n<a>\r\n  <b>one &%%HERE%% two</b>\r\n</a>\r\n' "$DECLARATION")
 says_not out '\x0d'
-printf '%s\r\n<a>\r\n  <b>one &%%HERE%%\r\n two</b>\r\n</a>\r\n' "$DECLARATION" | goes_wrong at_cr
+goes_wrong at_cr < <(printf '%s\r\n<a>\r\n  <b>one &%%HERE%%\r\n two</b>\r\n</a>\r\n' "$DECLARATION")
 says out '     3 |   <b>one &\x0d'
 says out "  found byte 0x0d within <b>"
-printf '%s\n<a>\n  <b>one &%%HERE%%\n two</b>\n</a>\n' "$DECLARATION" | goes_wrong at_lf
+goes_wrong at_lf < <(printf '%s\n<a>\n  <b>one &%%HERE%%\n two</b>\n</a>\n' "$DECLARATION")
 says out '     3 |   <b>one &\x0a'
-printf '%s\r<a>\r  <b>one &%%HERE%% two</b>\r</a>\r' "$DECLARATION" | goes_wrong cr_alone
+goes_wrong cr_alone < <(printf '%s\r<a>\r  <b>one &%%HERE%% two</b>\r</a>\r' "$DECLARATION")
 # Tabs, and a backslash, which are wider where they are printed.
-printf '%s\n<a>\n\t\t<b>\\one \\ &%%HERE%%\ttwo</b>\n</a>\n' "$DECLARATION" | goes_wrong tabs
+goes_wrong tabs < <(printf '%s\n<a>\n\t\t<b>\\one \\ &%%HERE%%\ttwo</b>\n</a>\n' "$DECLARATION")
 says out '     3 | \x09\x09<b>\\one \\ &\x09two</b>'
 # Characters of no, one and two columns, and such as a terminal obeys.
 goes_wrong wide <<< "$DECLARATION
@@ -108,35 +143,38 @@ goes_wrong obeyed <<< "$DECLARATION
 says out '     2 | <a><b>\u202e\u200b\u009b[31m\x7f\U000e0001\ufeff</b><c>&\x1b[31m</c>'
 says out "  found byte 0x1b within <c>"
 # Within a character: a byte that does not go on with it, one that is none, one of a character that XML does not have.
-printf '%s\n<a>M\303%%HERE%%(ller</a>' "$DECLARATION" | goes_wrong cut_character
+goes_wrong cut_character < <(printf '%s\n<a>M\303%%HERE%%(ller</a>' "$DECLARATION")
 says out '     2 | <a>M\xc3(ller</a>'
-printf '%s\n<a>M%%HERE%%\377ller</a>' "$DECLARATION" | goes_wrong no_character
+goes_wrong no_character < <(printf '%s\n<a>M%%HERE%%\377ller</a>' "$DECLARATION")
 says out "  found byte 0xff within <a>"
-printf '%s\n<a>M\357\277%%HERE%%\276ller</a>' "$DECLARATION" | goes_wrong not_xml
+goes_wrong not_xml < <(printf '%s\n<a>M\357\277%%HERE%%\276ller</a>' "$DECLARATION")
 says out "  found byte 0xbe of '\\ufffe' within <a>"
 says out '     2 | <a>M\ufffeller</a>'
-printf '%s\n<a>M\355%%HERE%%\240\200ller</a>' "$DECLARATION" | goes_wrong surrogate
+goes_wrong surrogate < <(printf '%s\n<a>M\355%%HERE%%\240\200ller</a>' "$DECLARATION")
 says out '     2 | <a>M\xed\xa0\x80ller</a>'
 # Behind the root element: as a block that was filled up.
-{ printf '%s\n<ltfsindex/>\n%%HERE%%' "$DECLARATION"; head -c 600 /dev/zero; } | goes_wrong filled_up
+goes_wrong filled_up < <(printf '%s\n<ltfsindex/>\n%%HERE%%' "$DECLARATION"; head -c 600 /dev/zero)
 says out "  found byte 0x00 behind the end of <ltfsindex>"
 # Too deep: the 65th element's name.
-{ echo "$DECLARATION"; printf '<x>%.0s' {1..64}; printf '<%%HERE%%y></y>'; printf '</x>%.0s' {1..64}; } | goes_wrong deep
+goes_wrong deep < <(echo "$DECLARATION"; printf '<x>%.0s' {1..64}; printf '<%%HERE%%y></y>'; printf '</x>%.0s' {1..64})
 says out "  found byte 0x79 'y' within <x>"
 
 # A text that ends too early: with one byte, in the declaration, in a tag, at a line's end, in a character.
-printf '<%%HERE%%' | goes_wrong one_byte
+goes_wrong one_byte < <(printf '<%%HERE%%')
 says out "  byte 1, line 1, column 2 of a text of 1 byte"
 says out "  the text ends there, too early: no element is open yet"
-printf '<?xml version="1.0" enc%%HERE%%' | goes_wrong declaration
-printf '%s\n<ltfsindex version="2.0.1"><directory><name>x</name><contents%%HERE%%' "$DECLARATION" | goes_wrong in_tag
+goes_wrong declaration < <(printf '<?xml version="1.0" enc%%HERE%%')
+goes_wrong in_tag < <(printf '%s\n<ltfsindex version="2.0.1"><directory><name>x</name><contents%%HERE%%' "$DECLARATION")
 says out "  the text ends there, too early: 2 elements are open, the innermost is <directory>"
-printf '%s\n<ltfsindex version="2.0.1">\n%%HERE%%' "$DECLARATION" | goes_wrong line_end
+goes_wrong line_end < <(printf '%s\n<ltfsindex version="2.0.1">\n%%HERE%%' "$DECLARATION")
 says out "  the text ends there, too early: 1 element is open, <ltfsindex>"
-printf '%s\n<a><b>M\303%%HERE%%' "$DECLARATION" | goes_wrong in_character
-printf '%s\n<a attribute="x>y%%HERE%%' "$DECLARATION" | goes_wrong in_attribute
+goes_wrong in_character < <(printf '%s\n<a><b>M\303%%HERE%%' "$DECLARATION")
+goes_wrong in_attribute < <(printf '%s\n<a attribute="x>y%%HERE%%' "$DECLARATION")
+goes_wrong behind_attributes <<< "$DECLARATION
+<a b='x>\"y'><c/><c d=\"x>'y\">&%HERE% </c></a>"
+says out "  found byte 0x20 ' ' within <c>"
 # All blocks are full: the end is the last one's.
-{ echo "$DECLARATION"; printf '<a>'; head -c $((3 * 4096 - 42)) /dev/zero | tr '\0' x; printf '%%HERE%%'; } | goes_wrong full_blocks
+goes_wrong full_blocks < <(echo "$DECLARATION"; printf '<a>'; head -c $((3 * 4096 - 42)) /dev/zero | tr '\0' x; printf '%%HERE%%')
 says out "index construct 0, elements 5-7"
 says out "  byte 4096 of element 7, "
 
@@ -165,22 +203,22 @@ done <<LENGTHS
 1000 1000
 LENGTHS
 for character in '中' "$(printf 'e\314\201')" "$(printf '\302\233')" "$(printf '\363\240\200\201')"; do
-    { echo "$DECLARATION"; printf '<a>'; printf "$character%.0s" {1..300}; printf '&%%HERE%%'; printf "$character%.0s" {1..300}; } | goes_wrong wide_line
+    goes_wrong wide_line < <(echo "$DECLARATION"; printf '<a>'; printf "$character%.0s" {1..300}; printf '&%%HERE%%'; printf "$character%.0s" {1..300})
 done
 # A place in the second block of a text, and in the last: the element and its byte. The window has bytes of both blocks.
-{ echo "$DECLARATION"; printf '<a>'; bytes $((4096 - 41)) b; printf '&%%HERE%% '; bytes 9000 c; } | goes_wrong second_block
+goes_wrong second_block < <(echo "$DECLARATION"; printf '<a>'; bytes $((4096 - 41)) b; printf '&%%HERE%% '; bytes 9000 c)
 says out "index construct 0, elements 5-8"
 says out "  byte 4098, line 2, column 4060 of a text of 13,099 bytes"
 says out "  byte 2 of element 6, byte 4566 of index.store"
-{ echo "$DECLARATION"; printf '<a>'; bytes $((4096 - 43)) b; printf '&%%HERE%% '; bytes 9000 c; } | goes_wrong block_end
+goes_wrong block_end < <(echo "$DECLARATION"; printf '<a>'; bytes $((4096 - 43)) b; printf '&%%HERE%% '; bytes 9000 c)
 says out "  byte 0 of element 6, "
-{ echo "$DECLARATION"; printf '<a>'; bytes 1048000 b; printf '&%%HERE%% '; } | goes_wrong last_block
+goes_wrong last_block < <(echo "$DECLARATION"; printf '<a>'; bytes 1048000 b; printf '&%%HERE%% ')
 says out "index construct 0, elements 5-260"
 # Many lines, and a long name.
-{ echo "$DECLARATION"; echo '<a>'; yes '<b/>' | head -n 99998; printf '  <c>&%%HERE%% </c></a>'; } | goes_wrong many_lines
+goes_wrong many_lines < <(echo "$DECLARATION"; echo '<a>'; yes '<b/>' | head -n 99998; printf '  <c>&%%HERE%% </c></a>')
 says out "line 100001, column 7 of"
 says out "100001 |   <c>& </c></a>"
-{ echo "$DECLARATION"; printf '<'; bytes 5000 n; printf '>&%%HERE%%>'; } | goes_wrong long_name
+goes_wrong long_name < <(echo "$DECLARATION"; printf '<'; bytes 5000 n; printf '>&%%HERE%%>')
 says out " within <nnnnnnnnnnnnnnnnnnnnnnnnnnnnnnnnnnnnnnnn...>"
 
 # A terminal: as wide as it is, with the same places under the carets, and in colour.
@@ -201,13 +239,15 @@ fi
 
 # ---- Labels ----
 
+# In a line that the other side's label does not have.
 LABEL="$DECLARATION
-<ltfslabel version=\"2.0.1\"><creator>salt &%HERE% pepper</creator></ltfslabel>"
+<ltfslabel version=\"2.0.1\">
+  <creator>salt &%HERE% pepper</creator></ltfslabel>"
 for side in index data; do
     wrong one $side 2 <<< "$LABEL"
     is 1 "$K" why --json one
     one_line out
-    says out "\"side\":\"$side\",\"file\":\"$side.store, element 2\",\"construct\":null,\"element\":2,\"last_element\":2,\"length\":111,\"refusal\":{\"number\":4,"
+    says out "\"side\":\"$side\",\"file\":\"$side.store, element 2\",\"construct\":null,\"element\":2,\"last_element\":2,\"length\":114,\"refusal\":{\"number\":4,"
     mv out told
     is 1 "$K" why one
     says out "$side side: $side.store, element 2"
@@ -219,7 +259,7 @@ for side in index data; do
     says out "one  refused 4: the text is not in the XML form ($side side: $side.store, element 2, $place)"
     is 1 "$K" check --json one
     is_json out
-    says out "\"file\":\"$side.store, element 2\",\"place\":{\"front\":81,\"line\":2,\"column\":43}}"
+    says out "\"file\":\"$side.store, element 2\",\"place\":{\"front\":84,\"line\":3,\"column\":18}}"
     is 1 "$K" show one
     says out "refused 4: the text is not in the XML form ($side side: $side.store, element 2, $place); see klapouzen why one"
     # An index that was asked for is not read either.
@@ -241,7 +281,7 @@ is 1 "$K" why --data --json both_wrong
 checks=$((checks + 1))
 [ "$(sed 's/.*"side":"\([a-z]*\)".*/\1/' out | tr '\n' ' ')" = "index data " ] || fail "not both labels, or in another order" "$(cat out)"
 is 1 "$K" check both_wrong
-says out "(index side: index.store, element 2, byte 81, line 2, column 43)"
+says out "(index side: index.store, element 2, byte 84, line 3, column 18)"
 # A label that is refused although the other side's list is malformed.
 cp -r index_wrong list_wrong && printf '\004' >> list_wrong/data.list
 is 1 "$K" why list_wrong
@@ -296,7 +336,7 @@ says out "  refused 6: a value outside its rule"
 says out "  the text is in the XML form, and all its elements are right"
 is 1 "$K" why one --json
 says out '"element":2,"last_element":2,"length":388,"refusal":{"number":6,"text":"a value outside its rule"}}'
-bytes 4097 ' ' | wrong one data 2
+wrong one data 2 < <(bytes 4097 ' ')
 is 1 "$K" why one
 says out "data side: data.store, element 2"
 says out "  refused 15: text too long, or too many entries or extents"
@@ -378,7 +418,7 @@ says_not out partition:
 
 # Too long by a byte, and not; too many entries; too many extents. Of a text that is not too long that is told.
 for length in 1048576 1048577; do
-    { echo "$DECLARATION"; echo '<ltfsindex version="2.0.1">'; bytes $((length - 39 - 28)) ' '; } | wrong one index 5
+    wrong one index 5 < <(echo "$DECLARATION"; echo '<ltfsindex version="2.0.1">'; bytes $((length - 39 - 28)) ' ')
     is 1 "$K" why one
     [ $length -eq 1048577 ] || says out "  refused 4: "
 done
@@ -396,12 +436,12 @@ sys.stdout.write(text.replace("<contents>", "<contents>" + sys.argv[1] * int(sys
 PYTHON
 }
 ENTRY='<fileuid/><name/><creationtime/><changetime/><modifytime/><accesstime/><backuptime/><readonly/>'
-index_with "<directory>$ENTRY<contents/></directory>" 4096 | wrong one index 5
+wrong one index 5 < <(index_with "<directory>$ENTRY<contents/></directory>" 4096)
 is 1 "$K" why one
 says out "  refused 15: text too long, or too many entries or extents"
 says out " bytes, and 1,048,576 at most are read"
 says out "  so it is over 4,096 directories and files, or a file of over 1,024 extents"
-index_with "<directory>$ENTRY<contents/></directory>" 4095 | wrong one index 5
+wrong one index 5 < <(index_with "<directory>$ENTRY<contents/></directory>" 4095)
 is 1 "$K" why one
 says out "  refused 6: "
 
@@ -414,7 +454,7 @@ says out "  refused 19: an unreadable block"
 says out "  unreadable, of 1 block: 29"
 says out "verdict: break 3: index 2 of the data partition is not sound: refused 19: an unreadable block"
 # Some blocks of a long index, and one of the other side, which has numbers of its own.
-index_with "<directory>$ENTRY<contents/></directory>" 200 | wrong filled_index index 5
+wrong filled_index index 5 < <(index_with "<directory>$ENTRY<contents/></directory>" 200)
 lose filled_index one index:6 index:8 index:9 data:5
 is 1 "$K" why one
 says out "index side: index.store, index construct 0, elements 5-11"
