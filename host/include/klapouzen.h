@@ -48,22 +48,23 @@
  *     comments name the numbers that a function can answer in the order in
  *     which it looks for them: the first that applies is answered;
  *   - fills all of `out`, *count, *length, *place and *front: with its answer, or
- *     on a refusal with zeros, but for the front that goes with 4 (below). On a
- *     refusal `buffer`, `entries`, `rows` and `table` keep every byte;
+ *     on a refusal with zeros, but for the front and the side that go with 4
+ *     (below). On a refusal `buffer`, `entries`, `rows` and `table` keep every
+ *     byte;
  *   - takes NULL for a slice of length 0, and takes any bytes in a slice: there
  *     is nothing that a caller must check before;
  *   - writes only to the memory named in its comment, keeps no pointer,
  *     allocates nothing, and may be called from several threads at once.
  *
  * Where a text goes wrong. Every function that can answer 4, a text outside the XML
- * form (klapouzen_check_form), tells with it the text's front: how many bytes at
- * the beginning of the text some text in the form, of any length, begins with. It
- * is the offset of the first byte that can't stand where it does, or the text's
- * length where it only ends too early. It stands in a place of its own, the last
- * of the numbers handed out (*front, or in `out` the number whose name ends in
+ * form (klapouzen_check_form), tells with it the text's front: the length of the
+ * longest part of its beginning that some text in the form, of any length, begins
+ * with. It is the offset of the first byte that can't stand where it does, or the
+ * text's length where it only ends too early. It stands in a place of its own
+ * behind the other numbers (*front, or in `out` the number whose name ends in
  * _FRONT), which is 0 with every other answer. The functions that read both labels
- * of a volume tell behind it whose label's text it is (_SIDE), 0 the index
- * partition's, 1 the data partition's; it is 0 with every other answer.
+ * of a volume tell behind it whose label's text it is (the name ends in _SIDE), 0
+ * the index partition's, 1 the data partition's; it is 0 with every other answer.
  *
  * A slice is a pointer and a length: in bytes, or for 64-bit numbers (`entries`,
  * `rows`) in numbers. Slices that are only read may overlap each other. What a
@@ -246,8 +247,7 @@ uint64_t klapouzen_constructs(const uint8_t *list, size_t list_length,
  * names of ASCII letters, digits, _ - and .; no more than one attribute in a
  * tag; of references only &amp; &lt; &gt; &quot; and &apos;; no comments, CDATA,
  * DOCTYPE or instructions; nothing but white space beside child elements; and
- * elements nested no deeper than KLAPOUZEN_MAX_NESTING. *front: with 4, how many
- * bytes at its beginning some text in the form begins with.
+ * elements nested no deeper than KLAPOUZEN_MAX_NESTING. *front: the text's, with 4.
  * Refusals: 4.
  */
 uint64_t klapouzen_check_form(const uint8_t *text, size_t length, uint64_t *front);
@@ -334,8 +334,8 @@ uint64_t klapouzen_write_label(uint8_t *buffer, size_t buffer_length,
 /*
  * Checks the labels of both partitions, and that they are of one volume. out:
  * what klapouzen_read_label says of the index partition's label, but offsets
- * count from the beginning of index_store; then, with 4, whose text the front is
- * of. The data partition's label may spell the same UUID differently.
+ * count from the beginning of index_store, and the front is that of the label that
+ * is refused; then whose it is. The data partition's label may spell the same UUID differently.
  * Refusals: 1, 9 (also for an unreadable block among the first four elements), 3,
  * those of klapouzen_read_label, each of these four steps on the index side
  * first; then 8 (the two disagree).
@@ -569,7 +569,8 @@ uint64_t klapouzen_byte_at(const uint64_t *rows, size_t rows_length,
  *      the data partition's last, or has a lower generation
  *   5  an extent of a file of that index does not lie on the tape: one of its
  *      blocks is no data block, unreadable, or too short for it
- * Refusals: those of klapouzen_check_labels.
+ * Refusals: those of klapouzen_check_labels. An index whose text is outside the XML
+ * form is a break and no refusal; klapouzen_index tells its front.
  */
 enum klapouzen_break {
     KLAPOUZEN_BREAK_WHICH,  /* 0 to 5 */
@@ -593,7 +594,7 @@ uint64_t klapouzen_verdict(const uint8_t *index_list, size_t index_list_length,
  * Reading on never hurts. Where a first read of a tape has a cut, so has a second
  * one whose lists are well formed and whose lists and stores begin with those of
  * the first. It is enough that klapouzen_keep with that cut's numbers of elements
- * gives the same bytes of both reads. The five numbers are the same, or the index
+ * gives the same bytes of both reads. The cut's five numbers are the same, or the index
  * construct is higher; then the data construct, the elements kept of the data
  * partition and the generation may be lower. The first cut leaves a consistent
  * volume of the second read as well.
