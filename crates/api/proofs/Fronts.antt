@@ -1,6 +1,6 @@
 -- What is told with a refusal of a text's form, and of whose label.
 use mathlib.Core.Path.{_≡_, refl, sym, ap, _∙_}
-use mathlib.Core.Bool.{Bool, true, false, false≢true}
+use mathlib.Core.Bool.{true, false, false≢true}
 use mathlib.Core.List.{List}
 use mathlib.Core.Logic.{_⊎_, inl, inr}
 use Prim.Native.Nat.{ℕ}
@@ -14,12 +14,12 @@ use Rattle.refusals.specs.declared.Place.{Place}
 use Rattle.refusals.specs.Refusals.{Answer, refused, answer, numberOf, placeOf}
 use Rattle.refusals.proofs.Places.{Another, form-or-another}
 use Rattle.refusals.proofs.Refusing.{Refuses}
-use Rattle.xml.specs.CheckSteps.{inForm, front}
+use Rattle.xml.specs.CheckSteps.{front}
 use Rattle.xml.proofs.Form.{same-form, in-form}
 use Rattle.xml.proofs.Checked.{OfText, leaves-form}
 use Rattle.labels.proofs.TextFronts.{OfLabels, Whose}
 use Rattle.api.specs.Outputs.{bit}
-use Rattle.api.specs.Fronts.{TellsFront, WithFront, TellsSide, WithSide}
+use Rattle.api.specs.Fronts.{TellsFront, WithFront, TellsSide}
 
 -- another number than 4, where a refusal has it
 not-four : (r : Refusal) {k : ℕ} → Another r → k ≡ numberOf r → k ≡ 4 → ⊥

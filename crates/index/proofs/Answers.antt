@@ -8,7 +8,7 @@ use lib.Dec.{eqb, leb}
 use lib.ListN.{length, drop}
 use native.Mathlib.Omega.{arith}
 use Rattle.refusals.specs.declared.Refusal.{Refusal}
-use Rattle.refusals.specs.Refusals.{Answer, refused, answer}
+use Rattle.refusals.specs.Refusals.{Answer, refused, answer, leftAt}
 use Rattle.refusals.specs.declared.Refusal.the-variants.{Caller, TooMany, Form, Structure, Version, Value, Foreign, Extents, Location}
 use Rattle.slices.specs.Slices.{same}
 use Rattle.slices.specs.Words.{bytes}
@@ -160,7 +160,7 @@ module _ (g : Given) (letter block : ℕ) (text : List ℕ) where
     index-15 b = rw (a, b)
 
     module _ (b : leb (length text) 1048576 ≡ true) where
-      pub index-4 : (n : ℕ) → inForm text ≡ false → n ≡ front text → indexOf g letter block text ≡ refused (Form (record { front = n; «on_data» = false }))
+      pub index-4 : (n : ℕ) → inForm text ≡ false → n ≡ front text → indexOf g letter block text ≡ refused (Form (leftAt n))
       unfolding indexOf
       index-4 n c z = rw (a, b, c, z)
 

@@ -1,5 +1,5 @@
 -- An index is refused 4 with the front of its text, and for nothing else (02, Item 6).
-use mathlib.Core.Path.{_≡_, refl}
+use mathlib.Core.Path.{refl}
 use mathlib.Core.Bool.{_&&_}
 use mathlib.Core.List.{List}
 use Prim.Native.Nat.{ℕ}
@@ -9,7 +9,7 @@ use Rattle.refusals.specs.declared.Refusal.the-variants.{Caller, TooMany, Struc
 use Rattle.refusals.proofs.Refusing.{Refuses, refuses-answer, refuses-require}
 use Rattle.slices.specs.Slices.{same}
 use Rattle.slices.specs.Words.{bytes}
-use Rattle.xml.specs.Tree.{Head, Forest, none, node}
+use Rattle.xml.specs.Tree.{Forest, none, node}
 use Rattle.xml.proofs.Checked.{OfText, another, of-form}
 use Rattle.elements.specs.Reading.{forestAt}
 use Rattle.values.specs.Values as values

@@ -1,15 +1,13 @@
 -- What holds of a text that is read as an index without refusal: it is in the XML form, its root, its structure and its values are right,
 -- its extents are lawful, and what it says is what its children say.
-use mathlib.Core.Path.{_≡_, refl, ap, sym, _∙_}
-use mathlib.Core.Bool.{Bool, true, false, _&&_}
+use mathlib.Core.Path.{_≡_, ap, sym, _∙_}
+use mathlib.Core.Bool.{true, _&&_}
 use mathlib.Core.List.{List}
 use Prim.Native.Nat.{ℕ}
-use native.Mathlib.Omega.{arith}
 use lib.Dec.{leb}
 use lib.ListN.{length}
 use Rattle.refusals.proofs.Refusing.{passed}
-use Rattle.refusals.specs.Refusals.{Answer, answer, require}
-use Rattle.refusals.specs.declared.Refusal.{Refusal}
+use Rattle.refusals.specs.Refusals.{Answer, answer, require, leftAt}
 use Rattle.refusals.specs.declared.Refusal.the-variants.{Caller, TooMany, Form, Structure, Version, Value, Foreign, Extents, Location}
 use Rattle.slices.specs.Slices.{every, same}
 use Rattle.slices.specs.Words.{bytes}
@@ -90,6 +88,6 @@ accepted g letter block text x e =
     let a1 = requireForm text a2 in
     let p0 = passed Caller (require (leb (length text) 1048576) TooMany a1) x (callerRight g letter) e in
     let p1 = passed TooMany a1 x (leb (length text) 1048576) (p0 .1) in
-    let p2 = passed (Form (record { front = front text; «on_data» = false })) a2 x (inForm text) (p1 .1) in
+    let p2 = passed (Form (leftAt (front text))) a2 x (inForm text) (p1 .1) in
     let (h, k, r) = form-reads text (in-form text (p2 .0)) in
     root-accepted g letter block x text h k (p0 .0) r (ap (rootRead g letter block) (sym (root-row r)) ∙ p2 .1)

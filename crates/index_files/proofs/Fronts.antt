@@ -1,5 +1,5 @@
 -- What is asked of an index is refused 4 with the front of its text, and for nothing else (02, Item 6).
-use mathlib.Core.Path.{_≡_, refl}
+use mathlib.Core.Path.{refl}
 use mathlib.Core.List.{List, [], _∷_}
 use Prim.Native.Nat.{ℕ, zero, suc, _*_}
 use lib.Dec.{leb}
@@ -8,7 +8,7 @@ use Rattle.refusals.specs.declared.Refusal.the-variants.{Missing, Short}
 use Rattle.refusals.specs.Refusals.{Answer}
 use Rattle.refusals.proofs.Refusing.{Refuses, refuses-answer, refuses-require, refuses-then}
 use Rattle.xml.proofs.Checked.{OfText, another}
-use Rattle.index.specs.Index.{Index, File}
+use Rattle.index.specs.Index.{Index}
 use Rattle.index_files.specs.Asked.{nth, fileIn}
 use Rattle.index_files.specs.Filling.{rowsFor}
 use Rattle.index_files.specs.Whole.{hasRoom, wholeFor}

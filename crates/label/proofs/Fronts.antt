@@ -1,12 +1,12 @@
 -- A label is refused 4 with the front of its text, and for nothing else (02, Item 6); one that is read is in the form.
 use Prim.Native.Nat.{ℕ}
 use mathlib.Core.Path.{_≡_, refl}
-use mathlib.Core.Bool.{true, false, _&&_}
+use mathlib.Core.Bool.{true, _&&_}
 use mathlib.Core.List.{List}
 use lib.Dec.{leb}
 use lib.ListN.{length}
 use Rattle.refusals.specs.declared.Refusal.the-variants.{Form, Structure, Value, Version, TooMany}
-use Rattle.refusals.specs.Refusals.{answer}
+use Rattle.refusals.specs.Refusals.{answer, leftAt}
 use Rattle.refusals.proofs.Refusing.{passed, Refuses, refuses-answer, refuses-require, refuses-without}
 use Rattle.xml.specs.Tree.{Head, Forest, none, node}
 use Rattle.xml.specs.CheckSteps.{inForm, front, requireForm}
@@ -54,4 +54,4 @@ module _ (s : List ℕ) where
   label-formed x e =
       let first = firstOf (forestAt s 38) in
       let within = passed TooMany (requireForm s first) x (leb (length s) 4096) e in
-      passed (Form (record { front = front s; «on_data» = false })) first x (inForm s) (within .1) .0
+      passed (Form (leftAt (front s))) first x (inForm s) (within .1) .0

@@ -4,7 +4,7 @@ use mathlib.Core.Bool.{Bool, true, false, cond, _&&_}
 use mathlib.Core.List.{List}
 use mathlib.Core.Option.{Option, some, none as nothing}
 use Prim.Native.Nat.{ℕ, _<_, _≤_}
-use Rattle.refusals.specs.Refusals.{Answer, refused, answer, require, orRefuse}
+use Rattle.refusals.specs.Refusals.{Answer, refused, answer, require, orRefuse, leftAt}
 use Rattle.refusals.specs.declared.Refusal.the-variants.{Form, Structure, Value, Version, TooMany}
 use Rattle.quantities.specs.Sizes.{isBlockSize}
 use borrow.Author.Tests.{le-leb, lt-leb}
@@ -129,7 +129,7 @@ module _ (s : List ℕ) where
   too-long h = rw (lt-leb _ _ h)
 
   module _ (h : length s ≤ 4096) where
-    pub unformed : (n : ℕ) → inForm s ≡ false → n ≡ front s → refused (Form (record { front = n; «on_data» = false })) ≡ labelOf s
+    pub unformed : (n : ℕ) → inForm s ≡ false → n ≡ front s → refused (Form (leftAt n)) ≡ labelOf s
     unfolding labelOf
     unformed n e z = rw (le-leb _ _ h, e, z)
 

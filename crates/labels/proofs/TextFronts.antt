@@ -1,6 +1,6 @@
 -- The labels of a volume are refused 4 with the front of the text that is refused, and its side; and for nothing else (02, Item 6).
 use mathlib.Core.Path.{_≡_, refl, sym, ap, _∙_, subst}
-use mathlib.Core.Bool.{Bool, true, false, false≢true}
+use mathlib.Core.Bool.{true, false, false≢true}
 use mathlib.Core.List.{List, []}
 use mathlib.Core.Option.{Option, none, some}
 use mathlib.Core.Logic.{_⊎_, inl, inr}
@@ -10,7 +10,7 @@ use borrow.Author.Tests.{eq-eqb}
 use Rattle.refusals.specs.declared.Refusal.{Refusal}
 use Rattle.refusals.specs.declared.Refusal.the-variants as refusal
 use Rattle.refusals.specs.declared.Place.{Place}
-use Rattle.refusals.specs.Refusals.{Answer, refused, answer, andThen, require, numberOf, placeOf, onDataSide}
+use Rattle.refusals.specs.Refusals.{Answer, refused, answer, andThen, require, numberOf, placeOf, onDataSide, leftAt}
 use Rattle.refusals.proofs.Places.{Another, form-or-another, stays}
 use Rattle.refusals.proofs.Refusing.{Refuses, refuses-answer, refuses-require, refuses-then}
 use Rattle.xml.specs.CheckSteps.{inForm, front}
@@ -29,7 +29,7 @@ use Rattle.labels.proofs.Sides.{vol1-refused}
 -- the label text s of the index side, or else t of the data side, leaves the form at the place p
 module _ (s t : List ℕ) where
   pub data Whose (p : Place) : Type 0 where
-    indexSide : inForm s ≡ false → p ≡ record { front = front s; «on_data» = false } → Whose p
+    indexSide : inForm s ≡ false → p ≡ leftAt (front s) → Whose p
     dataSide : inForm s ≡ true → inForm t ≡ false → p ≡ record { front = front t; «on_data» = true } → Whose p
 
   -- a refusal that an answer about the two labels can have
@@ -54,7 +54,7 @@ module _ (s t : List ℕ) where
         go : ((p : Place) × (r ≡ refusal.Form p)) ⊎ Another r → OfLabels (onDataSide r)
         go (inl (p, e)) h =
             let (unformed, q) = of (ap numberOf e) in
-            let z : p ≡ record { front = front t; «on_data» = false } = sym (ap placeOf e) ∙ q in
+            let z : p ≡ leftAt (front t) = sym (ap placeOf e) ∙ q in
             Whose.dataSide formed unformed (rw (e, z))
         go (inr x) h = subst OfLabels (stays r x) (another r (x .0)) h
 

@@ -31,9 +31,12 @@ numberOf refusal.EndOfVolume = 17
 numberOf refusal.BlockCount = 18
 numberOf refusal.Unreadable = 19
 
--- 02, Item 6: no text left the form
+-- 02, Item 6: a text left the form behind n bytes; none did
+abbrev pub leftAt : ℕ → Place
+leftAt n = record { front = n; «on_data» = false }
+
 abbrev pub nowhere : Place
-nowhere = record { front = 0; «on_data» = false }
+nowhere = leftAt 0
 
 -- where a text left the form: with 4 alone
 abbrev pub placeOf : Refusal → Place

@@ -7,7 +7,6 @@ use mathlib.Core.Option.{Option, none, some}
 use Prim.Native.Nat.{ℕ}
 use lib.Dec.{eqb}
 use lib.ListN.{length}
-use Rattle.refusals.specs.declared.Refusal.{Refusal}
 use Rattle.refusals.specs.declared.Refusal.the-variants as refusal
 use Rattle.refusals.specs.Refusals.{Answer, refused, answer, andThen}
 use Rattle.refusals.proofs.Refusing.{Refuses, refuses-answer, refuses-require, refuses-then}
@@ -24,7 +23,7 @@ use Rattle.labels.specs.Places.{textOn}
 use Rattle.labels.proofs.TextFronts.{OfLabels, labels-of, on-tapes}
 use Rattle.labels.proofs.TextFronts.{another as of-another}
 use Rattle.volume.specs.Volume.{onVolume, volumeWith, givenBy, verdictIn, orNoCut, rescueIn}
-use Rattle.volume.specs.Chosen.{Indexed, constructAt, textBytes, textFound, textAsked, readAt, chosenIn}
+use Rattle.volume.specs.Chosen.{constructAt, textBytes, textFound, textAsked, readAt, chosenIn}
 use Rattle.verdict.specs.Verdict.{Volume, Cut, verdict}
 use Rattle.verdict.specs.Rescue.{rescue}
 

@@ -8,7 +8,7 @@ use lib.ListN.{length}
 use borrow.Author.Tests.{eq-eqb}
 use Rattle.refusals.specs.declared.Refusal.{Refusal}
 use Rattle.refusals.specs.declared.Refusal.the-variants.{Form}
-use Rattle.refusals.specs.Refusals.{Answer, numberOf, placeOf}
+use Rattle.refusals.specs.Refusals.{Answer, numberOf, placeOf, leftAt}
 use Rattle.refusals.proofs.Refusing.{Refuses, refuses-require}
 use Rattle.xml.specs.declared.FormChecked.{FormChecked}
 use Rattle.xml.specs.declared.FormChecked.the-variants.{Good, Broken}
@@ -68,7 +68,7 @@ module _ (s : List ℕ) where
 
   -- a refusal that an answer about s can have: 4 with its front, and where it is not in the form; or another
   abbrev pub OfText : Refusal → Type 0
-  OfText r = numberOf r ≡ 4 → (inForm s ≡ false) × (placeOf r ≡ record { front = front s; «on_data» = false })
+  OfText r = numberOf r ≡ 4 → (inForm s ≡ false) × (placeOf r ≡ leftAt (front s))
 
   pub another : (r : Refusal) → eqb (numberOf r) 4 ≡ false → OfText r
   another r e h = absurd (false≢true (sym e ∙ eq-eqb (numberOf r) 4 h))
@@ -78,4 +78,4 @@ module _ (s : List ℕ) where
     where
       go : (b : Bool) → inForm s ≡ b → Refuses OfText (requireForm s next)
       go true e = rw e q
-      go false e = refuses-require OfText (inForm s) (Form (record { front = front s; «on_data» = false })) next (λ h. (e, refl)) q
+      go false e = refuses-require OfText (inForm s) (Form (leftAt (front s))) next (λ h. (e, refl)) q

@@ -5,7 +5,7 @@ use mathlib.Core.List.{List, [], _∷_, _++_}
 use Prim.Native.Nat.{ℕ, suc, _+_, _-_, min}
 use lib.ListN.{length}
 use lib.Dec.{leb, ltb, eqb}
-use Rattle.refusals.specs.Refusals.{Answer, require}
+use Rattle.refusals.specs.Refusals.{Answer, require, leftAt}
 use Rattle.slices.specs.Words.{bytes}
 use Rattle.refusals.specs.declared.Refusal.the-variants.{Form}
 use Rattle.xml.specs.Bytes.{isSpace, isAsciiLetter, isNameByte, declaration}
@@ -193,7 +193,7 @@ front s = readOf (length s) (form s)
 module _ {A : Type 0} where
   -- refused 4, with the front, where the text is not in the form; else what follows
   abbrev pub requireForm : List ℕ → Answer A → Answer A
-  requireForm s next = require (inForm s) (Form (record { front = front s; «on_data» = false })) next
+  requireForm s next = require (inForm s) (Form (leftAt (front s))) next
 
 -- what `check` answers
 abbrev pub formChecked : List ℕ → FormChecked

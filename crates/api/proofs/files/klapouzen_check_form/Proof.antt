@@ -1,8 +1,8 @@
 -- `klapouzen_check_form` meets its contract: the outcome of the form.
 use mathlib.Core.Path.{_≡_, sym, _∙_, ap}
-use mathlib.Core.Bool.{true, false}
+use mathlib.Core.Bool.{true}
 use Rattle.refusals.specs.declared.Refusal.the-variants.{Form}
-use Rattle.refusals.specs.Refusals.{answer, shownNumber}
+use Rattle.refusals.specs.Refusals.{answer, shownNumber, leftAt}
 use Rattle.refusals.proofs.Refusing.{refuses-answer}
 use Rattle.xml.specs.CheckSteps.{inForm, front, requireForm}
 use Rattle.xml.proofs.Checked.{checked-good, checked-broken, OfText, of-form}
@@ -36,7 +36,7 @@ returns-2 : tie.Need-returns-2
 returns-2 c =
     let e = checked-broken (c .before .before .before .before .before .before .args .text .now) _ (sym (c .before .before .n .given .1) ∙ c .before .before .before .before .check .ensures) in
     let number : _≡_ (c .number .result) (shownNumber (requireForm (c .before .before .before .before .before .before .args .text .now) (answer (c .before .before .before .before .before .before .args .text .now)))) = rw (e .0) (c .number .ensures) in
-    record { refusal = number; place = refused-front {a = requireForm (c .before .before .before .before .before .before .args .text .now) (answer (c .before .before .before .before .before .before .args .text .now))} (Form (record { front = front (c .before .before .before .before .before .before .args .text .now); «on_data» = false })) (of-form (c .before .before .before .before .before .before .args .text .now) _ (refuses-answer (OfText (c .before .before .before .before .before .before .args .text .now)) _)) (rw (e .0)) (c .number .ensures) (e .1) }
+    record { refusal = number; place = refused-front {a = requireForm (c .before .before .before .before .before .before .args .text .now) (answer (c .before .before .before .before .before .before .args .text .now))} (Form (leftAt (front (c .before .before .before .before .before .before .args .text .now)))) (of-form (c .before .before .before .before .before .before .args .text .now) _ (refuses-answer (OfText (c .before .before .before .before .before .before .args .text .now)) _)) (rw (e .0)) (c .number .ensures) (e .1) }
 
 pub klapouzen-check-form-spec : {M : Type 1} → statement M
 klapouzen-check-form-spec =

@@ -1,5 +1,5 @@
 -- `read_into` meets its contract: what the caller gives, the length, the form, then the root.
-use mathlib.Core.Path.{ap, sym, _∙_}
+use mathlib.Core.Path.{sym, _∙_}
 use borrow.Author.Tests.{le-leb, lt-leb, not-true, not-false}
 use Rattle.xml.proofs.Form.{in-form}
 use Rattle.xml.proofs.Checked.{checked-good, checked-broken}

@@ -1,6 +1,6 @@
 -- `read` meets its contract: the length, the form, and the root.
 use mathlib.Core.Path.{_≡_, ap, sym, subst, _∙_}
-use mathlib.Core.Bool.{true, false}
+use mathlib.Core.Bool.{true}
 use Rattle.xml.specs.CheckSteps.{inForm}
 use Rattle.xml.proofs.Checked.{checked-good, checked-broken}
 use Rattle.elements.specs.Tags.{Tags}
