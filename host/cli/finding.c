@@ -38,6 +38,21 @@ static uint64_t last_block(const struct finding *finding)
     return finding->row[KLAPOUZEN_CONSTRUCT_KEPT] - 2;
 }
 
+/* Whether it is a text that is refused: of labels not a list or VOL1, of an index not an unreadable block. */
+static bool is_text(const struct finding *finding)
+{
+    uint64_t refusal = finding->refused.number;
+    if (is_index(finding))
+        return refusal != KLAPOUZEN_UNREADABLE_BLOCK;
+    return (refusal >= KLAPOUZEN_BAD_FORM && refusal <= KLAPOUZEN_BAD_VERSION) || refusal == KLAPOUZEN_TOO_LONG;
+}
+
+/* The first byte of the text, from the store's beginning. */
+static uint64_t begin_of(const struct finding *finding)
+{
+    return (uint64_t)(finding->refused.text.start - tape_of(finding)->store.start);
+}
+
 static void print_head(const struct finding *finding)
 {
     fputs(colour_code(stdout, BOLD), stdout);
@@ -64,8 +79,7 @@ struct location {
 static struct location location_of(const struct finding *finding)
 {
     uint64_t front = finding->refused.front;
-    uint64_t begin = (uint64_t)(finding->refused.text.start - tape_of(finding)->store.start);
-    struct location location = { LABEL_ELEMENT, front, begin + front };
+    struct location location = { LABEL_ELEMENT, front, begin_of(finding) + front };
     if (!is_index(finding))
         return location;
     /* All blocks of an index but the last have the block size, or it would not stand. */
@@ -189,9 +203,10 @@ static void print_too_long(const struct finding *finding)
 {
     uint64_t length = finding->refused.text.length;
     uint64_t most = is_index(finding) ? KLAPOUZEN_MAX_INDEX : KLAPOUZEN_MAX_LABEL;
-    printf("  the text has %s bytes, and %s at most are read\n", grouped(length), grouped(most));
-    if (length <= most)
-        printf("  so it is over %s directories and files, or a file of over %s extents\n",
+    if (length > most)
+        printf("  a text of at most %s bytes is read\n", grouped(most));
+    else
+        printf("  the text is not too long: it has over %s directories and files, or a file with over %s extents\n",
                grouped(KLAPOUZEN_MAX_ENTRIES), grouped(KLAPOUZEN_MAX_ROWS));
 }
 
@@ -232,6 +247,14 @@ static const char *what_is_right(uint64_t refusal)
     }
 }
 
+/* So that it can be looked at. */
+static void print_text_location(const struct finding *finding)
+{
+    fputs("  its text is ", stdout);
+    print_counted(stdout, finding->refused.text.length, "byte", "bytes");
+    printf(" from byte %" PRIu64 " of %s.store on\n", begin_of(finding), tape_of(finding)->name);
+}
+
 static void print_known(const struct finding *finding)
 {
     static void (*const printers[KLAPOUZEN_UNREADABLE_BLOCK + 1])(const struct finding *finding) = {
@@ -244,6 +267,8 @@ static void print_known(const struct finding *finding)
     fputs(what_is_right(refusal), stdout);
     if (printers[refusal] != NULL)
         printers[refusal](finding);
+    if (is_text(finding) && refusal != KLAPOUZEN_BAD_FORM)
+        print_text_location(finding);
 }
 
 void print_finding(const struct finding *finding)
@@ -267,15 +292,6 @@ static void print_json_number(const char *key, bool is_known, uint64_t number)
         printf(",\"%s\":%" PRIu64, key, number);
     else
         printf(",\"%s\":null", key);
-}
-
-/* Whether it is a text that is refused: of labels not a list or VOL1, of an index not an unreadable block. */
-static bool is_text(const struct finding *finding)
-{
-    uint64_t refusal = finding->refused.number;
-    if (is_index(finding))
-        return refusal != KLAPOUZEN_UNREADABLE_BLOCK;
-    return (refusal >= KLAPOUZEN_BAD_FORM && refusal <= KLAPOUZEN_BAD_VERSION) || refusal == KLAPOUZEN_TOO_LONG;
 }
 
 static void print_json_elements(const struct finding *finding)
@@ -339,6 +355,7 @@ void print_json_finding(const struct finding *finding)
     else
         printf(",\"file\":\"%s\"", from.file);
     print_json_elements(finding);
+    print_json_number("begin", is_text(finding), is_text(finding) ? begin_of(finding) : 0);
     print_json_number("length", is_text(finding), finding->refused.text.length);
     print_json_refusal(finding);
 }

@@ -49,7 +49,7 @@ static int wrong_label_element(struct bytes list, bool *is_unreadable)
     return LABEL_ELEMENTS;
 }
 
-/* A side as both sides of a volume: what is refused there but that the two are one is this side's. */
+/* The side stands for both: what is refused then, but that the two disagree, is its own. */
 struct refused labels_refused(const struct side *side)
 {
     uint64_t out[KLAPOUZEN_LABELS];

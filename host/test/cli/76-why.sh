@@ -55,8 +55,8 @@ END
 same out wanted
 is 1 "$K" why --json unescaped
 cat > wanted <<'END'
-{"folder":"unescaped","side":"index","file":"index.store","construct":2,"element":11,"last_element":11,"length":2032,"refusal":{"number":4,"text":"the text is not in the XML form","place":{"front":1473,"line":2,"column":1435,"element":11,"byte":1473,"store_byte":4325,"found":32,"open":5,"within":"name"}}}
-{"folder":"unescaped","side":"data","file":"data.store","construct":2,"element":29,"last_element":29,"length":2032,"refusal":{"number":4,"text":"the text is not in the XML form","place":{"front":1473,"line":2,"column":1435,"element":29,"byte":1473,"store_byte":74218,"found":32,"open":5,"within":"name"}}}
+{"folder":"unescaped","side":"index","file":"index.store","construct":2,"element":11,"last_element":11,"begin":2852,"length":2032,"refusal":{"number":4,"text":"the text is not in the XML form","place":{"front":1473,"line":2,"column":1435,"element":11,"byte":1473,"store_byte":4325,"found":32,"open":5,"within":"name"}}}
+{"folder":"unescaped","side":"data","file":"data.store","construct":2,"element":29,"last_element":29,"begin":72745,"length":2032,"refusal":{"number":4,"text":"the text is not in the XML form","place":{"front":1473,"line":2,"column":1435,"element":29,"byte":1473,"store_byte":74218,"found":32,"open":5,"within":"name"}}}
 END
 same out wanted
 
@@ -80,7 +80,7 @@ is 0 "$K" why nights --data --construct 3
 printf '%s\n' 'data side: data.store, index construct 3, element 69' '  sound' '' > wanted
 same out wanted
 is 0 "$K" why nights --construct 1 --json
-says out '{"folder":"nights","side":"index","file":"index.store","construct":1,"element":8,"last_element":8,"length":'
+says out '{"folder":"nights","side":"index","file":"index.store","construct":1,"element":8,"last_element":8,"begin":'
 says out ',"refusal":null}'
 is_json out
 is 0 "$K" why defect
@@ -247,7 +247,7 @@ for side in index data; do
     wrong one $side 2 <<< "$LABEL"
     is 1 "$K" why --json one
     one_line out
-    says out "\"side\":\"$side\",\"file\":\"$side.store, element 2\",\"construct\":null,\"element\":2,\"last_element\":2,\"length\":114,\"refusal\":{\"number\":4,"
+    says out "\"side\":\"$side\",\"file\":\"$side.store, element 2\",\"construct\":null,\"element\":2,\"last_element\":2,\"begin\":80,\"length\":114,\"refusal\":{\"number\":4,"
     mv out told
     is 1 "$K" why one
     says out "$side side: $side.store, element 2"
@@ -296,7 +296,7 @@ says out "both sides: index.store and data.store, the labels"
 says out "  refused 8: labels disagree, or an index belongs to another volume"
 is 1 "$K" why swapped --json
 is_json out
-says out '"side":"both","file":"index.store and data.store, the labels","construct":null,"element":null,"last_element":null,"length":null,"refusal":{"number":8,'
+says out '"side":"both","file":"index.store and data.store, the labels","construct":null,"element":null,"last_element":null,"begin":null,"length":null,"refusal":{"number":8,'
 is 1 "$K" why headless
 says out "index side: index.list"
 says out "  refused 9: the partition does not begin with block, mark, block, mark"
@@ -312,7 +312,7 @@ says out "data side: data.store, element 0"
 says out "  refused 3: not a VOL1 label of an LTFS volume"
 says_not out "bytes, a VOL1 label"
 is 1 "$K" why bad3 --json
-says out '"construct":null,"element":0,"last_element":0,"length":null,"refusal":{"number":3,'
+says out '"construct":null,"element":0,"last_element":0,"begin":null,"length":null,"refusal":{"number":3,'
 rm -rf one && printf 'one\tsize,0,79\n' | python3 -I -S "$PARTS/../elements.py" fresh index
 is 1 "$K" why one
 says out "  the block has 79 bytes, a VOL1 label has 80"
@@ -335,12 +335,13 @@ is 1 "$K" why one
 says out "  refused 6: a value outside its rule"
 says out "  the text is in the XML form, and all its elements are right"
 is 1 "$K" why one --json
-says out '"element":2,"last_element":2,"length":388,"refusal":{"number":6,"text":"a value outside its rule"}}'
+says out '"element":2,"last_element":2,"begin":80,"length":388,"refusal":{"number":6,"text":"a value outside its rule"}}'
 wrong one data 2 < <(bytes 4097 ' ')
 is 1 "$K" why one
 says out "data side: data.store, element 2"
 says out "  refused 15: text too long, or too many entries or extents"
-says out "  the text has 4,097 bytes, and 4,096 at most are read"
+says out "  a text of at most 4,096 bytes is read"
+says out "  its text is 4,097 bytes from byte 80 of data.store on"
 says_not out "directories and files"
 
 # A tape with ANSI labels is named as the other commands name it.
@@ -350,7 +351,7 @@ printf '%s\n' 'an ANSI labelled tape, volume BENCH1, with 6 files: see klapouzen
 same out wanted
 is 1 "$K" why labelled_tape --json
 is_json out
-says out '"side":"index","file":"index.list","construct":null,"element":null,"last_element":null,"length":null,"refusal":{"number":9,'
+says out '"side":"index","file":"index.list","construct":null,"element":null,"last_element":null,"begin":null,"length":null,"refusal":{"number":9,'
 says out ',"ansi":{"identifier":"BENCH1","files":6,"refusal":null}}'
 
 # ---- Other refusals of an index ----
@@ -370,17 +371,21 @@ open(path, "wb").write(store[:begin] + store[begin:].replace(old, new, 1))
 PYTHON
 }
 
-# refused_index SIDE CONSTRUCT ELEMENT NUMBER: why tells of this one alone, in words and in JSON.
+# refused_index SIDE CONSTRUCT ELEMENT NUMBER: why tells of this one alone, in words and in JSON, and where its text is.
 refused_index() {
+    local begin length
+    begin=$(offset_of "$3" "one/$1.list")
+    length=$(($(offset_of $(($3 + 1)) "one/$1.list") - begin))
     is 1 "$K" why --json one
     one_line out
     is_json out
-    says out "\"side\":\"$1\",\"file\":\"$1.store\",\"construct\":$2,\"element\":$3,\"last_element\":$3,\"length\":"
+    says out "\"side\":\"$1\",\"file\":\"$1.store\",\"construct\":$2,\"element\":$3,\"last_element\":$3,\"begin\":$begin,\"length\":$length,"
     says out "\"refusal\":{\"number\":$4,\"text\":"
     says_not out '"place"'
     is 1 "$K" why one
     says out "$1 side: $1.store, index construct $2, element $3"
     says out "  refused $4: "
+    says out "  its text is ${length%???},${length: -3} bytes from byte $begin of $1.store on"
     says_not out "^"
 }
 reindexed data '<readonly>false</readonly>' '<readonlx>false</readonlx>'
@@ -423,7 +428,8 @@ for length in 1048576 1048577; do
     [ $length -eq 1048577 ] || says out "  refused 4: "
 done
 says out "  refused 15: text too long, or too many entries or extents"
-says out "  the text has 1,048,577 bytes, and 1,048,576 at most are read"
+says out "  a text of at most 1,048,576 bytes is read"
+says out "  its text is 1,048,577 bytes from byte 468 of index.store on"
 says_not out "directories and files"
 
 # index_with ENTRY COUNT: the text of a fresh index with so many of these in its root directory.
@@ -439,8 +445,8 @@ ENTRY='<fileuid/><name/><creationtime/><changetime/><modifytime/><accesstime/><b
 wrong one index 5 < <(index_with "<directory>$ENTRY<contents/></directory>" 4096)
 is 1 "$K" why one
 says out "  refused 15: text too long, or too many entries or extents"
-says out " bytes, and 1,048,576 at most are read"
-says out "  so it is over 4,096 directories and files, or a file of over 1,024 extents"
+says_not out "at most"
+says out "  the text is not too long: it has over 4,096 directories and files, or a file with over 1,024 extents"
 wrong one index 5 < <(index_with "<directory>$ENTRY<contents/></directory>" 4095)
 is 1 "$K" why one
 says out "  refused 6: "
@@ -461,8 +467,8 @@ says out "index side: index.store, index construct 0, elements 5-11"
 says out "  unreadable, of 7 blocks: 6, 8, 9"
 is 1 "$K" why one --json
 is_json out
-says out '"construct":0,"element":5,"last_element":11,"length":null,"refusal":{"number":19,"text":"an unreadable block","unreadable":[6,8,9]}}'
-says out '"construct":0,"element":5,"last_element":5,"length":null,"refusal":{"number":19,"text":"an unreadable block","unreadable":[5]}}'
+says out '"construct":0,"element":5,"last_element":11,"begin":null,"length":null,"refusal":{"number":19,"text":"an unreadable block","unreadable":[6,8,9]}}'
+says out '"construct":0,"element":5,"last_element":5,"begin":null,"length":null,"refusal":{"number":19,"text":"an unreadable block","unreadable":[5]}}'
 
 # ---- Several at once ----
 
