@@ -1,4 +1,6 @@
 // ANSI labelled tapes (02, Item 1): the files of a tape, and where a tape leaves the layout.
+#![tactic(auto)]
+
 mod phases;
 mod rows;
 

@@ -1,4 +1,6 @@
 // Cases of ANSI labelled tapes (02, Item 1), read from files beside the program: the files of a tape, and where it leaves the layout.
+#![tactic(auto)]
+
 use ansi::FilesRead;
 use tape::ListChecked;
 

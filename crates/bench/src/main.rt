@@ -1,4 +1,6 @@
 // Writes the verdict on the volume in the current folder, and the rescue's cut (01, Bench examples).
+#![tactic(auto)]
+
 ghost use Rattle.io.specs.Counts.{IsPrefixLen};
 
 use slices::Written;

@@ -1,5 +1,7 @@
 // Cases of what the program writes, read from files beside this one: vectors, document 01's examples, and volumes of our own with each break,
 // cuts that are not the first or the obvious ones, files at and past their bounds, and UUIDs in several spellings on one volume.
+#![tactic(auto)]
+
 use slices::Written;
 
 // Four files; the lines expected.

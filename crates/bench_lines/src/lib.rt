@@ -1,4 +1,6 @@
 // What the program writes for the four files of a volume (01, Bench examples).
+#![tactic(auto)]
+
 mod composing;
 
 ghost use Rattle.std.specs.Prelude.{◌≡◌};

@@ -1,4 +1,6 @@
 // Numbers in bytes, high byte first, over the width.
+#![tactic(auto)]
+
 ghost use Rattle.std.specs.Prelude.{◌≡◌, ◌%◌};
 ghost use Rattle.slices.specs.Writers.{Puts};
 ghost use Rattle.big_endian.specs.BigEndian.{big_endian};

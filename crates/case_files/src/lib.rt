@@ -1,5 +1,7 @@
 // Files of test cases: numbers of 8 bytes, low byte first, and byte strings, each behind its length as such a number. What cannot be
 // read is 0 or empty.
+#![tactic(auto)]
+
 ghost use Rattle.std.specs.Prelude.{◌≡◌, ◌-◌, ◌<◌, ◌≤◌};
 ghost use Rattle.io.specs.Counts.{IsPrefixLen};
 

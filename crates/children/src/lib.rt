@@ -1,4 +1,6 @@
 // Children once each in any order, nothing else (01, LTFS label, Index): rows of elements read by a table of rules.
+#![tactic(auto)]
+
 ghost use Rattle.std.specs.Prelude.{◌≡◌, not, ◌&&◌, ◌+◌, ◌≤◌, ◌<◌, eqb, length, get_or};
 ghost use Rattle.xml.specs.ScanSteps.{Past};
 ghost use Rattle.elements.specs.Reading.{head_at, children_at};

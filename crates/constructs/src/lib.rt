@@ -1,4 +1,5 @@
 // Constructs of a partition (01, Constructs, verdict and cut): where each standing construct lies, and how far data blocks reach.
+#![tactic(auto)]
 
 ghost use Rattle.std.specs.Prelude.{◌≡◌, ◌+◌, ◌*◌, ◌<◌, [], ◌∷◌};
 ghost use Rattle.std.proofs.lemmas.List.Edits.{sets};

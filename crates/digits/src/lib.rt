@@ -1,4 +1,6 @@
 // Decimal and hex digits: numbers read from a text and written into one, and which bytes are hex digits.
+#![tactic(auto)]
+
 pub mod hex;
 
 ghost use Rattle.std.specs.Prelude.{◌≡◌, ◌%◌, length};

@@ -1,4 +1,6 @@
 // Texts read as numbers and written again, each into a buffer of dots; and the bytes that are hex digits.
+#![tactic(auto)]
+
 use slices::Written;
 
 fn line(s: &[u8]) {

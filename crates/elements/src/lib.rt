@@ -1,5 +1,7 @@
 // The elements of a text (01, The XML form), read tag by tag. Nothing here asks that a text is in the form: a place may lie anywhere, and
 // each answer is what the definitions read off the bytes there.
+#![tactic(auto)]
+
 mod heads;
 mod scan;
 mod starts;

@@ -1,4 +1,6 @@
 // Elements read off texts in the XML form and outside it, and texts decoded.
+#![tactic(auto)]
+
 use elements::{Child, Tag};
 use slices::Written;
 

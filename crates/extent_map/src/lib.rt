@@ -1,4 +1,6 @@
 // A file's rows by rising fileoffset, with its length and its block size, in a lent buffer of numbers: built once, asked many times.
+#![tactic(auto)]
+
 mod sorting;
 
 ghost use Rattle.std.specs.Prelude.{◌≡◌, true, ◌+◌, ◌-◌, ◌*◌, ◌/◌, ◌%◌, ◌<◌, ◌≤◌, min, length, take, drop};

@@ -1,4 +1,6 @@
 // The byte map on cases from standard input: a line each, its numbers with a space between: file length, block size, position, and the rows.
+#![tactic(auto)]
+
 ghost use Rattle.std.specs.Prelude.{◌≤◌};
 
 use extents::ByteAt;

@@ -1,4 +1,6 @@
 // Reading an index's text (01, Index): one walk over its elements gathers what the refusals ask.
+#![tactic(auto)]
+
 mod read;
 mod survey;
 mod walk;

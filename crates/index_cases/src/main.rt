@@ -1,4 +1,6 @@
 // Cases of reading an index, of its files and of their rows, and of the index of a construct, read from files beside the program.
+#![tactic(auto)]
+
 ghost use Rattle.std.specs.Prelude.{◌≡◌, ◌≤◌, length};
 ghost use Rattle.io.specs.Counts.{IsPrefixLen};
 

@@ -1,4 +1,6 @@
 // The files of an index's text and their rows (01, Index and Extents), one after the other and by their numbers; and all of an index at once.
+#![tactic(auto)]
+
 mod asked;
 mod extent_rows;
 mod files;

@@ -1,4 +1,6 @@
 // The elements of an index by their names (01, Index): which may stand in which, and how often.
+#![tactic(auto)]
+
 ghost use Rattle.std.specs.Prelude.{◌≡◌};
 ghost use Rattle.index_names.specs.Sorts as sorts;
 ghost use Rattle.index_names.specs.Rows.{names_of};

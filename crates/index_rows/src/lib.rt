@@ -1,4 +1,6 @@
 // A row of an index's elements read once: where the first element of each name stands.
+#![tactic(auto)]
+
 ghost use Rattle.std.specs.Prelude.{◌≡◌, ◌≤◌, length};
 ghost use Rattle.elements.specs.Reading.{forest_at, part_at, Inside};
 ghost use Rattle.elements.specs.TagSteps.{Behind};

@@ -1,4 +1,6 @@
 // The values of an index's elements (01, Index, Values, Extents): found in a row by name, tested by themselves, and a file's extents as rows.
+#![tactic(auto)]
+
 mod rows;
 mod tests;
 mod uids;

@@ -1,4 +1,6 @@
 // The LTFS label of a partition (01, LTFS label): read, and the labels of two partitions compared.
+#![tactic(auto)]
+
 mod agreement;
 mod reader;
 

@@ -1,5 +1,7 @@
 // Cases of VOL1 and of the LTFS label (01, VOL1, Values, LTFS label), read from files beside the program: vectors, and for each sentence texts that
 // keep it and texts that break it; and of values and rows that no label reaches.
+#![tactic(auto)]
+
 mod labels;
 mod parts;
 mod volumes;

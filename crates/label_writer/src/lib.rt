@@ -1,4 +1,6 @@
 // The LTFS label, written.
+#![tactic(auto)]
+
 ghost use Rattle.std.specs.Prelude.{◌≡◌, ◌&&◌, [], ◌∷◌, ◌≤◌, length, take};
 ghost use Rattle.xml.specs.CheckSteps.{in_form};
 ghost use Rattle.quantities.specs.Letters.{is_letter};

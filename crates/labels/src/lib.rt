@@ -1,4 +1,6 @@
 // The labels of two partitions (01, Refusal numbers, the volume order): read and compared.
+#![tactic(auto)]
+
 ghost use Rattle.std.specs.Prelude.{◌≡◌, ◌+◌, ◌≤◌};
 ghost use Rattle.tape.specs.ReadingSteps.{entry_at};
 ghost use Rattle.labels.specs.Steps.{past_block, past_mark, LaysOut, label_moved, BeginWithin, ReadsSides, ChecksLabels};

@@ -1,4 +1,6 @@
 // The path of an entry of a table: the names from below the root down to it, with `/` between.
+#![tactic(auto)]
+
 ghost use Rattle.std.specs.Prelude.{◌≡◌, ◌+◌, ◌*◌, ◌<◌, length, get_or};
 ghost use Rattle.slices.specs.Slices.{written};
 ghost use Rattle.texts.specs.Decoded.{decoded};

@@ -1,5 +1,7 @@
 // Block numbers, byte counts and generation numbers: three separate quantities (01, The block list), each with an element of its own
 // in 002; partition letters; and the rule of a block size.
+#![tactic(auto)]
+
 ghost use Rattle.std.specs.Prelude.{◌≡◌};
 ghost use Rattle.quantities.specs.Letters.{is_letter};
 ghost use Rattle.quantities.specs.Sizes.{is_block_size};

@@ -1,4 +1,6 @@
 // The refusals of document 01 and of 02's requests, each under the name of what is wrong.
+#![tactic(auto)]
+
 ghost use Rattle.std.specs.Prelude.{◌≡◌};
 ghost use Rattle.refusals.specs.Refusals.{number_of, place_of, on_data_side};
 

@@ -1,4 +1,6 @@
 // Slices of bytes: compared, taken in part, and written into.
+#![tactic(auto)]
+
 ghost use Rattle.std.specs.Prelude.{◌≡◌, take, drop};
 ghost use Rattle.slices.specs.Slices as slices;
 ghost use Rattle.slices.specs.Writers.{Puts};

@@ -1,4 +1,6 @@
 // A partition's block list and store (01, The block list): checked, walked, cut after n elements, and asked for a block.
+#![tactic(auto)]
+
 ghost use Rattle.std.specs.Prelude.{◌≡◌, ◌+◌, ◌≤◌, ◌<◌, min, length};
 ghost use Rattle.refusals.specs.Refusals.{Shows};
 ghost use Rattle.quantities.specs.Letters.{are_letters};

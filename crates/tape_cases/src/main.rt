@@ -1,4 +1,6 @@
 // Cases of the block list, read from files beside the program: checks, elements kept, blocks asked for.
+#![tactic(auto)]
+
 use quantities::BlockNumber;
 
 // A list and a store; the refusal and the number of elements expected.

@@ -2,6 +2,8 @@
 // behind its length, 8 bytes, low byte first; an empty one or the end of the input is the end. A tree's lines are `(` and a name; `@`, a
 // key, `=`, the length of its value, the value decoded; `"`, the length and the text, decoded, of an element without children; `)`. A line
 // with a point ends a tree.
+#![tactic(auto)]
+
 ghost use Rattle.std.specs.Prelude.{◌≡◌, length};
 
 use elements::Tag;

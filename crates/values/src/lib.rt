@@ -1,4 +1,6 @@
 // Values (01, Values): what the text of an element says, as spelled (raw), and whether it is lawful.
+#![tactic(auto)]
+
 mod numbers;
 
 ghost use Rattle.std.specs.Prelude.{◌≡◌, ◌||◌, ◌+◌, ◌-◌, ◌<◌, ◌≤◌, length};

@@ -1,4 +1,6 @@
 // The VOL1 label (01, VOL1; 002, 6.1.1), read and written.
+#![tactic(auto)]
+
 ghost use Rattle.std.specs.Prelude.{◌≡◌};
 ghost use Rattle.vol1.specs.Vol1.{identifier_length, owner_length, vol1, is_printed, are_fields, vol1_of};
 ghost use Rattle.vol1.specs.Steps.{in_array, WritesBlock, means_vol1};

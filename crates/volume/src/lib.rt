@@ -1,4 +1,6 @@
 // A volume of two partitions: its verdict, and the rescue's cut (01, Constructs, verdict and cut).
+#![tactic(auto)]
+
 mod answers;
 mod chains;
 mod chosen;

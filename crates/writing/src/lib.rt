@@ -1,4 +1,6 @@
 // A text put together piece by piece in a buffer.
+#![tactic(auto)]
+
 ghost use Rattle.std.specs.Prelude.{length};
 ghost use Rattle.digits.specs.Decimal.{short};
 ghost use Rattle.writing.specs.Steps.{AddsAtMost};

@@ -1,4 +1,6 @@
 // The XML form (01, The XML form): whether a text is in it, and if not, where it leaves the form (02, Item 6).
+#![tactic(auto)]
+
 ghost use Rattle.std.specs.Prelude.{◌≡◌, ◌&&◌, [], ◌∷◌, ◌≤◌, ltb, length, drop};
 ghost use Rattle.xml.specs.CheckSteps.{at, before, after, content, blank, form_run, form, outcome_of, form_checked};
 ghost use Rattle.xml.specs.ScanSteps.{Kinds, OpensTurn, Reaches, NextTurn, part};

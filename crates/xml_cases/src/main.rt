@@ -1,5 +1,7 @@
 // Cases of the XML form (01, The XML form), run: for each sentence of the form texts that are in it, and texts that are not, each with a mark where
 // it leaves the form; and vectors. A line for each group says how many cases gave what they must; every other case is written out.
+#![tactic(auto)]
+
 mod lines;
 mod tally;
 
