@@ -42,7 +42,7 @@ fn note(out: &mut [u8], end: usize, phase: Phase, store: &[u8], at: usize) -> us
 }
 
 // Where a walk ends: with so many bytes of rows, or with a refusal at an element.
-#[derive(Drop)]
+#[derive(Clone, Copy)]
 enum Walked {
     Files(usize),
     Refused(Refusal, usize),
@@ -116,7 +116,7 @@ fn empty() -> [u8; 337068]
 }
 
 // What is read of a tape: so many files, or a refusal.
-#[derive(Drop)]
+#[derive(Clone, Copy)]
 pub enum FilesRead {
     Files(usize),
     Refused(Refusal),

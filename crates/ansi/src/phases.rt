@@ -7,7 +7,7 @@ ghost use Rattle.ansi.specs.PhaseSteps.{step_of, block_step, mark_step, passed_t
 use refusals::Refusal;
 
 // What was read last; a label is told by its place in the store.
-#[derive(Drop)]
+#[derive(Clone, Copy)]
 pub enum Phase {
     Start,
     Volume(usize),
@@ -22,7 +22,7 @@ pub enum Phase {
 }
 
 // What an element does: another phase, or it can't stand.
-#[derive(Drop)]
+#[derive(Clone, Copy)]
 pub enum PhaseNext {
     Go(Phase),
     Stop(Refusal),

@@ -5,7 +5,7 @@ use ansi::FilesRead;
 use tape::ListChecked;
 
 // The number of a refusal, or 0, and the number of files, or 0.
-#[derive(Drop)]
+#[derive(Clone, Copy)]
 struct Answer {
     refusal: u64,
     files: usize,

@@ -59,7 +59,7 @@ pub fn shown_good(good: bool, case: u64) -> u64
 }
 
 // The cases of a file: how many there are, how many are left, and how many were as expected.
-#[derive(Drop)]
+#[derive(Clone, Copy)]
 pub struct Cases {
     pub fd: i32,
     pub all: u64,

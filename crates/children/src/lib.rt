@@ -10,14 +10,14 @@ ghost use Rattle.children.specs.Children.{no_attribute, may_hold, below};
 use elements::Child;
 
 // A rule's number in its table, and its mark.
-#[derive(Drop)]
+#[derive(Clone, Copy)]
 pub struct RuleFound {
     pub number: usize,
     pub mark: u8,
 }
 
 // Whether the row is lawful, and where the element of each rule stands, 0 for none.
-#[derive(Drop)]
+#[derive(Clone, Copy)]
 pub struct RowRead {
     pub ok: bool,
     pub seats: [usize; 16],

@@ -24,7 +24,7 @@ pub const NUMBERS: usize = 87380;
 // Where the next element stands: among the four of the labels, so many after it there; in a data run; in an index run, with its first
 // element, where its bytes begin in the store, whether the block before was short, and whether an unreadable block was met; behind the
 // first defect.
-#[derive(Drop)]
+#[derive(Clone, Copy)]
 enum Phase {
     Labels(usize),
     Data,
@@ -217,7 +217,7 @@ fn fill(list: &[u8], store: &[u8], count: usize, size: usize, table: &mut [u32; 
 }
 
 // What a scan for constructs answers: how many stand.
-#[derive(Drop)]
+#[derive(Clone, Copy)]
 pub enum Scanned {
     Constructs(usize),
     Refused(Refusal),
@@ -238,7 +238,7 @@ pub fn scan(list: &[u8], store: &[u8], block_size: usize, table: &mut [u32; NUMB
 
 // Where a construct lies: its first block, the elements through its closing mark, and where its text begins and ends in the store, the
 // same place where it has an unreadable block.
-#[derive(Drop)]
+#[derive(Clone, Copy)]
 pub struct Bounds {
     pub first: BlockNumber,
     pub end: usize,

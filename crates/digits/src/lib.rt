@@ -12,7 +12,7 @@ use refusals::Refusal;
 use slices::Written;
 
 // What a text says as a number.
-#[derive(Drop)]
+#[derive(Clone, Copy)]
 pub enum Number {
     Value(u64),
     Nothing,

@@ -214,7 +214,7 @@ fn quote_after(q: u8, b: u8) -> u8
 }
 
 // How a tag ends: with `/>` or not, and where what follows it begins.
-#[derive(Drop)]
+#[derive(Clone, Copy)]
 pub struct TagEnd {
     pub empty: bool,
     pub at: usize,

@@ -10,7 +10,7 @@ use crate::{heads, scan, tags};
 
 // An element as its start tag shows it: the tag's place; its name; whether it has no attribute; whether its tag is an empty-element tag; its
 // text; whether it has no children, and if so where its row goes on.
-#[derive(Drop)]
+#[derive(Clone, Copy)]
 pub struct Start {
     pub at: usize,
     pub name: Span,
@@ -22,7 +22,7 @@ pub struct Start {
 }
 
 // The end of the text, an end tag with the place behind its `<`, or an element.
-#[derive(Drop)]
+#[derive(Clone, Copy)]
 pub enum Next {
     End,
     Close(usize),
@@ -30,7 +30,7 @@ pub enum Next {
 }
 
 // The next element of a row, and where the row goes on.
-#[derive(Drop)]
+#[derive(Clone, Copy)]
 pub enum Item {
     Done,
     At(Start, usize),

@@ -4,7 +4,7 @@ ghost use Rattle.elements.specs.TagSteps.{NextTag, Behind, NextChild};
 use crate::scan;
 
 // A tag, with the place behind its `<`: an end tag, a start tag, an empty-element tag; or the end of the text.
-#[derive(Drop)]
+#[derive(Clone, Copy)]
 pub enum Tag {
     End,
     Close(usize),
@@ -13,7 +13,7 @@ pub enum Tag {
 }
 
 // The next element of a row: the place of its tag, and where the row goes on.
-#[derive(Drop)]
+#[derive(Clone, Copy)]
 pub enum Child {
     Done,
     At(usize, usize),

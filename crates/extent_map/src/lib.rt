@@ -20,7 +20,7 @@ use refusals::Refusal;
 use slices::Written;
 
 // The piece of a file that begins at a position: where its first byte is, and how many bytes it has.
-#[derive(Drop)]
+#[derive(Clone, Copy)]
 pub enum Looked {
     Stored {
         letter: u8,

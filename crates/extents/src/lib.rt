@@ -14,7 +14,7 @@ use quantities::{BlockNumber, ByteCount};
 use refusals::Refusal;
 
 // Where the byte at a file position is.
-#[derive(Drop)]
+#[derive(Clone, Copy)]
 pub enum ByteAt {
     Stored {
         letter: u8,
@@ -27,14 +27,14 @@ pub enum ByteAt {
 }
 
 // Whether a caller's rows are numbers in fives, with letters, no more than a file may have, and the block size can be one.
-#[derive(Drop)]
+#[derive(Clone, Copy)]
 pub enum RowsGiven {
     Right,
     Wrong(Refusal),
 }
 
 // A byte counted from the start of a first block: how many blocks past it, and where in its own block.
-#[derive(Drop)]
+#[derive(Clone, Copy)]
 struct Distance {
     blocks: u64,
     byte: u64,

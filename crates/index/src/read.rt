@@ -18,7 +18,7 @@ use xml::FormChecked;
 
 // What an index says besides its files: the R of its version 2.0.R; its generation; where the update time stands in its text; its location;
 // its back pointer, or zeros if it has none; whether the policy may be updated; the highest fileuid; how many directories, with the root, and files it has, and how many rows these.
-#[derive(Drop)]
+#[derive(Clone, Copy)]
 pub struct Header {
     pub release: u64,
     pub generation: Generation,
@@ -35,7 +35,7 @@ pub struct Header {
     pub rows: u64,
 }
 
-#[derive(Drop)]
+#[derive(Clone, Copy)]
 pub enum Read {
     Found(Header),
     Refused(Refusal),

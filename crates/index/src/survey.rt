@@ -11,7 +11,7 @@ use index_names::INDEX;
 use index_values::Partitions;
 
 // What is gathered, and the places of the index's children.
-#[derive(Drop)]
+#[derive(Clone, Copy)]
 pub struct Gathered {
     pub sums: Sums,
     pub places: [usize; 16],

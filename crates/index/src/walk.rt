@@ -21,7 +21,7 @@ use index_values::{Judged, Partitions};
 
 // What the walk gathers besides the tables: whether the structure is right so far, and so on; how many directories and files there are, how many
 // of them files, and how many rows those have.
-#[derive(Drop)]
+#[derive(Clone, Copy)]
 pub struct Sums {
     pub structure: bool,
     pub few: bool,
@@ -34,7 +34,7 @@ pub struct Sums {
 }
 
 // Where reading goes on, what was gathered, and the places of the row's elements.
-#[derive(Drop)]
+#[derive(Clone, Copy)]
 pub struct Left {
     pub at: usize,
     pub sums: Sums,

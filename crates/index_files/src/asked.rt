@@ -16,21 +16,21 @@ use quantities::{BlockNumber, ByteCount};
 use refusals::Refusal;
 
 // The place of a file's tag.
-#[derive(Drop)]
+#[derive(Clone, Copy)]
 enum FileTag {
     At(usize),
     Refused(Refusal),
 }
 
 // What a file says: its length, where its name stands in the text, as spelled, and how many rows it has.
-#[derive(Drop)]
+#[derive(Clone, Copy)]
 pub struct FileHead {
     pub length: ByteCount,
     pub name: Span,
     pub rows: u64,
 }
 
-#[derive(Drop)]
+#[derive(Clone, Copy)]
 pub enum FileRead {
     Found(FileHead),
     Refused(Refusal),

@@ -11,7 +11,7 @@ use quantities::{BlockNumber, ByteCount};
 
 // An extent: its partition's letter (ASCII), its first block, where in that block it begins, how many bytes it has, and where in the
 // file.
-#[derive(Drop)]
+#[derive(Clone, Copy)]
 pub struct Row {
     pub letter: u64,
     pub startblock: BlockNumber,
@@ -21,7 +21,7 @@ pub struct Row {
 }
 
 // The next row, and where the rows go on.
-#[derive(Drop)]
+#[derive(Clone, Copy)]
 pub enum NextRow {
     Found(Row, usize),
     Done,
@@ -35,7 +35,7 @@ pub fn first_row(text: &[u8], n: usize) -> usize
 }
 
 // The places of the tags of an extent's five elements; 0 for one that was not met.
-#[derive(Drop)]
+#[derive(Clone, Copy)]
 struct Tags {
     partition: usize,
     startblock: usize,

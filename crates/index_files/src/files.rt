@@ -6,7 +6,7 @@ ghost use Rattle.index_files.specs.FileSteps.{FileFrom};
 use elements::Tag;
 
 // The next file: the place of its tag, and where reading goes on behind it.
-#[derive(Drop)]
+#[derive(Clone, Copy)]
 pub enum NextFile {
     File(usize, usize),
     Done,

@@ -12,7 +12,7 @@ use crate::extent_rows::{NextRow, Row};
 use refusals::Refusal;
 
 // How many rows were written.
-#[derive(Drop)]
+#[derive(Clone, Copy)]
 pub enum Filled {
     Count(u64),
     Refused(Refusal),

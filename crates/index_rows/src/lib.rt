@@ -21,7 +21,7 @@ pub fn lying(text: &[u8], span: Span) -> &[u8]
 }
 
 // Where the first element of each number stands, 0 where there is none, and where reading goes on behind the row.
-#[derive(Drop)]
+#[derive(Clone, Copy)]
 pub struct RowPlaces {
     pub places: [usize; 16],
     pub at: usize,

@@ -25,7 +25,7 @@ use quantities::ByteCount;
 use values::{Boolean, Letter};
 
 // The label's letters, and the block size.
-#[derive(Drop)]
+#[derive(Clone, Copy)]
 pub struct Partitions {
     pub index_letter: u8,
     pub data_letter: u8,
@@ -195,7 +195,7 @@ fn read_rows(text: &[u8], at: usize, out: &mut [u64]) -> usize
 }
 
 // Whether a file has few extents, and lawful ones; and how many rows were taken of it, none of a file with too many.
-#[derive(Drop)]
+#[derive(Clone, Copy)]
 pub struct Judged {
     pub few: bool,
     pub lawful: bool,

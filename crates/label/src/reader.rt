@@ -16,7 +16,7 @@ use values::{Boolean, Letter, Version};
 use xml::FormChecked;
 
 // Whether the children of the root are lawful, and the places of the elements that hold the values.
-#[derive(Drop)]
+#[derive(Clone, Copy)]
 pub struct Places {
     pub ok: bool,
     pub creator: usize,
@@ -30,7 +30,7 @@ pub struct Places {
 }
 
 // What a label says: the R of its version 2.0.R, its values, and where in the text its creator, as spelled, its time and its UUID stand.
-#[derive(Drop)]
+#[derive(Clone, Copy)]
 pub struct LabelFields {
     pub release: u64,
     pub creator: Span,
@@ -43,14 +43,14 @@ pub struct LabelFields {
     pub compression: bool,
 }
 
-#[derive(Drop)]
+#[derive(Clone, Copy)]
 pub enum Label {
     Says(LabelFields),
     Refused(Refusal),
 }
 
 // The letters of a location, of an index and of a data partition.
-#[derive(Drop)]
+#[derive(Clone, Copy)]
 enum Letters {
     Fit(u8, u8, u8),
     Nothing,

@@ -17,7 +17,7 @@ use writing::{add, add_number};
 use xml::FormChecked;
 
 // The fields of a label that are numbers: its letters, its block size, and whether it is compressed.
-#[derive(Drop)]
+#[derive(Clone, Copy)]
 pub struct Given {
     pub location: u8,
     pub index_letter: u8,

@@ -13,7 +13,7 @@ use tape::{Entry, ListChecked};
 use vol1::Vol1Read;
 
 // The element asked for: its bytes, and the place of the next entry; or another one.
-#[derive(Drop)]
+#[derive(Clone, Copy)]
 enum Step {
     Past(usize, usize),
     Other,
@@ -44,7 +44,7 @@ fn past_mark(list: &[u8], at: usize) -> Step
 }
 
 // The lengths of blocks 0 and 2 of a partition whose elements 0 to 3 are block, mark, block, mark.
-#[derive(Drop)]
+#[derive(Clone, Copy)]
 enum Laid {
     Blocks(usize, usize),
     Otherwise,

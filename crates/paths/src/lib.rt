@@ -12,7 +12,7 @@ use refusals::Refusal;
 use slices::Written;
 
 // How long a path is.
-#[derive(Drop)]
+#[derive(Clone, Copy)]
 enum Size {
     Bytes(usize),
     // Longer than there is room for.

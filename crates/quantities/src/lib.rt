@@ -7,15 +7,15 @@ ghost use Rattle.quantities.specs.Letters.{is_letter};
 ghost use Rattle.quantities.specs.Sizes.{is_block_size};
 
 // The number of an element on a partition: blocks and file marks count from 0.
-#[derive(Drop)]
+#[derive(Clone, Copy)]
 pub struct BlockNumber(pub u64);
 
 // A number of bytes.
-#[derive(Drop)]
+#[derive(Clone, Copy)]
 pub struct ByteCount(pub u64);
 
 // The generation of an index.
-#[derive(Drop)]
+#[derive(Clone, Copy)]
 pub struct Generation(pub u64);
 
 // Whether a number is the ASCII code of a partition letter.

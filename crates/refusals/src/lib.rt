@@ -5,7 +5,7 @@ ghost use Rattle.std.specs.Prelude.{◌≡◌};
 ghost use Rattle.refusals.specs.Refusals.{number_of, place_of, on_data_side};
 
 // Where a text leaves the XML form (02, Item 6).
-#[derive(Drop)]
+#[derive(Clone, Copy)]
 pub struct Place {
     // How long the longest front of it is that some text in the form begins with.
     pub front: usize,
@@ -13,7 +13,7 @@ pub struct Place {
     pub on_data: bool,
 }
 
-#[derive(Drop)]
+#[derive(Clone, Copy)]
 pub enum Refusal {
     // The block list or its store.
     List,

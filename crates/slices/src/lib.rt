@@ -40,7 +40,7 @@ pub fn part(s: &[u8], from: usize, len: usize) -> &[u8]
 }
 
 // What a writer answers.
-#[derive(Drop)]
+#[derive(Clone, Copy)]
 pub enum Written {
     // The place after what was written.
     To(usize),

@@ -15,7 +15,7 @@ use refusals::Refusal;
 
 // What stands at a place of a list, with the place of the next entry: a file mark, a block with its length, an unreadable block, nothing
 // since the list ends, or no entry of a list.
-#[derive(Drop)]
+#[derive(Clone, Copy)]
 pub enum Entry {
     Mark(usize),
     Block(usize, usize),
@@ -71,7 +71,7 @@ pub fn entry_at(list: &[u8], at: usize) -> Entry
     Entry::Block(n, at + 5)
 }
 
-#[derive(Drop)]
+#[derive(Clone, Copy)]
 enum Totals {
     Of(usize, usize),
     Bad,
@@ -114,7 +114,7 @@ fn sum_up(list: &[u8]) -> Totals
 }
 
 // What the check of a list and its store answers.
-#[derive(Drop)]
+#[derive(Clone, Copy)]
 pub enum ListChecked {
     Elements(usize),
     Refused(Refusal),
@@ -139,7 +139,7 @@ pub fn check(list: &[u8], store: &[u8]) -> ListChecked
 }
 
 // How far the first entries of a list reach, in the list and in the store.
-#[derive(Drop)]
+#[derive(Clone, Copy)]
 struct Front {
     list: usize,
     store: usize,
@@ -188,7 +188,7 @@ fn walk(list: &[u8], n: usize) -> Front
 }
 
 // What keeping some elements answers: the lengths of the two fronts.
-#[derive(Drop)]
+#[derive(Clone, Copy)]
 pub enum Kept {
     Lengths(usize, usize),
     Refused(Refusal),
@@ -246,7 +246,7 @@ pub fn kept_store<'a>(list: &[u8], store: &'a [u8], n: usize, refusal: &mut u64)
 }
 
 // A block of a list: where its bytes begin in the store, and their number; or that it is unreadable; or that none stands there.
-#[derive(Drop)]
+#[derive(Clone, Copy)]
 enum Spot {
     Block(usize, usize),
     Unreadable,
@@ -288,7 +288,7 @@ pub fn are_letters(index: u8, data: u8, letter: u8) -> bool
 }
 
 // Where a block lies: in the store of the index or of the data partition, from a byte on, so many bytes.
-#[derive(Drop)]
+#[derive(Clone, Copy)]
 pub enum Located {
     Index(usize, usize),
     Data(usize, usize),

@@ -11,14 +11,14 @@ use refusals::Refusal;
 use slices::Written;
 
 // A byte as it is meant, and the place behind what spells it; or the end of the text.
-#[derive(Drop)]
+#[derive(Clone, Copy)]
 pub enum Spelled {
     End,
     Byte(u8, usize),
 }
 
 // A byte, and how many bytes more spell it.
-#[derive(Drop)]
+#[derive(Clone, Copy)]
 struct Meaning {
     byte: u8,
     more: usize,

@@ -15,21 +15,21 @@ pub use numbers::read_number;
 use texts::Spelled;
 
 // What a text says as a boolean.
-#[derive(Drop)]
+#[derive(Clone, Copy)]
 pub enum Boolean {
     Value(bool),
     Nothing,
 }
 
 // What a text says as a partition letter.
-#[derive(Drop)]
+#[derive(Clone, Copy)]
 pub enum Letter {
     Value(u8),
     Nothing,
 }
 
 // The R of a version 2.0.R.
-#[derive(Drop)]
+#[derive(Clone, Copy)]
 pub enum Version {
     Release(u64),
     Nothing,

@@ -10,13 +10,13 @@ use slices::Written;
 use writing::add;
 
 // A VOL1 label, as the block that it is.
-#[derive(Drop)]
+#[derive(Clone, Copy)]
 pub struct Vol1 {
     pub block: [u8; Vol1::LENGTH],
 }
 
 // Whether a block is a VOL1 label. Its fields stand at Vol1's places.
-#[derive(Drop)]
+#[derive(Clone, Copy)]
 pub enum Vol1Read {
     Good,
     Refused(Refusal),

@@ -14,7 +14,7 @@ use index_values::Partitions;
 use label::{Label, LabelFields};
 use refusals::Refusal;
 
-#[derive(Drop)]
+#[derive(Clone, Copy)]
 pub enum Verdict {
     Consistent,
     // Which of the five breaks, and its number.
@@ -22,7 +22,7 @@ pub enum Verdict {
     Refused(Refusal),
 }
 
-#[derive(Drop)]
+#[derive(Clone, Copy)]
 pub enum Rescue {
     Cut(FoundCut),
     Refused(Refusal),

@@ -10,7 +10,7 @@ use index_values::Partitions;
 use quantities::Generation;
 
 // Whether a construct is sound and follows the one before it, or begins the chain; and its generation.
-#[derive(Drop)]
+#[derive(Clone, Copy)]
 pub struct Linked {
     pub ok: bool,
     pub generation: Generation,

@@ -10,7 +10,7 @@ use index_values::Partitions;
 use refusals::Refusal;
 
 // Where the construct lies, and its index's header, whose places are those of the text; or a refusal.
-#[derive(Drop)]
+#[derive(Clone, Copy)]
 pub enum Chosen {
     Found(Bounds, Header),
     Refused(Refusal),

@@ -5,7 +5,7 @@ use constructs::{NUMBERS, Scanned};
 use tape::ListChecked;
 
 // How many constructs stand in a partition, and whether it ends with the last of them.
-#[derive(Drop)]
+#[derive(Clone, Copy)]
 pub struct TablesFilled {
     pub count: usize,
     pub ends: bool,

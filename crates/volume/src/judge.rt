@@ -10,7 +10,7 @@ use index_values::Partitions;
 use quantities::Generation;
 
 // No break, or which of the five, and its number.
-#[derive(Drop)]
+#[derive(Clone, Copy)]
 pub enum Judgement {
     Sound,
     Broken(u64, u64),

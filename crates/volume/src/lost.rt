@@ -10,7 +10,7 @@ use index_files::{NextFile, NextRow, Row};
 use index_values::Partitions;
 
 // The lowest file with an extent that does not lie there, if there is one.
-#[derive(Drop)]
+#[derive(Clone, Copy)]
 pub enum Lost {
     File(u64),
     Nothing,

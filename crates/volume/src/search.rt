@@ -11,7 +11,7 @@ use index_values::Partitions;
 use quantities::Generation;
 
 // A cut: both construct numbers, both counts of kept elements, and the generation of the last index kept in the index partition.
-#[derive(Drop)]
+#[derive(Clone, Copy)]
 pub struct FoundCut {
     pub index_construct: u64,
     pub data_construct: u64,
@@ -20,7 +20,7 @@ pub struct FoundCut {
     pub generation: Generation,
 }
 
-#[derive(Drop)]
+#[derive(Clone, Copy)]
 pub enum Tried {
     Fits(FoundCut),
     Fails,

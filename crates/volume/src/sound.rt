@@ -11,7 +11,7 @@ use index_values::Partitions;
 use quantities::{BlockNumber, Generation};
 
 // Whether an index is sound; if so, its generation, and its back pointer if it has one.
-#[derive(Drop)]
+#[derive(Clone, Copy)]
 pub struct Brief {
     pub sound: bool,
     pub generation: Generation,

@@ -126,7 +126,7 @@ pub(crate) fn past_text(text: &[u8], from: usize, kinds: &[u8; 256]) -> usize
 }
 
 // Where a scan ended: at a position past what it read, or at a byte that does not fit, with so many bytes unread.
-#[derive(Drop)]
+#[derive(Clone, Copy)]
 pub(crate) enum Scan {
     At(usize),
     Broken(usize),

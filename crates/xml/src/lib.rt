@@ -14,14 +14,14 @@ use characters::text_end;
 use tags::{Start, end_tag, inner_tag, start_tag};
 
 // A text in the form, or the length of its longest front that some text in the form begins with.
-#[derive(Drop)]
+#[derive(Clone, Copy)]
 pub enum FormChecked {
     Good,
     Broken(usize),
 }
 
 // How a text ends: in the form, or with so many bytes left unread.
-#[derive(Drop)]
+#[derive(Clone, Copy)]
 enum Ending {
     Good,
     Broken(usize),
@@ -29,7 +29,7 @@ enum Ending {
 
 // The next tag of an element, with the position behind it: an element opens, whose name is at two positions; an empty element stands inside; the
 // element ends. Or so many bytes are unread.
-#[derive(Drop)]
+#[derive(Clone, Copy)]
 enum Turn {
     Opened(usize, usize, usize),
     Inside(usize),
@@ -67,7 +67,7 @@ fn read_tag(
 
 // The next `<` of an element: the position behind it, and whether there is no text before it, so that an element may begin. Or so many bytes are
 // unread.
-#[derive(Drop)]
+#[derive(Clone, Copy)]
 enum Markup {
     At(usize, bool),
     Broken(usize),

@@ -47,7 +47,7 @@ fn attribute_end(text: &[u8], from: usize, kinds: &[u8; 256]) -> Scan
 }
 
 // The end of a start tag: `>` or `/>`, with the position behind it; or so many bytes unread.
-#[derive(Drop)]
+#[derive(Clone, Copy)]
 enum TagEnd {
     Open(usize),
     Empty(usize),
@@ -89,7 +89,7 @@ fn tag_end(text: &[u8], from: usize, kinds: &[u8; 256]) -> TagEnd
 }
 
 // A start tag: the end of its name, and the position behind the tag; an empty-element tag; or so many bytes unread.
-#[derive(Drop)]
+#[derive(Clone, Copy)]
 pub(crate) enum Start {
     Open(usize, usize),
     Empty(usize),

@@ -68,7 +68,7 @@ fn put(text: &mut [u8], end: usize, b: u8) -> usize {
 }
 
 // A text that was made: where it ends, and how many bytes it has from the mark on.
-#[derive(Drop)]
+#[derive(Clone, Copy)]
 pub(crate) struct Made {
     pub(crate) end: usize,
     pub(crate) left: usize,

@@ -2,7 +2,7 @@
 use libc::STDOUT_FILENO;
 
 // Whether a group has begun; its texts in the form, and those that are not.
-#[derive(Drop)]
+#[derive(Clone, Copy)]
 pub(crate) struct Tally {
     begun: bool,
     good: u64,
