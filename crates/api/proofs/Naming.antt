@@ -7,8 +7,10 @@ use native.Mathlib.Nat.{zero-add}
 use lib.Dec.{leb}
 use lib.ListN.{length}
 use Rattle.refusals.specs.Refusals.{Answer, refused, answer}
-use Rattle.slices.specs.Writers.{Puts, put_answer, held_after, fitting, Delivers, written_of, held_with}
+use Rattle.slices.specs.Writers.{Puts, put_answer, held_after}
 use Rattle.slices.specs.declared.Written.{Written}
+use Rattle.paths.specs.Paths.{fitting}
+use Rattle.paths.specs.Steps.{Delivers, written_of, held_with}
 use Rattle.api.specs.Outputs.{Shown, one, written_length}
 use Rattle.api.specs.Indexes.{FillsOut}
 use Rattle.api.specs.Names.{HoldsText}

@@ -2,8 +2,7 @@
 use Rattle.std.specs.Prelude.{◌≡◌, List, ℕ, length}
 use Rattle.slices.specs.Slices.{written}
 use Rattle.texts.specs.Decoded.{decoded}
-use Rattle.slices.specs.Writers.{fitting}
-use Rattle.paths.specs.Paths.{path_for}
+use Rattle.paths.specs.Paths.{fitting, path_for}
 use Rattle.api.specs.Indexes.{FillsOut}
 
 -- the buffer after: a text at its front, and the rest as it was

@@ -51,7 +51,7 @@ unshared_clear r q m n f = go (leb (row_end r) q.fileoffset) refl (leb (row_end 
         let p : ℕ = max r.fileoffset q.fileoffset in
         absurd (f p (in_row_if p r (omega arith) (omega arith)) (in_row_if p q (omega arith) (omega arith)))
 
-pub some_byte : (L B : ℕ) (r : Row) → row_lawful L B r ≡ true → 0 < r.bytecount
+some_byte : (L B : ℕ) (r : Row) → row_lawful L B r ≡ true → 0 < r.bytecount
 unfolding row_lawful
 some_byte L B r e = leb-true 1 r.bytecount (and_left _ _ (and_left _ _ (and_left _ _ e)))
 

@@ -1,6 +1,6 @@
 -- The byte map (01, Extents): where the byte at a file position is.
 use Rattle.std.specs.Prelude.{Bool, cond, ◌&&◌, List, [], ◌∷◌, ℕ, ◌+◌, ◌-◌, ◌/◌, ◌%◌, leb, ltb, eqb, length}
-use Rattle.refusals.specs.Refusals.{Answer, answer, require, and_then}
+use Rattle.refusals.specs.Refusals.{Answer, answer, require}
 use Rattle.refusals.specs.declared.Refusal.TheVariants.{Caller, TooMany, Extents, Missing}
 use Rattle.slices.specs.Slices.{every}
 use Rattle.quantities.specs.Letters.{is_letter}
@@ -31,17 +31,11 @@ lettered rows = every (λ (r : Row). is_letter r.letter) rows
 abbrev pub max_rows : ℕ
 max_rows = 1024
 
--- the rows that a caller gives: 14 for block size, letters and numbers not in fives; 15 (01, Refusal numbers)
-unfoldable pub given_rows : List ℕ → ℕ → Answer (List Row)
-given_rows numbers B =
+-- 14 for block size, letters and numbers not in fives; 15; 11; 2 (01, Refusal numbers)
+unfoldable pub byte_map : List ℕ → ℕ → ℕ → ℕ → Answer BytePlace
+byte_map numbers L B p =
     require (is_block_size B && lettered (rows_of numbers) && eqb (length numbers % 5) 0) Caller
     (require (leb (length (rows_of numbers)) max_rows) TooMany
-    (answer (rows_of numbers)))
-
--- then 11
-unfoldable pub file_rows : List ℕ → ℕ → ℕ → Answer (List Row)
-file_rows numbers L B = and_then (given_rows numbers B) (λ rows. require (lawful L B rows) Extents (answer rows))
-
--- then 2
-unfoldable pub byte_map : List ℕ → ℕ → ℕ → ℕ → Answer BytePlace
-byte_map numbers L B p = and_then (file_rows numbers L B) (λ rows. require (ltb p L) Missing (answer (byte_at B p rows)))
+    (require (lawful L B (rows_of numbers)) Extents
+    (require (ltb p L) Missing
+    (answer (byte_at B p (rows_of numbers))))))

@@ -1,19 +1,12 @@
--- The row whose numbers begin at a place, and what answers say: of the rows given, and of the byte map.
+-- The row whose numbers begin at a place, and what an answer of the byte map says.
 use Rattle.refusals.specs.Refusals.{Answer, refused, answer}
-use Rattle.extents.specs.declared.RowsGiven.{RowsGiven}
-use Rattle.extents.specs.declared.RowsGiven.TheVariants.{Right, Wrong}
 use Rattle.extents.specs.declared.ByteAt.{ByteAt}
 use Rattle.extents.specs.declared.ByteAt.TheVariants.{Stored, Unstored, Refused}
 use Rattle.extents.specs.Map.{BytePlace, stored, unstored}
 use Rattle.std.specs.Prelude.{List, ℕ, ◌+◌, get_or}
 use Rattle.extents.specs.Rows.{Row}
 
--- that rows are given as they must be, or the refusal
-abbrev pub rows_answered : RowsGiven → List Row → Answer (List Row)
-rows_answered Right rows = answer rows
-rows_answered (Wrong r) rows = refused r
-
--- what the byte map says
+-- what an answer says
 abbrev pub byte_answered : ByteAt → Answer BytePlace
 byte_answered (Stored letter block byte) = answer (stored letter block.0 byte.0)
 byte_answered Unstored = answer unstored

@@ -6,9 +6,9 @@ ghost use Rattle.refusals.specs.Refusals.{answer, require};
 ghost use Rattle.refusals.specs.declared.Refusal.TheVariants.{Missing};
 ghost use Rattle.slices.specs.Slices.{every};
 ghost use Rattle.extents.specs.Rows.{rows_of};
-ghost use Rattle.extents.specs.Steps.{row_from, rows_answered, byte_answered};
+ghost use Rattle.extents.specs.Steps.{row_from, byte_answered};
 ghost use Rattle.extents.specs.Lawful as lawfulness;
-ghost use Rattle.extents.specs.Map.{lettered, byte_at, given_rows, byte_map};
+ghost use Rattle.extents.specs.Map.{lettered, byte_at, byte_map};
 
 use quantities::{BlockNumber, ByteCount};
 use refusals::Refusal;
@@ -24,13 +24,6 @@ pub enum ByteAt {
     // A zero byte that is not stored.
     Unstored,
     Refused(Refusal),
-}
-
-// Whether a caller's rows are numbers in fives, with letters, no more than a file may have, and the block size can be one.
-#[derive(Clone, Copy)]
-pub enum RowsGiven {
-    Right,
-    Wrong(Refusal),
 }
 
 // A byte counted from the start of a first block: how many blocks past it, and where in its own block.
@@ -229,36 +222,24 @@ fn find(rows: &[u64], file_length: ByteCount, block_size: u64, position: ByteCou
     ByteAt::Unstored
 }
 
-// Whether rows are given as they must be: 14, then 15.
-pub fn check_given(rows: &[u64], block_size: u64) -> RowsGiven
-    ensures { rows_answered result (rows_of rows.now) ≡ given_rows rows.now block_size }
-{
-    if !quantities::is_block_size(block_size) {
-        return RowsGiven::Wrong(Refusal::Caller);
-    }
-    if !each_lettered(rows) {
-        return RowsGiven::Wrong(Refusal::Caller);
-    }
-    if rows.len() % 5 != 0 {
-        return RowsGiven::Wrong(Refusal::Caller);
-    }
-    if 1024 < rows.len() / 5 {
-        return RowsGiven::Wrong(Refusal::TooMany);
-    }
-    RowsGiven::Right
-}
-
 // Where the byte at a position of a file is, by its rows, its length and the block size.
 pub fn byte_at(rows: &[u64], file_length: ByteCount, block_size: u64, position: ByteCount) -> ByteAt
     ensures { byte_answered result ≡ byte_map rows.now file_length.0 block_size position.0 }
 {
-    match check_given(rows, block_size) {
-        RowsGiven::Wrong(r) => ByteAt::Refused(r),
-        RowsGiven::Right => {
-            if !lawful(rows, file_length, block_size) {
-                return ByteAt::Refused(Refusal::Extents);
-            }
-            find(rows, file_length, block_size, position)
-        }
+    if !quantities::is_block_size(block_size) {
+        return ByteAt::Refused(Refusal::Caller);
     }
+    if !each_lettered(rows) {
+        return ByteAt::Refused(Refusal::Caller);
+    }
+    if rows.len() % 5 != 0 {
+        return ByteAt::Refused(Refusal::Caller);
+    }
+    if 1024 < rows.len() / 5 {
+        return ByteAt::Refused(Refusal::TooMany);
+    }
+    if !lawful(rows, file_length, block_size) {
+        return ByteAt::Refused(Refusal::Extents);
+    }
+    find(rows, file_length, block_size, position)
 }

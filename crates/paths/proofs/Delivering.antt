@@ -11,11 +11,9 @@ use Rattle.refusals.specs.Refusals.{Answer, refused, answer, require, and_then, 
 use Rattle.refusals.specs.declared.Refusal.{Refusal}
 use Rattle.refusals.specs.declared.Refusal.TheVariants.{Missing, Short, Caller}
 use Rattle.slices.specs.Slices.{written}
-use Rattle.slices.specs.Writers.{fitting, Delivers}
-use Rattle.slices.proofs.Delivering.{delivers_short, delivers}
 use Rattle.slices.specs.declared.Written.TheVariants.{To, Refused}
-use Rattle.paths.specs.Paths.{entry_count, parent_of, name_of, is_placed, names_down, path_down, path_of}
-use Rattle.paths.specs.Steps.{is_answer, size_for, path_bytes}
+use Rattle.paths.specs.Paths.{entry_count, parent_of, name_of, is_placed, names_down, path_down, path_of, fitting}
+use Rattle.paths.specs.Steps.{is_answer, size_for, path_bytes, Delivers}
 use Rattle.paths.proofs.Walks.{with_name, joining}
 use Rattle.paths.specs.declared.Size.TheVariants.{Bytes, TooLong}
 
@@ -97,11 +95,17 @@ module _ (text entries : List ℕ) where
       pub its_path : is_answer (path_down text entries n) ≡ true → path_of text entries n ≡ answer (path_bytes text entries n)
       its_path e = in_table ∙ path_bytes_lem n e
 
--- of a path a, where a size tells whether a buffer before has room for it
-module _ {a : Answer (List ℕ)} (before : List ℕ) {w : List ℕ} (e : a ≡ answer w) where
-  pub sized_short : TooLong ≡ size_for (length before) w → Delivers (and_then a (fitting (length before))) before before (Refused Short)
-  sized_short z = delivers_short before e (had_none (length before) w z)
+-- of a path a, where a buffer before has room for it
+module _ {a : Answer (List ℕ)} (before : List ℕ) where
+  pub delivers_not : (r : Refusal) → a ≡ refused r → Delivers (and_then a (fitting (length before))) before before (Refused r)
+  delivers_not r e = rw e record { answers = refl; holds = refl }
 
-  pub sized : {after : List ℕ} {len : ℕ} → Bytes len ≡ size_for (length before) w → after ≡ written 0 w before
-      → Delivers (and_then a (fitting (length before))) before after (To len)
-  sized {after} {len} z q = let (p, h) = had_room (length before) w len z in delivers before e p h q
+  module _ {w : List ℕ} (e : a ≡ answer w) where
+    pub delivers_short : TooLong ≡ size_for (length before) w → Delivers (and_then a (fitting (length before))) before before (Refused Short)
+    delivers_short z = rw (e, lt-leb _ _ (had_none (length before) w z)) record { answers = refl; holds = refl }
+
+    pub delivers : {after : List ℕ} {len : ℕ} → Bytes len ≡ size_for (length before) w → after ≡ written 0 w before
+        → Delivers (and_then a (fitting (length before))) before after (To len)
+    delivers {after} {len} z q =
+        let (p, h) = had_room (length before) w len z in
+        rw (e, le-leb _ _ h) record { answers = ap To p; holds = q }

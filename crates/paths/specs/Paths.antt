@@ -2,9 +2,8 @@
 -- 4 and 5 are the place of its name in the index's text, as spelled, and its length there. Entry 0 is the root.
 use Rattle.std.specs.Prelude.{Bool, cond, ◌&&◌, List, [], ◌∷◌, ◌++◌, ℕ, zero, suc, ◌+◌, ◌*◌, ◌/◌, ◌%◌, leb, ltb, eqb, length, take, drop, get_or}
 use Rattle.refusals.specs.Refusals.{Answer, answer, require, and_then}
-use Rattle.refusals.specs.declared.Refusal.TheVariants.{Missing, Caller}
+use Rattle.refusals.specs.declared.Refusal.TheVariants.{Missing, Short, Caller}
 use Rattle.slices.specs.Words.{bytes}
-use Rattle.slices.specs.Writers.{fitting}
 use Rattle.texts.specs.Decoded.{decoded}
 
 -- how many entries a table has
@@ -53,6 +52,10 @@ module _ (text entries : List ℕ) where
       require (eqb (length entries % 9) 0) Caller
       (require (ltb n (entry_count entries)) Missing
       (path_down n))
+
+-- 10: a buffer of that length has no room for the text
+abbrev pub fitting : ℕ → List ℕ → Answer (List ℕ)
+fitting room w = require (leb (length w) room) Short (answer w)
 
 -- the path of entry n where a buffer of that length has room for it
 abbrev pub path_for : ℕ → List ℕ → List ℕ → ℕ → Answer (List ℕ)

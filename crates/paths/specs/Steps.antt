@@ -2,6 +2,8 @@
 use Rattle.std.specs.Prelude.{◌≡◌, Bool, true, false, cond, List, ℕ, ◌≤◌, ◌<◌, leb, length}
 use Rattle.refusals.specs.Refusals.{Answer, refused, answer, shown_bytes}
 use Rattle.slices.specs.Slices.{written}
+use Rattle.slices.specs.declared.Written.{Written}
+use Rattle.slices.specs.declared.Written.TheVariants.{To, Refused}
 use Rattle.paths.specs.Paths.{entry_count, parent_of, path_down}
 use Rattle.paths.specs.declared.Size.{Size}
 use Rattle.paths.specs.declared.Size.TheVariants.{Bytes, TooLong}
@@ -36,3 +38,18 @@ module _ (text entries : List ℕ) where
     pub ends : at ≡ length (path_bytes (parent_of entries n))
     pub long : length after ≡ length before
     pub left : written 0 (path_bytes (parent_of entries n)) after ≡ written 0 (path_bytes n) before
+
+-- what a writer answers
+abbrev pub written_of : Answer (List ℕ) → Written
+written_of (refused r) = Refused r
+written_of (answer w) = To (length w)
+
+-- what the buffer holds after
+abbrev pub held_with : Answer (List ℕ) → List ℕ → List ℕ
+held_with (refused r) before = before
+held_with (answer w) before = written 0 w before
+
+-- a writer of what was asked for
+pub record Delivers (a : Answer (List ℕ)) (before after : List ℕ) (r : Written) : Type 0 where
+  pub answers : r ≡ written_of a
+  pub holds : after ≡ held_with a before

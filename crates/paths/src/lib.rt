@@ -4,9 +4,8 @@
 ghost use Rattle.std.specs.Prelude.{◌≡◌, ◌+◌, ◌*◌, ◌<◌, length, get_or};
 ghost use Rattle.slices.specs.Slices.{written};
 ghost use Rattle.texts.specs.Decoded.{decoded};
-ghost use Rattle.slices.specs.Writers.{Delivers};
 ghost use Rattle.paths.specs.Paths.{entry_count, parent_of, name_of, is_placed, path_down, path_for};
-ghost use Rattle.paths.specs.Steps.{is_answer, size_for, path_bytes, HasPath, EndsAt, WritesLast};
+ghost use Rattle.paths.specs.Steps.{is_answer, size_for, path_bytes, HasPath, EndsAt, WritesLast, Delivers};
 
 use refusals::Refusal;
 use slices::Written;

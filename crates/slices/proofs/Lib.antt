@@ -6,4 +6,3 @@ pub mod Equal
 pub mod Writing
 pub mod Writers
 pub mod Parts
-pub mod Delivering

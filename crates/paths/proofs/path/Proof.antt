@@ -5,8 +5,7 @@ use borrow.Author.Tests.{not-true, not-false}
 use lib.ListN.{length}
 use Rattle.refusals.specs.declared.Refusal.TheVariants.{Missing, Caller}
 use Rattle.paths.specs.Steps.{path_bytes}
-use Rattle.slices.proofs.Delivering.{delivers_not}
-use Rattle.paths.proofs.Delivering.{had_room, not_nines, no_entry, no_path, its_path, sized_short, sized}
+use Rattle.paths.proofs.Delivering.{had_room, not_nines, no_entry, no_path, its_path, delivers_not, delivers_short, delivers}
 use borrow.Author.Rules.{rules}
 use Rattle.paths.proofs.path.Statement.{statement}
 use Rattle.paths.proofs.path.Tie as tie
@@ -44,7 +43,7 @@ returns-4 : tie.Need-returns-4
 returns-4 c =
     let a = c.before.before.before.before.before.before.before.before.before.before.args in
     let e = sym c.before.before.before.before.is-path.ensures ∙ not-false _ c.before.before.before.if3.false in
-    sized_short a.out.now (its_path a.text.now a.entries.now a.entry c.before.before.before.before.before.before.if1.false (omega arith) e) (sym c.enum_told.given.1 ∙ c.before.before.path-len.ensures)
+    delivers_short a.out.now (its_path a.text.now a.entries.now a.entry c.before.before.before.before.before.before.if1.false (omega arith) e) (sym c.enum_told.given.1 ∙ c.before.before.path-len.ensures)
 
 put-path-requires : tie.Need-put-path-requires
 put-path-requires c κs =
@@ -60,7 +59,7 @@ returns-5 : tie.Need-returns-5
 returns-5 c =
     let a = c.before.before.before.before.before.before.before.before.before.before.before.before.before.before.before.args in
     let e = sym c.before.before.before.before.before.before.before.before.before.is-path.ensures ∙ not-false _ c.before.before.before.before.before.before.before.before.if3.false in
-    sized a.out.now (its_path a.text.now a.entries.now a.entry c.before.before.before.before.before.before.before.before.before.before.before.if1.false (omega arith) e) (sym c.before.before.before.before.before.len.given.1 ∙ c.before.before.before.before.before.before.before.path-len.ensures) c.before.before.put-path.ensures
+    delivers a.out.now (its_path a.text.now a.entries.now a.entry c.before.before.before.before.before.before.before.before.before.before.before.if1.false (omega arith) e) (sym c.before.before.before.before.before.len.given.1 ∙ c.before.before.before.before.before.before.before.path-len.ensures) c.before.before.put-path.ensures
 
 pub path_spec : {M : Type 1} → statement M
 path_spec =
