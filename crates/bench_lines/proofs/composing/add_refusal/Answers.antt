@@ -1,0 +1,12 @@
+-- `add_refusal` meets its contract: the pieces one after the other.
+use native.Mathlib.Omega.{arith}
+use Rattle.writing.proofs.Pieces.{then, within, the_same}
+use Rattle.slices.specs.Words.{bytes}
+use Rattle.bench_lines.specs.Lines.{refused_line}
+use mathlib.Core.Path.{ap}
+use Rattle.digits.specs.Decimal.{short}
+use Rattle.bench_lines.proofs.composing.add_refusal.Goals as goal
+
+pub returns : goal.returns
+unfolding refused_line bytes
+returns c = within (omega arith) (then (then c.add-at.ensures (the_same (ap short c.number.ensures) c.add_number-at.ensures)) c.add.ensures)

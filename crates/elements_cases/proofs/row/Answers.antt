@@ -1,0 +1,12 @@
+-- `row` ends, since a row goes on behind each of its elements.
+use Rattle.std.proofs.Common.{◌-◌, subst, arith}
+use Rattle.elements.specs.TagSteps.{NextChild}
+use Rattle.elements_cases.proofs.row.Goals as goal
+
+pub loop-n-smaller : goal.loop-n-smaller
+loop-n-smaller c =
+    let s = c.args.text.now in
+    let l = c.loop-n in
+    let g = c.in-At.given in
+    let t = subst (NextChild s l.i) g.1 c.next_child.ensures in
+    omega (arith, t.place, t.after)

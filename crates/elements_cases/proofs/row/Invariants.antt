@@ -1,0 +1,9 @@
+-- `row` ends, since a row goes on behind each of its elements.
+use Rattle.std.proofs.Common.{◌-◌, length}
+use Rattle.elements_cases.proofs.row.Given as goal
+
+abbrev pub invariant-loop-n : goal.invariant-loop-n
+invariant-loop-n l = Unit {0}
+
+abbrev pub decreases-loop-n : goal.decreases-loop-n
+decreases-loop-n l = length l.text - l.i

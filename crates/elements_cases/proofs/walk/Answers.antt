@@ -1,0 +1,28 @@
+-- `walk` ends, since each tag stands behind the one before it.
+use Rattle.std.proofs.Common.{◌-◌, subst, arith}
+use Rattle.elements.specs.TagSteps.{NextTag}
+use Rattle.elements_cases.proofs.walk.Goals as goal
+
+pub loop-n-smaller-in-Close : goal.loop-n-smaller-in-Close
+loop-n-smaller-in-Close c =
+    let s = c.args.text.now in
+    let l = c.loop-n in
+    let g = c.in-Close.given in
+    let t = subst (NextTag s l.i) g.1 c.next_tag.ensures in
+    omega (arith, t.place)
+
+pub loop-n-smaller-in-Open : goal.loop-n-smaller-in-Open
+loop-n-smaller-in-Open c =
+    let s = c.args.text.now in
+    let l = c.loop-n in
+    let g = c.in-Open.given in
+    let t = subst (NextTag s l.i) g.1 c.next_tag.ensures in
+    omega (arith, t.place)
+
+pub loop-n-smaller : goal.loop-n-smaller
+loop-n-smaller c =
+    let s = c.args.text.now in
+    let l = c.loop-n in
+    let g = c.in-Empty.given in
+    let t = subst (NextTag s l.i) g.1 c.next_tag.ensures in
+    omega (arith, t.place)

@@ -1,0 +1,62 @@
+-- `read_tag` meets its contract: the root's name, its attribute, its version, then its children.
+use mathlib.Core.Path.{ap, sym, ◌∙◌, subst}
+use mathlib.Core.List.{List}
+use Prim.Native.Nat.{ℕ, ◌≤◌}
+use borrow.Author.Tests.{not-true, not-false}
+use Rattle.slices.specs.Slices.{same}
+use Rattle.slices.specs.Words.{bytes}
+use Rattle.xml.specs.FormSteps.{height}
+use Rattle.xml.specs.Tree.{Forest}
+use Rattle.elements.specs.Reading.{head_at, children_at}
+use Rattle.values.specs.Values as values
+use Rattle.values.specs.Steps.{version_of}
+use Rattle.index_values.specs.Steps.{given}
+use Rattle.index.specs.Index.{children_read}
+use Rattle.index.proofs.Answers.{into_refused, same_into, same_tags, root_name, root_key, root_version, root_read_lem}
+use Rattle.index.proofs.read.read_tag.Reads as reads
+use Rattle.index.proofs.read.read_tag.Lts as lts
+use Rattle.elements.proofs.first_child.Reads as first_child_reads
+use Rattle.elements.proofs.key_of.Reads as key_of_reads
+use Rattle.elements.proofs.name_is.Reads as name_is_reads
+use Rattle.elements.proofs.value_of.Reads as value_of_reads
+use Rattle.index.proofs.read.read_children.Reads as read_children_reads
+use Rattle.slices.proofs.same.Reads as same_Reads
+use Rattle.values.proofs.read_version.Reads as read_version_reads
+use Rattle.index.proofs.read.read_tag.Goals as goal
+
+pub returns-then-not-name_is : goal.returns-then-not-name_is
+unfolding bytes
+returns-then-not-name_is c =
+    let s = c.args.text.now in
+    let g = given c.args.uuid.now c.args.volume in
+    let n = c.args.n in
+    into_refused (root_name g c.args.letter c.args.block.0 (head_at s n) (children_at s n) (sym c.name_is.ensures ∙ not-true _ c.if-not-name_is.true))
+
+pub returns-then-not-same : goal.returns-then-not-same
+unfolding bytes
+returns-then-not-same c =
+    let s = c.args.text.now in
+    let g = given c.args.uuid.now c.args.volume in
+    let n = c.args.n in
+    into_refused (root_key g c.args.letter c.args.block.0 (head_at s n) (children_at s n) (sym c.name_is.ensures ∙ not-false _ c.if-not-name_is.false) (ap (λ (k : List ℕ). same k (bytes "version")) (sym c.key_of.ensures) ∙ sym c.same.ensures ∙ not-true _ c.if-not-same.true))
+
+pub read_children-requires : goal.read_children-requires
+read_children-requires c = (c.first_child-at.ensures.inside, subst (λ (k : Forest). height k ≤ 64) (sym c.first_child-at.ensures.row) c.requires)
+
+pub returns-in-Nothing : goal.returns-in-Nothing
+unfolding bytes
+returns-in-Nothing c =
+    let s = c.args.text.now in
+    let g = given c.args.uuid.now c.args.volume in
+    let n = c.args.n in
+    into_refused (root_version g c.args.letter c.args.block.0 (head_at s n) (children_at s n) (sym c.name_is.ensures ∙ not-false _ c.if-not-name_is.false) (ap (λ (k : List ℕ). same k (bytes "version")) (sym c.key_of.ensures) ∙ sym c.same.ensures ∙ not-false _ c.if-not-same.false) (ap values.version (sym c.value_of.ensures) ∙ sym c.read_version.ensures ∙ ap version_of c.in-Nothing.is))
+
+pub returns-in-Release : goal.returns-in-Release
+unfolding bytes
+returns-in-Release c =
+    let s = c.args.text.now in
+    let g = given c.args.uuid.now c.args.volume in
+    let n = c.args.n in
+    same_tags c.first_child-at.ensures.tags (same_into c.read_children.ensures
+    (ap (λ (k : Forest). children_read g c.args.letter c.args.block.0 c.in-Release.release k) c.first_child-at.ensures.row
+    ∙ root_read_lem g c.args.letter c.args.block.0 (head_at s n) (children_at s n) (sym c.name_is.ensures ∙ not-false _ c.if-not-name_is.false) (ap (λ (k : List ℕ). same k (bytes "version")) (sym c.key_of.ensures) ∙ sym c.same.ensures ∙ not-false _ c.if-not-same.false) c.in-Release.release (ap values.version (sym c.value_of.ensures) ∙ sym c.read_version.ensures ∙ ap version_of c.in-Release.is)))

@@ -1,0 +1,33 @@
+-- `close_element` meets its contract: by the places, which are those of the names.
+use mathlib.Core.Path.{ap, sym, ◌∙◌, subst}
+use Prim.Native.Nat.{ℕ, ◌*◌}
+use lib.ListN.{take}
+use Rattle.elements.specs.Tags.{heads}
+use Rattle.index_rows.specs.Steps.{Placed}
+use Rattle.index_values.specs.Entries.{is_entry}
+use Rattle.index_values.specs.Steps.{given, rows_taken}
+use Rattle.index.specs.Steps.{rows_copied}
+use Rattle.index.proofs.Gathering.{closed_parts}
+use Rattle.index.proofs.Numbered.{rows_kept, taken_few}
+use Rattle.index.proofs.walk.close_element.Reads as reads
+use Rattle.index.proofs.walk.close_element.Lts as lts
+use Rattle.index.proofs.walk.keep_rows.Reads as keep_rows_reads
+use Rattle.index.proofs.walk.list_entry.Reads as list_entry_reads
+use Rattle.index.proofs.walk.settle.Reads as settle_reads
+use Rattle.index_values.proofs.judge.Reads as judge_reads
+use Rattle.index.proofs.walk.close_element.Goals as goal
+
+pub returns : goal.returns
+returns c k uuid placed tags =
+    let a = c.args in
+    let s = a.text.now in
+    let t = a.w.places in
+    let f = heads k in
+    let v = c.judge-v.ensures f (λ q. subst (λ (j : ℕ). Placed s j f t) q (placed (ap is_entry q))) in
+    let l = rows_taken a.sort f in
+    let o = a.row-table.now in
+    closed_parts s (given uuid a.volume) a.sort k a.parent a.prior a.w.sums _ _ _ _ a.uids.now _ a.entry-table.now _ o _
+    v.few (v.lawful uuid) v.count c.settle.ensures
+    (c.list_entry.ensures k l placed tags v.count)
+    (c.keep_rows.ensures ∙ ap (λ (n : ℕ). rows_copied c.judge-v.new.1.1.0 n a.w.sums.rows o) v.count
+    ∙ rows_kept c.judge-v.new.1.1.0 l a.w.sums.rows o (taken_few a.sort f) (ap (λ (n : ℕ). take (n * 5) c.judge-v.new.1.1.0) (sym v.count) ∙ v.rows))

@@ -1,0 +1,13 @@
+-- `count_rows` meets its contract. Invariant: those counted and those of the rest of the row are all.
+use mathlib.Core.Path.{◌≡◌}
+use Prim.Native.Nat.{◌+◌, ◌-◌, ◌≤◌}
+use lib.ListN.{length}
+use Rattle.elements.specs.Reading.{forest_at}
+use Rattle.index_values.specs.Tests.{rows_in}
+use Rattle.index_files.proofs.asked.count_rows.Given as goal
+
+abbrev pub invariant-loop-next : goal.invariant-loop-next
+invariant-loop-next l = (l.n ≤ l.i) × (l.n + length (rows_in (forest_at l.text l.i)) ≡ length (rows_in (forest_at l.text l.at)))
+
+abbrev pub decreases-loop-next : goal.decreases-loop-next
+decreases-loop-next l = length l.text - l.i

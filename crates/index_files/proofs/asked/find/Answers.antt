@@ -1,0 +1,49 @@
+-- `find` meets its contract. Invariant: the file asked for is that of the number left, among those that are left.
+use mathlib.Core.Path.{refl, sym, ◌∙◌, subst}
+use Prim.Native.Nat.{◌-◌}
+use native.Mathlib.Omega.{arith}
+use lib.ListN.{drop}
+use Rattle.elements.specs.Reading.{left_at, children_at}
+use Rattle.index_files.specs.declared.files.NextFile.TheVariants.{Done, File}
+use Rattle.index_files.specs.FileSteps.{files_left, file_tags_from, FileFrom}
+use Rattle.index_files.proofs.Asking.{nth_none, nth_first, nth_later, getd_first, getd_later}
+use Rattle.index_files.proofs.asked.find.Goals as goal
+
+pub loop-n-init : goal.loop-n-init
+loop-n-init c = (refl, refl)
+
+pub returns-in-Done : goal.returns-in-Done
+returns-in-Done c =
+    let s = c.args.text.now in
+    let l = c.loop-n in
+    let e : FileFrom s l.i Done = subst (FileFrom s l.i) c.in-Done.is c.next_file.ensures in
+    record { children = nth_none l.left (files_left (left_at s l.i)) e.left ∙ sym l.invariant.0; tag = tt }
+
+pub returns-then-left-eq0 : goal.returns-then-left-eq0
+returns-then-left-eq0 c =
+    let s = c.args.text.now in
+    let l = c.loop-n in
+    let g = c.in-File.given in
+    let f : FileFrom s l.i (File g.0.0 g.0.1.0) = subst (FileFrom s l.i) g.1 c.next_file.ensures in
+    record {
+      children = nth_first l.left (children_at s g.0.0) (files_left (left_at s l.i)) (files_left (left_at s g.0.1.0)) f.left c.if-left-eq0.true ∙ sym l.invariant.0;
+      tag = getd_first l.left [] (drop g.0.0 s) (file_tags_from s l.i) (file_tags_from s g.0.1.0) f.tags c.if-left-eq0.true ∙ sym l.invariant.1;
+    }
+
+pub loop-n-smaller : goal.loop-n-smaller
+loop-n-smaller c =
+    let s = c.args.text.now in
+    let l = c.loop-n in
+    let g = c.in-File.given in
+    let f : FileFrom s l.i (File g.0.0 g.0.1.0) = subst (FileFrom s l.i) g.1 c.next_file.ensures in
+    omega (arith, f.place)
+
+pub loop-n-preserved : goal.loop-n-preserved
+loop-n-preserved c =
+    let s = c.args.text.now in
+    let l = c.loop-n in
+    let g = c.in-File.given in
+    let f : FileFrom s l.i (File g.0.0 g.0.1.0) = subst (FileFrom s l.i) g.1 c.next_file.ensures in (
+      l.invariant.0 ∙ nth_later l.left (children_at s g.0.0) (files_left (left_at s l.i)) (files_left (left_at s g.0.1.0)) f.left c.if-left-eq0.false,
+      l.invariant.1 ∙ getd_later l.left [] (drop g.0.0 s) (file_tags_from s l.i) (file_tags_from s g.0.1.0) f.tags c.if-left-eq0.false,
+    )

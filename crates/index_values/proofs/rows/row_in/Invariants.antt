@@ -1,0 +1,13 @@
+-- `row_in` meets its contract. Invariant: what is asked for is what the rest of the row has.
+use mathlib.Core.Path.{◌≡◌}
+use Prim.Native.Nat.{◌-◌}
+use lib.ListN.{length}
+use Rattle.elements.specs.Reading.{forest_at}
+use Rattle.index_values.specs.Elements.{children_in}
+use Rattle.index_values.proofs.rows.row_in.Given as goal
+
+abbrev pub invariant-loop-h : goal.invariant-loop-h
+invariant-loop-h l = children_in l.name (forest_at l.text l.at) ≡ children_in l.name (forest_at l.text l.i)
+
+abbrev pub decreases-loop-h : goal.decreases-loop-h
+decreases-loop-h l = length l.text - l.i

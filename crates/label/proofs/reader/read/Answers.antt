@@ -1,0 +1,42 @@
+-- `read` meets its contract: the length, the form, and the root.
+use mathlib.Core.Path.{◌≡◌, ap, sym, subst, ◌∙◌}
+use mathlib.Core.Bool.{true}
+use Rattle.xml.specs.CheckSteps.{in_form}
+use Rattle.xml.proofs.Checked.{checked_good, checked_broken}
+use Rattle.elements.specs.Tags.{Tags}
+use Rattle.elements.specs.TagSteps.{NextChild}
+use Rattle.elements.specs.declared.tags.Child.TheVariants.{Done, At}
+use Rattle.children.specs.Children.{children_of_first}
+use Rattle.label.specs.TextPlaces.{places_in}
+use Rattle.label.proofs.Values.{too_long, unformed, no_first, the_first}
+use Rattle.label.proofs.Places.{refuses, reads_as}
+use Rattle.label.proofs.reader.read.Reads as reads
+use Rattle.label.proofs.reader.read.Lts as lts
+use Rattle.elements.proofs.next_child.Reads as next_child_reads
+use Rattle.label.proofs.reader.read_root.Reads as read_root_reads
+use Rattle.xml.proofs.check.Reads as check_reads
+use Rattle.label.proofs.reader.read.Goals as goal
+
+pub returns-then-text-gt4096 : goal.returns-then-text-gt4096
+returns-then-text-gt4096 c = refuses (too_long c.args.text.now c.if-text-gt4096.true)
+
+pub returns-in-Broken : goal.returns-in-Broken
+returns-in-Broken c =
+    let e = checked_broken c.args.text.now _ (sym c.in-Broken.is ∙ c.check.ensures) in
+    refuses (unformed c.args.text.now c.if-text-gt4096.false _ e.0 e.1)
+
+pub returns-in-Done : goal.returns-in-Done
+returns-in-Done c =
+    let s = c.args.text.now in
+    let f : in_form s ≡ true = checked_good s (sym c.in-Good.is ∙ c.check.ensures) in
+    let e : NextChild s 38 Done = subst (NextChild s 38) c.in-Done.is c.next_child.ensures in
+    refuses (no_first s c.if-text-gt4096.false f e)
+
+pub returns-in-At : goal.returns-in-At
+unfolding children_of_first
+returns-in-At c =
+    let s = c.args.text.now in
+    let f : in_form s ≡ true = checked_good s (sym c.in-Good.is ∙ c.check.ensures) in
+    let g = c.in-At.given in
+    let q : NextChild s 38 (At g.0.0 g.0.1.0) = subst (NextChild s 38) g.1 c.next_child.ensures in
+    reads_as (the_first s c.if-text-gt4096.false f _ _ _ q.row) (ap (λ (t : Tags). places_in s (children_of_first t)) (sym q.tags)) c.read_root.ensures

@@ -1,0 +1,53 @@
+-- `write` meets its contract: 14 for a field, else the text is composed and delivered.
+use mathlib.Core.Path.{◌≡◌, sym, subst, ◌∙◌}
+use borrow.Author.Tests.{not-true, not-false}
+use native.Mathlib.Omega.{arith}
+use mathlib.Core.Bool.{Bool, true}
+use mathlib.Core.List.{List}
+use Prim.Native.Nat.{ℕ, ◌≤◌}
+use lib.ListN.{length, take, replicate}
+use Rattle.xml.specs.CheckSteps.{in_form}
+use Rattle.writing.specs.Writing.{Writes}
+use Rattle.label_writer.specs.Text.{label_text, label_of_given, is_lawful_label, is_given}
+use Rattle.writing.proofs.Given.{writes_not}
+use Rattle.label_writer.proofs.Lengths.{text_length}
+use Rattle.label_writer.proofs.Fields.{unlawful_texts, unlawful_numbers, lawful}
+use Rattle.label_writer.proofs.Creators.{given_formed}
+use Rattle.writing.proofs.Adding.{front_text}
+use borrow.Author.Rules.{rules}
+use Rattle.label_writer.proofs.write.Goals as goal
+
+pub returns-then-not-are_texts : goal.returns-then-not-are_texts
+returns-then-not-are_texts c =
+    let f = label_of_given c.args.creator.now c.args.time.now c.args.uuid.now c.args.g in
+    writes_not (is_given f) (label_text f) c.args.out.now (unlawful_texts f (sym c.are_texts.ensures ∙ not-true _ c.if-not-are_texts.true))
+
+pub returns-then-not-are_numbers : goal.returns-then-not-are_numbers
+returns-then-not-are_numbers c =
+    let f = label_of_given c.args.creator.now c.args.time.now c.args.uuid.now c.args.g in
+    writes_not (is_given f) (label_text f) c.args.out.now (unlawful_numbers f (sym c.are_texts.ensures ∙ not-false _ c.if-not-are_texts.false) (sym c.are_numbers.ensures ∙ not-true _ c.if-not-are_numbers.true))
+
+pub deliver-requires : goal.deliver-requires
+deliver-requires c =
+    let f = label_of_given c.args.creator.now c.args.time.now c.args.uuid.now c.args.g in
+    let t = sym c.are_texts.ensures ∙ not-false _ c.if-not-are_texts.false in
+    let n = sym c.are_numbers.ensures ∙ not-false _ c.if-not-are_numbers.false in
+    let ok : is_lawful_label f ≡ true = lawful f t n in
+    let b : List ℕ = replicate 4096 0 in
+    let (h, e) = c.compose-n.ensures (text_length f ok) in
+    let fits : length (label_text f) ≤ 4096 = text_length f ok in
+    let q : c.compose-n.result ≤ 4096 = omega arith in
+    search rules
+
+pub returns : goal.returns
+returns c =
+    let f = label_of_given c.args.creator.now c.args.time.now c.args.uuid.now c.args.g in
+    let t = sym c.are_texts.ensures ∙ not-false _ c.if-not-are_texts.false in
+    let n = sym c.are_numbers.ensures ∙ not-false _ c.if-not-are_numbers.false in
+    let ok : is_lawful_label f ≡ true = lawful f t n in
+    let b : List ℕ = replicate 4096 0 in
+    let (h, e) = c.compose-n.ensures (text_length f ok) in
+    let fits : length (label_text f) ≤ 4096 = text_length f ok in
+    let part : take c.compose-n.result c.compose-n.new.0 ≡ label_text f = front_text (label_text f) b c.compose-n.new.0 c.compose-n.result fits h e in
+    subst (λ (t : Bool). Writes t (label_text f) c.args.out.now c.deliver.new.0 c.deliver.result) (sym (given_formed f ok))
+    (subst (λ (w : List ℕ). Writes (in_form w) w c.args.out.now c.deliver.new.0 c.deliver.result) part c.deliver.ensures)

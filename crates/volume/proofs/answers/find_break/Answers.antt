@@ -1,0 +1,31 @@
+-- `find_break` meets its contract: what the labels are refused for, or the verdict on the volume that they give.
+use Rattle.volume.proofs.Answering.{ask_refused, judges, verdict_found}
+use Rattle.volume.specs.declared.answers.Verdict.TheVariants.{Consistent, Break, Refused}
+use Rattle.volume.specs.declared.judge.Judgement.{Judgement}
+use Rattle.volume.specs.Steps.{break_of}
+use Rattle.verdict.specs.Verdict.{verdict}
+use Rattle.index_values.specs.Steps.{given}
+use Rattle.elements.specs.Reading.{part_at}
+use Rattle.label.specs.Steps.{fields_in, means}
+use Rattle.refusals.specs.Refusals.{answer}
+use Prim.Native.Nat.{ℕ}
+use mathlib.Core.List.{List}
+use mathlib.Core.Path.{sym, ap, ◌∙◌}
+use Rattle.volume.proofs.answers.find_break.Goals as goal
+
+pub returns-in-Refused : goal.returns-in-Refused
+returns-in-Refused c = judges c.args.index_list.now c.args.index_store.now c.args.data_list.now c.args.data_store.now (Refused c.in-Refused.r) (ask_refused (λ v i d. answer (verdict v i d)) c.args.index_list.now c.args.index_store.now c.args.data_list.now c.args.data_store.now c.in-Refused.r (ap (means c.args.index_store.now) (sym c.in-Refused.is) ∙ c.check.ensures.says))
+
+pub returns-in-Sound : goal.returns-in-Sound
+returns-in-Sound c =
+    verdict_found c.args.index_list.now c.args.index_store.now c.args.data_list.now c.args.data_store.now (λ i. (c.shared_slice_known-1.given i).fits) (λ i. (c.shared_slice_known-3-1.given i).fits)
+    (fields_in c.args.index_store.now c.in-Says.f) (ap (means c.args.index_store.now) (sym c.in-Says.is) ∙ c.check.ensures.says)
+    (given c.part-uuid.result.now c.letters_of.result) (ap (λ (u : List ℕ). given u c.letters_of.result) c.part-uuid.ensures ∙ ap (given (part_at c.args.index_store.now c.in-Says.f.uuid)) c.letters_of.ensures)
+    c.judge.result c.judge.ensures Consistent (ap (λ (t : Judgement). answer (break_of t)) (sym c.in-Sound.is))
+
+pub returns-in-Broken : goal.returns-in-Broken
+returns-in-Broken c =
+    verdict_found c.args.index_list.now c.args.index_store.now c.args.data_list.now c.args.data_store.now (λ i. (c.shared_slice_known-1.given i).fits) (λ i. (c.shared_slice_known-3-1.given i).fits)
+    (fields_in c.args.index_store.now c.in-Says.f) (ap (means c.args.index_store.now) (sym c.in-Says.is) ∙ c.check.ensures.says)
+    (given c.part-uuid.result.now c.letters_of.result) (ap (λ (u : List ℕ). given u c.letters_of.result) c.part-uuid.ensures ∙ ap (given (part_at c.args.index_store.now c.in-Says.f.uuid)) c.letters_of.ensures)
+    c.judge.result c.judge.ensures (Break c.in-Broken.which c.in-Broken.number) (ap (λ (t : Judgement). answer (break_of t)) (sym c.in-Broken.is))

@@ -1,0 +1,16 @@
+-- `file_lies` meets its contract: row after row along the text.
+use Rattle.volume.specs.Steps.{lies_in}
+use Rattle.index_values.specs.Tests.{extent_rows, rows_in}
+use Rattle.elements.specs.Reading.{forest_at, children_at}
+use Rattle.slices.specs.Slices.{every}
+use lib.ListN.{length}
+use Prim.Native.Nat.{◌-◌}
+use mathlib.Core.Path.{◌≡◌}
+use Rattle.volume.proofs.lost.file_lies.Given as goal
+
+abbrev pub invariant-loop-row : goal.invariant-loop-row
+invariant-loop-row l =
+    every (lies_in l.volume l.index_reach l.index_kept l.data_reach l.data_kept) (extent_rows (children_at l.text l.n)) ≡ every (lies_in l.volume l.index_reach l.index_kept l.data_reach l.data_kept) (rows_in (forest_at l.text l.at))
+
+abbrev pub decreases-loop-row : goal.decreases-loop-row
+decreases-loop-row l = length l.text - l.at

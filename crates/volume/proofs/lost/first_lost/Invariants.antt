@@ -1,0 +1,20 @@
+-- `first_lost` meets its contract: file after file along the text.
+use Rattle.volume.specs.Steps.{lies_in}
+use Rattle.verdict.specs.Verdict.{first_failing}
+use Rattle.index_files.specs.FileSteps.{files_left}
+use Rattle.index_values.specs.Tests.{extent_rows}
+use Rattle.elements.specs.Reading.{left_at}
+use Rattle.slices.specs.Slices.{every}
+use lib.ListN.{length}
+use Prim.Native.Nat.{◌-◌, ◌≤◌}
+use mathlib.Core.List.{map}
+use mathlib.Core.Path.{◌≡◌}
+use Rattle.volume.proofs.lost.first_lost.Given as goal
+
+abbrev pub invariant-loop-n : goal.invariant-loop-n
+invariant-loop-n l =
+    (l.k ≤ l.at) × (first_failing (every (lies_in l.volume l.index_reach l.index_kept l.data_reach l.data_kept)) 0 (map extent_rows (files_left (left_at l.text 38)))
+    ≡ first_failing (every (lies_in l.volume l.index_reach l.index_kept l.data_reach l.data_kept)) l.k (map extent_rows (files_left (left_at l.text l.at))))
+
+abbrev pub decreases-loop-n : goal.decreases-loop-n
+decreases-loop-n l = length l.text - l.at

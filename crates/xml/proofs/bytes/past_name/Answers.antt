@@ -1,0 +1,7 @@
+-- `past_name` meets its contract: the kinds that it skips are one class of bytes.
+use Rattle.xml.proofs.KindTable.{kind_name}
+use Rattle.xml.proofs.Past.{past_same}
+use Rattle.xml.proofs.bytes.past_name.Goals as goal
+
+pub returns : goal.returns
+returns c = past_same kind_name c.skip.ensures

@@ -1,0 +1,15 @@
+-- `tail_end` meets its contract. Invariant: a scan from i on, where `left` more bytes are to follow, is a scan from `from` on.
+use Prim.Native.Nat.{◌-◌, ◌≤◌}
+use lib.ListN.{length}
+use Rattle.xml.specs.CheckSteps.{Mode, at, more}
+use Rattle.xml.specs.ScanSteps.{Scans}
+use Rattle.xml.specs.declared.bytes.Scan.{Scan}
+use Rattle.xml.proofs.characters.tail_end.Given as goal
+
+abbrev pub invariant-loop-i : goal.invariant-loop-i
+invariant-loop-i l =
+    (l.from ≤ l.i) × (l.i ≤ length l.text)
+    × ((p : Mode) (r : Scan) → Scans l.text l.i (at (more p l.low l.high l.left)) (at p) r → Scans l.text l.from (at (more p l.lo l.hi l.n)) (at p) r)
+
+abbrev pub decreases-loop-i : goal.decreases-loop-i
+decreases-loop-i l = length l.text - l.i

@@ -1,0 +1,44 @@
+-- `value_end` meets its contract. Invariant: a scan of the value from i on is a scan of it from `from` on.
+use mathlib.Core.Path.{refl}
+use Prim.Native.Nat.{◌-◌}
+use lib.ListN.{get_or}
+use borrow.Author.Tests.{eq-eqb, ne_eqb}
+use borrow.Author.Rules.{rules}
+use Rattle.xml.specs.CheckSteps.{value, form_step, ended}
+use Rattle.xml.proofs.Scanned.{scan_refused, scan_step, scan_done, scan_out, scan_then, scan_broken, scan_bounds}
+use Rattle.xml.proofs.characters.value_end.Goals as goal
+
+pub loop-i-init : goal.loop-i-init
+loop-i-init c = (search rules, search rules, λ r x. x)
+
+pub returns-then-b-q : goal.returns-then-b-q
+unfolding form_step
+returns-then-b-q c = c.loop-i.invariant.2 _ (scan_step (search rules) (λ ns. simp (eq-eqb _ _ c.if-b-q.true)) (scan_done (search rules)))
+
+pub returns-then-b-eq60 : goal.returns-then-b-eq60
+unfolding form_step ended
+returns-then-b-eq60 c = c.loop-i.invariant.2 _ (scan_refused (get_or c.args.text.now c.loop-i.i 0) refl (search rules) refl (λ ns. simp (ne_eqb _ _ c.if-b-q.false, eq-eqb _ _ c.if-b-eq60.true)))
+
+pub loop-i-smaller : goal.loop-i-smaller
+loop-i-smaller c =
+    let b = scan_bounds c.in-At.j (c.char_end.ensures (value c.args.q)) c.in-At.is in
+    search rules
+
+pub loop-i-preserved : goal.loop-i-preserved
+unfolding form_step
+loop-i-preserved c =
+    let r = c.char_end.ensures (value c.args.q) in
+    let j = c.in-At.given in
+    let b = scan_bounds j.0.0 r j.1 in
+    (search rules, search rules, λ s x. c.loop-i.invariant.2 s (scan_step (search rules) (λ ns. simp (ne_eqb _ _ c.if-b-q.false, ne_eqb _ _ c.if-b-eq60.false)) (scan_then j.0.0 r j.1 x)))
+
+pub returns-in-Broken : goal.returns-in-Broken
+unfolding form_step
+returns-in-Broken c =
+    let r = c.char_end.ensures (value c.args.q) in
+    let u = c.in-Broken.given in
+    c.loop-i.invariant.2 _ (scan_step (search rules) (λ ns. simp (ne_eqb _ _ c.if-b-q.false, ne_eqb _ _ c.if-b-eq60.false)) (scan_broken u.0.0 r u.1))
+
+pub returns : goal.returns
+unfolding ended
+returns c = c.loop-i.invariant.2 _ (scan_out (search rules) (search rules) refl)

@@ -1,0 +1,13 @@
+-- `value_end` meets its contract. Invariant: a scan of the value from i on is a scan of it from `from` on.
+use Prim.Native.Nat.{◌-◌, ◌≤◌}
+use lib.ListN.{length}
+use Rattle.xml.specs.CheckSteps.{at, value, valued}
+use Rattle.xml.specs.ScanSteps.{Scans}
+use Rattle.xml.specs.declared.bytes.Scan.{Scan}
+use Rattle.xml.proofs.characters.value_end.Given as goal
+
+abbrev pub invariant-loop-i : goal.invariant-loop-i
+invariant-loop-i l = (l.from ≤ l.i) × (l.i ≤ length l.text) × ((r : Scan) → Scans l.text l.i (at (value l.q)) (at valued) r → Scans l.text l.from (at (value l.q)) (at valued) r)
+
+abbrev pub decreases-loop-i : goal.decreases-loop-i
+decreases-loop-i l = length l.text - l.i

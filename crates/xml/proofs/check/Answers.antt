@@ -1,0 +1,18 @@
+-- `check` meets its contract: what is not unread is the front.
+use mathlib.Core.Path.{ap, ◌∙◌, sym}
+use Rattle.xml.specs.CheckSteps.{outcome_of}
+use Rattle.xml.proofs.Fronts.{unread_inside}
+use Rattle.xml.proofs.Checked.{good_checked, broken_checked}
+use Rattle.xml.proofs.check.Reads as reads
+use Rattle.xml.proofs.check.Lts as lts
+use Rattle.xml.proofs.read_all.Reads as read_all_reads
+use Rattle.xml.proofs.check.Goals as goal
+
+pub overflow_sub-result : goal.overflow_sub-result
+overflow_sub-result c = unread_inside c.args.text.now _ (sym c.read_all.ensures ∙ ap outcome_of c.in-Broken.is)
+
+pub returns-in-Good : goal.returns-in-Good
+returns-in-Good c = good_checked c.args.text.now (sym c.read_all.ensures ∙ ap outcome_of c.in-Good.is)
+
+pub returns-in-Broken : goal.returns-in-Broken
+returns-in-Broken c = broken_checked c.args.text.now _ (sym c.read_all.ensures ∙ ap outcome_of c.in-Broken.is)
