@@ -1,17 +1,12 @@
 -- A refusal is 4, with its place, or another one, without.
-use mathlib.Core.Path.{◌≡◌, refl, subst}
+use mathlib.Core.Path.{◌≡◌, refl}
 use mathlib.Core.Bool.{false}
-use mathlib.Core.List.{List, [], ◌∷◌}
 use mathlib.Core.Logic.{◌⊎◌, inl, inr}
-use Prim.Native.Nat.{ℕ}
 use lib.Dec.{eqb}
-use types.Run.{OneOf, miss}
-use denote.Enum.Declared.{tag_of}
 use Rattle.refusals.specs.declared.Refusal.{Refusal}
 use Rattle.refusals.specs.declared.Refusal.TheVariants as refusal
 use Rattle.refusals.specs.declared.Place.{Place}
 use Rattle.refusals.specs.Refusals.{number_of, place_of, nowhere, on_data_side}
-use Rattle.refusals.specs.contracts.Refusal.{the_type}
 
 -- another refusal than 4
 abbrev pub Another : Refusal → Type 0
@@ -38,15 +33,12 @@ form_or_another refusal.EndOfVolume = inr (refl, refl)
 form_or_another refusal.BlockCount = inr (refl, refl)
 form_or_another refusal.Unreadable = inr (refl, refl)
 
--- the tags of the others
-abbrev others : List ℕ
-others = 0 ∷ 1 ∷ 2 ∷ 4 ∷ 5 ∷ 6 ∷ 7 ∷ 8 ∷ 9 ∷ 10 ∷ 11 ∷ 12 ∷ 13 ∷ 14 ∷ 15 ∷ 16 ∷ 17 ∷ 18 ∷ []
-
-pub tagged : (r : Refusal) → OneOf others (tag_of the_type r) → Another r
+-- a refusal that is not 4
+pub tagged : (r : Refusal) → ((p : Place) → r ≡ refusal.Form p → ⊥) → Another r
 tagged r o = go (form_or_another r)
   where
     go : ((p : Place) × (r ≡ refusal.Form p)) ⊎ Another r → Another r
-    go (inl (p, e)) = absurd (miss others 3 tt (subst (λ (x : Refusal). OneOf others (tag_of the_type x)) e o))
+    go (inl (p, e)) = absurd (o p e)
     go (inr x) = x
 
 pub stays : (r : Refusal) → Another r → r ≡ on_data_side r

@@ -5,7 +5,7 @@ use Rattle.refusals.proofs.Places.{tagged, stays}
 use Rattle.refusals.proofs.on_data_side.Goals as goal
 
 pub returns-in_default : goal.returns-in_default
-returns-in_default c = stays c.args.refusal (tagged c.args.refusal c.in_default.in_default-own.keys2)
+returns-in_default c = stays c.args.refusal (tagged c.args.refusal c.in_default.not-Form)
 
 pub returns : goal.returns
 returns c = sym (ap on_data_side c.in-Form.is)

@@ -5,7 +5,7 @@ use Rattle.refusals.proofs.Places.{tagged}
 use Rattle.refusals.proofs.place_told.Goals as goal
 
 pub returns-in_default : goal.returns-in_default
-returns-in_default c = sym (tagged c.args.refusal c.in_default.in_default-own.keys2).1
+returns-in_default c = sym (tagged c.args.refusal c.in_default.not-Form).1
 
 pub returns : goal.returns
 returns c = sym (ap place_of c.in-Form.is)
