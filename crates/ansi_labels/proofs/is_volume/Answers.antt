@@ -9,12 +9,12 @@ use Rattle.ansi_labels.proofs.is_volume.Goals as goal
 
 pub returns-then-not-is_label : goal.returns-then-not-is_label
 unfolding is_volume bytes
-returns-then-not-is_label c = rw (sym c.is_label.ensures ∙ not-true _ c.if-not-is_label.true)
+returns-then-not-is_label c = rw (sym c.is_label.ensures ∙ c.if-not-is_label.true)
 
 pub returns-then-version-lt51 : goal.returns-then-version-lt51
 unfolding is_volume bytes
-returns-then-version-lt51 c = rw (sym c.is_label.ensures ∙ not-false _ c.if-not-is_label.false, sym (ap (leb 51) c.byte-version.ensures.0) ∙ lt-leb _ _ c.if-version-lt51.true)
+returns-then-version-lt51 c = rw (sym c.is_label.ensures ∙ c.if-not-is_label.false, sym (ap (leb 51) c.byte-version.ensures.0) ∙ lt-leb _ _ c.if-version-lt51.true)
 
 pub returns : goal.returns
 unfolding is_volume bytes
-returns c = rw (sym c.is_label.ensures ∙ not-false _ c.if-not-is_label.false, sym (ap (leb 51) c.byte-version.ensures.0) ∙ le-leb _ _ c.if-version-lt51.false) (ap (λ (k : ℕ). leb k 52) c.byte-version.ensures.0)
+returns c = rw (sym c.is_label.ensures ∙ c.if-not-is_label.false, sym (ap (leb 51) c.byte-version.ensures.0) ∙ le-leb _ _ c.if-version-lt51.false) (ap (λ (k : ℕ). leb k 52) c.byte-version.ensures.0)

@@ -4,7 +4,7 @@ use borrow.Author.Tests.{not-true, not-false}
 use Rattle.children.proofs.is_known.Goals as goal
 
 pub returns-then-not-no_attribute : goal.returns-then-not-no_attribute
-returns-then-not-no_attribute c = rw (sym c.no_attribute.ensures ∙ not-true _ c.if-not-no_attribute.true)
+returns-then-not-no_attribute c = rw (sym c.no_attribute.ensures ∙ c.if-not-no_attribute.true)
 
 pub returns : goal.returns
-returns c = c.holds_at.ensures ∙ rw (sym c.no_attribute.ensures ∙ not-false _ c.if-not-no_attribute.false)
+returns c = c.holds_at.ensures ∙ rw (sym c.no_attribute.ensures ∙ c.if-not-no_attribute.false)

@@ -53,7 +53,7 @@ returns-then-not-is_known c =
     let mark : p.result.mark ≡ mark_of rs (head_at s n).name = p.ensures.1 ∙ ap (mark_of rs) w.ensures in
     let fit : (no_attribute (head_at s n) && may_hold (mark_of rs (head_at s n).name) (head_at s n) (children_at s n)) ≡ c.is_known.result
     = ap (λ (m : ℕ). no_attribute (head_at s n) && may_hold m (head_at s n) (children_at s n)) (sym mark) ∙ sym c.is_known.ensures in
-    unknown_next s (take 16 rs) c.args.at l.i j l.seats n l.invariant.2 q c.args.must (unfit 16 rs (head_at s n) (children_at s n) (fit ∙ not-true _ c.if-not-is_known.true))
+    unknown_next s (take 16 rs) c.args.at l.i j l.seats n l.invariant.2 q c.args.must (unfit 16 rs (head_at s n) (children_at s n) (fit ∙ c.if-not-is_known.true))
 
 pub returns-then-k-ge16 : goal.returns-then-k-ge16
 returns-then-k-ge16 c =
@@ -89,7 +89,7 @@ returns-then-seats-k-ne0 c =
     = ap (λ (m : ℕ). no_attribute (head_at s n) && may_hold m (head_at s n) (children_at s n)) (sym mark) ∙ sym c.is_known.ensures in
     let few : rule_number rs (head_at s n).name < 16 = omega (arith, place, c.if-k-ge16.false) in
     let counted : p.result.number ≡ rule_number (take 16 rs) (head_at s n).name = place ∙ sym (place_counted 16 rs (head_at s n).name few) in
-    twice_next s (take 16 rs) c.args.at l.i j l.seats n l.invariant.2 q c.args.must p.result.number counted (subst (λ (k : ℕ). k < length (take 16 rs)) (sym counted) (known (take 16 rs) (head_at s n).name (head_at s n) (children_at s n) (early 16 rs (head_at s n) (children_at s n) few ∙ fit ∙ not-false _ c.if-not-is_known.false))) c.if-seats-k-ne0.true
+    twice_next s (take 16 rs) c.args.at l.i j l.seats n l.invariant.2 q c.args.must p.result.number counted (subst (λ (k : ℕ). k < length (take 16 rs)) (sym counted) (known (take 16 rs) (head_at s n).name (head_at s n) (children_at s n) (early 16 rs (head_at s n) (children_at s n) few ∙ fit ∙ c.if-not-is_known.false))) c.if-seats-k-ne0.true
 
 pub loop-seats-smaller : goal.loop-seats-smaller
 loop-seats-smaller c =
@@ -122,5 +122,5 @@ loop-seats-preserved c =
     let room : p.result.number < length l.seats = omega (arith, l.invariant.1, c.if-k-ge16.false) in (
       l.invariant.0,
       length-set l.seats p.result.number n ∙ l.invariant.1,
-      pass_next s (take 16 rs) c.args.at l.i j l.seats n l.invariant.2 q p.result.number counted room c.if-seats-k-ne0.false (early 16 rs (head_at s n) (children_at s n) few ∙ fit ∙ not-false _ c.if-not-is_known.false),
+      pass_next s (take 16 rs) c.args.at l.i j l.seats n l.invariant.2 q p.result.number counted room c.if-seats-k-ne0.false (early 16 rs (head_at s n) (children_at s n) few ∙ fit ∙ c.if-not-is_known.false),
     )

@@ -37,7 +37,7 @@ returns-then-not-clear_of c =
     let e : k - 1 + 1 ≡ k = omega arith in
     let r = row_from s ((k - 1) * 5) in
     let z = c.clear_of.ensures ∙ ap (λ (n : ℕ). every (clear r) (drop n (rows_of s))) e in
-    sym (shared_before s k some l.invariant.0 (sym z ∙ not-true _ c.if-not-clear_of.true))
+    sym (shared_before s k some l.invariant.0 (sym z ∙ c.if-not-clear_of.true))
 
 pub loop-i-preserved : goal.loop-i-preserved
 loop-i-preserved c =
@@ -50,7 +50,7 @@ loop-i-preserved c =
     let z = c.clear_of.ensures ∙ ap (λ (n : ℕ). every (clear r) (drop n (rows_of s))) e in
     let m = c.lower-low.ensures in (
       omega arith,
-      apart_more s k some l.invariant.0 (sym z ∙ not-false _ c.if-not-clear_of.false) l.invariant.1,
+      apart_more s k some l.invariant.0 (sym z ∙ c.if-not-clear_of.false) l.invariant.1,
       above_more s k some l.invariant.0 c.lower-low.result (omega arith) (above_lower l.low c.lower-low.result (drop k (rows_of s)) (omega arith) l.invariant.2),
     )
 

@@ -16,14 +16,14 @@ returns-then-not-clear c =
     let a = c.args in
     let l = c.loop-i in
     let test = clear (row_from a.rows.now (a.k * 5)) in
-    sym (l.invariant.2 ∙ each_off a.rows.now l.i test (omega arith) (sym c.clear.ensures ∙ not-true _ c.if-not-clear.true))
+    sym (l.invariant.2 ∙ each_off a.rows.now l.i test (omega arith) (sym c.clear.ensures ∙ c.if-not-clear.true))
 
 pub loop-i-preserved : goal.loop-i-preserved
 loop-i-preserved c =
     let a = c.args in
     let l = c.loop-i in
     let test = clear (row_from a.rows.now (a.k * 5)) in
-    (omega arith, omega arith, l.invariant.2 ∙ each_on a.rows.now l.i test (omega arith) (sym c.clear.ensures ∙ not-false _ c.if-not-clear.false))
+    (omega arith, omega arith, l.invariant.2 ∙ each_on a.rows.now l.i test (omega arith) (sym c.clear.ensures ∙ c.if-not-clear.false))
 
 pub returns : goal.returns
 returns c =

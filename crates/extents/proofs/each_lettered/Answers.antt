@@ -19,13 +19,13 @@ pub returns-then-not-is_letter : goal.returns-then-not-is_letter
 returns-then-not-is_letter c =
     let s = c.args.rows.now in
     let l = c.loop-i in
-    sym (l.invariant.1 ∙ each_off s l.i letters (omega arith) (sym c.is_letter.ensures ∙ not-true _ c.if-not-is_letter.true))
+    sym (l.invariant.1 ∙ each_off s l.i letters (omega arith) (sym c.is_letter.ensures ∙ c.if-not-is_letter.true))
 
 pub loop-i-preserved : goal.loop-i-preserved
 loop-i-preserved c =
     let s = c.args.rows.now in
     let l = c.loop-i in
-    (omega arith, l.invariant.1 ∙ each_on s l.i letters (omega arith) (sym c.is_letter.ensures ∙ not-false _ c.if-not-is_letter.false))
+    (omega arith, l.invariant.1 ∙ each_on s l.i letters (omega arith) (sym c.is_letter.ensures ∙ c.if-not-is_letter.false))
 
 pub returns : goal.returns
 returns c =

@@ -26,13 +26,13 @@ pub returns-then-not-ends_by : goal.returns-then-not-ends_by
 returns-then-not-ends_by c =
     let a = c.args in
     let r = row_from a.rows.now a.at in
-    sym (past_length a.file-length.0 a.block_size r (sym c.ends_by.ensures ∙ not-true _ c.if-not-ends_by.true))
+    sym (past_length a.file-length.0 a.block_size r (sym c.ends_by.ensures ∙ c.if-not-ends_by.true))
 
 pub returns : goal.returns
 returns c =
     let a = c.args in
     let r = row_from a.rows.now a.at in
-    let e : leb (row_end r) a.file-length.0 ≡ true = sym c.ends_by.ensures ∙ not-false _ c.if-not-ends_by.false in
+    let e : leb (row_end r) a.file-length.0 ≡ true = sym c.ends_by.ensures ∙ c.if-not-ends_by.false in
     c.ends_by-2.ensures
     ∙ ap (λ (n : ℕ). leb (r.startblock + n) 18446744073709551615) c.spot-last.ensures.0
     ∙ sym (block_fits a.file-length.0 a.block_size r (omega arith) (omega arith) e)

@@ -1,6 +1,6 @@
 -- `in_entry` meets its contract: fileuid, name, the times, readonly.
 use mathlib.Core.Path.{◌≡◌, sym, ◌∙◌}
-use mathlib.Core.List.{◌∷◌}
+use mathlib.Core.List.{[], ◌∷◌}
 use Prim.Native.Nat.{ℕ, suc, ◌+◌}
 use native.Mathlib.Omega.{arith}
 use Rattle.slices.specs.Words.{bytes}

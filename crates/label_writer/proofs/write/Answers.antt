@@ -20,18 +20,18 @@ use Rattle.label_writer.proofs.write.Goals as goal
 pub returns-then-not-are_texts : goal.returns-then-not-are_texts
 returns-then-not-are_texts c =
     let f = label_of_given c.args.creator.now c.args.time.now c.args.uuid.now c.args.g in
-    writes_not (is_given f) (label_text f) c.args.out.now (unlawful_texts f (sym c.are_texts.ensures ∙ not-true _ c.if-not-are_texts.true))
+    writes_not (is_given f) (label_text f) c.args.out.now (unlawful_texts f (sym c.are_texts.ensures ∙ c.if-not-are_texts.true))
 
 pub returns-then-not-are_numbers : goal.returns-then-not-are_numbers
 returns-then-not-are_numbers c =
     let f = label_of_given c.args.creator.now c.args.time.now c.args.uuid.now c.args.g in
-    writes_not (is_given f) (label_text f) c.args.out.now (unlawful_numbers f (sym c.are_texts.ensures ∙ not-false _ c.if-not-are_texts.false) (sym c.are_numbers.ensures ∙ not-true _ c.if-not-are_numbers.true))
+    writes_not (is_given f) (label_text f) c.args.out.now (unlawful_numbers f (sym c.are_texts.ensures ∙ c.if-not-are_texts.false) (sym c.are_numbers.ensures ∙ c.if-not-are_numbers.true))
 
 pub deliver-requires : goal.deliver-requires
 deliver-requires c =
     let f = label_of_given c.args.creator.now c.args.time.now c.args.uuid.now c.args.g in
-    let t = sym c.are_texts.ensures ∙ not-false _ c.if-not-are_texts.false in
-    let n = sym c.are_numbers.ensures ∙ not-false _ c.if-not-are_numbers.false in
+    let t = sym c.are_texts.ensures ∙ c.if-not-are_texts.false in
+    let n = sym c.are_numbers.ensures ∙ c.if-not-are_numbers.false in
     let ok : is_lawful_label f ≡ true = lawful f t n in
     let b : List ℕ = replicate 4096 0 in
     let (h, e) = c.compose-n.ensures (text_length f ok) in
@@ -42,8 +42,8 @@ deliver-requires c =
 pub returns : goal.returns
 returns c =
     let f = label_of_given c.args.creator.now c.args.time.now c.args.uuid.now c.args.g in
-    let t = sym c.are_texts.ensures ∙ not-false _ c.if-not-are_texts.false in
-    let n = sym c.are_numbers.ensures ∙ not-false _ c.if-not-are_numbers.false in
+    let t = sym c.are_texts.ensures ∙ c.if-not-are_texts.false in
+    let n = sym c.are_numbers.ensures ∙ c.if-not-are_numbers.false in
     let ok : is_lawful_label f ≡ true = lawful f t n in
     let b : List ℕ = replicate 4096 0 in
     let (h, e) = c.compose-n.ensures (text_length f ok) in

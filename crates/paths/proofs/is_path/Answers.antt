@@ -15,20 +15,20 @@ pub returns-then-not-is_placed : goal.returns-then-not-is_placed
 returns-then-not-is_placed c =
     let a = c.args in
     let l = c.loop-n in
-    sym (l.invariant.1 ∙ answered_off a.text.now a.entries.now l.n (omega arith) (sym c.is_placed.ensures ∙ not-true _ c.if-not-is_placed.true))
+    sym (l.invariant.1 ∙ answered_off a.text.now a.entries.now l.n (omega arith) (sym c.is_placed.ensures ∙ c.if-not-is_placed.true))
 
 pub loop-n-smaller : goal.loop-n-smaller
 loop-n-smaller c =
     let a = c.args in
     let l = c.loop-n in
-    let b = placed_before a.text.now a.entries.now l.n (sym c.is_placed.ensures ∙ not-false _ c.if-not-is_placed.false) in
+    let b = placed_before a.text.now a.entries.now l.n (sym c.is_placed.ensures ∙ c.if-not-is_placed.false) in
     omega arith
 
 pub loop-n-preserved : goal.loop-n-preserved
 loop-n-preserved c =
     let a = c.args in
     let l = c.loop-n in
-    let e = sym c.is_placed.ensures ∙ not-false _ c.if-not-is_placed.false in
+    let e = sym c.is_placed.ensures ∙ c.if-not-is_placed.false in
     let b = placed_before a.text.now a.entries.now l.n e in
     (omega arith, l.invariant.1 ∙ answered_on a.text.now a.entries.now l.n (omega arith) e ∙ ap (λ (p : ℕ). is_answer (path_down a.text.now a.entries.now p)) (sym c.parent_of-n.ensures))
 

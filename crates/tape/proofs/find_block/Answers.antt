@@ -61,7 +61,7 @@ returns-then-not-are_letters c =
     let a = c.args in
     answers c _
     (sym (place_letters a.index-letter a.data-letter a.letter a.number.0 a.index-list.now a.index-store.now a.data-list.now a.data-store.now
-    (sym c.are_letters.ensures ∙ not-true c.are_letters.result c.if-not-are_letters.true)))
+    (sym c.are_letters.ensures ∙ c.if-not-are_letters.true)))
 
 pub returns-in_default : goal.returns-in_default
 returns-in_default c =

@@ -14,13 +14,13 @@ pub returns-then-not-is_common : goal.returns-then-not-is_common
 returns-then-not-is_common c =
     let s = c.args.raw.now in
     let l = c.loop-i in
-    sym (l.invariant.1 ∙ every_off is_common 0 s l.i (search rules) (sym c.is_common.ensures ∙ not-true _ c.if-not-is_common.true))
+    sym (l.invariant.1 ∙ every_off is_common 0 s l.i (search rules) (sym c.is_common.ensures ∙ c.if-not-is_common.true))
 
 pub loop-i-preserved : goal.loop-i-preserved
 loop-i-preserved c =
     let s = c.args.raw.now in
     let l = c.loop-i in
-    (search rules, l.invariant.1 ∙ every_on is_common 0 s l.i (search rules) (sym c.is_common.ensures ∙ not-false _ c.if-not-is_common.false))
+    (search rules, l.invariant.1 ∙ every_on is_common 0 s l.i (search rules) (sym c.is_common.ensures ∙ c.if-not-is_common.false))
 
 pub returns : goal.returns
 returns c =

@@ -28,7 +28,7 @@ returns-then-not-is_plain c =
     let l = c.loop-b in
     let g = c.in-Byte.given in
     let m : NextByte s l.i (Byte g.0.0 g.0.1.0) = subst (NextByte s l.i) g.1 c.next_byte.ensures in
-    sym (l.invariant.1 ∙ ap (every (is_plain c.args.slash)) m.bytes ∙ rw (sym c.is_plain.ensures ∙ not-true _ c.if-not-is_plain.true))
+    sym (l.invariant.1 ∙ ap (every (is_plain c.args.slash)) m.bytes ∙ rw (sym c.is_plain.ensures ∙ c.if-not-is_plain.true))
 
 pub loop-b-smaller : goal.loop-b-smaller
 loop-b-smaller c =
@@ -45,4 +45,4 @@ loop-b-preserved c =
     let l = c.loop-b in
     let g = c.in-Byte.given in
     let m : NextByte s l.i (Byte g.0.0 g.0.1.0) = subst (NextByte s l.i) g.1 c.next_byte.ensures in
-    (m.place.1, l.invariant.1 ∙ ap (every (is_plain c.args.slash)) m.bytes ∙ rw (sym c.is_plain.ensures ∙ not-false _ c.if-not-is_plain.false))
+    (m.place.1, l.invariant.1 ∙ ap (every (is_plain c.args.slash)) m.bytes ∙ rw (sym c.is_plain.ensures ∙ c.if-not-is_plain.false))

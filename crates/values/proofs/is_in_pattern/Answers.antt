@@ -13,10 +13,10 @@ pub loop-i-init : goal.loop-i-init
 loop-i-init c = (search rules, search rules, refl)
 
 pub returns-then-not-is_by_pattern : goal.returns-then-not-is_by_pattern
-returns-then-not-is_by_pattern c = sym (c.loop-i.invariant.2 ∙ pattern_off _ _ c.loop-i.i (search rules) (search rules) (sym c.is_by_pattern.ensures ∙ not-true _ c.if-not-is_by_pattern.true))
+returns-then-not-is_by_pattern c = sym (c.loop-i.invariant.2 ∙ pattern_off _ _ c.loop-i.i (search rules) (search rules) (sym c.is_by_pattern.ensures ∙ c.if-not-is_by_pattern.true))
 
 pub loop-i-preserved : goal.loop-i-preserved
-loop-i-preserved c = (search rules, c.loop-i.invariant.1, c.loop-i.invariant.2 ∙ pattern_on _ _ c.loop-i.i (search rules) (search rules) (sym c.is_by_pattern.ensures ∙ not-false _ c.if-not-is_by_pattern.false))
+loop-i-preserved c = (search rules, c.loop-i.invariant.1, c.loop-i.invariant.2 ∙ pattern_on _ _ c.loop-i.i (search rules) (search rules) (sym c.is_by_pattern.ensures ∙ c.if-not-is_by_pattern.false))
 
 pub returns : goal.returns
 returns c = sym (c.loop-i.invariant.2 ∙ pattern_end _ _ c.loop-i.i (search rules) (search rules))

@@ -10,8 +10,8 @@ returns-then-all_common c = c.in_count.ensures ∙ sym (name_common _ (sym c.all
 
 pub returns-then-not-in_count : goal.returns-then-not-in_count
 unfolding is_name
-returns-then-not-in_count c = rw (← c.code_points.ensures, sym c.in_count-2.ensures ∙ not-true _ c.if-not-in_count.true)
+returns-then-not-in_count c = rw (← c.code_points.ensures, sym c.in_count-2.ensures ∙ c.if-not-in_count.true)
 
 pub returns : goal.returns
 unfolding is_name
-returns c = c.all_plain.ensures ∙ rw (← c.code_points.ensures, sym c.in_count-2.ensures ∙ not-false _ c.if-not-in_count.false)
+returns c = c.all_plain.ensures ∙ rw (← c.code_points.ensures, sym c.in_count-2.ensures ∙ c.if-not-in_count.false)

@@ -15,7 +15,7 @@ is_between-requires c = (sym c.if-raw-ne30.false, sym c.if-raw-ne30.false)
 
 pub returns-then-not-is_between : goal.returns-then-not-is_between
 unfolding is_time bytes
-returns-then-not-is_between c = rw (sym (time_between _ c.if-raw-ne30.false) ∙ sym c.is_between.ensures ∙ not-true _ c.if-not-is_between.true)
+returns-then-not-is_between c = rw (sym (time_between _ c.if-raw-ne30.false) ∙ sym c.is_between.ensures ∙ c.if-not-is_between.true)
 
 pub is_in_ranges-requires : goal.is_in_ranges-requires
 is_in_ranges-requires c = c.if-raw-ne30.false
@@ -23,4 +23,4 @@ is_in_ranges-requires c = c.if-raw-ne30.false
 pub returns : goal.returns
 unfolding is_time bytes
 returns c =
-    c.is_in_ranges.ensures ∙ rw (sym (time_between _ c.if-raw-ne30.false) ∙ sym c.is_between.ensures ∙ not-false _ c.if-not-is_between.false)
+    c.is_in_ranges.ensures ∙ rw (sym (time_between _ c.if-raw-ne30.false) ∙ sym c.is_between.ensures ∙ c.if-not-is_between.false)

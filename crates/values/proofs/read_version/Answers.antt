@@ -14,24 +14,24 @@ returns-then-raw-lt4 c = sym (version_short _ c.if-raw-lt4.true)
 
 pub returns-then-not-same : goal.returns-then-not-same
 unfolding bytes
-returns-then-not-same c = sym (version_other c.args.raw.now (sym c.same.ensures ∙ not-true _ c.if-not-same.true))
+returns-then-not-same c = sym (version_other c.args.raw.now (sym c.same.ensures ∙ c.if-not-same.true))
 
 pub returns-then-n-le65535 : goal.returns-then-n-le65535
 unfolding bytes
 returns-then-n-le65535 c =
-    let e : begins (bytes "2.0.") c.args.raw.now ≡ true = sym c.same.ensures ∙ not-false _ c.if-not-same.false in
+    let e : begins (bytes "2.0.") c.args.raw.now ≡ true = sym c.same.ensures ∙ c.if-not-same.false in
     let n = c.in-Value.given in
     sym (version_rest c.args.raw.now {o = some n.0.0} e (sym (ap value_of n.1) ∙ c.read_plain.ensures) ∙ rw (le-leb _ _ c.if-n-le65535.true))
 
 pub returns-else-n-le65535 : goal.returns-else-n-le65535
 unfolding bytes
 returns-else-n-le65535 c =
-    let e : begins (bytes "2.0.") c.args.raw.now ≡ true = sym c.same.ensures ∙ not-false _ c.if-not-same.false in
+    let e : begins (bytes "2.0.") c.args.raw.now ≡ true = sym c.same.ensures ∙ c.if-not-same.false in
     let n = c.in-Value.given in
     sym (version_rest c.args.raw.now {o = some n.0.0} e (sym (ap value_of n.1) ∙ c.read_plain.ensures) ∙ rw (lt-leb _ _ c.if-n-le65535.false))
 
 pub returns-in-Nothing : goal.returns-in-Nothing
 unfolding bytes
 returns-in-Nothing c =
-    let e : begins (bytes "2.0.") c.args.raw.now ≡ true = sym c.same.ensures ∙ not-false _ c.if-not-same.false in
+    let e : begins (bytes "2.0.") c.args.raw.now ≡ true = sym c.same.ensures ∙ c.if-not-same.false in
     sym (version_rest c.args.raw.now {o = none} e (sym (ap value_of c.in-Nothing.is) ∙ c.read_plain.ensures))

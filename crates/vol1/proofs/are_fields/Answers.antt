@@ -14,8 +14,8 @@ returns-then-owner-ne-OWNER_LENGTH c = rw (eq-eqb _ _ c.if-identifier-ne-IDENTIF
 
 pub returns-then-not-is_printed : goal.returns-then-not-is_printed
 unfolding are_fields
-returns-then-not-is_printed c = rw (eq-eqb _ _ c.if-identifier-ne-IDENTIFIER_LENGTH.false, eq-eqb _ _ c.if-owner-ne-OWNER_LENGTH.false, sym c.is_printed.ensures ∙ not-true _ c.if-not-is_printed.true)
+returns-then-not-is_printed c = rw (eq-eqb _ _ c.if-identifier-ne-IDENTIFIER_LENGTH.false, eq-eqb _ _ c.if-owner-ne-OWNER_LENGTH.false, sym c.is_printed.ensures ∙ c.if-not-is_printed.true)
 
 pub returns : goal.returns
 unfolding are_fields
-returns c = c.is_printed-2.ensures ∙ rw (eq-eqb _ _ c.if-identifier-ne-IDENTIFIER_LENGTH.false, eq-eqb _ _ c.if-owner-ne-OWNER_LENGTH.false, sym c.is_printed.ensures ∙ not-false _ c.if-not-is_printed.false)
+returns c = c.is_printed-2.ensures ∙ rw (eq-eqb _ _ c.if-identifier-ne-IDENTIFIER_LENGTH.false, eq-eqb _ _ c.if-owner-ne-OWNER_LENGTH.false, sym c.is_printed.ensures ∙ c.if-not-is_printed.false)

@@ -15,7 +15,7 @@ returns-then-not-same c =
     let h = c.if-block-ne-LENGTH.false in
     let e : slices.same s (vol1 (identifier_in s) (owner_in s)) ≡ c.same.result
     = ap (slices.same s) (sym (own_block s h c.part-identifier.ensures c.part-owner.ensures c.label_of-own.ensures)) ∙ sym c.same.ensures in
-    other_constants s h (e ∙ not-true _ c.if-not-same.true)
+    other_constants s h (e ∙ c.if-not-same.true)
 
 pub returns-then-not-is_printed : goal.returns-then-not-is_printed
 returns-then-not-is_printed c =
@@ -23,7 +23,7 @@ returns-then-not-is_printed c =
     let h = c.if-block-ne-LENGTH.false in
     let e : slices.same s (vol1 (identifier_in s) (owner_in s)) ≡ c.same.result
     = ap (slices.same s) (sym (own_block s h c.part-identifier.ensures c.part-owner.ensures c.label_of-own.ensures)) ∙ sym c.same.ensures in
-    identifier_unprinted s h (e ∙ not-false _ c.if-not-same.false) (ap is_printed (sym c.part-identifier.ensures) ∙ sym c.is_printed.ensures ∙ not-true _ c.if-not-is_printed.true)
+    identifier_unprinted s h (e ∙ c.if-not-same.false) (ap is_printed (sym c.part-identifier.ensures) ∙ sym c.is_printed.ensures ∙ c.if-not-is_printed.true)
 
 pub returns-then-not-is_printed-2 : goal.returns-then-not-is_printed-2
 returns-then-not-is_printed-2 c =
@@ -31,8 +31,8 @@ returns-then-not-is_printed-2 c =
     let h = c.if-block-ne-LENGTH.false in
     let e : slices.same s (vol1 (identifier_in s) (owner_in s)) ≡ c.same.result
     = ap (slices.same s) (sym (own_block s h c.part-identifier.ensures c.part-owner.ensures c.label_of-own.ensures)) ∙ sym c.same.ensures in
-    owner_unprinted s h (e ∙ not-false _ c.if-not-same.false) (ap is_printed (sym c.part-identifier.ensures) ∙ sym c.is_printed.ensures ∙ not-false _ c.if-not-is_printed.false)
-    (ap is_printed (sym c.part-owner.ensures) ∙ sym c.is_printed-2.ensures ∙ not-true _ c.if-not-is_printed-2.true)
+    owner_unprinted s h (e ∙ c.if-not-same.false) (ap is_printed (sym c.part-identifier.ensures) ∙ sym c.is_printed.ensures ∙ c.if-not-is_printed.false)
+    (ap is_printed (sym c.part-owner.ensures) ∙ sym c.is_printed-2.ensures ∙ c.if-not-is_printed-2.true)
 
 pub returns : goal.returns
 returns c =
@@ -40,5 +40,5 @@ returns c =
     let h = c.if-block-ne-LENGTH.false in
     let e : slices.same s (vol1 (identifier_in s) (owner_in s)) ≡ c.same.result
     = ap (slices.same s) (sym (own_block s h c.part-identifier.ensures c.part-owner.ensures c.label_of-own.ensures)) ∙ sym c.same.ensures in
-    the_vol1 s h (e ∙ not-false _ c.if-not-same.false) (ap is_printed (sym c.part-identifier.ensures) ∙ sym c.is_printed.ensures ∙ not-false _ c.if-not-is_printed.false)
-    (ap is_printed (sym c.part-owner.ensures) ∙ sym c.is_printed-2.ensures ∙ not-false _ c.if-not-is_printed-2.false)
+    the_vol1 s h (e ∙ c.if-not-same.false) (ap is_printed (sym c.part-identifier.ensures) ∙ sym c.is_printed.ensures ∙ c.if-not-is_printed.false)
+    (ap is_printed (sym c.part-owner.ensures) ∙ sym c.is_printed-2.ensures ∙ c.if-not-is_printed-2.false)

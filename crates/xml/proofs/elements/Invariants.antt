@@ -1,5 +1,5 @@
 -- `elements` meets its contract. Invariant: in the elements whose names are at the first d places, the outcome from i on is the same.
-use mathlib.Core.List.{◌∷◌}
+use mathlib.Core.List.{[], ◌∷◌}
 use Prim.Native.Nat.{◌-◌}
 use lib.ListN.{length, drop}
 use Rattle.xml.specs.CheckSteps.{at, content, blank, form_run}

@@ -1,4 +1,5 @@
 -- `finish` meets its contract: white space up to the end, or a byte that does not fit.
+use mathlib.Core.List.{[]}
 use mathlib.Core.Path.{refl, ◌∙◌, sym}
 use Prim.Native.Nat.{◌<◌}
 use native.Mathlib.Omega.{arith}

@@ -1,4 +1,5 @@
 -- `read_all` meets its contract: the declaration, and then the root.
+use mathlib.Core.List.{[]}
 use mathlib.Core.Path.{refl, ap, ◌∙◌, sym}
 use Rattle.slices.specs.Words.{bytes}
 use Rattle.xml.specs.Bytes.{is_space, is_ascii_letter, is_name_byte, declaration}

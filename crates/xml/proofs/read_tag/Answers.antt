@@ -57,7 +57,7 @@ returns-then-not-begins c =
     let i = c.args.from in
     let n = part t c.args.start c.args.end in
     let e = c.byte.ensures in
-    let no : c.args.begins ≡ false = not-true c.args.begins c.if-not-begins.true in
+    let no : c.args.begins ≡ false = c.if-not-begins.true in
     λ o. record { runs = λ ns f. run_refused t i (opens o) (n ∷ ns) (search rules) refl (simp (← e, ne_eqb _ _ c.if-byte-eq47.false, f, no, and-false)); ends = tt }
 
 pub inner_tag-requires : goal.inner_tag-requires
@@ -70,7 +70,7 @@ returns-in-Open c =
     let i = c.args.from in
     let n = part t c.args.start c.args.end in
     let e = c.byte.ensures in
-    let yes : c.args.begins ≡ true = not-false c.args.begins c.if-not-begins.false in
+    let yes : c.args.begins ≡ true = c.if-not-begins.false in
     λ o. turns_opened (opens o) refl yes (λ ns f. simp (← e, ne_eqb _ _ c.if-byte-eq47.false, f, yes, and-true)) c.in-Open.e c.in-Open.j c.inner_tag.ensures c.in-Open.is
 
 pub returns-in-Empty : goal.returns-in-Empty
@@ -80,7 +80,7 @@ returns-in-Empty c =
     let i = c.args.from in
     let n = part t c.args.start c.args.end in
     let e = c.byte.ensures in
-    let yes : c.args.begins ≡ true = not-false c.args.begins c.if-not-begins.false in
+    let yes : c.args.begins ≡ true = c.if-not-begins.false in
     λ o. turns_inside (opens o) refl yes (λ ns f. simp (← e, ne_eqb _ _ c.if-byte-eq47.false, f, yes, and-true)) c.in-Empty.j c.inner_tag.ensures c.in-Empty.is
 
 pub returns-in-Broken-inner_tag : goal.returns-in-Broken-inner_tag
@@ -90,5 +90,5 @@ returns-in-Broken-inner_tag c =
     let i = c.args.from in
     let n = part t c.args.start c.args.end in
     let e = c.byte.ensures in
-    let yes : c.args.begins ≡ true = not-false c.args.begins c.if-not-begins.false in
+    let yes : c.args.begins ≡ true = c.if-not-begins.false in
     λ o. turns_cut (opens o) refl yes (λ ns f. simp (← e, ne_eqb _ _ c.if-byte-eq47.false, f, yes, and-true)) c.in-Broken-inner_tag.u c.inner_tag.ensures c.in-Broken-inner_tag.is

@@ -1,4 +1,5 @@
 -- `root` meets its contract: white space, `<`, and a start tag.
+use mathlib.Core.List.{[]}
 use mathlib.Core.Path.{◌≡◌, refl, ap, ◌∙◌, sym, subst}
 use mathlib.Core.Bool.{false}
 use Prim.Native.Nat.{◌+◌}

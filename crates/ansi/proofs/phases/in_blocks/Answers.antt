@@ -8,8 +8,8 @@ use Rattle.ansi.proofs.phases.in_blocks.Goals as goal
 
 pub returns-then-not-is_data : goal.returns-then-not-is_data
 unfolding at_block
-returns-then-not-is_data c = rw (ap is_data (sym c.part-x.ensures) ∙ sym c.is_data.ensures ∙ not-true _ c.if-not-is_data.true)
+returns-then-not-is_data c = rw (ap is_data (sym c.part-x.ensures) ∙ sym c.is_data.ensures ∙ c.if-not-is_data.true)
 
 pub returns : goal.returns
 unfolding at_block
-returns c = rw (ap is_data (sym c.part-x.ensures) ∙ sym c.is_data.ensures ∙ not-false _ c.if-not-is_data.false, add-one)
+returns c = rw (ap is_data (sym c.part-x.ensures) ∙ sym c.is_data.ensures ∙ c.if-not-is_data.false, add-one)

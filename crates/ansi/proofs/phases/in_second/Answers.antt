@@ -8,8 +8,8 @@ use Rattle.ansi.proofs.phases.in_second.Goals as goal
 
 pub returns-then-not-is_label : goal.returns-then-not-is_label
 unfolding at_block bytes
-returns-then-not-is_label c = rw (ap (is_label (bytes "EOF2")) (sym c.part-x.ensures) ∙ sym c.is_label.ensures ∙ not-true _ c.if-not-is_label.true)
+returns-then-not-is_label c = rw (ap (is_label (bytes "EOF2")) (sym c.part-x.ensures) ∙ sym c.is_label.ensures ∙ c.if-not-is_label.true)
 
 pub returns : goal.returns
 unfolding at_block bytes
-returns c = rw (ap (is_label (bytes "EOF2")) (sym c.part-x.ensures) ∙ sym c.is_label.ensures ∙ not-false _ c.if-not-is_label.false)
+returns c = rw (ap (is_label (bytes "EOF2")) (sym c.part-x.ensures) ∙ sym c.is_label.ensures ∙ c.if-not-is_label.false)

@@ -7,8 +7,8 @@ use Rattle.ansi.proofs.phases.in_start.Goals as goal
 
 pub returns-then-not-is_volume : goal.returns-then-not-is_volume
 unfolding at_block
-returns-then-not-is_volume c = rw (ap (is_volume) (sym c.part-x.ensures) ∙ sym c.is_volume.ensures ∙ not-true _ c.if-not-is_volume.true)
+returns-then-not-is_volume c = rw (ap (is_volume) (sym c.part-x.ensures) ∙ sym c.is_volume.ensures ∙ c.if-not-is_volume.true)
 
 pub returns : goal.returns
 unfolding at_block
-returns c = rw (ap (is_volume) (sym c.part-x.ensures) ∙ sym c.is_volume.ensures ∙ not-false _ c.if-not-is_volume.false)
+returns c = rw (ap (is_volume) (sym c.part-x.ensures) ∙ sym c.is_volume.ensures ∙ c.if-not-is_volume.false)

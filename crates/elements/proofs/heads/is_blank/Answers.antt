@@ -14,13 +14,13 @@ pub returns-then-not-is_space : goal.returns-then-not-is_space
 returns-then-not-is_space c =
     let s = c.args.raw.now in
     let l = c.loop-i in
-    sym (l.invariant.1 ∙ every_off is_space 0 s l.i (search rules) (sym c.is_space.ensures ∙ not-true _ c.if-not-is_space.true))
+    sym (l.invariant.1 ∙ every_off is_space 0 s l.i (search rules) (sym c.is_space.ensures ∙ c.if-not-is_space.true))
 
 pub loop-i-preserved : goal.loop-i-preserved
 loop-i-preserved c =
     let s = c.args.raw.now in
     let l = c.loop-i in
-    (search rules, l.invariant.1 ∙ every_on is_space 0 s l.i (search rules) (sym c.is_space.ensures ∙ not-false _ c.if-not-is_space.false))
+    (search rules, l.invariant.1 ∙ every_on is_space 0 s l.i (search rules) (sym c.is_space.ensures ∙ c.if-not-is_space.false))
 
 pub returns : goal.returns
 returns c =

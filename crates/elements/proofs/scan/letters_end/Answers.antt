@@ -18,34 +18,34 @@ returns-then-not-is_small-2 c =
     let l = c.loop-i in
     let i = l.i in
     let o = l.invariant in
-    onward_more o (omega arith) (small_name _ (sym c.is_small.ensures ∙ not-false _ c.if-not-is_small.false)) (i + 1) (omega arith)
+    onward_more o (omega arith) (small_name _ (sym c.is_small.ensures ∙ c.if-not-is_small.false)) (i + 1) (omega arith)
 
 pub returns-then-not-is_small-3 : goal.returns-then-not-is_small-3
 returns-then-not-is_small-3 c =
     let l = c.loop-i in
     let i = l.i in
     let o = l.invariant in
-    let o1 = onward_more o (omega arith) (small_name _ (sym c.is_small.ensures ∙ not-false _ c.if-not-is_small.false)) (i + 1) (omega arith) in
-    onward_more o1 (omega arith) (small_name _ (sym c.is_small-in-loop-i.ensures ∙ not-false _ c.if-not-is_small-2.false)) (i + 2) (omega arith)
+    let o1 = onward_more o (omega arith) (small_name _ (sym c.is_small.ensures ∙ c.if-not-is_small.false)) (i + 1) (omega arith) in
+    onward_more o1 (omega arith) (small_name _ (sym c.is_small-in-loop-i.ensures ∙ c.if-not-is_small-2.false)) (i + 2) (omega arith)
 
 pub returns-then-not-is_small-4 : goal.returns-then-not-is_small-4
 returns-then-not-is_small-4 c =
     let l = c.loop-i in
     let i = l.i in
     let o = l.invariant in
-    let o1 = onward_more o (omega arith) (small_name _ (sym c.is_small.ensures ∙ not-false _ c.if-not-is_small.false)) (i + 1) (omega arith) in
-    let o2 = onward_more o1 (omega arith) (small_name _ (sym c.is_small-in-loop-i.ensures ∙ not-false _ c.if-not-is_small-2.false)) (i + 2) (omega arith) in
-    onward_more o2 (omega arith) (small_name _ (sym c.is_small-in-loop-i-2.ensures ∙ not-false _ c.if-not-is_small-3.false)) (i + 3) (omega arith)
+    let o1 = onward_more o (omega arith) (small_name _ (sym c.is_small.ensures ∙ c.if-not-is_small.false)) (i + 1) (omega arith) in
+    let o2 = onward_more o1 (omega arith) (small_name _ (sym c.is_small-in-loop-i.ensures ∙ c.if-not-is_small-2.false)) (i + 2) (omega arith) in
+    onward_more o2 (omega arith) (small_name _ (sym c.is_small-in-loop-i-2.ensures ∙ c.if-not-is_small-3.false)) (i + 3) (omega arith)
 
 pub loop-i-preserved : goal.loop-i-preserved
 loop-i-preserved c =
     let l = c.loop-i in
     let i = l.i in
     let o = l.invariant in
-    let o1 = onward_more o (omega arith) (small_name _ (sym c.is_small.ensures ∙ not-false _ c.if-not-is_small.false)) (i + 1) (omega arith) in
-    let o2 = onward_more o1 (omega arith) (small_name _ (sym c.is_small-in-loop-i.ensures ∙ not-false _ c.if-not-is_small-2.false)) (i + 2) (omega arith) in
-    let o3 = onward_more o2 (omega arith) (small_name _ (sym c.is_small-in-loop-i-2.ensures ∙ not-false _ c.if-not-is_small-3.false)) (i + 3) (omega arith) in
-    onward_more o3 (omega arith) (small_name _ (sym c.is_small-in-loop-i-3.ensures ∙ not-false _ c.if-not-is_small-4.false)) (i + 4) (omega arith)
+    let o1 = onward_more o (omega arith) (small_name _ (sym c.is_small.ensures ∙ c.if-not-is_small.false)) (i + 1) (omega arith) in
+    let o2 = onward_more o1 (omega arith) (small_name _ (sym c.is_small-in-loop-i.ensures ∙ c.if-not-is_small-2.false)) (i + 2) (omega arith) in
+    let o3 = onward_more o2 (omega arith) (small_name _ (sym c.is_small-in-loop-i-2.ensures ∙ c.if-not-is_small-3.false)) (i + 3) (omega arith) in
+    onward_more o3 (omega arith) (small_name _ (sym c.is_small-in-loop-i-3.ensures ∙ c.if-not-is_small-4.false)) (i + 4) (omega arith)
 
 pub returns : goal.returns
 returns c = c.loop-i.invariant

@@ -13,12 +13,12 @@ loop-i-init c = (search rules, refl)
 pub returns-then-not-is_name_byte : goal.returns-then-not-is_name_byte
 returns-then-not-is_name_byte c =
     let l = c.loop-i in
-    record { found = sym (l.invariant.1 ∙ front_none is_name_byte _ _ (search rules) (sym c.is_name_byte.ensures ∙ not-true _ c.if-not-is_name_byte.true)); inside = search rules }
+    record { found = sym (l.invariant.1 ∙ front_none is_name_byte _ _ (search rules) (sym c.is_name_byte.ensures ∙ c.if-not-is_name_byte.true)); inside = search rules }
 
 pub loop-i-preserved : goal.loop-i-preserved
 loop-i-preserved c =
     let l = c.loop-i in
-    (search rules, l.invariant.1 ∙ front_more is_name_byte _ _ (search rules) (sym c.is_name_byte.ensures ∙ not-false _ c.if-not-is_name_byte.false))
+    (search rules, l.invariant.1 ∙ front_more is_name_byte _ _ (search rules) (sym c.is_name_byte.ensures ∙ c.if-not-is_name_byte.false))
 
 pub returns : goal.returns
 returns c =

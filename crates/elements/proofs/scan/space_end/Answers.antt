@@ -13,12 +13,12 @@ loop-i-init c = (search rules, refl)
 pub returns-then-not-is_space : goal.returns-then-not-is_space
 returns-then-not-is_space c =
     let l = c.loop-i in
-    record { found = sym (l.invariant.1 ∙ front_none is_space _ _ (search rules) (sym c.is_space.ensures ∙ not-true _ c.if-not-is_space.true)); inside = search rules }
+    record { found = sym (l.invariant.1 ∙ front_none is_space _ _ (search rules) (sym c.is_space.ensures ∙ c.if-not-is_space.true)); inside = search rules }
 
 pub loop-i-preserved : goal.loop-i-preserved
 loop-i-preserved c =
     let l = c.loop-i in
-    (search rules, l.invariant.1 ∙ front_more is_space _ _ (search rules) (sym c.is_space.ensures ∙ not-false _ c.if-not-is_space.false))
+    (search rules, l.invariant.1 ∙ front_more is_space _ _ (search rules) (sym c.is_space.ensures ∙ c.if-not-is_space.false))
 
 pub returns : goal.returns
 returns c =

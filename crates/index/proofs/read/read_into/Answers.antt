@@ -13,10 +13,10 @@ use Rattle.xml.proofs.check.Reads as check_reads
 use Rattle.index.proofs.read.read_into.Goals as goal
 
 pub returns-then-not-is_caller_right : goal.returns-then-not-is_caller_right
-returns-then-not-is_caller_right c = into_refused (index_14 (given c.args.uuid.now c.args.volume) c.args.letter c.args.block.0 c.args.text.now (sym c.is_caller_right.ensures ∙ not-true _ c.if-not-is_caller_right.true))
+returns-then-not-is_caller_right c = into_refused (index_14 (given c.args.uuid.now c.args.volume) c.args.letter c.args.block.0 c.args.text.now (sym c.is_caller_right.ensures ∙ c.if-not-is_caller_right.true))
 
 pub returns-then-text-gt1048576 : goal.returns-then-text-gt1048576
-returns-then-text-gt1048576 c = into_refused (index_15 (given c.args.uuid.now c.args.volume) c.args.letter c.args.block.0 c.args.text.now (sym c.is_caller_right.ensures ∙ not-false _ c.if-not-is_caller_right.false) (lt-leb _ _ c.if-text-gt1048576.true))
+returns-then-text-gt1048576 c = into_refused (index_15 (given c.args.uuid.now c.args.volume) c.args.letter c.args.block.0 c.args.text.now (sym c.is_caller_right.ensures ∙ c.if-not-is_caller_right.false) (lt-leb _ _ c.if-text-gt1048576.true))
 
 pub read_root-requires : goal.read_root-requires
 read_root-requires c = in_form_lem c.args.text.now (checked_good c.args.text.now (sym c.in-Good.is ∙ c.check.ensures))
@@ -24,7 +24,7 @@ read_root-requires c = in_form_lem c.args.text.now (checked_good c.args.text.now
 pub returns-in-Broken : goal.returns-in-Broken
 returns-in-Broken c =
     let broken = checked_broken c.args.text.now _ (sym c.in-Broken.is ∙ c.check.ensures) in
-    into_refused (index_4 (given c.args.uuid.now c.args.volume) c.args.letter c.args.block.0 c.args.text.now (sym c.is_caller_right.ensures ∙ not-false _ c.if-not-is_caller_right.false) (le-leb _ _ c.if-text-gt1048576.false) _ broken.0 broken.1)
+    into_refused (index_4 (given c.args.uuid.now c.args.volume) c.args.letter c.args.block.0 c.args.text.now (sym c.is_caller_right.ensures ∙ c.if-not-is_caller_right.false) (le-leb _ _ c.if-text-gt1048576.false) _ broken.0 broken.1)
 
 pub returns-in-Good : goal.returns-in-Good
-returns-in-Good c = same_into c.read_root.ensures (index_read (given c.args.uuid.now c.args.volume) c.args.letter c.args.block.0 c.args.text.now (sym c.is_caller_right.ensures ∙ not-false _ c.if-not-is_caller_right.false) (le-leb _ _ c.if-text-gt1048576.false) (checked_good c.args.text.now (sym c.in-Good.is ∙ c.check.ensures)))
+returns-in-Good c = same_into c.read_root.ensures (index_read (given c.args.uuid.now c.args.volume) c.args.letter c.args.block.0 c.args.text.now (sym c.is_caller_right.ensures ∙ c.if-not-is_caller_right.false) (le-leb _ _ c.if-text-gt1048576.false) (checked_good c.args.text.now (sym c.in-Good.is ∙ c.check.ensures)))

@@ -30,7 +30,7 @@ returns-then-not-name_is c =
     let s = c.args.text.now in
     let g = given c.args.uuid.now c.args.volume in
     let n = c.args.n in
-    into_refused (root_name g c.args.letter c.args.block.0 (head_at s n) (children_at s n) (sym c.name_is.ensures ∙ not-true _ c.if-not-name_is.true))
+    into_refused (root_name g c.args.letter c.args.block.0 (head_at s n) (children_at s n) (sym c.name_is.ensures ∙ c.if-not-name_is.true))
 
 pub returns-then-not-same : goal.returns-then-not-same
 unfolding bytes
@@ -38,7 +38,7 @@ returns-then-not-same c =
     let s = c.args.text.now in
     let g = given c.args.uuid.now c.args.volume in
     let n = c.args.n in
-    into_refused (root_key g c.args.letter c.args.block.0 (head_at s n) (children_at s n) (sym c.name_is.ensures ∙ not-false _ c.if-not-name_is.false) (ap (λ (k : List ℕ). same k (bytes "version")) (sym c.key_of.ensures) ∙ sym c.same.ensures ∙ not-true _ c.if-not-same.true))
+    into_refused (root_key g c.args.letter c.args.block.0 (head_at s n) (children_at s n) (sym c.name_is.ensures ∙ c.if-not-name_is.false) (ap (λ (k : List ℕ). same k (bytes "version")) (sym c.key_of.ensures) ∙ sym c.same.ensures ∙ c.if-not-same.true))
 
 pub read_children-requires : goal.read_children-requires
 read_children-requires c = (c.first_child-at.ensures.inside, subst (λ (k : Forest). height k ≤ 64) (sym c.first_child-at.ensures.row) c.requires)
@@ -49,7 +49,7 @@ returns-in-Nothing c =
     let s = c.args.text.now in
     let g = given c.args.uuid.now c.args.volume in
     let n = c.args.n in
-    into_refused (root_version g c.args.letter c.args.block.0 (head_at s n) (children_at s n) (sym c.name_is.ensures ∙ not-false _ c.if-not-name_is.false) (ap (λ (k : List ℕ). same k (bytes "version")) (sym c.key_of.ensures) ∙ sym c.same.ensures ∙ not-false _ c.if-not-same.false) (ap values.version (sym c.value_of.ensures) ∙ sym c.read_version.ensures ∙ ap version_of c.in-Nothing.is))
+    into_refused (root_version g c.args.letter c.args.block.0 (head_at s n) (children_at s n) (sym c.name_is.ensures ∙ c.if-not-name_is.false) (ap (λ (k : List ℕ). same k (bytes "version")) (sym c.key_of.ensures) ∙ sym c.same.ensures ∙ c.if-not-same.false) (ap values.version (sym c.value_of.ensures) ∙ sym c.read_version.ensures ∙ ap version_of c.in-Nothing.is))
 
 pub returns-in-Release : goal.returns-in-Release
 unfolding bytes
@@ -59,4 +59,4 @@ returns-in-Release c =
     let n = c.args.n in
     same_tags c.first_child-at.ensures.tags (same_into c.read_children.ensures
     (ap (λ (k : Forest). children_read g c.args.letter c.args.block.0 c.in-Release.release k) c.first_child-at.ensures.row
-    ∙ root_read_lem g c.args.letter c.args.block.0 (head_at s n) (children_at s n) (sym c.name_is.ensures ∙ not-false _ c.if-not-name_is.false) (ap (λ (k : List ℕ). same k (bytes "version")) (sym c.key_of.ensures) ∙ sym c.same.ensures ∙ not-false _ c.if-not-same.false) c.in-Release.release (ap values.version (sym c.value_of.ensures) ∙ sym c.read_version.ensures ∙ ap version_of c.in-Release.is)))
+    ∙ root_read_lem g c.args.letter c.args.block.0 (head_at s n) (children_at s n) (sym c.name_is.ensures ∙ c.if-not-name_is.false) (ap (λ (k : List ℕ). same k (bytes "version")) (sym c.key_of.ensures) ∙ sym c.same.ensures ∙ c.if-not-same.false) c.in-Release.release (ap values.version (sym c.value_of.ensures) ∙ sym c.read_version.ensures ∙ ap version_of c.in-Release.is)))

@@ -1,4 +1,5 @@
 -- `find` meets its contract. Invariant: the file asked for is that of the number left, among those that are left.
+use mathlib.Core.List.{[]}
 use mathlib.Core.Path.{◌≡◌}
 use Prim.Native.Nat.{◌-◌}
 use lib.ListN.{length, get_or}

@@ -1,6 +1,6 @@
 -- `locate` meets its contract: the refusal of reading, or the file that is found.
 use mathlib.Core.Path.{ap, sym, ◌∙◌, subst}
-use mathlib.Core.List.{List}
+use mathlib.Core.List.{[], List}
 use Prim.Native.Nat.{ℕ}
 use lib.ListN.{get_or}
 use Rattle.refusals.specs.Refusals.{Answer, answer, and_then}

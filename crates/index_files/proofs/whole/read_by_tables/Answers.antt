@@ -26,7 +26,7 @@ returns-then-not-is_enough c =
     let o = a.rows.now in
     let h = c.in-Found.h in
     let (x, w, z) = mapped summary i _ (ap (means s) (sym c.in-Found.is) ∙ c.read_into.ensures.reads.answers) in
-    let room : has_room s (length e) (length o) x ≡ false = sym (room_as g a.letter a.block.0 s x (sym w) h z (length e) (length o)) ∙ sym c.is_enough.ensures ∙ not-true _ c.if-not-is_enough.true in
+    let room : has_room s (length e) (length o) x ≡ false = sym (room_as g a.letter a.block.0 s x (sym w) h z (length e) (length o)) ∙ sym c.is_enough.ensures ∙ c.if-not-is_enough.true in
     whole_as w (whole_short s e e o o x room)
 
 pub returns-then-not-is_enough-2 : goal.returns-then-not-is_enough-2
@@ -39,7 +39,7 @@ returns-then-not-is_enough-2 c =
     let o = a.rows.now in
     let h = c.in-Found.h in
     let (x, w, z) = mapped summary i _ (ap (means s) (sym c.in-Found.is) ∙ c.read_into.ensures.reads.answers) in
-    let room : has_room s (length e) (length o) x ≡ true = sym (room_as g a.letter a.block.0 s x (sym w) h z (length e) (length o)) ∙ sym c.is_enough.ensures ∙ not-false _ c.if-not-is_enough.false in
+    let room : has_room s (length e) (length o) x ≡ true = sym (room_as g a.letter a.block.0 s x (sym w) h z (length e) (length o)) ∙ sym c.is_enough.ensures ∙ c.if-not-is_enough.false in
     let q = c.read_into-then-not-is_enough-2.ensures in
     let r = c.read_into-then-not-is_enough-2.result in
     let l = found_again s x (rows_of g a.letter a.block.0 s x (sym w)) r (q.reads.answers ∙ ap summary_of (sym w)) q.tables in
@@ -48,7 +48,7 @@ returns-then-not-is_enough-2 c =
 
 pub hand_over-requires : goal.hand_over-requires
 hand_over-requires c =
-    let p = enough_parts c.in-Found.h _ _ (sym c.is_enough-in-Found.ensures ∙ not-false _ c.if-not-is_enough-2.false) in
+    let p = enough_parts c.in-Found.h _ _ (sym c.is_enough-in-Found.ensures ∙ c.if-not-is_enough-2.false) in
     (p.0, p.1)
 
 pub returns-in-Refused : goal.returns-in-Refused
@@ -68,9 +68,9 @@ returns-else-not-is_enough-2 c =
     let (x, w, z) = mapped summary i _ (ap (means s) (sym c.in-Found.is) ∙ c.read_into.ensures.reads.answers) in
     let m : length c.read_into.new.1.1.1.1.1.0 ≡ length a.entry-table.now = search (rules, c.entry_table-1.given, c.slice_known-5-1.given, c.read_into-arg-1.given) in
     let n : length c.read_into.new.1.1.1.1.1.1.0 ≡ length a.row-table.now = search (rules, c.row_table-1.given, c.slice_known-6-1.given, c.read_into-arg-2-1.given) in
-    let room : has_room s (length e) (length o) x ≡ true = sym (room_as g a.letter a.block.0 s x (sym w) h z (length e) (length o)) ∙ sym c.is_enough.ensures ∙ not-false _ c.if-not-is_enough.false in
+    let room : has_room s (length e) (length o) x ≡ true = sym (room_as g a.letter a.block.0 s x (sym w) h z (length e) (length o)) ∙ sym c.is_enough.ensures ∙ c.if-not-is_enough.false in
     let inside : has_room s (length a.entry-table.now) (length a.row-table.now) x ≡ true =
-    sym (room_as g a.letter a.block.0 s x (sym w) h z (length a.entry-table.now) (length a.row-table.now)) ∙ sym (rw (m, n) at c.is_enough-in-Found.ensures) ∙ not-false _ c.if-not-is_enough-2.false in
+    sym (room_as g a.letter a.block.0 s x (sym w) h z (length a.entry-table.now) (length a.row-table.now)) ∙ sym (rw (m, n) at c.is_enough-in-Found.ensures) ∙ c.if-not-is_enough-2.false in
     let l = subst (IsListed (index_entries s) a.entry-table.now _ a.row-table.now _) c.in-Found.is c.read_into.ensures.tables in
     whole_as w
     (whole_held s e _ o _ x room (subst (λ (y : Answer Index). ReadsIndex s y (Found h)) (sym w) (subst (ReadsIndex s i) c.in-Found.is c.read_into.ensures.reads))

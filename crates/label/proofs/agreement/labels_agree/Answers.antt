@@ -13,7 +13,7 @@ returns-then-not-same c =
     let f = fields_in c.args.s.now c.args.f in
     let g = fields_in c.args.t.now c.args.g in
     let a = slices.same c.args.v.now c.args.w.now in
-    first_off a (same_texts f g) (same_numbers f g) (own_letters f g) (sym c.same.ensures ∙ not-true _ c.if-not-same.true)
+    first_off a (same_texts f g) (same_numbers f g) (own_letters f g) (sym c.same.ensures ∙ c.if-not-same.true)
 
 pub returns-then-not-same_texts : goal.returns-then-not-same_texts
 unfolding agree
@@ -21,7 +21,7 @@ returns-then-not-same_texts c =
     let f = fields_in c.args.s.now c.args.f in
     let g = fields_in c.args.t.now c.args.g in
     let a = slices.same c.args.v.now c.args.w.now in
-    second_off a (same_texts f g) (same_numbers f g) (own_letters f g) (sym c.same.ensures ∙ not-false _ c.if-not-same.false) (sym c.same_texts.ensures ∙ not-true _ c.if-not-same_texts.true)
+    second_off a (same_texts f g) (same_numbers f g) (own_letters f g) (sym c.same.ensures ∙ c.if-not-same.false) (sym c.same_texts.ensures ∙ c.if-not-same_texts.true)
 
 pub returns-then-not-same_numbers : goal.returns-then-not-same_numbers
 unfolding agree
@@ -29,7 +29,7 @@ returns-then-not-same_numbers c =
     let f = fields_in c.args.s.now c.args.f in
     let g = fields_in c.args.t.now c.args.g in
     let a = slices.same c.args.v.now c.args.w.now in
-    third_off a (same_texts f g) (same_numbers f g) (own_letters f g) (sym c.same.ensures ∙ not-false _ c.if-not-same.false) (sym c.same_texts.ensures ∙ not-false _ c.if-not-same_texts.false) (sym c.same_numbers.ensures ∙ not-true _ c.if-not-same_numbers.true)
+    third_off a (same_texts f g) (same_numbers f g) (own_letters f g) (sym c.same.ensures ∙ c.if-not-same.false) (sym c.same_texts.ensures ∙ c.if-not-same_texts.false) (sym c.same_numbers.ensures ∙ c.if-not-same_numbers.true)
 
 pub returns : goal.returns
 unfolding agree
@@ -37,4 +37,4 @@ returns c =
     let f = fields_in c.args.s.now c.args.f in
     let g = fields_in c.args.t.now c.args.g in
     let a = slices.same c.args.v.now c.args.w.now in
-    c.own_letters.ensures ∙ fourth a (same_texts f g) (same_numbers f g) (own_letters f g) (sym c.same.ensures ∙ not-false _ c.if-not-same.false) (sym c.same_texts.ensures ∙ not-false _ c.if-not-same_texts.false) (sym c.same_numbers.ensures ∙ not-false _ c.if-not-same_numbers.false)
+    c.own_letters.ensures ∙ fourth a (same_texts f g) (same_numbers f g) (own_letters f g) (sym c.same.ensures ∙ c.if-not-same.false) (sym c.same_texts.ensures ∙ c.if-not-same_texts.false) (sym c.same_numbers.ensures ∙ c.if-not-same_numbers.false)

@@ -3,10 +3,10 @@ use borrow.Author.Tests.{not-true, not-false}
 use Rattle.label.proofs.reader.all_three.Goals as goal
 
 pub returns-then-not-a : goal.returns-then-not-a
-returns-then-not-a c = rw (not-true c.args.a c.if-not-a.true)
+returns-then-not-a c = rw (c.if-not-a.true)
 
 pub returns-then-not-b : goal.returns-then-not-b
-returns-then-not-b c = rw (not-false c.args.a c.if-not-a.false, not-true c.args.b c.if-not-b.true)
+returns-then-not-b c = rw (c.if-not-a.false, c.if-not-b.true)
 
 pub returns : goal.returns
-returns c = rw (not-false c.args.a c.if-not-a.false, not-false c.args.b c.if-not-b.false)
+returns c = rw (c.if-not-a.false, c.if-not-b.false)

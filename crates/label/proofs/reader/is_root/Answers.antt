@@ -9,8 +9,8 @@ use Rattle.label.proofs.reader.is_root.Goals as goal
 
 pub returns-then-not-name_is : goal.returns-then-not-name_is
 unfolding bytes
-returns-then-not-name_is c = rw (sym c.name_is.ensures ∙ not-true _ c.if-not-name_is.true)
+returns-then-not-name_is c = rw (sym c.name_is.ensures ∙ c.if-not-name_is.true)
 
 pub returns : goal.returns
 unfolding bytes
-returns c = c.same.ensures ∙ ap (λ (w : List ℕ). same w (bytes "version")) c.key_of.ensures ∙ rw (sym c.name_is.ensures ∙ not-false _ c.if-not-name_is.false)
+returns c = c.same.ensures ∙ ap (λ (w : List ℕ). same w (bytes "version")) c.key_of.ensures ∙ rw (sym c.name_is.ensures ∙ c.if-not-name_is.false)

@@ -29,11 +29,11 @@ returns-then-not-letters_fit c =
     let e₁ : letter c.args.location.now ≡ some c.in-Value.l = sym c.read_letter.ensures ∙ ap letter_of c.in-Value.is in
     let e₂ : letter c.args.index.now ≡ some c.in-Value-read_letter.i = sym c.read_letter-2.ensures ∙ ap letter_of c.in-Value-read_letter.is in
     let e₃ : letter c.args.other.now ≡ some c.in-Value-read_letter-2.d = sym c.read_letter-3.ensures ∙ ap letter_of c.in-Value-read_letter-2.is in
-    rw (e₁, e₂, e₃, sym c.letters_fit.ensures ∙ not-true _ c.if-not-letters_fit.true)
+    rw (e₁, e₂, e₃, sym c.letters_fit.ensures ∙ c.if-not-letters_fit.true)
 
 pub returns : goal.returns
 returns c =
     let e₁ : letter c.args.location.now ≡ some c.in-Value.l = sym c.read_letter.ensures ∙ ap letter_of c.in-Value.is in
     let e₂ : letter c.args.index.now ≡ some c.in-Value-read_letter.i = sym c.read_letter-2.ensures ∙ ap letter_of c.in-Value-read_letter.is in
     let e₃ : letter c.args.other.now ≡ some c.in-Value-read_letter-2.d = sym c.read_letter-3.ensures ∙ ap letter_of c.in-Value-read_letter-2.is in
-    rw (e₁, e₂, e₃, sym c.letters_fit.ensures ∙ not-false _ c.if-not-letters_fit.false)
+    rw (e₁, e₂, e₃, sym c.letters_fit.ensures ∙ c.if-not-letters_fit.false)

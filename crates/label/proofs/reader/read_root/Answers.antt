@@ -15,7 +15,7 @@ returns-then-not-is_root c =
     let s = c.args.text.now in
     let h = head_at s c.args.n in
     let f = children_at s c.args.n in
-    refuses (no_root h f (sym c.is_root.ensures ∙ not-true _ c.if-not-is_root.true))
+    refuses (no_root h f (sym c.is_root.ensures ∙ c.if-not-is_root.true))
 
 pub returns-in_default : goal.returns-in_default
 returns-in_default c =
@@ -23,7 +23,7 @@ returns-in_default c =
     let h = head_at s c.args.n in
     let f = children_at s c.args.n in
     let e : version h.value ≡ none = ap version (sym c.value_of.ensures) ∙ sym c.read_version.ensures ∙ ap version_of c.in_default.is in
-    refuses (no_version h f (sym c.is_root.ensures ∙ not-false _ c.if-not-is_root.false) e)
+    refuses (no_version h f (sym c.is_root.ensures ∙ c.if-not-is_root.false) e)
 
 pub returns-then-not-p : goal.returns-then-not-p
 returns-then-not-p c =
@@ -31,7 +31,7 @@ returns-then-not-p c =
     let h = head_at s c.args.n in
     let f = children_at s c.args.n in
     let e₁ : version h.value ≡ some c.in-Release.release = ap version (sym c.value_of.ensures) ∙ sym c.read_version.ensures ∙ ap version_of c.in-Release.is in
-    refuses (no_shape h f (sym c.is_root.ensures ∙ not-false _ c.if-not-is_root.false) e₁ (sym c.find_places-p.ensures.shaped ∙ not-true _ c.if-not-p.true))
+    refuses (no_shape h f (sym c.is_root.ensures ∙ c.if-not-is_root.false) e₁ (sym c.find_places-p.ensures.shaped ∙ c.if-not-p.true))
 
 pub returns : goal.returns
 returns c =
@@ -39,6 +39,6 @@ returns c =
     let h = head_at s c.args.n in
     let f = children_at s c.args.n in
     let e₁ : version h.value ≡ some c.in-Release.release = ap version (sym c.value_of.ensures) ∙ sym c.read_version.ensures ∙ ap version_of c.in-Release.is in
-    let ok = not-false _ c.if-not-p.false in
+    let ok = c.if-not-p.false in
     reads_as (ap (label_from c.in-Release.release) (c.find_places-p.ensures.texts ok)
-    ∙ the_root h f (sym c.is_root.ensures ∙ not-false _ c.if-not-is_root.false) e₁ (sym c.find_places-p.ensures.shaped ∙ ok)) (c.find_places-p.ensures.places ok) c.read_values.ensures
+    ∙ the_root h f (sym c.is_root.ensures ∙ c.if-not-is_root.false) e₁ (sym c.find_places-p.ensures.shaped ∙ ok)) (c.find_places-p.ensures.places ok) c.read_values.ensures

@@ -14,9 +14,9 @@ returns-in_default c =
 pub returns-then-not-is_block_size : goal.returns-then-not-is_block_size
 returns-then-not-is_block_size c =
     let e : number c.args.raw.now ≡ some c.in-Value.n = sym c.read_number.ensures ∙ ap value_of c.in-Value.is in
-    rw e (rw (sym c.is_block_size.ensures ∙ not-true _ c.if-not-is_block_size.true))
+    rw e (rw (sym c.is_block_size.ensures ∙ c.if-not-is_block_size.true))
 
 pub returns : goal.returns
 returns c =
     let e : number c.args.raw.now ≡ some c.in-Value.n = sym c.read_number.ensures ∙ ap value_of c.in-Value.is in
-    rw e (rw (sym c.is_block_size.ensures ∙ not-false _ c.if-not-is_block_size.false))
+    rw e (rw (sym c.is_block_size.ensures ∙ c.if-not-is_block_size.false))

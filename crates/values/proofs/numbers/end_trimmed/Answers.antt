@@ -16,10 +16,10 @@ pub slice_bounds-result-end : goal.slice_bounds-result-end
 slice_bounds-result-end c = simp length-take (omega arith)
 
 pub returns-then-not-is_space : goal.returns-then-not-is_space
-returns-then-not-is_space c = sym (c.loop-n.invariant.1 ∙ end_off c.args.raw.now c.loop-n.n (search rules) (search rules) (sym c.is_space.ensures ∙ not-true _ c.if-not-is_space.true))
+returns-then-not-is_space c = sym (c.loop-n.invariant.1 ∙ end_off c.args.raw.now c.loop-n.n (search rules) (search rules) (sym c.is_space.ensures ∙ c.if-not-is_space.true))
 
 pub loop-n-preserved : goal.loop-n-preserved
-loop-n-preserved c = (search rules, c.loop-n.invariant.1 ∙ end_on c.args.raw.now c.loop-n.n (search rules) (search rules) (sym c.is_space.ensures ∙ not-false _ c.if-not-is_space.false))
+loop-n-preserved c = (search rules, c.loop-n.invariant.1 ∙ end_on c.args.raw.now c.loop-n.n (search rules) (search rules) (sym c.is_space.ensures ∙ c.if-not-is_space.false))
 
 pub slice_bounds-result-end-2 : goal.slice_bounds-result-end-2
 slice_bounds-result-end-2 c = simp length-take (omega arith)

@@ -2,7 +2,7 @@
 use mathlib.Core.Path.{◌≡◌, refl, sym, ◌∙◌}
 use native.Mathlib.Omega.{arith}
 use Rattle.slices.specs.Words.{bytes}
-use mathlib.Core.List.{List, ◌++◌}
+use mathlib.Core.List.{[], List, ◌++◌}
 use Prim.Native.Nat.{ℕ}
 use lib.ListN.{length, replicate, length-append}
 use Rattle.vol1.specs.Vol1.{vol1}

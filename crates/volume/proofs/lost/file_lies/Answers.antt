@@ -21,7 +21,7 @@ returns-in-Done c = every_end (lies_in c.args.volume c.args.index_reach.now c.ar
 pub returns-then-not-row_lies : goal.returns-then-not-row_lies
 returns-then-not-row_lies c =
     let w = subst (RowAhead c.args.text.now c.loop-row.at) c.in-Found.is c.next_row.ensures in
-    every_stop (lies_in c.args.volume c.args.index_reach.now c.args.index_kept c.args.data_reach.now c.args.data_kept) (every (lies_in c.args.volume c.args.index_reach.now c.args.index_kept c.args.data_reach.now c.args.data_kept) (extent_rows (children_at c.args.text.now c.args.n))) (rows_in (forest_at c.args.text.now c.loop-row.at)) c.loop-row.invariant (row_is c.in-Found.row) (rows_in (forest_at c.args.text.now c.in-Found.next)) w.rows (sym c.row_lies.ensures ∙ not-true _ c.if-not-row_lies.true)
+    every_stop (lies_in c.args.volume c.args.index_reach.now c.args.index_kept c.args.data_reach.now c.args.data_kept) (every (lies_in c.args.volume c.args.index_reach.now c.args.index_kept c.args.data_reach.now c.args.data_kept) (extent_rows (children_at c.args.text.now c.args.n))) (rows_in (forest_at c.args.text.now c.loop-row.at)) c.loop-row.invariant (row_is c.in-Found.row) (rows_in (forest_at c.args.text.now c.in-Found.next)) w.rows (sym c.row_lies.ensures ∙ c.if-not-row_lies.true)
 
 pub loop-row-smaller : goal.loop-row-smaller
 loop-row-smaller c =
@@ -31,4 +31,4 @@ loop-row-smaller c =
 pub loop-row-preserved : goal.loop-row-preserved
 loop-row-preserved c =
     let w = subst (RowAhead c.args.text.now c.loop-row.at) c.in-Found.is c.next_row.ensures in
-    every_on (lies_in c.args.volume c.args.index_reach.now c.args.index_kept c.args.data_reach.now c.args.data_kept) (every (lies_in c.args.volume c.args.index_reach.now c.args.index_kept c.args.data_reach.now c.args.data_kept) (extent_rows (children_at c.args.text.now c.args.n))) (rows_in (forest_at c.args.text.now c.loop-row.at)) c.loop-row.invariant (row_is c.in-Found.row) (rows_in (forest_at c.args.text.now c.in-Found.next)) w.rows (sym c.row_lies.ensures ∙ not-false _ c.if-not-row_lies.false)
+    every_on (lies_in c.args.volume c.args.index_reach.now c.args.index_kept c.args.data_reach.now c.args.data_kept) (every (lies_in c.args.volume c.args.index_reach.now c.args.index_kept c.args.data_reach.now c.args.data_kept) (extent_rows (children_at c.args.text.now c.args.n))) (rows_in (forest_at c.args.text.now c.loop-row.at)) c.loop-row.invariant (row_is c.in-Found.row) (rows_in (forest_at c.args.text.now c.in-Found.next)) w.rows (sym c.row_lies.ensures ∙ c.if-not-row_lies.false)

@@ -26,7 +26,7 @@ pub returns-then-not-file_lies : goal.returns-then-not-file_lies
 returns-then-not-file_lies c =
     let w = subst (FileFrom c.args.text.now c.loop-n.at) c.in-File.is c.next_file.ensures in
     loses c.args.text.now c.args.volume c.args.index_reach.now c.args.index_kept c.args.data_reach.now c.args.data_kept (File c.loop-n.k)
-    (lost_stop (every (lies_in c.args.volume c.args.index_reach.now c.args.index_kept c.args.data_reach.now c.args.data_kept)) (first_failing (every (lies_in c.args.volume c.args.index_reach.now c.args.index_kept c.args.data_reach.now c.args.data_kept)) 0 (map extent_rows (files_left (left_at c.args.text.now 38)))) c.loop-n.k (files_left (left_at c.args.text.now c.loop-n.at)) c.loop-n.invariant.1 (children_at c.args.text.now c.in-File.n) (files_left (left_at c.args.text.now c.in-File.next)) w.left (sym c.file_lies.ensures ∙ not-true _ c.if-not-file_lies.true))
+    (lost_stop (every (lies_in c.args.volume c.args.index_reach.now c.args.index_kept c.args.data_reach.now c.args.data_kept)) (first_failing (every (lies_in c.args.volume c.args.index_reach.now c.args.index_kept c.args.data_reach.now c.args.data_kept)) 0 (map extent_rows (files_left (left_at c.args.text.now 38)))) c.loop-n.k (files_left (left_at c.args.text.now c.loop-n.at)) c.loop-n.invariant.1 (children_at c.args.text.now c.in-File.n) (files_left (left_at c.args.text.now c.in-File.next)) w.left (sym c.file_lies.ensures ∙ c.if-not-file_lies.true))
 
 pub overflow_add-k : goal.overflow_add-k
 overflow_add-k c =
@@ -42,5 +42,5 @@ pub loop-n-preserved : goal.loop-n-preserved
 loop-n-preserved c =
     let w = subst (FileFrom c.args.text.now c.loop-n.at) c.in-File.is c.next_file.ensures in (
       omega (arith, c.loop-n.invariant.0, w.place.0, w.place.1),
-      lost_on (every (lies_in c.args.volume c.args.index_reach.now c.args.index_kept c.args.data_reach.now c.args.data_kept)) (first_failing (every (lies_in c.args.volume c.args.index_reach.now c.args.index_kept c.args.data_reach.now c.args.data_kept)) 0 (map extent_rows (files_left (left_at c.args.text.now 38)))) c.loop-n.k (files_left (left_at c.args.text.now c.loop-n.at)) c.loop-n.invariant.1 (children_at c.args.text.now c.in-File.n) (files_left (left_at c.args.text.now c.in-File.next)) w.left (sym c.file_lies.ensures ∙ not-false _ c.if-not-file_lies.false),
+      lost_on (every (lies_in c.args.volume c.args.index_reach.now c.args.index_kept c.args.data_reach.now c.args.data_kept)) (first_failing (every (lies_in c.args.volume c.args.index_reach.now c.args.index_kept c.args.data_reach.now c.args.data_kept)) 0 (map extent_rows (files_left (left_at c.args.text.now 38)))) c.loop-n.k (files_left (left_at c.args.text.now c.loop-n.at)) c.loop-n.invariant.1 (children_at c.args.text.now c.in-File.n) (files_left (left_at c.args.text.now c.in-File.next)) w.left (sym c.file_lies.ensures ∙ c.if-not-file_lies.false),
     )
