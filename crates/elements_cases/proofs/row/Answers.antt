@@ -7,6 +7,5 @@ pub loop-n-smaller : goal.loop-n-smaller
 loop-n-smaller c =
     let s = c.args.text.now in
     let l = c.loop-n in
-    let g = c.in-At.given in
-    let t = subst (NextChild s l.i) g.1 c.next_child.ensures in
+    let t = subst (NextChild s l.i) c.in-At.is c.next_child.ensures in
     omega (arith, t.place, t.after)

@@ -7,22 +7,19 @@ pub loop-p-smaller-in-Close : goal.loop-p-smaller-in-Close
 loop-p-smaller-in-Close c =
     let s = c.args.text.now in
     let l = c.loop-p in
-    let g = c.in-Close.given in
-    let t = subst (NextTag s l.i) g.1 c.next_tag.ensures in
+    let t = subst (NextTag s l.i) c.in-Close.is c.next_tag.ensures in
     omega (arith, t.place)
 
 pub loop-p-smaller-in-Open : goal.loop-p-smaller-in-Open
 loop-p-smaller-in-Open c =
     let s = c.args.text.now in
     let l = c.loop-p in
-    let g = c.in-Open.given in
-    let t = subst (NextTag s l.i) g.1 c.next_tag.ensures in
+    let t = subst (NextTag s l.i) c.in-Open.is c.next_tag.ensures in
     omega (arith, t.place)
 
 pub loop-p-smaller : goal.loop-p-smaller
 loop-p-smaller c =
     let s = c.args.text.now in
     let l = c.loop-p in
-    let g = c.in-Empty.given in
-    let t = subst (NextTag s l.i) g.1 c.next_tag.ensures in
+    let t = subst (NextTag s l.i) c.in-Empty.is c.next_tag.ensures in
     omega (arith, t.place)

@@ -7,22 +7,19 @@ pub loop-n-smaller-in-Close : goal.loop-n-smaller-in-Close
 loop-n-smaller-in-Close c =
     let s = c.args.text.now in
     let l = c.loop-n in
-    let g = c.in-Close.given in
-    let t = subst (NextTag s l.i) g.1 c.next_tag.ensures in
+    let t = subst (NextTag s l.i) c.in-Close.is c.next_tag.ensures in
     omega (arith, t.place)
 
 pub loop-n-smaller-in-Open : goal.loop-n-smaller-in-Open
 loop-n-smaller-in-Open c =
     let s = c.args.text.now in
     let l = c.loop-n in
-    let g = c.in-Open.given in
-    let t = subst (NextTag s l.i) g.1 c.next_tag.ensures in
+    let t = subst (NextTag s l.i) c.in-Open.is c.next_tag.ensures in
     omega (arith, t.place)
 
 pub loop-n-smaller : goal.loop-n-smaller
 loop-n-smaller c =
     let s = c.args.text.now in
     let l = c.loop-n in
-    let g = c.in-Empty.given in
-    let t = subst (NextTag s l.i) g.1 c.next_tag.ensures in
+    let t = subst (NextTag s l.i) c.in-Empty.is c.next_tag.ensures in
     omega (arith, t.place)

@@ -12,17 +12,17 @@ use Rattle.extents.proofs.byte_at.Goals as goal
 pub returns-then-not-is_block_size : goal.returns-then-not-is_block_size
 returns-then-not-is_block_size c =
     let a = c.args in
-    sym (size_wrong a.rows.now a.file-length.0 a.block_size a.position.0 (sym c.is_block_size.ensures ∙ c.if-not-is_block_size.true))
+    sym (size_wrong a.rows.now a.file_length.0 a.block_size a.position.0 (sym c.is_block_size.ensures ∙ c.if-not-is_block_size.true))
 
 pub returns-then-not-each_lettered : goal.returns-then-not-each_lettered
 returns-then-not-each_lettered c =
     let a = c.args in
-    sym (unlettered a.rows.now a.file-length.0 a.block_size a.position.0 (sym c.each_lettered.ensures ∙ c.if-not-each_lettered.true))
+    sym (unlettered a.rows.now a.file_length.0 a.block_size a.position.0 (sym c.each_lettered.ensures ∙ c.if-not-each_lettered.true))
 
 pub returns-then-rows-ne0 : goal.returns-then-rows-ne0
 returns-then-rows-ne0 c =
     let a = c.args in
-    sym (not_fives a.rows.now a.file-length.0 a.block_size a.position.0 c.if-rows-ne0.true)
+    sym (not_fives a.rows.now a.file_length.0 a.block_size a.position.0 c.if-rows-ne0.true)
 
 pub returns-then-rows-gt1024 : goal.returns-then-rows-gt1024
 returns-then-rows-gt1024 c =
@@ -30,7 +30,7 @@ returns-then-rows-gt1024 c =
     let z = sym c.is_block_size.ensures ∙ c.if-not-is_block_size.false in
     let t = sym c.each_lettered.ensures ∙ c.if-not-each_lettered.false in
     let f : length a.rows.now % 5 ≡ 0 = omega arith in
-    sym (too_many a.rows.now a.file-length.0 a.block_size a.position.0 z t f c.if-rows-gt1024.true)
+    sym (too_many a.rows.now a.file_length.0 a.block_size a.position.0 z t f c.if-rows-gt1024.true)
 
 pub returns-then-not-lawful : goal.returns-then-not-lawful
 returns-then-not-lawful c =
@@ -38,14 +38,14 @@ returns-then-not-lawful c =
     let z = sym c.is_block_size.ensures ∙ c.if-not-is_block_size.false in
     let t = sym c.each_lettered.ensures ∙ c.if-not-each_lettered.false in
     let f : length a.rows.now % 5 ≡ 0 = omega arith in
-    sym (unlawful a.rows.now a.file-length.0 a.block_size a.position.0 z t f (omega arith) (sym c.lawful.ensures ∙ c.if-not-lawful.true))
+    sym (unlawful a.rows.now a.file_length.0 a.block_size a.position.0 z t f (omega arith) (sym c.lawful.ensures ∙ c.if-not-lawful.true))
 
 pub find-requires : goal.find-requires
 find-requires c =
     let a = c.args in
     let t = sym c.each_lettered.ensures ∙ c.if-not-each_lettered.false in
     let e = sym c.lawful.ensures ∙ c.if-not-lawful.false in
-    (t, lawful_each a.file-length.0 a.block_size (rows_of a.rows.now) e)
+    (t, lawful_each a.file_length.0 a.block_size (rows_of a.rows.now) e)
 
 pub returns : goal.returns
 returns c =
@@ -54,4 +54,4 @@ returns c =
     let t = sym c.each_lettered.ensures ∙ c.if-not-each_lettered.false in
     let f : length a.rows.now % 5 ≡ 0 = omega arith in
     let e = sym c.lawful.ensures ∙ c.if-not-lawful.false in
-    c.find.ensures ∙ sym (mapped a.rows.now a.file-length.0 a.block_size a.position.0 z t f (omega arith) e)
+    c.find.ensures ∙ sym (mapped a.rows.now a.file_length.0 a.block_size a.position.0 z t f (omega arith) e)

@@ -14,19 +14,19 @@ pub returns-then-not-row_lawful : goal.returns-then-not-row_lawful
 returns-then-not-row_lawful c =
     let a = c.args in
     let l = c.loop-i in
-    let test = row_lawful a.file-length.0 a.block_size in
+    let test = row_lawful a.file_length.0 a.block_size in
     sym (l.invariant.1 ∙ each_off a.rows.now l.i test (omega arith) (sym c.row_lawful.ensures ∙ c.if-not-row_lawful.true))
 
 pub loop-i-preserved : goal.loop-i-preserved
 loop-i-preserved c =
     let a = c.args in
     let l = c.loop-i in
-    let test = row_lawful a.file-length.0 a.block_size in
+    let test = row_lawful a.file_length.0 a.block_size in
     (omega arith, l.invariant.1 ∙ each_on a.rows.now l.i test (omega arith) (sym c.row_lawful.ensures ∙ c.if-not-row_lawful.false))
 
 pub returns : goal.returns
 returns c =
     let a = c.args in
     let l = c.loop-i in
-    let test = row_lawful a.file-length.0 a.block_size in
+    let test = row_lawful a.file_length.0 a.block_size in
     sym (l.invariant.1 ∙ each_end a.rows.now l.i test (omega arith))

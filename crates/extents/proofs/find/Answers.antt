@@ -36,7 +36,7 @@ spot-past-requires c =
     let s = a.rows.now in
     let r = row_from s (l.i * 5) in
     let here : l.i < length s / 5 = c.loop-i-test.true in
-    inside_block a.file-length.0 a.block_size r (each_at (row_lawful a.file-length.0 a.block_size) s l.i here c.requires.1)
+    inside_block a.file_length.0 a.block_size r (each_at (row_lawful a.file_length.0 a.block_size) s l.i here c.requires.1)
 
 pub narrow-requires : goal.narrow-requires
 narrow-requires c =
@@ -54,8 +54,8 @@ overflow_add-result-then-holds c =
     let s = a.rows.now in
     let r = row_from s (l.i * 5) in
     let here : l.i < length s / 5 = c.loop-i-test.true in
-    let e = each_at (row_lawful a.file-length.0 a.block_size) s l.i here c.requires.1 in
-    let b = block_of_position a.file-length.0 a.block_size r e a.position.0 (sym c.holds.ensures ∙ c.if-holds.true) in
+    let e = each_at (row_lawful a.file_length.0 a.block_size) s l.i here c.requires.1 in
+    let b = block_of_position a.file_length.0 a.block_size r e a.position.0 (sym c.holds.ensures ∙ c.if-holds.true) in
     omega (arith, c.spot-past.ensures.0)
 
 pub returns-then-holds : goal.returns-then-holds
@@ -66,7 +66,7 @@ returns-then-holds c =
     let r = row_from s (l.i * 5) in
     let here : l.i < length s / 5 = c.loop-i-test.true in
     let e = placed a.block_size a.position.0 r _ _ _ c.narrow.ensures c.spot-past.ensures.0 c.spot-past.ensures.1 in
-    rw (lt-ltb a.position.0 a.file-length.0 c.if-file_length-position.false)
+    rw (lt-ltb a.position.0 a.file_length.0 c.if-file_length-position.false)
     (ap answer (e ∙ sym (l.invariant.1 ∙ place_here s a.block_size a.position.0 l.i here (sym c.holds.ensures ∙ c.if-holds.true))))
 
 pub loop-i-preserved : goal.loop-i-preserved
@@ -84,5 +84,5 @@ returns c =
     let l = c.loop-i in
     let s = a.rows.now in
     let r = row_from s (l.i * 5) in
-    rw (lt-ltb a.position.0 a.file-length.0 c.if-file_length-position.false)
+    rw (lt-ltb a.position.0 a.file_length.0 c.if-file_length-position.false)
     (ap answer (sym (l.invariant.1 ∙ place_end s a.block_size a.position.0 l.i (omega arith))))

@@ -15,29 +15,29 @@ use borrow.Author.Rules.{rules}
 use Rattle.labels.proofs.check.Goals as goal
 
 -- the index side's tape
-index-side : (f : tie.After-enum-told) → (let a = f.before.before.before.before.before.before.before.args in Present a.index-list.now a.index-store.now f.enum_told.given.0.0)
+index-side : (f : tie.After-enum-told) → (let a = f.before.before.before.before.before.before.before.args in Present a.index_list.now a.index_store.now f.enum_told.given.0.0)
 index-side f =
     let a = f.before.before.before.before.before.before.before.args in
-    present a.index-list.now a.index-store.now f.enum_told.given.0.0 (λ k. (f.before.before.before.before.before.before.shared-slice-known.given k).fits)
+    present a.index_list.now a.index_store.now f.enum_told.given.0.0 (λ k. (f.before.before.before.before.before.before.shared-slice-known.given k).fits)
     (ap counted (sym f.enum_told.given.1) ∙ f.before.before.check.ensures)
 
 -- the data side's tape
-data-side : (f : tie.After-enum-told3) → (let a = f.before.before.before.before.before.before.before.before.before.before.args in Present a.data-list.now a.data-store.now f.enum-told3.given.0.0)
+data-side : (f : tie.After-enum-told3) → (let a = f.before.before.before.before.before.before.before.before.before.before.args in Present a.data_list.now a.data_store.now f.enum-told3.given.0.0)
 data-side f =
     let a = f.before.before.before.before.before.before.before.before.before.before.args in
-    present a.data-list.now a.data-store.now f.enum-told3.given.0.0 (λ k. (f.before.before.before.before.before.before.before.shared-slice-known3.given k).fits)
+    present a.data_list.now a.data_store.now f.enum-told3.given.0.0 (λ k. (f.before.before.before.before.before.before.before.shared-slice-known3.given k).fits)
     (ap counted (sym f.enum-told3.given.1) ∙ f.before.before.check2.ensures)
 
 -- their labels as parts of the stores
-index-laid : (f : tie.After-known-told) → (let g = f.before.vol1.given in LaidOut f.before.before.before.before.before.before.before.before.before.before.before.before.before.before.args.index-store.now (index-side f.before.before.before.before.before.before.before).tape g.0.0 g.0.1.0)
+index-laid : (f : tie.After-known-told) → (let g = f.before.vol1.given in LaidOut f.before.before.before.before.before.before.before.before.before.before.before.before.before.before.args.index_store.now (index-side f.before.before.before.before.before.before.before).tape g.0.0 g.0.1.0)
 index-laid f =
     let g = f.before.vol1.given in
     let p = index-side f.before.before.before.before.before.before.before in
-    laid_out g.0.0 g.0.1.0 p.encodes (sym g.1 ∙ f.before.before.before.lay-out.ensures _ _ p.encodes)
+    laid_out g.0.0 g.0.1.0 p.encodes (sym g.1 ∙ f.before.before.before.lay_out.ensures _ _ p.encodes)
 
-data-laid : (f : tie.After-known-told2) → (let g = f.before.data-vol1.given in LaidOut f.before.before.before.before.before.before.before.before.before.before.before.before.before.before.before.before.before.before.args.data-store.now (data-side f.before.before.before.before.before.before.before.before).tape g.0.0 g.0.1.0)
+data-laid : (f : tie.After-known-told2) → (let g = f.before.data_vol1.given in LaidOut f.before.before.before.before.before.before.before.before.before.before.before.before.before.before.before.before.before.before.args.data_store.now (data-side f.before.before.before.before.before.before.before.before).tape g.0.0 g.0.1.0)
 data-laid f =
-    let g = f.before.data-vol1.given in
+    let g = f.before.data_vol1.given in
     let p = data-side f.before.before.before.before.before.before.before.before in
     laid_out g.0.0 g.0.1.0 p.encodes (sym g.1 ∙ f.before.before.before.lay-out2.ensures _ _ p.encodes)
 
@@ -95,6 +95,6 @@ returns c =
     let d = data-laid c in
     let n = c.in-Blocks.vol1 in
     let m = c.in-Blocks.text in
-    subst (ChecksLabels a.index-list.now a.index-store.now a.data-list.now a.data-store.now) (sym c.in_store.ensures)
-    (reads_as (in_parts a.index-list.now a.index-store.now a.data-list.now a.data-store.now (ap or_refused p.read) (ap or_refused q.read) l d) (places_laid a.index-list.now a.index-store.now (ap or_refused p.read) l)
-    (reads_moved a.index-store.now (n + m - n) n (omega (arith, l.within)) c.read_sides-said.result c.read_sides-said.ensures))
+    subst (ChecksLabels a.index_list.now a.index_store.now a.data_list.now a.data_store.now) (sym c.in_store.ensures)
+    (reads_as (in_parts a.index_list.now a.index_store.now a.data_list.now a.data_store.now (ap or_refused p.read) (ap or_refused q.read) l d) (places_laid a.index_list.now a.index_store.now (ap or_refused p.read) l)
+    (reads_moved a.index_store.now (n + m - n) n (omega (arith, l.within)) c.read_sides-said.result c.read_sides-said.ensures))

@@ -8,15 +8,15 @@ use borrow.Author.Rules.{rules}
 use Rattle.tape.proofs.block.Goals as goal
 
 -- what the place that was found holds
-found : (f : tie.After-find-block) (r : Located) → f.find-block.result ≡ r
+found : (f : tie.After-find-block) (r : Located) → f.find_block.result ≡ r
     → (let a = f.before.before.before.before.before.args in
-    Holds a.index-store.now a.data-store.now (located r)
-    (block_of a.index-letter a.data-letter a.letter a.number.0 a.index-list.now a.index-store.now a.data-list.now a.data-store.now))
+    Holds a.index_store.now a.data_store.now (located r)
+    (block_of a.index_letter a.data_letter a.letter a.number.0 a.index_list.now a.index_store.now a.data_list.now a.data_store.now))
 found f r e =
     let a = f.before.before.before.before.before.args in
-    subst (λ (x : Located). Holds a.index-store.now a.data-store.now (located x)
-    (block_of a.index-letter a.data-letter a.letter a.number.0 a.index-list.now a.index-store.now a.data-list.now a.data-store.now))
-    e f.find-block.ensures.holds
+    subst (λ (x : Located). Holds a.index_store.now a.data_store.now (located x)
+    (block_of a.index_letter a.data_letter a.letter a.number.0 a.index_list.now a.index_store.now a.data_list.now a.data_store.now))
+    e f.find_block.ensures.holds
 
 pub overflow_add-end : goal.overflow_add-end
 overflow_add-end c =
@@ -36,13 +36,11 @@ slice_bounds-result-end-in-Data c = (found c _ c.in-Data.is).inside _ refl
 
 pub returns-in-Index : goal.returns-in-Index
 returns-in-Index c =
-    let g = c.in-Index.given in
-    shows_part c.args.index_store.now g.0.0 g.0.1.0 (found c _ g.1).bytes
+    shows_part c.args.index_store.now c.in-Index.from c.in-Index.n (found c _ c.in-Index.is).bytes
 
 pub returns-in-Data : goal.returns-in-Data
 returns-in-Data c =
-    let g = c.in-Data.given in
-    shows_part c.args.data_store.now g.0.0 g.0.1.0 (found c _ g.1).bytes
+    shows_part c.args.data_store.now c.in-Data.from c.in-Data.n (found c _ c.in-Data.is).bytes
 
 pub returns-in-Refused : goal.returns-in-Refused
 returns-in-Refused c = rw (found c _ c.in-Refused.is).bytes record { part = refl; refusal = c.number.ensures }

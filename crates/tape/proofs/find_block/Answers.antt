@@ -15,66 +15,66 @@ use borrow.Author.Rules.{rules}
 use Rattle.tape.proofs.find_block.Goals as goal
 
 -- the letters are lawful
-lettered : (f : tie.Else1) → (let a = f.before.before.before.before.before.before.args in are_letters a.index-letter a.data-letter a.letter ≡ true)
-lettered f = sym f.before.are-letters.ensures ∙ not-false f.before.are-letters.result f.if1.false
+lettered : (f : tie.Else1) → (let a = f.before.before.before.before.before.before.args in are_letters a.index_letter a.data_letter a.letter ≡ true)
+lettered f = sym f.before.are_letters.ensures ∙ not-false f.before.are_letters.result f.if1.false
 
 -- the index side is checked
-index-present : (f : tie.After-known-told) → (let a = f.before.before.before.before.before.before.before.before.before.before.args in Present a.index-list.now a.index-store.now f.before.index-count.given.0.0)
+index-present : (f : tie.After-known-told) → (let a = f.before.before.before.before.before.before.before.before.before.before.args in Present a.index_list.now a.index_store.now f.before.index_count.given.0.0)
 index-present f =
     let a = f.before.before.before.before.before.before.before.before.before.before.args in
-    let g = f.before.index-count.given in
-    present a.index-list.now a.index-store.now g.0.0 (λ k. (f.before.before.before.before.before.before.before.before.before.shared-slice-known.given k).fits)
+    let g = f.before.index_count.given in
+    present a.index_list.now a.index_store.now g.0.0 (λ k. (f.before.before.before.before.before.before.before.before.before.shared-slice-known.given k).fits)
     (ap counted (sym g.1) ∙ f.before.before.before.check.ensures)
 
 -- the data side is checked
-data-present : (f : tie.After-known-told2) → (let a = f.before.before.before.before.before.before.before.before.before.before.before.before.before.before.args in Present a.data-list.now a.data-store.now f.before.data-count.given.0.0)
+data-present : (f : tie.After-known-told2) → (let a = f.before.before.before.before.before.before.before.before.before.before.before.before.before.before.args in Present a.data_list.now a.data_store.now f.before.data_count.given.0.0)
 data-present f =
     let a = f.before.before.before.before.before.before.before.before.before.before.before.before.before.before.args in
-    let g = f.before.data-count.given in
-    present a.data-list.now a.data-store.now g.0.0 (λ k. (f.before.before.before.before.before.before.before.before.before.before.before.shared-slice-known3.given k).fits)
+    let g = f.before.data_count.given in
+    present a.data_list.now a.data_store.now g.0.0 (λ k. (f.before.before.before.before.before.before.before.before.before.before.before.shared-slice-known3.given k).fits)
     (ap counted (sym g.1) ∙ f.before.before.before.check2.ensures)
 
 -- what is answered, the place being known
 answers : (f : tie.After-are-letters) (p : Answer StorePart)
     → (let a = f.before.before.before.before.before.args in
-    p ≡ place_of a.index-letter a.data-letter a.letter a.number.0 a.index-list.now a.index-store.now a.data-list.now a.data-store.now
-    → FindsBlock a.index-letter a.data-letter a.letter a.number.0 a.index-list.now a.index-store.now a.data-list.now a.data-store.now p)
+    p ≡ place_of a.index_letter a.data_letter a.letter a.number.0 a.index_list.now a.index_store.now a.data_list.now a.data_store.now
+    → FindsBlock a.index_letter a.data_letter a.letter a.number.0 a.index_list.now a.index_store.now a.data_list.now a.data_store.now p)
 answers f p e =
     let a = f.before.before.before.before.before.args in
-    finds a.index-letter a.data-letter a.letter a.number.0 a.index-list.now a.index-store.now a.data-list.now a.data-store.now
+    finds a.index_letter a.data_letter a.letter a.number.0 a.index_list.now a.index_store.now a.data_list.now a.data_store.now
     (λ k. (f.before.before.before.before.shared-slice-known.given k).fits) (λ k. (f.before.before.shared-slice-known3.given k).fits) p e
 
 -- a spot on the side that the letter picks
 found : (f : tie.After-known-told2) (side : Bool) (x : Spot)
     → (let a = f.before.before.before.before.before.before.before.before.before.before.before.before.before.before.args in
-    eqb a.letter a.index-letter ≡ side
-    → x ≡ spot_below (cond side f.before.before.before.before.before.index-count.given.0.0 f.before.data-count.given.0.0) (cond side a.index-list.now a.data-list.now) a.number.0
-    → FindsBlock a.index-letter a.data-letter a.letter a.number.0 a.index-list.now a.index-store.now a.data-list.now a.data-store.now (place_from side x))
+    eqb a.letter a.index_letter ≡ side
+    → x ≡ spot_below (cond side f.before.before.before.before.before.index_count.given.0.0 f.before.data_count.given.0.0) (cond side a.index_list.now a.data_list.now) a.number.0
+    → FindsBlock a.index_letter a.data_letter a.letter a.number.0 a.index_list.now a.index_store.now a.data_list.now a.data_store.now (place_from side x))
 found f side x e h =
     let a = f.before.before.before.before.before.before.before.before.before.before.before.before.before.before.args in
     answers f.before.before.before.before.before.before.before.before.before (place_from side x)
-    (sym (place_found a.index-letter a.data-letter a.letter a.number.0 a.index-list.now a.index-store.now a.data-list.now a.data-store.now
+    (sym (place_found a.index_letter a.data_letter a.letter a.number.0 a.index_list.now a.index_store.now a.data_list.now a.data_store.now
     (lettered f.before.before.before.before.before.before.before.before) _ (index-present f.before.before.before.before) _ (data-present f) side e x h))
 
 pub returns-then-not-are_letters : goal.returns-then-not-are_letters
 returns-then-not-are_letters c =
     let a = c.args in
     answers c _
-    (sym (place_letters a.index-letter a.data-letter a.letter a.number.0 a.index-list.now a.index-store.now a.data-list.now a.data-store.now
+    (sym (place_letters a.index_letter a.data_letter a.letter a.number.0 a.index_list.now a.index_store.now a.data_list.now a.data_store.now
     (sym c.are_letters.ensures ∙ c.if-not-are_letters.true)))
 
 pub returns-in_default : goal.returns-in_default
 returns-in_default c =
     let a = c.args in
     answers c _
-    (sym (place_index a.index-letter a.data-letter a.letter a.number.0 a.index-list.now a.index-store.now a.data-list.now a.data-store.now
+    (sym (place_index a.index_letter a.data_letter a.letter a.number.0 a.index_list.now a.index_store.now a.data_list.now a.data_store.now
     (lettered c) c.in_default.field-0 (ap counted (sym c.in_default.is) ∙ c.check.ensures)))
 
 pub returns-in_default-check : goal.returns-in_default-check
 returns-in_default-check c =
     let a = c.args in
     answers c _
-    (sym (place_data a.index-letter a.data-letter a.letter a.number.0 a.index-list.now a.index-store.now a.data-list.now a.data-store.now
+    (sym (place_data a.index_letter a.data_letter a.letter a.number.0 a.index_list.now a.index_store.now a.data_list.now a.data_store.now
     (lettered c) _ (index-present c) c.in_default-check.field-0 (ap counted (sym c.in_default-check.is) ∙ c.check-2.ensures)))
 
 pub numbered-requires : goal.numbered-requires

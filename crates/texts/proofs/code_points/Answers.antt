@@ -25,8 +25,7 @@ pub loop-b-smaller : goal.loop-b-smaller
 loop-b-smaller c =
     let s = c.args.raw.now in
     let l = c.loop-b in
-    let g = c.in-Byte.given in
-    let m = subst (NextByte s l.i) g.1 c.next_byte.ensures in
+    let m = subst (NextByte s l.i) c.in-Byte.is c.next_byte.ensures in
     omega (arith, m.place)
 
 pub loop-b-preserved : goal.loop-b-preserved
@@ -34,6 +33,5 @@ unfolding code_points
 loop-b-preserved c =
     let s = c.args.raw.now in
     let l = c.loop-b in
-    let g = c.in-Byte.given in
-    let m = subst (NextByte s l.i) g.1 c.next_byte.ensures in
+    let m = subst (NextByte s l.i) c.in-Byte.is c.next_byte.ensures in
     (omega (arith, m.place, c.begun-n.ensures.1), m.place.1, omega (arith, ap code_points m.bytes, c.begun-n.ensures.0))

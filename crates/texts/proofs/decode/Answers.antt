@@ -37,36 +37,32 @@ pub bounds-out-k : goal.bounds-out-k
 bounds-out-k c =
     let s = c.args.raw.now in
     let l = c.loop-b in
-    let g = c.in-Byte.given in
-    let m = subst (NextByte s l.i) g.1 c.next_byte.ensures in
+    let m = subst (NextByte s l.i) c.in-Byte.is c.next_byte.ensures in
     omega (arith, ap length m.bytes)
 
 pub overflow_add-k : goal.overflow_add-k
 overflow_add-k c =
     let s = c.args.raw.now in
     let l = c.loop-b in
-    let g = c.in-Byte.given in
-    let m = subst (NextByte s l.i) g.1 c.next_byte.ensures in
+    let m = subst (NextByte s l.i) c.in-Byte.is c.next_byte.ensures in
     omega (arith, ap length m.bytes)
 
 pub loop-b-smaller : goal.loop-b-smaller
 loop-b-smaller c =
     let s = c.args.raw.now in
     let l = c.loop-b in
-    let g = c.in-Byte.given in
-    let m = subst (NextByte s l.i) g.1 c.next_byte.ensures in
+    let m = subst (NextByte s l.i) c.in-Byte.is c.next_byte.ensures in
     omega (arith, m.place)
 
 pub loop-b-preserved : goal.loop-b-preserved
 loop-b-preserved c =
     let s = c.args.raw.now in
     let l = c.loop-b in
-    let g = c.in-Byte.given in
-    let m = subst (NextByte s l.i) g.1 c.next_byte.ensures in (
+    let m = subst (NextByte s l.i) c.in-Byte.is c.next_byte.ensures in (
       m.place.1,
       simp length-set l.invariant.1,
       omega (arith, ap length m.bytes),
       l.invariant.3,
-      sym (written_on l.k g.0.0 (decoded (drop g.0.1.0 s)) l.out (omega (arith, ap length m.bytes)))
+      sym (written_on l.k c.in-Byte.b (decoded (drop c.in-Byte.next s)) l.out (omega (arith, ap length m.bytes)))
           ∙ ap (λ (w : List ℕ). written l.k w l.out) (sym m.bytes) ∙ l.invariant.4,
     )

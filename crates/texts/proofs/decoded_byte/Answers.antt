@@ -23,23 +23,20 @@ pub returns-then-left-eq0 : goal.returns-then-left-eq0
 returns-then-left-eq0 c =
     let s = c.args.raw.now in
     let l = c.loop-b in
-    let g = c.in-Byte.given in
-    let m = subst (NextByte s l.i) g.1 c.next_byte.ensures in
-    sym (l.invariant.1 ∙ ap (λ (w : List ℕ). get_or w l.left 0) m.bytes ∙ ap (λ (k : ℕ). get_or (g.0.0 ∷ decoded (drop g.0.1.0 s)) k 0) c.if-left-eq0.true)
+    let m = subst (NextByte s l.i) c.in-Byte.is c.next_byte.ensures in
+    sym (l.invariant.1 ∙ ap (λ (w : List ℕ). get_or w l.left 0) m.bytes ∙ ap (λ (k : ℕ). get_or (c.in-Byte.b ∷ decoded (drop c.in-Byte.next s)) k 0) c.if-left-eq0.true)
 
 pub loop-b-smaller : goal.loop-b-smaller
 loop-b-smaller c =
     let s = c.args.raw.now in
     let l = c.loop-b in
-    let g = c.in-Byte.given in
-    let m = subst (NextByte s l.i) g.1 c.next_byte.ensures in
+    let m = subst (NextByte s l.i) c.in-Byte.is c.next_byte.ensures in
     omega (arith, m.place)
 
 pub loop-b-preserved : goal.loop-b-preserved
 loop-b-preserved c =
     let s = c.args.raw.now in
     let l = c.loop-b in
-    let g = c.in-Byte.given in
-    let m = subst (NextByte s l.i) g.1 c.next_byte.ensures in
+    let m = subst (NextByte s l.i) c.in-Byte.is c.next_byte.ensures in
     let e : l.left ≡ suc (l.left - 1) = omega arith in
-    (m.place.1, l.invariant.1 ∙ ap (λ (w : List ℕ). get_or w l.left 0) m.bytes ∙ ap (λ (k : ℕ). get_or (g.0.0 ∷ decoded (drop g.0.1.0 s)) k 0) e)
+    (m.place.1, l.invariant.1 ∙ ap (λ (w : List ℕ). get_or w l.left 0) m.bytes ∙ ap (λ (k : ℕ). get_or (c.in-Byte.b ∷ decoded (drop c.in-Byte.next s)) k 0) e)

@@ -21,14 +21,12 @@ pub loop-next-smaller : goal.loop-next-smaller
 loop-next-smaller c =
     let s = c.args.raw.now in
     let l = c.loop-next in
-    let g = c.in-Byte.given in
-    let m = subst (NextByte s l.i) g.1 c.next_byte.ensures in
+    let m = subst (NextByte s l.i) c.in-Byte.is c.next_byte.ensures in
     omega (arith, m.place)
 
 pub loop-next-preserved : goal.loop-next-preserved
 loop-next-preserved c =
     let s = c.args.raw.now in
     let l = c.loop-next in
-    let g = c.in-Byte.given in
-    let m = subst (NextByte s l.i) g.1 c.next_byte.ensures in
+    let m = subst (NextByte s l.i) c.in-Byte.is c.next_byte.ensures in
     (omega (arith, m.place), m.place.1, omega (arith, ap length m.bytes))

@@ -23,17 +23,15 @@ pub returns-in-Byte-next_byte : goal.returns-in-Byte-next_byte
 unfolding same
 returns-in-Byte-next_byte c =
     let l = c.loop-x in
-    let g = c.in-Byte-next_byte.given in
     let e = subst (NextByte c.args.a.now l.i) c.in-End.is c.next_byte.ensures in
-    let f = subst (NextByte c.args.b.now l.j) g.1 c.next_byte-in-End.ensures in
+    let f = subst (NextByte c.args.b.now l.j) c.in-Byte-next_byte.is c.next_byte-in-End.ensures in
     sym (l.invariant.2 ∙ ap₂ same e f.bytes)
 
 pub returns-in-End-next_byte-2 : goal.returns-in-End-next_byte-2
 unfolding same
 returns-in-End-next_byte-2 c =
     let l = c.loop-x in
-    let g = c.in-Byte.given in
-    let e = subst (NextByte c.args.a.now l.i) g.1 c.next_byte.ensures in
+    let e = subst (NextByte c.args.a.now l.i) c.in-Byte.is c.next_byte.ensures in
     let f = subst (NextByte c.args.b.now l.j) c.in-End-next_byte-2.is c.next_byte-in-Byte.ensures in
     sym (l.invariant.2 ∙ ap₂ same e.bytes f)
 
@@ -41,25 +39,20 @@ pub returns-then-x-y : goal.returns-then-x-y
 unfolding same
 returns-then-x-y c =
     let l = c.loop-x in
-    let g = c.in-Byte.given in
-    let h = c.in-Byte-next_byte-2.given in
-    let e = subst (NextByte c.args.a.now l.i) g.1 c.next_byte.ensures in
-    let f = subst (NextByte c.args.b.now l.j) h.1 c.next_byte-in-Byte.ensures in
+    let e = subst (NextByte c.args.a.now l.i) c.in-Byte.is c.next_byte.ensures in
+    let f = subst (NextByte c.args.b.now l.j) c.in-Byte-next_byte-2.is c.next_byte-in-Byte.ensures in
     sym (l.invariant.2 ∙ ap₂ same e.bytes f.bytes ∙ rw (ne_eqb _ _ c.if-x-y.true))
 
 pub loop-x-smaller : goal.loop-x-smaller
 loop-x-smaller c =
     let l = c.loop-x in
-    let g = c.in-Byte.given in
-    let e = subst (NextByte c.args.a.now l.i) g.1 c.next_byte.ensures in
+    let e = subst (NextByte c.args.a.now l.i) c.in-Byte.is c.next_byte.ensures in
     omega (arith, e.place)
 
 pub loop-x-preserved : goal.loop-x-preserved
 unfolding same
 loop-x-preserved c =
     let l = c.loop-x in
-    let g = c.in-Byte.given in
-    let h = c.in-Byte-next_byte-2.given in
-    let e = subst (NextByte c.args.a.now l.i) g.1 c.next_byte.ensures in
-    let f = subst (NextByte c.args.b.now l.j) h.1 c.next_byte-in-Byte.ensures in
+    let e = subst (NextByte c.args.a.now l.i) c.in-Byte.is c.next_byte.ensures in
+    let f = subst (NextByte c.args.b.now l.j) c.in-Byte-next_byte-2.is c.next_byte-in-Byte.ensures in
     (e.place.1, f.place.1, l.invariant.2 ∙ ap₂ same e.bytes f.bytes ∙ rw (eq-eqb _ _ c.if-x-y.false))

@@ -26,16 +26,14 @@ unfolding every
 returns-then-not-is_plain c =
     let s = c.args.raw.now in
     let l = c.loop-b in
-    let g = c.in-Byte.given in
-    let m : NextByte s l.i (Byte g.0.0 g.0.1.0) = subst (NextByte s l.i) g.1 c.next_byte.ensures in
+    let m : NextByte s l.i (Byte c.in-Byte.b c.in-Byte.next) = subst (NextByte s l.i) c.in-Byte.is c.next_byte.ensures in
     sym (l.invariant.1 ∙ ap (every (is_plain c.args.slash)) m.bytes ∙ rw (sym c.is_plain.ensures ∙ c.if-not-is_plain.true))
 
 pub loop-b-smaller : goal.loop-b-smaller
 loop-b-smaller c =
     let s = c.args.raw.now in
     let l = c.loop-b in
-    let g = c.in-Byte.given in
-    let m : NextByte s l.i (Byte g.0.0 g.0.1.0) = subst (NextByte s l.i) g.1 c.next_byte.ensures in
+    let m : NextByte s l.i (Byte c.in-Byte.b c.in-Byte.next) = subst (NextByte s l.i) c.in-Byte.is c.next_byte.ensures in
     omega (arith, m.place)
 
 pub loop-b-preserved : goal.loop-b-preserved
@@ -43,6 +41,5 @@ unfolding every
 loop-b-preserved c =
     let s = c.args.raw.now in
     let l = c.loop-b in
-    let g = c.in-Byte.given in
-    let m : NextByte s l.i (Byte g.0.0 g.0.1.0) = subst (NextByte s l.i) g.1 c.next_byte.ensures in
+    let m : NextByte s l.i (Byte c.in-Byte.b c.in-Byte.next) = subst (NextByte s l.i) c.in-Byte.is c.next_byte.ensures in
     (m.place.1, l.invariant.1 ∙ ap (every (is_plain c.args.slash)) m.bytes ∙ rw (sym c.is_plain.ensures ∙ c.if-not-is_plain.false))

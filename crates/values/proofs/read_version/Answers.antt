@@ -20,15 +20,13 @@ pub returns-then-n-le65535 : goal.returns-then-n-le65535
 unfolding bytes
 returns-then-n-le65535 c =
     let e : begins (bytes "2.0.") c.args.raw.now ≡ true = sym c.same.ensures ∙ c.if-not-same.false in
-    let n = c.in-Value.given in
-    sym (version_rest c.args.raw.now {o = some n.0.0} e (sym (ap value_of n.1) ∙ c.read_plain.ensures) ∙ rw (le-leb _ _ c.if-n-le65535.true))
+    sym (version_rest c.args.raw.now {o = some c.in-Value.n} e (sym (ap value_of c.in-Value.is) ∙ c.read_plain.ensures) ∙ rw (le-leb _ _ c.if-n-le65535.true))
 
 pub returns-else-n-le65535 : goal.returns-else-n-le65535
 unfolding bytes
 returns-else-n-le65535 c =
     let e : begins (bytes "2.0.") c.args.raw.now ≡ true = sym c.same.ensures ∙ c.if-not-same.false in
-    let n = c.in-Value.given in
-    sym (version_rest c.args.raw.now {o = some n.0.0} e (sym (ap value_of n.1) ∙ c.read_plain.ensures) ∙ rw (lt-leb _ _ c.if-n-le65535.false))
+    sym (version_rest c.args.raw.now {o = some c.in-Value.n} e (sym (ap value_of c.in-Value.is) ∙ c.read_plain.ensures) ∙ rw (lt-leb _ _ c.if-n-le65535.false))
 
 pub returns-in-Nothing : goal.returns-in-Nothing
 unfolding bytes

@@ -19,8 +19,7 @@ read_tag-requires c =
     let t = c.args.text.now in
     let f = c.args.from in
     let h = c.args.children in
-    let j = c.in-At.given in
-    let x : Scans t f (at (content (held h))) (at (opens j.0.1.0)) (At j.0.0) = subst (Reaches t f h) j.1 c.next_markup.ensures in
+    let x : Scans t f (at (content (held h))) (at (opens c.in-At.alone)) (At c.in-At.j) = subst (Reaches t f h) c.in-At.is c.next_markup.ensures in
     let b = x.ends in
     (search rules, search rules, search rules, c.requires.3)
 
@@ -29,16 +28,14 @@ returns-in-At c =
     let t = c.args.text.now in
     let f = c.args.from in
     let h = c.args.children in
-    let j = c.in-At.given in
-    let x : Scans t f (at (content (held h))) (at (opens j.0.1.0)) (At j.0.0) = subst (Reaches t f h) j.1 c.next_markup.ensures in
+    let x : Scans t f (at (content (held h))) (at (opens c.in-At.alone)) (At c.in-At.j) = subst (Reaches t f h) c.in-At.is c.next_markup.ensures in
     let m = c.may_begin.ensures in
-    turns_after c.may_begin.result j.0.0 (λ z. (and_both j.0.1.0 (ltb c.args.depth 64) (sym m ∙ z)).1) (λ ns g. ap (λ (k : ℕ). j.0.1.0 && ltb k 64) g ∙ sym m) x (c.read_tag.ensures j.0.1.0)
+    turns_after c.may_begin.result c.in-At.j (λ z. (and_both c.in-At.alone (ltb c.args.depth 64) (sym m ∙ z)).1) (λ ns g. ap (λ (k : ℕ). c.in-At.alone && ltb k 64) g ∙ sym m) x (c.read_tag.ensures c.in-At.alone)
 
 pub returns-in-Broken : goal.returns-in-Broken
 returns-in-Broken c =
     let t = c.args.text.now in
     let f = c.args.from in
     let h = c.args.children in
-    let u = c.in-Broken.given in
-    let x : Scans t f (at (content (held h))) (at (opens false)) (Broken u.0.0) = subst (Reaches t f h) u.1 c.next_markup.ensures in
+    let x : Scans t f (at (content (held h))) (at (opens false)) (Broken c.in-Broken.u) = subst (Reaches t f h) c.in-Broken.is c.next_markup.ensures in
     turns_broken {b = at (opens false)} x

@@ -9,14 +9,14 @@ use Rattle.api.proofs.partitions.klapouzen_block.Goals as goal
 -- the place holds the block
 held : (f : tie.After-find-block)
     → (let a = f.before.before.before.before.before.args in
-    Holds a.index-store.now a.data-store.now
-    (place_of a.index-letter a.data-letter a.letter a.number a.index-list.now a.index-store.now a.data-list.now a.data-store.now)
-    (block_of a.index-letter a.data-letter a.letter a.number a.index-list.now a.index-store.now a.data-list.now a.data-store.now))
+    Holds a.index_store.now a.data_store.now
+    (place_of a.index_letter a.data_letter a.letter a.number a.index_list.now a.index_store.now a.data_list.now a.data_store.now)
+    (block_of a.index_letter a.data_letter a.letter a.number a.index_list.now a.index_store.now a.data_list.now a.data_store.now))
 held f =
     let a = f.before.before.before.before.before.args in
-    subst (λ (p : Answer StorePart). Holds a.index-store.now a.data-store.now p
-    (block_of a.index-letter a.data-letter a.letter a.number a.index-list.now a.index-store.now a.data-list.now a.data-store.now))
-    f.find-block.ensures.place f.find-block.ensures.holds
+    subst (λ (p : Answer StorePart). Holds a.index_store.now a.data_store.now p
+    (block_of a.index_letter a.data_letter a.letter a.number a.index_list.now a.index_store.now a.data_list.now a.data_store.now))
+    f.find_block.ensures.place f.find_block.ensures.holds
 
 pub returns-in-Index : goal.returns-in-Index
 returns-in-Index c = record { shown = shown _ (ap located (sym c.in-Index.is) ∙ c.find_block.ensures.place); holds = held c }

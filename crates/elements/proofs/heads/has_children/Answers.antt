@@ -17,22 +17,19 @@ pub returns-in-Close : goal.returns-in-Close
 unfolding has_element
 returns-in-Close c =
     let s = c.args.text.now in
-    let g = c.in-Close.given in
-    let t = subst (NextTag s c.first_child.result) g.1 c.next_tag.ensures in
+    let t = subst (NextTag s c.first_child.result) c.in-Close.is c.next_tag.ensures in
     sym (ap has_element (sym c.first_child.ensures.row ∙ row_close t))
 
 pub returns-in-Open : goal.returns-in-Open
 unfolding has_element top opened
 returns-in-Open c =
     let s = c.args.text.now in
-    let g = c.in-Open.given in
-    let t = subst (NextTag s c.first_child.result) g.1 c.next_tag.ensures in
+    let t = subst (NextTag s c.first_child.result) c.in-Open.is c.next_tag.ensures in
     sym (ap has_element (sym c.first_child.ensures.row ∙ ap top t.left))
 
 pub returns-in-Empty : goal.returns-in-Empty
 unfolding has_element top alone
 returns-in-Empty c =
     let s = c.args.text.now in
-    let g = c.in-Empty.given in
-    let t = subst (NextTag s c.first_child.result) g.1 c.next_tag.ensures in
+    let t = subst (NextTag s c.first_child.result) c.in-Empty.is c.next_tag.ensures in
     sym (ap has_element (sym c.first_child.ensures.row ∙ ap top t.left))

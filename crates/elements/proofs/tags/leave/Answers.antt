@@ -33,10 +33,9 @@ unfolding pops pop closed
 returns-then-d-eq0 c =
     let s = c.args.text.now in
     let l = c.loop-n in
-    let n = c.in-Close.given in
-    let w = subst (NextTag s l.i) n.1 c.next_tag.ensures in
-    behind s c.args.at n.0.0
-    (ap (λ (d : ℕ). pops d (closed (tags_left s n.0.0))) (sym (ap suc c.if-d-eq0.true)) ∙ ap (pops (suc l.d)) (sym w.tags) ∙ l.invariant.3)
+    let w = subst (NextTag s l.i) c.in-Close.is c.next_tag.ensures in
+    behind s c.args.at c.in-Close.n
+    (ap (λ (d : ℕ). pops d (closed (tags_left s c.in-Close.n))) (sym (ap suc c.if-d-eq0.true)) ∙ ap (pops (suc l.d)) (sym w.tags) ∙ l.invariant.3)
     (omega (arith, w.place))
     w.place.1
 
@@ -44,8 +43,7 @@ pub loop-n-smaller-in-Close : goal.loop-n-smaller-in-Close
 loop-n-smaller-in-Close c =
     let s = c.args.text.now in
     let l = c.loop-n in
-    let n = c.in-Close.given in
-    let w = subst (NextTag s l.i) n.1 c.next_tag.ensures in
+    let w = subst (NextTag s l.i) c.in-Close.is c.next_tag.ensures in
     omega (arith, w.place)
 
 pub loop-n-preserved-in-Close : goal.loop-n-preserved-in-Close
@@ -53,21 +51,19 @@ unfolding pops pop closed
 loop-n-preserved-in-Close c =
     let s = c.args.text.now in
     let l = c.loop-n in
-    let n = c.in-Close.given in
-    let w = subst (NextTag s l.i) n.1 c.next_tag.ensures in
+    let w = subst (NextTag s l.i) c.in-Close.is c.next_tag.ensures in
     let one : suc (l.d - 1) ≡ l.d = omega arith in (
       omega (arith, w.place),
       w.place.1,
       omega (arith, w.place),
-      ap (λ (d : ℕ). pops d (tags_left s n.0.0)) one ∙ ap (pops (suc l.d)) (sym w.tags) ∙ l.invariant.3,
+      ap (λ (d : ℕ). pops d (tags_left s c.in-Close.n)) one ∙ ap (pops (suc l.d)) (sym w.tags) ∙ l.invariant.3,
     )
 
 pub loop-n-smaller-in-Open : goal.loop-n-smaller-in-Open
 loop-n-smaller-in-Open c =
     let s = c.args.text.now in
     let l = c.loop-n in
-    let n = c.in-Open.given in
-    let w = subst (NextTag s l.i) n.1 c.next_tag.ensures in
+    let w = subst (NextTag s l.i) c.in-Open.is c.next_tag.ensures in
     omega (arith, w.place)
 
 pub loop-n-preserved-in-Open : goal.loop-n-preserved-in-Open
@@ -75,20 +71,18 @@ unfolding pops pop opened
 loop-n-preserved-in-Open c =
     let s = c.args.text.now in
     let l = c.loop-n in
-    let n = c.in-Open.given in
-    let w = subst (NextTag s l.i) n.1 c.next_tag.ensures in (
+    let w = subst (NextTag s l.i) c.in-Open.is c.next_tag.ensures in (
       omega (arith, w.place),
       w.place.1,
       omega (arith, w.place),
-      ap (λ (d : ℕ). pops (suc d) (tags_left s n.0.0)) (add-one l.d) ∙ ap (pops (suc l.d)) (sym w.tags) ∙ l.invariant.3,
+      ap (λ (d : ℕ). pops (suc d) (tags_left s c.in-Open.n)) (add-one l.d) ∙ ap (pops (suc l.d)) (sym w.tags) ∙ l.invariant.3,
     )
 
 pub loop-n-smaller : goal.loop-n-smaller
 loop-n-smaller c =
     let s = c.args.text.now in
     let l = c.loop-n in
-    let n = c.in-Empty.given in
-    let w = subst (NextTag s l.i) n.1 c.next_tag.ensures in
+    let w = subst (NextTag s l.i) c.in-Empty.is c.next_tag.ensures in
     omega (arith, w.place)
 
 pub loop-n-preserved : goal.loop-n-preserved
@@ -96,6 +90,5 @@ unfolding pops pop alone
 loop-n-preserved c =
     let s = c.args.text.now in
     let l = c.loop-n in
-    let n = c.in-Empty.given in
-    let w = subst (NextTag s l.i) n.1 c.next_tag.ensures in
+    let w = subst (NextTag s l.i) c.in-Empty.is c.next_tag.ensures in
     (omega (arith, w.place), w.place.1, omega (arith, w.place), ap (pops (suc l.d)) (sym w.tags) ∙ l.invariant.3)

@@ -11,18 +11,15 @@ returns-in-End c =
 
 pub returns-in-Close : goal.returns-in-Close
 returns-in-Close c =
-    let g = c.in-Close.given in
-    let t = subst (NextTag c.args.text.now c.args.at) g.1 c.next_tag.ensures in
+    let t = subst (NextTag c.args.text.now c.args.at) c.in-Close.is c.next_tag.ensures in
     row_close t
 
 pub returns-in-Open : goal.returns-in-Open
 returns-in-Open c =
-    let g = c.in-Open.given in
-    let t = subst (NextTag c.args.text.now c.args.at) g.1 c.next_tag.ensures in
+    let t = subst (NextTag c.args.text.now c.args.at) c.in-Open.is c.next_tag.ensures in
     first_open t c.leave.ensures
 
 pub returns-in-Empty : goal.returns-in-Empty
 returns-in-Empty c =
-    let g = c.in-Empty.given in
-    let t = subst (NextTag c.args.text.now c.args.at) g.1 c.next_tag.ensures in
+    let t = subst (NextTag c.args.text.now c.args.at) c.in-Empty.is c.next_tag.ensures in
     first_empty t

@@ -16,7 +16,7 @@ returns c =
     let a = c.args in
     let s = a.text.now in
     let w = c.walk-w.ensures in
-    let sums = c.sum_up-sums.ensures s (given a.uuid.now a.volume) (tags_at s a.at) a.table.now a.entry-table.now _ a.row-table.now _ w.gathers in
+    let sums = c.sum_up-sums.ensures s (given a.uuid.now a.volume) (tags_at s a.at) a.table.now a.entry_table.now _ a.row_table.now _ w.gathers in
     record {
       sums = subst (λ (f : Forest). Surveyed (given a.uuid.now a.volume) f c.sum_up-sums.result) (sym (row_told s a.at)) sums.0;
       places = w.places;

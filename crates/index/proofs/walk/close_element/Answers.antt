@@ -25,8 +25,8 @@ returns c k uuid placed tags =
     let f = heads k in
     let v = c.judge-v.ensures f (λ q. subst (λ (j : ℕ). Placed s j f t) q (placed (ap is_entry q))) in
     let l = rows_taken a.sort f in
-    let o = a.row-table.now in
-    closed_parts s (given uuid a.volume) a.sort k a.parent a.prior a.w.sums _ _ _ _ a.uids.now _ a.entry-table.now _ o _
+    let o = a.row_table.now in
+    closed_parts s (given uuid a.volume) a.sort k a.parent a.prior a.w.sums _ _ _ _ a.uids.now _ a.entry_table.now _ o _
     v.few (v.lawful uuid) v.count c.settle.ensures
     (c.list_entry.ensures k l placed tags v.count)
     (c.keep_rows.ensures ∙ ap (λ (n : ℕ). rows_copied c.judge-v.new.1.1.0 n a.w.sums.rows o) v.count

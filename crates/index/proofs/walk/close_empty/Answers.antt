@@ -18,4 +18,4 @@ returns c u =
     let a = c.args in
     let o = c.over-w.ensures in
     c.close_element.ensures none u (λ q. placed_none a.text.now a.sort none _ refl o.places) (λ q. tags_none a.text.now a.sort none _ refl o.places)
-    ∙ ap (λ (x : Sums). after_element a.text.now (given u a.volume) a.sort none a.parent a.prior (gathered x a.uids.now a.entry-table.now a.row-table.now)) o.sums
+    ∙ ap (λ (x : Sums). after_element a.text.now (given u a.volume) a.sort none a.parent a.prior (gathered x a.uids.now a.entry_table.now a.row_table.now)) o.sums

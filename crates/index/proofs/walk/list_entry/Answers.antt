@@ -15,11 +15,11 @@ returns-then-entry_table-n c k l placed tags count =
     let a = c.args in
     let is = sym c.is_entry.ensures ∙ c.if-not-is_entry.false in
     let uid = c.number_placed-uid.ensures ∙ sym (fileuid_placed a.sort is a.text.now (heads k) a.places.now (placed is)) in
-    puts_full a.text.now a.sort a.parent a.prior k l a.uids.now a.entry-table.now is _ _ c.put.ensures uid (omega (arith, c.if-entry_table-n.true))
+    puts_full a.text.now a.sort a.parent a.prior k l a.uids.now a.entry_table.now is _ _ c.put.ensures uid (omega (arith, c.if-entry_table-n.true))
 
 pub returns : goal.returns
 returns c k l placed tags count =
     let a = c.args in
     let is = sym c.is_entry.ensures ∙ c.if-not-is_entry.false in
     let uid = c.number_placed-uid.ensures ∙ sym (fileuid_placed a.sort is a.text.now (heads k) a.places.now (placed is)) in
-    puts_room a.text.now a.sort a.parent a.prior k l a.uids.now a.entry-table.now is _ _ c.put.ensures uid (omega (arith, c.if-entry_table-n.false)) _ _ (c.entry_numbers-numbers.ensures k l is (placed is) (tags is) uid count) c.copy.ensures
+    puts_room a.text.now a.sort a.parent a.prior k l a.uids.now a.entry_table.now is _ _ c.put.ensures uid (omega (arith, c.if-entry_table-n.false)) _ _ (c.entry_numbers-numbers.ensures k l is (placed is) (tags is) uid count) c.copy.ensures

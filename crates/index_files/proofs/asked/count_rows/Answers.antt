@@ -25,8 +25,7 @@ pub overflow_add-n : goal.overflow_add-n
 overflow_add-n c =
     let s = c.args.text.now in
     let l = c.loop-next in
-    let g = c.in-At.given in
-    let f : NextChild s l.i (At g.0.0 g.0.1.0) = subst (NextChild s l.i) g.1 c.next_child.ensures in
+    let f : NextChild s l.i (At c.in-At.field-0 c.in-At.next) = subst (NextChild s l.i) c.in-At.is c.next_child.ensures in
     let p = f.place in
     search rules
 
@@ -34,14 +33,12 @@ pub loop-next-smaller : goal.loop-next-smaller
 loop-next-smaller c =
     let s = c.args.text.now in
     let l = c.loop-next in
-    let g = c.in-At.given in
-    let f : NextChild s l.i (At g.0.0 g.0.1.0) = subst (NextChild s l.i) g.1 c.next_child.ensures in
+    let f : NextChild s l.i (At c.in-At.field-0 c.in-At.next) = subst (NextChild s l.i) c.in-At.is c.next_child.ensures in
     omega (arith, f.place, f.after)
 
 pub loop-next-preserved : goal.loop-next-preserved
 loop-next-preserved c =
     let s = c.args.text.now in
     let l = c.loop-next in
-    let g = c.in-At.given in
-    let f : NextChild s l.i (At g.0.0 g.0.1.0) = subst (NextChild s l.i) g.1 c.next_child.ensures in
+    let f : NextChild s l.i (At c.in-At.field-0 c.in-At.next) = subst (NextChild s l.i) c.in-At.is c.next_child.ensures in
     (omega (arith, f.place, f.after, l.invariant.0), omega (arith, rows_counted s l.i f, l.invariant.1))

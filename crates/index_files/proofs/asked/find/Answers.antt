@@ -24,27 +24,24 @@ pub returns-then-left-eq0 : goal.returns-then-left-eq0
 returns-then-left-eq0 c =
     let s = c.args.text.now in
     let l = c.loop-n in
-    let g = c.in-File.given in
-    let f : FileFrom s l.i (File g.0.0 g.0.1.0) = subst (FileFrom s l.i) g.1 c.next_file.ensures in
+    let f : FileFrom s l.i (File c.in-File.n c.in-File.next) = subst (FileFrom s l.i) c.in-File.is c.next_file.ensures in
     record {
-      children = nth_first l.left (children_at s g.0.0) (files_left (left_at s l.i)) (files_left (left_at s g.0.1.0)) f.left c.if-left-eq0.true ∙ sym l.invariant.0;
-      tag = getd_first l.left [] (drop g.0.0 s) (file_tags_from s l.i) (file_tags_from s g.0.1.0) f.tags c.if-left-eq0.true ∙ sym l.invariant.1;
+      children = nth_first l.left (children_at s c.in-File.n) (files_left (left_at s l.i)) (files_left (left_at s c.in-File.next)) f.left c.if-left-eq0.true ∙ sym l.invariant.0;
+      tag = getd_first l.left [] (drop c.in-File.n s) (file_tags_from s l.i) (file_tags_from s c.in-File.next) f.tags c.if-left-eq0.true ∙ sym l.invariant.1;
     }
 
 pub loop-n-smaller : goal.loop-n-smaller
 loop-n-smaller c =
     let s = c.args.text.now in
     let l = c.loop-n in
-    let g = c.in-File.given in
-    let f : FileFrom s l.i (File g.0.0 g.0.1.0) = subst (FileFrom s l.i) g.1 c.next_file.ensures in
+    let f : FileFrom s l.i (File c.in-File.n c.in-File.next) = subst (FileFrom s l.i) c.in-File.is c.next_file.ensures in
     omega (arith, f.place)
 
 pub loop-n-preserved : goal.loop-n-preserved
 loop-n-preserved c =
     let s = c.args.text.now in
     let l = c.loop-n in
-    let g = c.in-File.given in
-    let f : FileFrom s l.i (File g.0.0 g.0.1.0) = subst (FileFrom s l.i) g.1 c.next_file.ensures in (
-      l.invariant.0 ∙ nth_later l.left (children_at s g.0.0) (files_left (left_at s l.i)) (files_left (left_at s g.0.1.0)) f.left c.if-left-eq0.false,
-      l.invariant.1 ∙ getd_later l.left [] (drop g.0.0 s) (file_tags_from s l.i) (file_tags_from s g.0.1.0) f.tags c.if-left-eq0.false,
+    let f : FileFrom s l.i (File c.in-File.n c.in-File.next) = subst (FileFrom s l.i) c.in-File.is c.next_file.ensures in (
+      l.invariant.0 ∙ nth_later l.left (children_at s c.in-File.n) (files_left (left_at s l.i)) (files_left (left_at s c.in-File.next)) f.left c.if-left-eq0.false,
+      l.invariant.1 ∙ getd_later l.left [] (drop c.in-File.n s) (file_tags_from s l.i) (file_tags_from s c.in-File.next) f.tags c.if-left-eq0.false,
     )

@@ -21,9 +21,8 @@ pub returns-in-At : goal.returns-in-At
 returns-in-At c =
     let s = c.args.text.now in
     let i = c.args.at in
-    let g = c.in-At.given in
-    let f : NextChild s i (At g.0.0 g.0.1.0) = subst (NextChild s i) g.1 c.next_child.ensures in
+    let f : NextChild s i (At c.in-At.n c.in-At.next) = subst (NextChild s i) c.in-At.is c.next_child.ensures in
     record {
-      rows = rows_first s i f ∙ ap (λ (x : extents.Row). x ∷ rows_in (forest_at s g.0.1.0)) (sym (c.row_from.ensures ∙ ap row_of c.first_child.ensures.row));
+      rows = rows_first s i f ∙ ap (λ (x : extents.Row). x ∷ rows_in (forest_at s c.in-At.next)) (sym (c.row_from.ensures ∙ ap row_of c.first_child.ensures.row));
       place = (omega (arith, f.place, f.after), f.after.1);
     }

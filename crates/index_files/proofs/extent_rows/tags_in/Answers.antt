@@ -21,14 +21,12 @@ pub loop-t-smaller : goal.loop-t-smaller
 loop-t-smaller c =
     let s = c.args.text.now in
     let l = c.loop-t in
-    let g = c.in-At.given in
-    let f : NextChild s l.i (At g.0.0 g.0.1.0) = subst (NextChild s l.i) g.1 c.next_child.ensures in
+    let f : NextChild s l.i (At c.in-At.n c.in-At.next) = subst (NextChild s l.i) c.in-At.is c.next_child.ensures in
     omega (arith, f.place, f.after)
 
 pub loop-t-preserved : goal.loop-t-preserved
 loop-t-preserved c =
     let s = c.args.text.now in
     let l = c.loop-t in
-    let g = c.in-At.given in
-    let f : NextChild s l.i (At g.0.0 g.0.1.0) = subst (NextChild s l.i) g.1 c.next_child.ensures in
+    let f : NextChild s l.i (At c.in-At.n c.in-At.next) = subst (NextChild s l.i) c.in-At.is c.next_child.ensures in
     along_step s c.args.at l.t c.meet-t.result f c.meet-t.ensures l.invariant

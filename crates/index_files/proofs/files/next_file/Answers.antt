@@ -22,24 +22,21 @@ pub loop-n-smaller-in-Close : goal.loop-n-smaller-in-Close
 loop-n-smaller-in-Close c =
     let s = c.args.text.now in
     let l = c.loop-n in
-    let n = c.in-Close.given in
-    let t : NextTag s l.i (Close n.0.0) = subst (NextTag s l.i) n.1 c.next_tag.ensures in
+    let t : NextTag s l.i (Close c.in-Close.n) = subst (NextTag s l.i) c.in-Close.is c.next_tag.ensures in
     omega (arith, t.place)
 
 pub loop-n-preserved-in-Close : goal.loop-n-preserved-in-Close
 loop-n-preserved-in-Close c =
     let s = c.args.text.now in
     let l = c.loop-n in
-    let n = c.in-Close.given in
-    let t : NextTag s l.i (Close n.0.0) = subst (NextTag s l.i) n.1 c.next_tag.ensures in
+    let t : NextTag s l.i (Close c.in-Close.n) = subst (NextTag s l.i) c.in-Close.is c.next_tag.ensures in
     (omega (arith, t.place), passed_on l.invariant.1 (files_close t))
 
 pub returns-then-is_file : goal.returns-then-is_file
 returns-then-is_file c =
     let s = c.args.text.now in
     let l = c.loop-n in
-    let n = c.in-Open.given in
-    let t : NextTag s l.i (Open n.0.0) = subst (NextTag s l.i) n.1 c.next_tag.ensures in
+    let t : NextTag s l.i (Open c.in-Open.n) = subst (NextTag s l.i) c.in-Open.is c.next_tag.ensures in
     let e = sym (ap names_file c.name_of-name.ensures) ∙ sym c.is_file.ensures ∙ c.if-is_file.true in
     file_along l.invariant.1 l.invariant.0 (file_open t c.leave.ensures e)
 
@@ -47,16 +44,14 @@ pub loop-n-smaller-then-is_skipped : goal.loop-n-smaller-then-is_skipped
 loop-n-smaller-then-is_skipped c =
     let s = c.args.text.now in
     let l = c.loop-n in
-    let n = c.in-Open.given in
-    let t : NextTag s l.i (Open n.0.0) = subst (NextTag s l.i) n.1 c.next_tag.ensures in
+    let t : NextTag s l.i (Open c.in-Open.n) = subst (NextTag s l.i) c.in-Open.is c.next_tag.ensures in
     omega (arith, t.place, c.leave-i.ensures.ahead)
 
 pub loop-n-preserved-then-is_skipped : goal.loop-n-preserved-then-is_skipped
 loop-n-preserved-then-is_skipped c =
     let s = c.args.text.now in
     let l = c.loop-n in
-    let n = c.in-Open.given in
-    let t : NextTag s l.i (Open n.0.0) = subst (NextTag s l.i) n.1 c.next_tag.ensures in
+    let t : NextTag s l.i (Open c.in-Open.n) = subst (NextTag s l.i) c.in-Open.is c.next_tag.ensures in
     let e = sym (ap names_file c.name_of-name.ensures) ∙ sym c.is_file.ensures ∙ c.if-is_file.false in
     let k = sym (ap names_skipped c.name_of-name.ensures) ∙ sym c.is_skipped.ensures ∙ c.if-is_skipped.true in
     (omega (arith, t.place, c.leave-i.ensures.ahead), passed_on l.invariant.1 (files_skipped t c.leave-i.ensures e k))
@@ -65,16 +60,14 @@ pub loop-n-smaller-else-is_skipped : goal.loop-n-smaller-else-is_skipped
 loop-n-smaller-else-is_skipped c =
     let s = c.args.text.now in
     let l = c.loop-n in
-    let n = c.in-Open.given in
-    let t : NextTag s l.i (Open n.0.0) = subst (NextTag s l.i) n.1 c.next_tag.ensures in
+    let t : NextTag s l.i (Open c.in-Open.n) = subst (NextTag s l.i) c.in-Open.is c.next_tag.ensures in
     omega (arith, t.place)
 
 pub loop-n-preserved-else-is_skipped : goal.loop-n-preserved-else-is_skipped
 loop-n-preserved-else-is_skipped c =
     let s = c.args.text.now in
     let l = c.loop-n in
-    let n = c.in-Open.given in
-    let t : NextTag s l.i (Open n.0.0) = subst (NextTag s l.i) n.1 c.next_tag.ensures in
+    let t : NextTag s l.i (Open c.in-Open.n) = subst (NextTag s l.i) c.in-Open.is c.next_tag.ensures in
     let e = sym (ap names_file c.name_of-name.ensures) ∙ sym c.is_file.ensures ∙ c.if-is_file.false in
     let k = sym (ap names_skipped c.name_of-name.ensures) ∙ sym c.is_skipped.ensures ∙ c.if-is_skipped.false in
     (omega (arith, t.place), passed_on l.invariant.1 (files_open t e k))
@@ -83,8 +76,7 @@ pub returns-then-is_file-2 : goal.returns-then-is_file-2
 returns-then-is_file-2 c =
     let s = c.args.text.now in
     let l = c.loop-n in
-    let n = c.in-Empty.given in
-    let t : NextTag s l.i (Empty n.0.0) = subst (NextTag s l.i) n.1 c.next_tag.ensures in
+    let t : NextTag s l.i (Empty c.in-Empty.n) = subst (NextTag s l.i) c.in-Empty.is c.next_tag.ensures in
     let e = sym (ap names_file c.name_of.ensures) ∙ sym c.is_file-in-Empty.ensures ∙ c.if-is_file-2.true in
     file_along l.invariant.1 l.invariant.0 (file_empty t e)
 
@@ -92,15 +84,13 @@ pub loop-n-smaller : goal.loop-n-smaller
 loop-n-smaller c =
     let s = c.args.text.now in
     let l = c.loop-n in
-    let n = c.in-Empty.given in
-    let t : NextTag s l.i (Empty n.0.0) = subst (NextTag s l.i) n.1 c.next_tag.ensures in
+    let t : NextTag s l.i (Empty c.in-Empty.n) = subst (NextTag s l.i) c.in-Empty.is c.next_tag.ensures in
     omega (arith, t.place)
 
 pub loop-n-preserved : goal.loop-n-preserved
 loop-n-preserved c =
     let s = c.args.text.now in
     let l = c.loop-n in
-    let n = c.in-Empty.given in
-    let t : NextTag s l.i (Empty n.0.0) = subst (NextTag s l.i) n.1 c.next_tag.ensures in
+    let t : NextTag s l.i (Empty c.in-Empty.n) = subst (NextTag s l.i) c.in-Empty.is c.next_tag.ensures in
     let e = sym (ap names_file c.name_of.ensures) ∙ sym c.is_file-in-Empty.ensures ∙ c.if-is_file-2.false in
     (omega (arith, t.place), passed_on l.invariant.1 (files_empty t e))

@@ -28,31 +28,27 @@ pub put_row-requires : goal.put_row-requires
 put_row-requires c =
     let s = c.args.text.now in
     let l = c.loop-row in
-    let g = c.in-Found.given in
-    let f : RowAhead s l.i (Found g.0.0 g.0.1.0) = subst (RowAhead s l.i) g.1 c.next_row.ensures in
-    row_fits l.invariant (row_is g.0.0) (rows_in (forest_at s g.0.1.0)) f.rows
+    let f : RowAhead s l.i (Found c.in-Found.row c.in-Found.next) = subst (RowAhead s l.i) c.in-Found.is c.next_row.ensures in
+    row_fits l.invariant (row_is c.in-Found.row) (rows_in (forest_at s c.in-Found.next)) f.rows
 
 pub overflow_add-j : goal.overflow_add-j
 overflow_add-j c =
     let s = c.args.text.now in
     let l = c.loop-row in
-    let g = c.in-Found.given in
-    let f : RowAhead s l.i (Found g.0.0 g.0.1.0) = subst (RowAhead s l.i) g.1 c.next_row.ensures in
-    let p = row_fits l.invariant (row_is g.0.0) (rows_in (forest_at s g.0.1.0)) f.rows in
+    let f : RowAhead s l.i (Found c.in-Found.row c.in-Found.next) = subst (RowAhead s l.i) c.in-Found.is c.next_row.ensures in
+    let p = row_fits l.invariant (row_is c.in-Found.row) (rows_in (forest_at s c.in-Found.next)) f.rows in
     search rules
 
 pub loop-row-smaller : goal.loop-row-smaller
 loop-row-smaller c =
     let s = c.args.text.now in
     let l = c.loop-row in
-    let g = c.in-Found.given in
-    let f : RowAhead s l.i (Found g.0.0 g.0.1.0) = subst (RowAhead s l.i) g.1 c.next_row.ensures in
+    let f : RowAhead s l.i (Found c.in-Found.row c.in-Found.next) = subst (RowAhead s l.i) c.in-Found.is c.next_row.ensures in
     omega (arith, f.place)
 
 pub loop-row-preserved : goal.loop-row-preserved
 loop-row-preserved c =
     let s = c.args.text.now in
     let l = c.loop-row in
-    let g = c.in-Found.given in
-    let f : RowAhead s l.i (Found g.0.0 g.0.1.0) = subst (RowAhead s l.i) g.1 c.next_row.ensures in
-    row_on l.invariant (row_is g.0.0) (rows_in (forest_at s g.0.1.0)) f.rows c.put_row.ensures
+    let f : RowAhead s l.i (Found c.in-Found.row c.in-Found.next) = subst (RowAhead s l.i) c.in-Found.is c.next_row.ensures in
+    row_on l.invariant (row_is c.in-Found.row) (rows_in (forest_at s c.in-Found.next)) f.rows c.put_row.ensures

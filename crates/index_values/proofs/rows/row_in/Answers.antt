@@ -27,8 +27,7 @@ children_row-requires c =
     let s = c.args.text.now in
     let w = c.args.name.now in
     let l = c.loop-h in
-    let g = c.in-At.given in
-    let f : NextItem s l.i (At g.0.0 g.0.1.0) = subst (NextItem s l.i) g.1 c.next_item.ensures in
+    let f : NextItem s l.i (At c.in-At.h c.in-At.next) = subst (NextItem s l.i) c.in-At.is c.next_item.ensures in
     f.shape
 
 pub returns-then-same : goal.returns-then-same
@@ -36,8 +35,7 @@ returns-then-same c =
     let s = c.args.text.now in
     let w = c.args.name.now in
     let l = c.loop-h in
-    let g = c.in-At.given in
-    let f : NextItem s l.i (At g.0.0 g.0.1.0) = subst (NextItem s l.i) g.1 c.next_item.ensures in
+    let f : NextItem s l.i (At c.in-At.h c.in-At.next) = subst (NextItem s l.i) c.in-At.is c.next_item.ensures in
     c.children_row.ensures ∙ sym (l.invariant ∙ row_here w s l.i f.first (ap (λ (n : List ℕ). same n w) (sym f.shape.name.part ∙ sym c.part.ensures) ∙ sym c.same.ensures ∙ c.if-same.true))
 
 pub loop-h-smaller : goal.loop-h-smaller
@@ -45,8 +43,7 @@ loop-h-smaller c =
     let s = c.args.text.now in
     let w = c.args.name.now in
     let l = c.loop-h in
-    let g = c.in-At.given in
-    let f : NextItem s l.i (At g.0.0 g.0.1.0) = subst (NextItem s l.i) g.1 c.next_item.ensures in
+    let f : NextItem s l.i (At c.in-At.h c.in-At.next) = subst (NextItem s l.i) c.in-At.is c.next_item.ensures in
     omega (arith, f.first.place, f.first.after)
 
 pub loop-h-preserved : goal.loop-h-preserved
@@ -54,6 +51,5 @@ loop-h-preserved c =
     let s = c.args.text.now in
     let w = c.args.name.now in
     let l = c.loop-h in
-    let g = c.in-At.given in
-    let f : NextItem s l.i (At g.0.0 g.0.1.0) = subst (NextItem s l.i) g.1 c.next_item.ensures in
+    let f : NextItem s l.i (At c.in-At.h c.in-At.next) = subst (NextItem s l.i) c.in-At.is c.next_item.ensures in
     l.invariant ∙ row_next w s l.i f.first (ap (λ (n : List ℕ). same n w) (sym f.shape.name.part ∙ sym c.part.ensures) ∙ sym c.same.ensures ∙ c.if-same.false)

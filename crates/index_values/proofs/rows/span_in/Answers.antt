@@ -28,8 +28,7 @@ returns-then-same c =
     let s = c.args.text.now in
     let w = c.args.name.now in
     let l = c.loop-h in
-    let g = c.in-At.given in
-    let f : NextItem s l.i (At g.0.0 g.0.1.0) = subst (NextItem s l.i) g.1 c.next_item.ensures in
+    let f : NextItem s l.i (At c.in-At.h c.in-At.next) = subst (NextItem s l.i) c.in-At.is c.next_item.ensures in
     let named = ap (λ (n : List ℕ). same n w) (sym f.shape.name.part ∙ sym c.part.ensures) ∙ sym c.same.ensures ∙ c.if-same.true in
     record {
       place = f.shape.place ∙ sym (l.invariant.1 ∙ place_here w s l.i f.first named);
@@ -41,8 +40,7 @@ loop-h-smaller c =
     let s = c.args.text.now in
     let w = c.args.name.now in
     let l = c.loop-h in
-    let g = c.in-At.given in
-    let f : NextItem s l.i (At g.0.0 g.0.1.0) = subst (NextItem s l.i) g.1 c.next_item.ensures in
+    let f : NextItem s l.i (At c.in-At.h c.in-At.next) = subst (NextItem s l.i) c.in-At.is c.next_item.ensures in
     omega (arith, f.first.place, f.first.after)
 
 pub loop-h-preserved : goal.loop-h-preserved
@@ -50,7 +48,6 @@ loop-h-preserved c =
     let s = c.args.text.now in
     let w = c.args.name.now in
     let l = c.loop-h in
-    let g = c.in-At.given in
-    let f : NextItem s l.i (At g.0.0 g.0.1.0) = subst (NextItem s l.i) g.1 c.next_item.ensures in
+    let f : NextItem s l.i (At c.in-At.h c.in-At.next) = subst (NextItem s l.i) c.in-At.is c.next_item.ensures in
     let named = ap (λ (n : List ℕ). same n w) (sym f.shape.name.part ∙ sym c.part.ensures) ∙ sym c.same.ensures ∙ c.if-same.false in
     (l.invariant.0 ∙ text_next w s l.i f.first named, l.invariant.1 ∙ place_next w s l.i f.first named)

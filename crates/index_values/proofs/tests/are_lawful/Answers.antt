@@ -11,4 +11,4 @@ pub returns : goal.returns
 returns c =
     let a = c.args in
     let z : a.count * 5 - 0 ≡ a.count * 5 = omega arith in
-    c.lawful.ensures ∙ ap (λ (k : ℕ). extents.lawful a.file-length.0 a.size (rows_of (take k a.table.now))) z
+    c.lawful.ensures ∙ ap (λ (k : ℕ). extents.lawful a.file_length.0 a.size (rows_of (take k a.table.now))) z

@@ -37,6 +37,5 @@ unfolding children_of_first
 returns-in-At c =
     let s = c.args.text.now in
     let f : in_form s ≡ true = checked_good s (sym c.in-Good.is ∙ c.check.ensures) in
-    let g = c.in-At.given in
-    let q : NextChild s 38 (At g.0.0 g.0.1.0) = subst (NextChild s 38) g.1 c.next_child.ensures in
+    let q : NextChild s 38 (At c.in-At.n c.in-At.field-1) = subst (NextChild s 38) c.in-At.is c.next_child.ensures in
     reads_as (the_first s c.if-text-gt4096.false f _ _ _ q.row) (ap (λ (t : Tags). places_in s (children_of_first t)) (sym q.tags)) c.read_root.ensures

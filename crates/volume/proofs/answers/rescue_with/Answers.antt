@@ -6,4 +6,4 @@ use Rattle.volume.proofs.answers.rescue_with.Goals as goal
 pub returns : goal.returns
 returns c =
     let a = c.args in
-    cuts_on (given a.uuid.now a.volume) a.index-list.now a.index-store.now a.data-list.now a.data-store.now _ _ c.fill-n.result c.fill-n.ensures c.cut_data.result c.cut_data.ensures
+    cuts_on (given a.uuid.now a.volume) a.index_list.now a.index_store.now a.data_list.now a.data_store.now _ _ c.fill-n.result c.fill-n.ensures c.cut_data.result c.cut_data.ensures

@@ -44,23 +44,21 @@ pub loop-i-preserved : goal.loop-i-preserved
 unfolding form_step inside_element in_text
 loop-i-preserved c =
     let r = c.char_end.ensures (content (words 0)) in
-    let j = c.in-At.given in
-    let b = scan_bounds j.0.0 r j.1 in
+    let b = scan_bounds c.in-At.j r c.in-At.is in
     let e = c.past_wide-i.ensures in
     let h = e.ends in (
       search rules,
       search rules,
       search rules,
       λ s x. c.loop-i.invariant.3 s
-          (scan_step (search rules) (λ ns. simp (ne_eqb _ _ c.if-b-eq60.false, ne_eqb _ _ c.if-b-eq93.false, ← c.ends_section.ensures, c.if-ends_section.false)) (scan_then j.0.0 r j.1 (scan_then c.past_wide-i.result e refl x))),
+          (scan_step (search rules) (λ ns. simp (ne_eqb _ _ c.if-b-eq60.false, ne_eqb _ _ c.if-b-eq93.false, ← c.ends_section.ensures, c.if-ends_section.false)) (scan_then c.in-At.j r c.in-At.is (scan_then c.past_wide-i.result e refl x))),
     )
 
 pub returns-in-Broken : goal.returns-in-Broken
 unfolding form_step inside_element in_text
 returns-in-Broken c =
     let r = c.char_end.ensures (content (words 0)) in
-    let u = c.in-Broken.given in
-    c.loop-i.invariant.3 _ (scan_step (search rules) (λ ns. simp (ne_eqb _ _ c.if-b-eq60.false, ne_eqb _ _ c.if-b-eq93.false, ← c.ends_section.ensures, c.if-ends_section.false)) (scan_broken u.0.0 r u.1))
+    c.loop-i.invariant.3 _ (scan_step (search rules) (λ ns. simp (ne_eqb _ _ c.if-b-eq60.false, ne_eqb _ _ c.if-b-eq93.false, ← c.ends_section.ensures, c.if-ends_section.false)) (scan_broken c.in-Broken.u r c.in-Broken.is))
 
 pub returns : goal.returns
 unfolding ended

@@ -28,16 +28,14 @@ pub loop-i-preserved : goal.loop-i-preserved
 unfolding form_step
 loop-i-preserved c =
     let r = c.char_end.ensures (value c.args.q) in
-    let j = c.in-At.given in
-    let b = scan_bounds j.0.0 r j.1 in
-    (search rules, search rules, λ s x. c.loop-i.invariant.2 s (scan_step (search rules) (λ ns. simp (ne_eqb _ _ c.if-b-q.false, ne_eqb _ _ c.if-b-eq60.false)) (scan_then j.0.0 r j.1 x)))
+    let b = scan_bounds c.in-At.j r c.in-At.is in
+    (search rules, search rules, λ s x. c.loop-i.invariant.2 s (scan_step (search rules) (λ ns. simp (ne_eqb _ _ c.if-b-q.false, ne_eqb _ _ c.if-b-eq60.false)) (scan_then c.in-At.j r c.in-At.is x)))
 
 pub returns-in-Broken : goal.returns-in-Broken
 unfolding form_step
 returns-in-Broken c =
     let r = c.char_end.ensures (value c.args.q) in
-    let u = c.in-Broken.given in
-    c.loop-i.invariant.2 _ (scan_step (search rules) (λ ns. simp (ne_eqb _ _ c.if-b-q.false, ne_eqb _ _ c.if-b-eq60.false)) (scan_broken u.0.0 r u.1))
+    c.loop-i.invariant.2 _ (scan_step (search rules) (λ ns. simp (ne_eqb _ _ c.if-b-q.false, ne_eqb _ _ c.if-b-eq60.false)) (scan_broken c.in-Broken.u r c.in-Broken.is))
 
 pub returns : goal.returns
 unfolding ended

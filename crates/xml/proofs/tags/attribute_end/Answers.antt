@@ -16,12 +16,10 @@ pub returns-in-At : goal.returns-in-At
 unfolding form_step ended
 returns-in-At c =
     let e = c.past_name-i.ensures in
-    let j = c.in-At.given in
-    scan_past key_stay e (scan_as keyed refl (λ ns h. simp (past_stop e h)) (scan_then j.0.0 c.equals_end.ensures j.1 c.quoted_end.ensures))
+    scan_past key_stay e (scan_as keyed refl (λ ns h. simp (past_stop e h)) (scan_then c.in-At.j c.equals_end.ensures c.in-At.is c.quoted_end.ensures))
 
 pub returns-in-Broken : goal.returns-in-Broken
 unfolding form_step ended
 returns-in-Broken c =
     let e = c.past_name-i.ensures in
-    let u = c.in-Broken.given in
-    scan_past key_stay e (scan_as keyed refl (λ ns h. simp (past_stop e h)) (scan_broken u.0.0 c.equals_end.ensures u.1))
+    scan_past key_stay e (scan_as keyed refl (λ ns h. simp (past_stop e h)) (scan_broken c.in-Broken.u c.equals_end.ensures c.in-Broken.is))

@@ -48,11 +48,10 @@ returns-in-At c =
     let s : is_space (get_or t i 0) ≡ false = past_not e refl in
     let l : is_ascii_letter (get_or t i 0) ≡ true = a_letter c.kind.result (get_or t i 0) (c.kind.ensures ∙ ap kind_of c.byte.ensures) c.if-kind-ne97.false in
     let h = inside_letter t i l in
-    let j = c.in-At.given in
     let e₂ = c.past_spaces.ensures in
     let s₂ : is_space (get_or t c.past_spaces.result 0) ≡ false = past_not e₂ refl in
     tags_after c.past_spaces.result
-    (scan_past tag_stay e (scan_step h (λ ns. simp (s, l)) (scan_then j.0.0 c.attribute_end.ensures j.1 (scan_past valued_stay e₂ (scan_done e₂.inside)))))
+    (scan_past tag_stay e (scan_step h (λ ns. simp (s, l)) (scan_then c.in-At.j c.attribute_end.ensures c.in-At.is (scan_past valued_stay e₂ (scan_done e₂.inside)))))
     (c.close-in-At.ensures valued refl (λ ns. simp s₂))
 
 pub returns-in-Broken : goal.returns-in-Broken
@@ -64,5 +63,4 @@ returns-in-Broken c =
     let s : is_space (get_or t i 0) ≡ false = past_not e refl in
     let l : is_ascii_letter (get_or t i 0) ≡ true = a_letter c.kind.result (get_or t i 0) (c.kind.ensures ∙ ap kind_of c.byte.ensures) c.if-kind-ne97.false in
     let h = inside_letter t i l in
-    let u = c.in-Broken.given in
-    tags_broken {b = at valued} (scan_past tag_stay e (scan_step h (λ ns. simp (s, l)) (scan_broken u.0.0 c.attribute_end.ensures u.1)))
+    tags_broken {b = at valued} (scan_past tag_stay e (scan_step h (λ ns. simp (s, l)) (scan_broken c.in-Broken.u c.attribute_end.ensures c.in-Broken.is)))
