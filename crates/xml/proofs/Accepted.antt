@@ -360,11 +360,11 @@ module _ (ns : List (List ℕ)) where
       ap (λ (l : List ℕ). form_run (at (content h) ns) l) r.split
       ∙ run_to (content h) ns r.first r.others (inside_element h ns r.first) (simp (ne_eqb r.first 60 r.not60))
 
-  words_run : (k : ℕ) {s u : List ℕ} → k ≤ 2 → Guard k s → Text s (60 ∷ 47 ∷ u) → Shuts u (at (content (words k)) ns) s
+  words_run : (k : ℕ) {s u : List ℕ} → k ≤ 2 → Text s (60 ∷ 47 ∷ u) → Guard k s → Shuts u (at (content (words k)) ns) s
   unfolding inside_element
-  words_run k {u = u} l f Text.end = shuts (words k) u
-  words_run k {u = u} l f (Text.more not c x) =
-      enter (words k) (char_runs (content (words 0)) ns c) ∙ char_step k u l f not (char_runs (content (words 0)) ns c) (λ j i g. words_run j i g x)
+  words_run k {u = u} l Text.end f = shuts (words k) u
+  words_run k {u = u} l (Text.more not c x) f =
+      enter (words k) (char_runs (content (words 0)) ns c) ∙ char_step k u l f not (char_runs (content (words 0)) ns c) (λ j i g. words_run j i x g)
 
   blank_run : {s u : List ℕ} → Text s (60 ∷ 47 ∷ u) → Shuts u (at (content blank) ns) s
   unfolding inside_element
@@ -381,7 +381,7 @@ module _ (ns : List (List ℕ)) where
               ap (λ (σ : State). form_run σ r.others) (simp e) ∙ ap (λ (l : List ℕ). form_run (at (content blank) ns) l) q ∙ ih
           split false e =
               ap (λ (σ : State). form_run σ r.others) (simp e)
-              ∙ char_step 0 u (omega arith) (λ q h. absurd (omega arith), λ q h. absurd (omega arith)) not r (λ j i g. words_run j i g x)
+              ∙ char_step 0 u (omega arith) (λ q h. absurd (omega arith), λ q h. absurd (omega arith)) not r (λ j i g. words_run j i x g)
 
 closed_62 : (ns : List (List ℕ)) (t : List ℕ) → form_run (at closed ns) (62 ∷ t) ≡ form_run (leave ns) t
 unfolding form_run form_step is_space

@@ -21,8 +21,8 @@ between : (lo hi b : ℕ) → within lo hi b ≡ true → (lo ≤ b) × (b ≤ h
 between lo hi b e = let (x, y) = and_both (leb lo b) (leb b hi) e in (leb-true lo b x, leb-true b hi y)
 
 -- what the test of a byte said
-pub continued : {r : Bool} (b : ℕ) → r ≡ within 128 191 b → not r ≡ false → (128 ≤ b) × (b ≤ 191)
-continued {r} b e h = between 128 191 b (sym e ∙ not-false r h)
+pub continued : {r : Bool} (b : ℕ) → r ≡ within 128 191 b → r ≡ true → (128 ≤ b) × (b ≤ 191)
+continued {r} b e h = between 128 191 b (sym e ∙ h)
 
 -- the last byte of a character
 last : (p : Mode) (ns : List (List ℕ)) (lo hi c : ℕ) → lo ≤ c → c ≤ hi → form_step (more p lo hi 0) ns c ≡ at p ns

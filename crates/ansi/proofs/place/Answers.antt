@@ -13,17 +13,17 @@ returns-in_default c =
 pub walk-requires : goal.walk-requires
 walk-requires c =
     let a = c.args in
-    let q = present a.list.now a.store.now c.in-Elements.count (λ i. (c.shared_slice_known-1.given i).fits) (ap counted (sym c.in-Elements.is) ∙ c.check.ensures) in
+    let q = present a.list.now a.store.now c.in-Elements.count (λ i. (c.type_inv.list i).fits) (ap counted (sym c.in-Elements.is) ∙ c.check.ensures) in
     (encoded a.list.now a.store.now c.in-Elements.count q, c.empty-text.ensures)
 
 pub returns-in-Files : goal.returns-in-Files
 returns-in-Files c =
     let a = c.args in
-    let q = present a.list.now a.store.now c.in-Elements.count (λ i. (c.shared_slice_known-1.given i).fits) (ap counted (sym c.in-Elements.is) ∙ c.check.ensures) in
+    let q = present a.list.now a.store.now c.in-Elements.count (λ i. (c.type_inv.list i).fits) (ap counted (sym c.in-Elements.is) ∙ c.check.ensures) in
     place_found a.list.now a.store.now c.in-Elements.count q (rw c.in-Files.is at (c.walk.ensures q.tape q.encodes))
 
 pub returns-in-Refused : goal.returns-in-Refused
 returns-in-Refused c =
     let a = c.args in
-    let q = present a.list.now a.store.now c.in-Elements.count (λ i. (c.shared_slice_known-1.given i).fits) (ap counted (sym c.in-Elements.is) ∙ c.check.ensures) in
+    let q = present a.list.now a.store.now c.in-Elements.count (λ i. (c.type_inv.list i).fits) (ap counted (sym c.in-Elements.is) ∙ c.check.ensures) in
     place_stopped a.list.now a.store.now c.in-Elements.count q c.in-Refused.field-0 (rw c.in-Refused.is at (c.walk.ensures q.tape q.encodes))

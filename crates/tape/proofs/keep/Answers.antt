@@ -13,7 +13,7 @@ use Rattle.tape.proofs.keep.Goals as goal
 
 pub walk-f-requires : goal.walk-f-requires
 walk-f-requires c =
-    let p = present c.args.list.now c.args.store.now c.in-Elements.count (λ i. (c.shared_slice_known-1.given i).fits)
+    let p = present c.args.list.now c.args.store.now c.in-Elements.count (λ i. (c.type_inv.list i).fits)
     (ap counted (sym c.in-Elements.is) ∙ c.check.ensures) in
     let few = p.encodes.elements in
     let count = p.count in
@@ -25,7 +25,7 @@ returns-in-Elements c =
     let n = c.args.n in
     let l = c.args.list.now in
     let s = c.args.store.now in
-    let bytes : Bytes l = λ i. (c.shared_slice_known-1.given i).fits in
+    let bytes : Bytes l = λ i. (c.type_inv.list i).fits in
     let count = c.in-Elements.count in
     let p = present l s count bytes (ap counted (sym c.in-Elements.is) ∙ c.check.ensures) in
     let e = c.walk-f.ensures ∙ ap (λ (k : ℕ). reach k l 0 0) c.least.ensures ∙ reach_kept n count l s p in
@@ -33,4 +33,4 @@ returns-in-Elements c =
 
 pub returns-in-Refused : goal.returns-in-Refused
 returns-in-Refused c =
-    keeps_absent c.args.n c.args.list.now c.args.store.now (λ i. (c.shared_slice_known-1.given i).fits) c.in-Refused.r (ap counted (sym c.in-Refused.is) ∙ c.check.ensures)
+    keeps_absent c.args.n c.args.list.now c.args.store.now (λ i. (c.type_inv.list i).fits) c.in-Refused.r (ap counted (sym c.in-Refused.is) ∙ c.check.ensures)

@@ -8,7 +8,7 @@ pub returns-then-raw-ne1 : goal.returns-then-raw-ne1
 returns-then-raw-ne1 c = sym (letter_none _ c.if-raw-ne1.true)
 
 pub overflow_cast-b : goal.overflow_cast-b
-overflow_cast-b c = omega (arith, c.shared_slice_known-1.given 0)
+overflow_cast-b c = omega (arith, c.type_inv.raw 0)
 
 pub returns-then-is_letter : goal.returns-then-is_letter
 returns-then-is_letter c = sym (letter_one _ c.if-raw-ne1.false ∙ rw (sym c.is_letter.ensures ∙ c.if-is_letter.true))

@@ -15,8 +15,8 @@ returns-in-Files c =
     record {
       answers = shown_counted (files_on (length a.buffer.now) a.list.now a.store.now) (shown c.in-Files.n (ap read_count (sym c.in-Files.is) ∙ c.files.ensures.answers));
       holds = c.files.ensures.holds;
-      layout = by_layout (length a.buffer.now) a.list.now a.store.now (λ i. (c.shared_slice_known-1.given i).fits);
-      few = few_told (length a.buffer.now) a.list.now a.store.now c.in-Files.n (λ i. (c.shared_slice_known-1.given i).fits) (ap read_count (sym c.in-Files.is) ∙ c.files.ensures.answers);
+      layout = by_layout (length a.buffer.now) a.list.now a.store.now (λ i. (c.type_inv.list i).fits);
+      few = few_told (length a.buffer.now) a.list.now a.store.now c.in-Files.n (λ i. (c.type_inv.list i).fits) (ap read_count (sym c.in-Files.is) ∙ c.files.ensures.answers);
     }
 
 pub returns-in-Refused : goal.returns-in-Refused
@@ -25,6 +25,6 @@ returns-in-Refused c =
     record {
       answers = shown_counted (files_on (length a.buffer.now) a.list.now a.store.now) (not_shown c.in-Refused.r (ap read_count (sym c.in-Refused.is) ∙ c.files.ensures.answers) c.number.ensures);
       holds = c.files.ensures.holds;
-      layout = by_layout (length a.buffer.now) a.list.now a.store.now (λ i. (c.shared_slice_known-1.given i).fits);
+      layout = by_layout (length a.buffer.now) a.list.now a.store.now (λ i. (c.type_inv.list i).fits);
       few = omega arith;
     }

@@ -11,7 +11,7 @@ returns-in-Elements c =
     let e = ap counted (sym c.in-Elements.is) ∙ c.place.ensures in
     record {
       answers = shown c.in-Elements.n e;
-      longest = place_longest a.list.now a.store.now c.in-Elements.n (λ i. (c.shared_slice_known-1.given i).fits) e;
+      longest = place_longest a.list.now a.store.now c.in-Elements.n (λ i. (c.type_inv.list i).fits) e;
     }
 
 pub returns-in-Refused : goal.returns-in-Refused

@@ -8,14 +8,14 @@ use native.Mathlib.Omega.{arith}
 use Rattle.constructs.proofs.reach.reach.Goals as goal
 
 pub returns-then-table-count : goal.returns-then-table-count
-returns-then-table-count c = reaches_short c.args.block_size c.args.table.now c.args.list.now c.args.store.now c.in-Elements.count (present c.args.list.now c.args.store.now c.in-Elements.count (λ i. (c.shared_slice_known-1.given i).fits) (ap counted (sym c.in-Elements.is) ∙ c.check.ensures)) c.if-table-count.true
+returns-then-table-count c = reaches_short c.args.block_size c.args.table.now c.args.list.now c.args.store.now c.in-Elements.count (present c.args.list.now c.args.store.now c.in-Elements.count (λ i. (c.type_inv.list i).fits) (ap counted (sym c.in-Elements.is) ∙ c.check.ensures)) c.if-table-count.true
 
 pub put_lengths-requires : goal.put_lengths-requires
-put_lengths-requires c = (encoded c.args.list.now c.args.store.now c.in-Elements.count (present c.args.list.now c.args.store.now c.in-Elements.count (λ i. (c.shared_slice_known-1.given i).fits) (ap counted (sym c.in-Elements.is) ∙ c.check.ensures)), c.if-table-count.false)
+put_lengths-requires c = (encoded c.args.list.now c.args.store.now c.in-Elements.count (present c.args.list.now c.args.store.now c.in-Elements.count (λ i. (c.type_inv.list i).fits) (ap counted (sym c.in-Elements.is) ∙ c.check.ensures)), c.if-table-count.false)
 
 pub extend-requires : goal.extend-requires
 extend-requires c =
-    let p = (present c.args.list.now c.args.store.now c.in-Elements.count (λ i. (c.shared_slice_known-1.given i).fits) (ap counted (sym c.in-Elements.is) ∙ c.check.ensures)) in
+    let p = (present c.args.list.now c.args.store.now c.in-Elements.count (λ i. (c.type_inv.list i).fits) (ap counted (sym c.in-Elements.is) ∙ c.check.ensures)) in
     let e = c.put_lengths.ensures p.tape p.encodes in
     (omega (arith, c.put_lengths.auto.1.1.1.0), rw e (small_lengths c.args.table.now c.args.list.now c.args.store.now c.in-Elements.count p c.if-table-count.false))
 
@@ -24,7 +24,7 @@ shape_of-table c = c.extend.auto.1.1.0 ∙ c.put_lengths.auto.1.1.1.0
 
 pub returns-else-table-count : goal.returns-else-table-count
 returns-else-table-count c =
-    let p = (present c.args.list.now c.args.store.now c.in-Elements.count (λ i. (c.shared_slice_known-1.given i).fits) (ap counted (sym c.in-Elements.is) ∙ c.check.ensures)) in
+    let p = (present c.args.list.now c.args.store.now c.in-Elements.count (λ i. (c.type_inv.list i).fits) (ap counted (sym c.in-Elements.is) ∙ c.check.ensures)) in
     rw (c.extend.ensures, c.put_lengths.ensures p.tape p.encodes) (reaches_found c.args.table.now c.args.list.now c.args.store.now c.in-Elements.count p c.if-table-count.false c.args.block_size)
 
 pub returns-in-Refused : goal.returns-in-Refused

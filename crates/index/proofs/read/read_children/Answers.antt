@@ -46,10 +46,10 @@ head_from-requires c =
     omega (arith, files_few (elements index (forest_at c.args.text.now c.args.at)), e, f)
 
 pub shape_of-entry_table : goal.shape_of-entry_table
-shape_of-entry_table c = search (rules, c.entry_table-1.given, c.slice_known-3-1.given, c.survey-arg-1.given)
+shape_of-entry_table c = search (rules, c.entry_table-1.given, c.type_inv.entry_table, c.survey-arg-1.given)
 
 pub shape_of-row_table : goal.shape_of-row_table
-shape_of-row_table c = search (rules, c.row_table-1.given, c.slice_known-4-1.given, c.survey-arg-2-1.given)
+shape_of-row_table c = search (rules, c.row_table-1.given, c.type_inv.row_table, c.survey-arg-2-1.given)
 
 pub returns : goal.returns
 returns c =

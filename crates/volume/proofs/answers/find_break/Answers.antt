@@ -18,14 +18,14 @@ returns-in-Refused c = judges c.args.index_list.now c.args.index_store.now c.arg
 
 pub returns-in-Sound : goal.returns-in-Sound
 returns-in-Sound c =
-    verdict_found c.args.index_list.now c.args.index_store.now c.args.data_list.now c.args.data_store.now (λ i. (c.shared_slice_known-1.given i).fits) (λ i. (c.shared_slice_known-3-1.given i).fits)
+    verdict_found c.args.index_list.now c.args.index_store.now c.args.data_list.now c.args.data_store.now (λ i. (c.type_inv.index_list i).fits) (λ i. (c.type_inv.data_list i).fits)
     (fields_in c.args.index_store.now c.in-Says.f) (ap (means c.args.index_store.now) (sym c.in-Says.is) ∙ c.check.ensures.says)
     (given c.part-uuid.result.now c.letters_of.result) (ap (λ (u : List ℕ). given u c.letters_of.result) c.part-uuid.ensures ∙ ap (given (part_at c.args.index_store.now c.in-Says.f.uuid)) c.letters_of.ensures)
     c.judge.result c.judge.ensures Consistent (ap (λ (t : Judgement). answer (break_of t)) (sym c.in-Sound.is))
 
 pub returns-in-Broken : goal.returns-in-Broken
 returns-in-Broken c =
-    verdict_found c.args.index_list.now c.args.index_store.now c.args.data_list.now c.args.data_store.now (λ i. (c.shared_slice_known-1.given i).fits) (λ i. (c.shared_slice_known-3-1.given i).fits)
+    verdict_found c.args.index_list.now c.args.index_store.now c.args.data_list.now c.args.data_store.now (λ i. (c.type_inv.index_list i).fits) (λ i. (c.type_inv.data_list i).fits)
     (fields_in c.args.index_store.now c.in-Says.f) (ap (means c.args.index_store.now) (sym c.in-Says.is) ∙ c.check.ensures.says)
     (given c.part-uuid.result.now c.letters_of.result) (ap (λ (u : List ℕ). given u c.letters_of.result) c.part-uuid.ensures ∙ ap (given (part_at c.args.index_store.now c.in-Says.f.uuid)) c.letters_of.ensures)
     c.judge.result c.judge.ensures (Break c.in-Broken.which c.in-Broken.number) (ap (λ (t : Judgement). answer (break_of t)) (sym c.in-Broken.is))

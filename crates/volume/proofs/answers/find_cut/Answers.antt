@@ -19,14 +19,14 @@ returns-in-Refused c = rescues c.args.index_list.now c.args.index_store.now c.ar
 
 pub returns-in-Fits : goal.returns-in-Fits
 returns-in-Fits c =
-    cut_found c.args.index_list.now c.args.index_store.now c.args.data_list.now c.args.data_store.now (λ i. (c.shared_slice_known-1.given i).fits) (λ i. (c.shared_slice_known-3-1.given i).fits)
+    cut_found c.args.index_list.now c.args.index_store.now c.args.data_list.now c.args.data_store.now (λ i. (c.type_inv.index_list i).fits) (λ i. (c.type_inv.data_list i).fits)
     (fields_in c.args.index_store.now c.in-Says.f) (ap (means c.args.index_store.now) (sym c.in-Says.is) ∙ c.check.ensures.says)
     (given c.part-uuid.result.now c.letters_of.result) (ap (λ (u : List ℕ). given u c.letters_of.result) c.part-uuid.ensures ∙ ap (given (part_at c.args.index_store.now c.in-Says.f.uuid)) c.letters_of.ensures)
     c.rescue_with.result c.rescue_with.ensures (Cut c.in-Fits.cut) (ap (λ (t : Tried). or_no_cut (tried_cut t)) (sym c.in-Fits.is))
 
 pub returns-in-Fails : goal.returns-in-Fails
 returns-in-Fails c =
-    cut_found c.args.index_list.now c.args.index_store.now c.args.data_list.now c.args.data_store.now (λ i. (c.shared_slice_known-1.given i).fits) (λ i. (c.shared_slice_known-3-1.given i).fits)
+    cut_found c.args.index_list.now c.args.index_store.now c.args.data_list.now c.args.data_store.now (λ i. (c.type_inv.index_list i).fits) (λ i. (c.type_inv.data_list i).fits)
     (fields_in c.args.index_store.now c.in-Says.f) (ap (means c.args.index_store.now) (sym c.in-Says.is) ∙ c.check.ensures.says)
     (given c.part-uuid.result.now c.letters_of.result) (ap (λ (u : List ℕ). given u c.letters_of.result) c.part-uuid.ensures ∙ ap (given (part_at c.args.index_store.now c.in-Says.f.uuid)) c.letters_of.ensures)
     c.rescue_with.result c.rescue_with.ensures (Refused NoCut) (ap (λ (t : Tried). or_no_cut (tried_cut t)) (sym c.in-Fails.is))
