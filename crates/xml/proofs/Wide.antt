@@ -74,20 +74,20 @@ module _ (t : List ℕ) (i : ℕ) where
   text_one h e = scan_step h (λ ns. text_stay ns (get_or t i 0) e) (scan_done (omega arith))
 
   -- a character of text, of b and w
-  text_wide : (b : ℕ) (w : List ℕ) (j : ℕ) {r : Bool} → Completes b w r → not r ≡ false → 128 ≤ b → drop i t ≡ b ∷ w ++ drop j t → i ≤ j → j ≤ length t → TextTo t i j
+  text_wide : (b : ℕ) (w : List ℕ) (j : ℕ) {r : Bool} → Completes b w r → r ≡ true → 128 ≤ b → drop i t ≡ b ∷ w ++ drop j t → i ≤ j → j ≤ length t → TextTo t i j
   unfolding form_run
   text_wide b w j {r} x e h d g l =
       record {
         runs = λ ns.
             ap (form_run (at (content (words 0)) ns)) d ∙ ap (λ (σ : State). form_run σ (w ++ drop j t)) (text_char ns b h)
-            ∙ x.runs (not-false r e) (content (words 0)) ns (drop j t);
+            ∙ x.runs e (content (words 0)) ns (drop j t);
         ends = (g, l);
       }
 
   byte_here : (j : ℕ) → j ≡ i + 1 → i < length t → drop i t ≡ get_or t i 0 ∷ drop j t
   byte_here j e h = rw (e, drop-cons t i 0, add-one)
 
-module _ (t : List ℕ) (i : ℕ) {r : Bool} (h : 128 ≤ get_or t i 0) (e : not r ≡ false) where
+module _ (t : List ℕ) (i : ℕ) {r : Bool} (h : 128 ≤ get_or t i 0) (e : r ≡ true) where
   -- a character of text, of two, three or four bytes
   pub text_two : Completes (get_or t i 0) (get_or t (i + 1) 0 ∷ []) r → i + 2 ≤ length t → TextTo t i (i + 2)
   text_two x l =

@@ -62,7 +62,7 @@ loop-places-preserved-then-h c =
     let first : FirstOf s l.i x.at x.next = o.next c.if-h.true in (
       omega (arith, l.invariant.0, first.place, first.after),
       l.invariant.1 ∙ first.tags_kept,
-      noting_more s a.kind c.number_in-j.result l.places c.note.new.0 first (c.number_in-j.ensures ∙ ap (number_in (names a.kind)) (c.lying.ensures ∙ o.shape.name.part)) c.note.ensures a.at l.invariant.2,
+      noting_more s a.kind c.number_in-j.result l.places c.note.new.places first (c.number_in-j.ensures ∙ ap (number_in (names a.kind)) (c.lying.ensures ∙ o.shape.name.part)) c.note.ensures a.at l.invariant.2,
     )
 
 pub loop-places-smaller : goal.loop-places-smaller
@@ -85,5 +85,5 @@ loop-places-preserved c =
     let first : FirstOf s l.i x.at c.leave-i.result = inner_first o c.if-h.false c.leave-i.ensures in (
       omega (arith, l.invariant.0, first.place, first.after),
       l.invariant.1 ∙ first.tags_kept,
-      noting_more s a.kind c.number_in-j.result l.places c.note.new.0 first (c.number_in-j.ensures ∙ ap (number_in (names a.kind)) (c.lying.ensures ∙ o.shape.name.part)) c.note.ensures a.at l.invariant.2,
+      noting_more s a.kind c.number_in-j.result l.places c.note.new.places first (c.number_in-j.ensures ∙ ap (number_in (names a.kind)) (c.lying.ensures ∙ o.shape.name.part)) c.note.ensures a.at l.invariant.2,
     )

@@ -19,5 +19,5 @@ returns c =
     let o = c.args.owner.now in
     let ok : are_fields i o ≡ true = sym c.are_fields.ensures ∙ c.if-not-are_fields.false in
     let e = given_block i o ok c.label_of-label.ensures in
-    writes (are_fields i o) (vol1 i o) c.args.out.now c.put.new.0 c.put.result ok
-    (subst (λ (w : List ℕ). Puts 0 w c.args.out.now c.put.new.0 c.put.result) e c.put.ensures)
+    writes (are_fields i o) (vol1 i o) c.args.out.now c.put.new.out c.put.result ok
+    (subst (λ (w : List ℕ). Puts 0 w c.args.out.now c.put.new.out c.put.result) e c.put.ensures)

@@ -14,8 +14,8 @@ unfolding vol1 bytes
 returns c =
     let i = c.args.identifier.now in
     let o = c.args.owner.now in
-    let h : length i ≡ 6 = c.add-arg-1.given.0 in
-    let g : length o ≡ 14 = c.add-arg-2-1.given.0 in
+    let h : length i ≡ 6 = c.add-arg-1.given in
+    let g : length o ≡ 14 = c.add-arg-2-1.given in
     let b : List ℕ = replicate 80 0 in
     let w₁ : List ℕ = bytes "VOL1" in
     let w₂ = w₁ ++ i in
