@@ -1,16 +1,16 @@
 -- `tag_end` meets its contract: a name with `>` behind it at once; for any other, invariant: the tag ends from i on as it does from n on.
 use Prim.Native.Nat.{ℕ, ◌+◌, ◌-◌}
-use mathlib.Core.Path.{refl, sym, ap, ◌∙◌}
-use mathlib.Core.Logic.{⊎_elim}
+use mathlib.Core.Path.{◌≡◌, refl, sym, ap, ◌∙◌}
 use native.Mathlib.Omega.{arith}
 use lib.ListN.{drop, get_or}
-use Rattle.xml.specs.Tree.{past}
+use Rattle.xml.specs.Tree.{past, quote_after}
 use Rattle.xml.proofs.Past.{past_ahead}
 use Rattle.elements.proofs.Finding.{onward_shut}
 use Rattle.elements.proofs.Plain.{named_past}
 use Rattle.elements.proofs.Left.{past_shut, past_on, past_quoted, past_end}
 use borrow.Author.Rules.{rules}
 use Rattle.elements.proofs.scan.tag_end.Goals as goal
+use Rattle.elements.proofs.scan.tag_end.Goals.{then-q-eq0+else-b-eq62, else-q-eq0}
 
 pub returns-then-text-e-eq62 : goal.returns-then-text-e-eq62
 returns-then-text-e-eq62 c =
@@ -33,12 +33,16 @@ returns-then-b-eq62 c =
 pub loop-i-preserved : goal.loop-i-preserved
 loop-i-preserved c =
     let l = c.loop-i in
-    let t = c.args.text.now in (
+    let t = c.args.text.now in
+    let step : past l.q l.last (drop l.i t) ≡ past (quote_after l.q (get_or t l.i 0)) (get_or t l.i 0) (drop (l.i + 1) t) =
+    elim c.if-q-eq0.branch [
+      | then-q-eq0+else-b-eq62 w ↦ past_on t l.i l.q l.last (search rules) w.if-q-eq0.true w.if-b-eq62.false
+      | else-q-eq0 w ↦ past_quoted t l.i l.q l.last (search rules) w.if-q-eq0.false
+    ] in (
       search rules,
       search rules,
       l.invariant.2
-          ∙ ⊎_elim (λ w. past_on t l.i l.q l.last (search rules) w.0.taken w.1.left)
-          (λ w. past_quoted t l.i l.q l.last (search rules) w.left) c.if-q-eq0.branch
+          ∙ step
           ∙ ap (λ (q : ℕ). past q (get_or t l.i 0) (drop (l.i + 1) t)) (sym c.quote_after-q.ensures),
     )
 
