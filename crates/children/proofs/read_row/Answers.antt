@@ -15,7 +15,7 @@ use Rattle.children.proofs.Tables.{known}
 use Rattle.children.proofs.Counted.{place_counted, late, early, unfit, too_many}
 use Rattle.children.proofs.Seats.{no_seats}
 use Rattle.children.proofs.Passed.{none_passed, unlawful, unknown_next, twice_next, pass_next, all_passed}
-use borrow.Author.Rules.{rules}
+use borrow.Author.Rules.{rules as needed}
 use Rattle.children.proofs.read_row.Goals as goal
 
 pub returns-then-must-gt16 : goal.returns-then-must-gt16
@@ -26,7 +26,7 @@ returns-then-must-gt16 c =
     (too_many (table_of t) c.args.must (forest_at s c.args.at) (omega (arith, length-take 16 (rules t), c.if-must-gt16.true)))
 
 pub loop-seats-init : goal.loop-seats-init
-loop-seats-init c = (search rules, refl, none_passed c.args.text.now (table_of c.args.table.now) c.args.at (replicate 16 0) no_seats)
+loop-seats-init c = (search needed, refl, none_passed c.args.text.now (table_of c.args.table.now) c.args.at (replicate 16 0) no_seats)
 
 pub all_seated-ok-requires : goal.all_seated-ok-requires
 all_seated-ok-requires c = c.loop-seats.invariant.0
