@@ -22,27 +22,27 @@ use Rattle.index_rows.proofs.row_at.Reads as row_at_reads
 use Rattle.index.proofs.read.read_children.Goals as goal
 
 pub returns-then-not-s : goal.returns-then-not-s
-returns-then-not-s c = into_refused (children_5 (given c.args.uuid.now c.args.volume) c.args.letter c.args.block.0 c.args.release (forest_at c.args.text.now c.args.at) (sym c.survey-found.ensures.sums.right ∙ c.if-not-s.true))
+returns-then-not-s c = into_refused (children_5 (given c.args.uuid.now c.args.volume) c.args.letter c.args.block.0 c.args.release (forest_at c.args.text.now c.args.at) (sym c.survey-found.ensures.sums.right ∙ (not-true _ c.if-not-s.true)))
 
 pub returns-then-not-s-2 : goal.returns-then-not-s-2
-returns-then-not-s-2 c = into_refused (children_15 (given c.args.uuid.now c.args.volume) c.args.letter c.args.block.0 c.args.release (forest_at c.args.text.now c.args.at) (sym c.survey-found.ensures.sums.right ∙ c.if-not-s.false) (sym c.survey-found.ensures.sums.small ∙ c.if-not-s-2.true))
+returns-then-not-s-2 c = into_refused (children_15 (given c.args.uuid.now c.args.volume) c.args.letter c.args.block.0 c.args.release (forest_at c.args.text.now c.args.at) (sym c.survey-found.ensures.sums.right ∙ (not-false _ c.if-not-s.false)) (sym c.survey-found.ensures.sums.small ∙ (not-true _ c.if-not-s-2.true)))
 
 pub returns-then-not-s-3 : goal.returns-then-not-s-3
-returns-then-not-s-3 c = into_refused (children_6 (given c.args.uuid.now c.args.volume) c.args.letter c.args.block.0 c.args.release (forest_at c.args.text.now c.args.at) (sym c.survey-found.ensures.sums.right ∙ c.if-not-s.false) (sym c.survey-found.ensures.sums.small ∙ c.if-not-s-2.false) (sym (c.survey-found.ensures.sums.values (c.if-not-s-2.false)) ∙ c.if-not-s-3.true))
+returns-then-not-s-3 c = into_refused (children_6 (given c.args.uuid.now c.args.volume) c.args.letter c.args.block.0 c.args.release (forest_at c.args.text.now c.args.at) (sym c.survey-found.ensures.sums.right ∙ (not-false _ c.if-not-s.false)) (sym c.survey-found.ensures.sums.small ∙ (not-false _ c.if-not-s-2.false)) (sym (c.survey-found.ensures.sums.values (not-false _ c.if-not-s-2.false)) ∙ (not-true _ c.if-not-s-3.true)))
 
 pub returns-then-not-s-4 : goal.returns-then-not-s-4
-returns-then-not-s-4 c = into_refused (children_8 (given c.args.uuid.now c.args.volume) c.args.letter c.args.block.0 c.args.release (forest_at c.args.text.now c.args.at) (sym c.survey-found.ensures.sums.right ∙ c.if-not-s.false) (sym c.survey-found.ensures.sums.small ∙ c.if-not-s-2.false) (sym (c.survey-found.ensures.sums.values (c.if-not-s-2.false)) ∙ c.if-not-s-3.false) (sym (c.survey-found.ensures.sums.owned (c.if-not-s-2.false)) ∙ c.if-not-s-4.true))
+returns-then-not-s-4 c = into_refused (children_8 (given c.args.uuid.now c.args.volume) c.args.letter c.args.block.0 c.args.release (forest_at c.args.text.now c.args.at) (sym c.survey-found.ensures.sums.right ∙ (not-false _ c.if-not-s.false)) (sym c.survey-found.ensures.sums.small ∙ (not-false _ c.if-not-s-2.false)) (sym (c.survey-found.ensures.sums.values (not-false _ c.if-not-s-2.false)) ∙ (not-false _ c.if-not-s-3.false)) (sym (c.survey-found.ensures.sums.owned (not-false _ c.if-not-s-2.false)) ∙ (not-true _ c.if-not-s-4.true)))
 
 pub returns-then-not-s-5 : goal.returns-then-not-s-5
-returns-then-not-s-5 c = into_refused (children_11 (given c.args.uuid.now c.args.volume) c.args.letter c.args.block.0 c.args.release (forest_at c.args.text.now c.args.at) (sym c.survey-found.ensures.sums.right ∙ c.if-not-s.false) (sym c.survey-found.ensures.sums.small ∙ c.if-not-s-2.false) (sym (c.survey-found.ensures.sums.values (c.if-not-s-2.false)) ∙ c.if-not-s-3.false) (sym (c.survey-found.ensures.sums.owned (c.if-not-s-2.false)) ∙ c.if-not-s-4.false) (sym (c.survey-found.ensures.sums.lawful (c.if-not-s-2.false)) ∙ c.if-not-s-5.true))
+returns-then-not-s-5 c = into_refused (children_11 (given c.args.uuid.now c.args.volume) c.args.letter c.args.block.0 c.args.release (forest_at c.args.text.now c.args.at) (sym c.survey-found.ensures.sums.right ∙ (not-false _ c.if-not-s.false)) (sym c.survey-found.ensures.sums.small ∙ (not-false _ c.if-not-s-2.false)) (sym (c.survey-found.ensures.sums.values (not-false _ c.if-not-s-2.false)) ∙ (not-false _ c.if-not-s-3.false)) (sym (c.survey-found.ensures.sums.owned (not-false _ c.if-not-s-2.false)) ∙ (not-false _ c.if-not-s-4.false)) (sym (c.survey-found.ensures.sums.lawful (not-false _ c.if-not-s-2.false)) ∙ (not-true _ c.if-not-s-5.true)))
 
 pub returns-then-not-is_place : goal.returns-then-not-is_place
-returns-then-not-is_place c = into_refused (children_12 (given c.args.uuid.now c.args.volume) c.args.letter c.args.block.0 c.args.release (forest_at c.args.text.now c.args.at) (sym c.survey-found.ensures.sums.right ∙ c.if-not-s.false) (sym c.survey-found.ensures.sums.small ∙ c.if-not-s-2.false) (sym (c.survey-found.ensures.sums.values (c.if-not-s-2.false)) ∙ c.if-not-s-3.false) (sym (c.survey-found.ensures.sums.owned (c.if-not-s-2.false)) ∙ c.if-not-s-4.false) (sym (c.survey-found.ensures.sums.lawful (c.if-not-s-2.false)) ∙ c.if-not-s-5.false) (ap (λ (f : Forest). stands_at c.args.letter c.args.block.0 (location_of f)) (sym (c.row_at.ensures.0 ∙ sym (location_placed c.args.text.now (forest_at c.args.text.now c.args.at) c.survey-found.result.places c.survey-found.ensures.places))) ∙ sym c.is_place.ensures ∙ c.if-not-is_place.true))
+returns-then-not-is_place c = into_refused (children_12 (given c.args.uuid.now c.args.volume) c.args.letter c.args.block.0 c.args.release (forest_at c.args.text.now c.args.at) (sym c.survey-found.ensures.sums.right ∙ (not-false _ c.if-not-s.false)) (sym c.survey-found.ensures.sums.small ∙ (not-false _ c.if-not-s-2.false)) (sym (c.survey-found.ensures.sums.values (not-false _ c.if-not-s-2.false)) ∙ (not-false _ c.if-not-s-3.false)) (sym (c.survey-found.ensures.sums.owned (not-false _ c.if-not-s-2.false)) ∙ (not-false _ c.if-not-s-4.false)) (sym (c.survey-found.ensures.sums.lawful (not-false _ c.if-not-s-2.false)) ∙ (not-false _ c.if-not-s-5.false)) (ap (λ (f : Forest). stands_at c.args.letter c.args.block.0 (location_of f)) (sym (c.row_at.ensures.0 ∙ sym (location_placed c.args.text.now (forest_at c.args.text.now c.args.at) c.survey-found.result.places c.survey-found.ensures.places))) ∙ sym c.is_place.ensures ∙ c.if-not-is_place.true))
 
 pub head_from-requires : goal.head_from-requires
 head_from-requires c =
-    let e = c.survey-found.ensures.sums.entries (c.if-not-s-2.false) in
-    let f = c.survey-found.ensures.sums.files (c.if-not-s-2.false) in
+    let e = c.survey-found.ensures.sums.entries (not-false _ c.if-not-s-2.false) in
+    let f = c.survey-found.ensures.sums.files (not-false _ c.if-not-s-2.false) in
     omega (arith, files_few (elements index (forest_at c.args.text.now c.args.at)), e, f)
 
 pub shape_of-entry_table : goal.shape_of-entry_table
@@ -53,11 +53,11 @@ shape_of-row_table c = search (rules, c.row_table-1.given, c.type_inv.row_table,
 
 pub returns : goal.returns
 returns c =
-    let e = c.survey-found.ensures.sums.entries (c.if-not-s-2.false) in
-    let f = c.survey-found.ensures.sums.files (c.if-not-s-2.false) in
-    let o = c.survey-found.ensures.sums.rows (c.if-not-s-2.false) in
+    let e = c.survey-found.ensures.sums.entries (not-false _ c.if-not-s-2.false) in
+    let f = c.survey-found.ensures.sums.files (not-false _ c.if-not-s-2.false) in
+    let o = c.survey-found.ensures.sums.rows (not-false _ c.if-not-s-2.false) in
     record {
       reads = reads_children c.args.release c.survey-found.result.sums.entries c.survey-found.result.sums.files c.survey-found.result.sums.rows (forest_at c.args.text.now c.args.at) (tags_at c.args.text.now c.args.at) c.head_from.ensures c.survey-found.ensures.places c.survey-found.ensures.tags e f o
-          (children_read_lem (given c.args.uuid.now c.args.volume) c.args.letter c.args.block.0 c.args.release (forest_at c.args.text.now c.args.at) (sym c.survey-found.ensures.sums.right ∙ c.if-not-s.false) (sym c.survey-found.ensures.sums.small ∙ c.if-not-s-2.false) (sym (c.survey-found.ensures.sums.values (c.if-not-s-2.false)) ∙ c.if-not-s-3.false) (sym (c.survey-found.ensures.sums.owned (c.if-not-s-2.false)) ∙ c.if-not-s-4.false) (sym (c.survey-found.ensures.sums.lawful (c.if-not-s-2.false)) ∙ c.if-not-s-5.false) (ap (λ (f : Forest). stands_at c.args.letter c.args.block.0 (location_of f)) (sym (c.row_at.ensures.0 ∙ sym (location_placed c.args.text.now (forest_at c.args.text.now c.args.at) c.survey-found.result.places c.survey-found.ensures.places))) ∙ sym c.is_place.ensures ∙ c.if-not-is_place.false));
-      tables = c.survey-found.ensures.tables (c.if-not-s-2.false);
+          (children_read_lem (given c.args.uuid.now c.args.volume) c.args.letter c.args.block.0 c.args.release (forest_at c.args.text.now c.args.at) (sym c.survey-found.ensures.sums.right ∙ (not-false _ c.if-not-s.false)) (sym c.survey-found.ensures.sums.small ∙ (not-false _ c.if-not-s-2.false)) (sym (c.survey-found.ensures.sums.values (not-false _ c.if-not-s-2.false)) ∙ (not-false _ c.if-not-s-3.false)) (sym (c.survey-found.ensures.sums.owned (not-false _ c.if-not-s-2.false)) ∙ (not-false _ c.if-not-s-4.false)) (sym (c.survey-found.ensures.sums.lawful (not-false _ c.if-not-s-2.false)) ∙ (not-false _ c.if-not-s-5.false)) (ap (λ (f : Forest). stands_at c.args.letter c.args.block.0 (location_of f)) (sym (c.row_at.ensures.0 ∙ sym (location_placed c.args.text.now (forest_at c.args.text.now c.args.at) c.survey-found.result.places c.survey-found.ensures.places))) ∙ sym c.is_place.ensures ∙ c.if-not-is_place.false));
+      tables = c.survey-found.ensures.tables (not-false _ c.if-not-s-2.false);
     }

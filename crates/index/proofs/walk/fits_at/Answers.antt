@@ -14,20 +14,20 @@ returns-then-sort-eq-UNKNOWN c = simp (eq-eqb _ _ c.if-sort-eq-UNKNOWN.true)
 
 pub returns-then-not-h : goal.returns-then-not-h
 unfolding may_stand
-returns-then-not-h c = simp (ne_eqb _ _ c.if-sort-eq-UNKNOWN.false, sym c.requires.plain ∙ c.if-not-h.true)
+returns-then-not-h c = simp (ne_eqb _ _ c.if-sort-eq-UNKNOWN.false, sym c.requires.plain ∙ (not-true _ c.if-not-h.true))
 
 pub returns-then-not-h-2 : goal.returns-then-not-h-2
 unfolding may_stand
-returns-then-not-h-2 c = simp (ne_eqb _ _ c.if-sort-eq-UNKNOWN.false, sym c.requires.plain ∙ c.if-not-h.false, sym c.is_open.ensures ∙ c.if-is_open.true, has_row {row = has_element (children_at c.args.text.now c.args.h.at)} c.requires.leaf (c.if-not-h-2.true))
+returns-then-not-h-2 c = simp (ne_eqb _ _ c.if-sort-eq-UNKNOWN.false, sym c.requires.plain ∙ (not-false _ c.if-not-h.false), sym c.is_open.ensures ∙ c.if-is_open.true, has_row {row = has_element (children_at c.args.text.now c.args.h.at)} c.requires.leaf (not-true _ c.if-not-h-2.true))
 
 pub returns-then-is_open : goal.returns-then-is_open
 unfolding may_stand
-returns-then-is_open c = simp (ne_eqb _ _ c.if-sort-eq-UNKNOWN.false, sym c.requires.plain ∙ c.if-not-h.false, sym c.is_open.ensures ∙ c.if-is_open.true, no_row {row = has_element (children_at c.args.text.now c.args.h.at)} c.requires.leaf (c.if-not-h-2.false)) (c.is_blank.ensures ∙ ap (every is_space) (c.part.ensures ∙ c.requires.text.part))
+returns-then-is_open c = simp (ne_eqb _ _ c.if-sort-eq-UNKNOWN.false, sym c.requires.plain ∙ (not-false _ c.if-not-h.false), sym c.is_open.ensures ∙ c.if-is_open.true, no_row {row = has_element (children_at c.args.text.now c.args.h.at)} c.requires.leaf (not-false _ c.if-not-h-2.false)) (c.is_blank.ensures ∙ ap (every is_space) (c.part.ensures ∙ c.requires.text.part))
 
 pub returns-then-sort-eq-SKIPPED : goal.returns-then-sort-eq-SKIPPED
 unfolding may_stand
-returns-then-sort-eq-SKIPPED c = simp (ne_eqb _ _ c.if-sort-eq-UNKNOWN.false, sym c.requires.plain ∙ c.if-not-h.false, sym c.is_open.ensures ∙ c.if-is_open.false, eq-eqb _ _ c.if-sort-eq-SKIPPED.true)
+returns-then-sort-eq-SKIPPED c = simp (ne_eqb _ _ c.if-sort-eq-UNKNOWN.false, sym c.requires.plain ∙ (not-false _ c.if-not-h.false), sym c.is_open.ensures ∙ c.if-is_open.false, eq-eqb _ _ c.if-sort-eq-SKIPPED.true)
 
 pub returns : goal.returns
 unfolding may_stand
-returns c = simp (ne_eqb _ _ c.if-sort-eq-UNKNOWN.false, sym c.requires.plain ∙ c.if-not-h.false, sym c.is_open.ensures ∙ c.if-is_open.false, ne_eqb _ _ c.if-sort-eq-SKIPPED.false) c.requires.leaf
+returns c = simp (ne_eqb _ _ c.if-sort-eq-UNKNOWN.false, sym c.requires.plain ∙ (not-false _ c.if-not-h.false), sym c.is_open.ensures ∙ c.if-is_open.false, ne_eqb _ _ c.if-sort-eq-SKIPPED.false) c.requires.leaf

@@ -10,9 +10,6 @@ use Rattle.index_values.proofs.RowTable.{put_five}
 use Rattle.index_values.proofs.Seated.{fileoffset_placed, partition_placed, startblock_placed, byteoffset_placed, bytecount_placed}
 use Rattle.index_values.proofs.tests.put_row.Goals as goal
 
-pub overflow_add-at-4 : goal.overflow_add-at-4
-overflow_add-at-4 c = omega (arith, c.requires, c.well-formed.1.1.0.0)
-
 pub returns : goal.returns
 unfolding row_of
 returns c =

@@ -31,7 +31,7 @@ returns-then-not-p c =
     let h = head_at s c.args.n in
     let f = children_at s c.args.n in
     let e₁ : version h.value ≡ some c.in-Release.release = ap version (sym c.value_of.ensures) ∙ sym c.read_version.ensures ∙ ap version_of c.in-Release.is in
-    refuses (no_shape h f (sym c.is_root.ensures ∙ c.if-not-is_root.false) e₁ (sym c.find_places-p.ensures.shaped ∙ c.if-not-p.true))
+    refuses (no_shape h f (sym c.is_root.ensures ∙ c.if-not-is_root.false) e₁ (sym c.find_places-p.ensures.shaped ∙ (not-true _ c.if-not-p.true)))
 
 pub returns : goal.returns
 returns c =
@@ -39,6 +39,6 @@ returns c =
     let h = head_at s c.args.n in
     let f = children_at s c.args.n in
     let e₁ : version h.value ≡ some c.in-Release.release = ap version (sym c.value_of.ensures) ∙ sym c.read_version.ensures ∙ ap version_of c.in-Release.is in
-    let ok = c.if-not-p.false in
+    let ok = (not-false _ c.if-not-p.false) in
     reads_as (ap (label_from c.in-Release.release) (c.find_places-p.ensures.texts ok)
     ∙ the_root h f (sym c.is_root.ensures ∙ c.if-not-is_root.false) e₁ (sym c.find_places-p.ensures.shaped ∙ ok)) (c.find_places-p.ensures.places ok) c.read_values.ensures

@@ -19,7 +19,7 @@ shape_of-generations-then-not-next c = c.loop-k.invariant.1
 pub returns-then-not-next : goal.returns-then-not-next
 returns-then-not-next c =
     chains_over (volume_with (given c.args.uuid.now c.args.volume)) c.args.store.now c.args.table.now c.args.n (length c.args.generations.now)
-    c.loop-k.generations c.loop-k.k c.loop-k.last.0 c.loop-k.invariant.2 c.loop-k-test.true c.link-next.result c.link-next.ensures (c.if-not-next.true)
+    c.loop-k.generations c.loop-k.k c.loop-k.last.0 c.loop-k.invariant.2 c.loop-k-test.true c.link-next.result c.link-next.ensures (not-true _ c.if-not-next.true)
 
 pub loop-k-smaller : goal.loop-k-smaller
 loop-k-smaller c = omega (arith, c.loop-k.invariant.0, c.loop-k-test.true)
@@ -30,7 +30,7 @@ loop-k-preserved c =
       omega (arith, c.loop-k-test.true),
       ap length p ∙ length-set c.loop-k.generations c.loop-k.k c.link-next.result.generation.0 ∙ c.loop-k.invariant.1,
       subst (λ (l : List ℕ). ChainsAt (volume_with (given c.args.uuid.now c.args.volume)) c.args.store.now c.args.table.now c.args.n (length c.args.generations.now) l (c.loop-k.k + 1) c.link-next.result.generation.0) (sym p)
-          (chains_more (volume_with (given c.args.uuid.now c.args.volume)) c.args.store.now c.args.table.now c.args.n (length c.args.generations.now) c.loop-k.generations c.loop-k.k c.loop-k.last.0 c.loop-k.invariant.2 c.loop-k-test.true c.link-next.result c.link-next.ensures c.loop-k.invariant.1 (c.if-not-next.false)),
+          (chains_more (volume_with (given c.args.uuid.now c.args.volume)) c.args.store.now c.args.table.now c.args.n (length c.args.generations.now) c.loop-k.generations c.loop-k.k c.loop-k.last.0 c.loop-k.invariant.2 c.loop-k-test.true c.link-next.result c.link-next.ensures c.loop-k.invariant.1 (not-false _ c.if-not-next.false)),
     )
 
 pub shape_of-generations : goal.shape_of-generations

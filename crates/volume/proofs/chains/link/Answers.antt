@@ -11,13 +11,13 @@ pub returns-then-not-b : goal.returns-then-not-b
 returns-then-not-b c =
     at_unsound (volume_with (given c.args.uuid.now c.args.volume)) c.args.store.now c.args.table.now c.args.k c.args.before.0 c.brief_at-b.result
     (link_placed (given c.args.uuid.now c.args.volume) c.args.store.now c.args.table.now c.args.volume.data_letter c.args.k c.construct-here.result (bounds_text c.args.store.now c.construct-here.result) c.brief_at-b.result c.construct-here.ensures refl c.brief_at-b.ensures)
-    _ c.if-k-eq0.true (c.if-not-b.true)
+    _ c.if-k-eq0.true (not-true _ c.if-not-b.true)
 
 pub returns-then-k-eq0 : goal.returns-then-k-eq0
 returns-then-k-eq0 c =
     at_first (volume_with (given c.args.uuid.now c.args.volume)) c.args.store.now c.args.table.now c.args.k c.args.before.0 c.brief_at-b.result
     (link_placed (given c.args.uuid.now c.args.volume) c.args.store.now c.args.table.now c.args.volume.data_letter c.args.k c.construct-here.result (bounds_text c.args.store.now c.construct-here.result) c.brief_at-b.result c.construct-here.ensures refl c.brief_at-b.ensures)
-    c.if-k-eq0.true (c.if-not-b.false)
+    c.if-k-eq0.true (not-false _ c.if-not-b.false)
 
 pub returns : goal.returns
 returns c =
