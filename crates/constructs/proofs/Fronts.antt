@@ -177,6 +177,6 @@ below_first {ds = []} w h = absurd (nil_suffix h)
 below_first {c} {ds = d ∷ ds} w (here e) = let z : c ≡ d = cc in omega (arith, ap (λ (x : Construct). x.first) z)
 below_first {ds = d ∷ ds} w (there h) = omega (arith, below_first w.2 h)
 
-pub below_suffix : (n : ℕ) {cs ds : List Construct} → Suffix cs ds → Below n ds → Below n cs
+pub below_suffix : {cs : List Construct} (n : ℕ) {ds : List Construct} → Suffix cs ds → Below n ds → Below n cs
 below_suffix n (here e) w = subst (λ (l : List Construct). Below n l) (sym e) w
-below_suffix n {cs} (there {y} {ys} h) w = below_le y.first n cs (omega arith) (below_suffix y.first h w.2)
+below_suffix {cs} n (there {y} {ys} h) w = below_le y.first n cs (omega arith) (below_suffix y.first h w.2)

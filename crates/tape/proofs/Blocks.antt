@@ -53,7 +53,8 @@ unfolding list store lawful_tape
 spot_from zero l at v [] h d = rw (reach_done l at v zero (omega arith), entry_none l at d)
 spot_from zero l at v (e ∷ t) h d =
     let (ok, rest) = and_parts (is_lawful_cell (cell_of e)) (lawful_tape t) h in
-    rw (reach_done l at v zero (omega arith), entry_here l at (cell_of e) (list t) ok d, add-zero v) (spot_element v at e)
+    rw (reach_done l at v zero (omega arith), entry_here l at (cell_of e) (list t) ok d)
+    (spot_element v at e ∙ ap (λ x. spot_for x (some e)) (sym (add-zero v)))
 spot_from (suc n) l at v [] h d = rw (reach_step l at v (suc n) (omega arith) (entry_none l at d), entry_none l at d)
 spot_from (suc n) l at v (e ∷ t) h d =
     let (ok, rest) = and_parts (is_lawful_cell (cell_of e)) (lawful_tape t) h in

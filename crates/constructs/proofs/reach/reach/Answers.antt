@@ -17,10 +17,10 @@ pub extend-requires : goal.extend-requires
 extend-requires c =
     let p = (present c.args.list.now c.args.store.now c.in-Elements.count (λ i. (c.type_inv.list i).fits) (ap counted (sym c.in-Elements.is) ∙ c.check.ensures)) in
     let e = c.put_lengths.ensures p.tape p.encodes in
-    (omega (arith, c.put_lengths.auto.1.1.1.0), rw e (small_lengths c.args.table.now c.args.list.now c.args.store.now c.in-Elements.count p c.if-table-count.false))
+    (omega (arith, c.put_lengths.auto.table), rw e (small_lengths c.args.table.now c.args.list.now c.args.store.now c.in-Elements.count p c.if-table-count.false))
 
 pub shape_of-table : goal.shape_of-table
-shape_of-table c = c.extend.auto.1.1.0 ∙ c.put_lengths.auto.1.1.1.0
+shape_of-table c = c.extend.auto.table ∙ c.put_lengths.auto.table
 
 pub returns-else-table-count : goal.returns-else-table-count
 returns-else-table-count c =
