@@ -29,5 +29,5 @@ returns c k uuid placed tags =
     closed_parts s (given uuid a.volume) a.sort k a.parent a.prior a.w.sums _ _ _ _ a.uids.now _ a.entry_table.now _ o _
     v.few (v.lawful uuid) v.count c.settle.ensures
     (c.list_entry.ensures k l placed tags v.count)
-    (c.keep_rows.ensures ∙ ap (λ (n : ℕ). rows_copied c.judge-v.new.1.1.0 n a.w.sums.rows o) v.count
-    ∙ rows_kept c.judge-v.new.1.1.0 l a.w.sums.rows o (taken_few a.sort f) (ap (λ (n : ℕ). take (n * 5) c.judge-v.new.1.1.0) (sym v.count) ∙ v.rows))
+    (c.keep_rows.ensures ∙ ap (λ (n : ℕ). rows_copied c.judge-v.new.out n a.w.sums.rows o) v.count
+    ∙ rows_kept c.judge-v.new.out l a.w.sums.rows o (taken_few a.sort f) (ap (λ (n : ℕ). take (n * 5) c.judge-v.new.out) (sym v.count) ∙ v.rows))
