@@ -48,6 +48,6 @@ returns c =
     let b : List ℕ = replicate 4096 0 in
     let (h, e) = c.compose-n.ensures (text_length f ok) in
     let fits : length (label_text f) ≤ 4096 = text_length f ok in
-    let part : take c.compose-n.result c.compose-n.new.0 ≡ label_text f = front_text (label_text f) b c.compose-n.new.0 c.compose-n.result fits h e in
+    let part : take c.compose-n.result c.compose-n.new.out ≡ label_text f = front_text (label_text f) b c.compose-n.new.out c.compose-n.result fits h e in
     subst (λ (t : Bool). Writes t (label_text f) c.args.out.now c.deliver.new.out c.deliver.result) (sym (given_formed f ok))
     (subst (λ (w : List ℕ). Writes (in_form w) w c.args.out.now c.deliver.new.out c.deliver.result) part c.deliver.ensures)
