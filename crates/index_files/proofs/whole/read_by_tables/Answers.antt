@@ -66,8 +66,8 @@ returns-else-not-is_enough-2 c =
     let o = a.rows.now in
     let h = c.in-Found.h in
     let (x, w, z) = mapped summary i _ (ap (means s) (sym c.in-Found.is) ∙ c.read_into.ensures.reads.answers) in
-    let m : length c.read_into.new.row_table.1.1.1.1.0 ≡ length a.entry_table.now = search (rules, c.entry_table-1.given, c.type_inv.entry_table, c.read_into-arg-1.given) in
-    let n : length c.read_into.new.row_table.1.1.1.1.1.0 ≡ length a.row_table.now = search (rules, c.row_table-1.given, c.type_inv.row_table, c.read_into-arg-2-1.given) in
+    let m : length c.read_into.new.entry_table ≡ length a.entry_table.now = c.read_into.auto.entry_table in
+    let n : length c.read_into.new.row_table ≡ length a.row_table.now = c.read_into.auto.row_table in
     let room : has_room s (length e) (length o) x ≡ true = sym (room_as g a.letter a.block.0 s x (sym w) h z (length e) (length o)) ∙ sym c.is_enough.ensures ∙ c.if-not-is_enough.false in
     let inside : has_room s (length a.entry_table.now) (length a.row_table.now) x ≡ true =
     sym (room_as g a.letter a.block.0 s x (sym w) h z (length a.entry_table.now) (length a.row_table.now)) ∙ sym (rw (m, n) at c.is_enough-in-Found.ensures) ∙ c.if-not-is_enough-2.false in
