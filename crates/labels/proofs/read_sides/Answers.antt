@@ -4,12 +4,6 @@ use Rattle.vol1.specs.Steps.{means_vol1}
 use Rattle.label.specs.Steps.{means}
 use Rattle.label.proofs.Places.{refuses, said_inside, said_places}
 use Rattle.labels.proofs.Sides.{vol1_refused, no_vol1, no_data_vol1, no_label, no_data_label, disagreed, agreed}
-use Rattle.labels.proofs.read_sides.Reads as reads
-use Rattle.labels.proofs.read_sides.Lts as lts
-use Rattle.label.proofs.labels_agree.Reads as labels_agree_reads
-use Rattle.label.proofs.read.Reads as read_reads
-use Rattle.refusals.proofs.on_data_side.Reads as on_data_side_reads
-use Rattle.vol1.proofs.read_vol1.Reads as read_vol1_reads
 use Rattle.labels.proofs.read_sides.Goals as goal
 
 pub returns-in_default : goal.returns-in_default
