@@ -7,10 +7,6 @@ use Rattle.refusals.proofs.Refusing.{refuses_answer}
 use Rattle.xml.specs.CheckSteps.{in_form, front, require_form}
 use Rattle.xml.proofs.Checked.{checked_good, checked_broken, OfText, of_form}
 use Rattle.api.proofs.Fronts.{no_front, refused_front}
-use Rattle.api.proofs.files.klapouzen_check_form.Reads as reads
-use Rattle.api.proofs.files.klapouzen_check_form.Lts as lts
-use Rattle.refusals.proofs.number.Reads as number_reads
-use Rattle.xml.proofs.check.Reads as check_reads
 use Rattle.api.proofs.files.klapouzen_check_form.Goals as goal
 
 pub returns-in-Good : goal.returns-in-Good

@@ -4,10 +4,6 @@ use Rattle.index_files.specs.FillingSteps.{count_answered}
 use Rattle.api.proofs.Showing.{shown, not_shown}
 use Rattle.refusals.specs.Refusals.{shown_place}
 use Rattle.index_files.specs.declared.filling.Filled.{Filled}
-use Rattle.api.proofs.indexes.counted.Reads as reads
-use Rattle.api.proofs.indexes.counted.Lts as lts
-use Rattle.api.proofs.numbers.front.Reads as front_reads
-use Rattle.refusals.proofs.number.Reads as number_reads
 use Rattle.api.proofs.indexes.counted.Goals as goal
 
 pub returns-in-Count : goal.returns-in-Count

@@ -1,8 +1,4 @@
 -- `in_place` meets its contract: the place, then the header in numbers.
-use Rattle.api.proofs.indexes.in_place.Reads as reads
-use Rattle.api.proofs.indexes.in_place.Lts as lts
-use Rattle.api.proofs.indexes.in_numbers.Reads as in_numbers_reads
-use Rattle.volume.proofs.between.Reads as between_reads
 use Rattle.api.proofs.indexes.in_place.Goals as goal
 
 pub returns : goal.returns

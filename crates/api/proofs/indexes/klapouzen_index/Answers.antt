@@ -5,12 +5,6 @@ use Rattle.volume.specs.ChosenSteps.{chosen_by, Chooses}
 use mathlib.Core.Path.{sym, subst, ap, ◌∙◌}
 use Rattle.volume.proofs.TextFronts.{chosen_front}
 use Rattle.api.proofs.Fronts.{with_answer, with_refusal}
-use Rattle.api.proofs.indexes.klapouzen_index.Reads as reads
-use Rattle.api.proofs.indexes.klapouzen_index.Lts as lts
-use Rattle.api.proofs.indexes.in_place.Reads as in_place_reads
-use Rattle.api.proofs.numbers.front.Reads as front_reads
-use Rattle.refusals.proofs.number.Reads as number_reads
-use Rattle.volume.proofs.read_construct.Reads as read_construct_reads
 use Rattle.api.proofs.indexes.klapouzen_index.Goals as goal
 
 pub returns-in-Found : goal.returns-in-Found

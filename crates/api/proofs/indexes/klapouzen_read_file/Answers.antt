@@ -7,11 +7,6 @@ use Rattle.api.proofs.Headers.{says_file}
 use Rattle.index.proofs.Fronts.{index_front}
 use Rattle.index_files.proofs.Fronts.{file_front}
 use Rattle.api.proofs.Fronts.{with_answer, with_refusal}
-use Rattle.api.proofs.indexes.klapouzen_read_file.Reads as reads
-use Rattle.api.proofs.indexes.klapouzen_read_file.Lts as lts
-use Rattle.api.proofs.numbers.front.Reads as front_reads
-use Rattle.index_files.proofs.file.Reads as file_reads
-use Rattle.refusals.proofs.number.Reads as number_reads
 use Rattle.api.proofs.indexes.klapouzen_read_file.Goals as goal
 
 pub returns-in-Found : goal.returns-in-Found

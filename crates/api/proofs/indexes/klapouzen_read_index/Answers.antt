@@ -7,12 +7,6 @@ use Rattle.index_files.proofs.Mapped.{mapped_refused}
 use Rattle.api.proofs.Headers.{says_index}
 use Rattle.index.proofs.Fronts.{index_front}
 use Rattle.api.proofs.Fronts.{with_answer, with_refusal}
-use Rattle.api.proofs.indexes.klapouzen_read_index.Reads as reads
-use Rattle.api.proofs.indexes.klapouzen_read_index.Lts as lts
-use Rattle.api.proofs.indexes.in_numbers.Reads as in_numbers_reads
-use Rattle.api.proofs.numbers.front.Reads as front_reads
-use Rattle.index.proofs.read_index.Reads as read_index_reads
-use Rattle.refusals.proofs.number.Reads as number_reads
 use Rattle.api.proofs.indexes.klapouzen_read_index.Goals as goal
 
 pub returns-in-Found : goal.returns-in-Found

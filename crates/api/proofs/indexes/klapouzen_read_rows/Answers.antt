@@ -3,10 +3,6 @@ use Rattle.api.proofs.Headers.{fills_out, counted_front}
 use lib.ListN.{length}
 use Rattle.index.proofs.Fronts.{index_front}
 use Rattle.index_files.proofs.Fronts.{rows_front}
-use Rattle.api.proofs.indexes.klapouzen_read_rows.Reads as reads
-use Rattle.api.proofs.indexes.klapouzen_read_rows.Lts as lts
-use Rattle.api.proofs.indexes.counted.Reads as counted_reads
-use Rattle.index_files.proofs.rows.Reads as rows_reads
 use Rattle.api.proofs.indexes.klapouzen_read_rows.Goals as goal
 
 pub returns : goal.returns

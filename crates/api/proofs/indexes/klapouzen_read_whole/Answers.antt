@@ -9,12 +9,6 @@ use lib.ListN.{length}
 use Rattle.index.proofs.Fronts.{index_front}
 use Rattle.index_files.proofs.Fronts.{whole_front}
 use Rattle.api.proofs.Fronts.{no_front, refused_front}
-use Rattle.api.proofs.indexes.klapouzen_read_whole.Reads as reads
-use Rattle.api.proofs.indexes.klapouzen_read_whole.Lts as lts
-use Rattle.api.proofs.indexes.in_numbers.Reads as in_numbers_reads
-use Rattle.api.proofs.numbers.front.Reads as front_reads
-use Rattle.index_files.proofs.read_whole.Reads as read_whole_reads
-use Rattle.refusals.proofs.number.Reads as number_reads
 use Rattle.api.proofs.indexes.klapouzen_read_whole.Goals as goal
 
 pub returns-in-Found : goal.returns-in-Found

@@ -6,13 +6,6 @@ use Rattle.api.proofs.Showing.{told, not_told}
 use Rattle.api.proofs.Saying.{says_on_volume}
 use Rattle.labels.proofs.TextFronts.{labels_front}
 use Rattle.api.proofs.Fronts.{no_side, refused_side}
-use Rattle.api.proofs.labelling.klapouzen_check_labels.Reads as reads
-use Rattle.api.proofs.labelling.klapouzen_check_labels.Lts as lts
-use Rattle.api.proofs.labelling.on_volume.Reads as on_volume_reads
-use Rattle.api.proofs.numbers.front.Reads as front_reads
-use Rattle.api.proofs.numbers.side.Reads as side_reads
-use Rattle.labels.proofs.check.Reads as check_reads
-use Rattle.refusals.proofs.number.Reads as number_reads
 use Rattle.api.proofs.labelling.klapouzen_check_labels.Goals as goal
 
 pub returns-in-Says : goal.returns-in-Says

@@ -6,12 +6,6 @@ use Rattle.api.proofs.Showing.{told, not_told}
 use Rattle.api.proofs.Saying.{says_label}
 use Rattle.label.proofs.Fronts.{label_front}
 use Rattle.api.proofs.Fronts.{with_answer, with_refusal}
-use Rattle.api.proofs.labelling.klapouzen_read_label.Reads as reads
-use Rattle.api.proofs.labelling.klapouzen_read_label.Lts as lts
-use Rattle.api.proofs.labelling.in_numbers.Reads as in_numbers_reads
-use Rattle.api.proofs.numbers.front.Reads as front_reads
-use Rattle.label.proofs.read.Reads as read_reads
-use Rattle.refusals.proofs.number.Reads as number_reads
 use Rattle.api.proofs.labelling.klapouzen_read_label.Goals as goal
 
 pub returns-in-Says : goal.returns-in-Says

@@ -1,6 +1,5 @@
 -- `klapouzen_constructs` meets its contract: 14, or what the scan answers, and its table.
 use mathlib.Core.Path.{sym, ◌∙◌, ap}
-use borrow.Author.Tests.{not-true, not-false}
 use Rattle.refusals.specs.declared.Refusal.TheVariants.{Caller}
 use Rattle.constructs.specs.TableSteps.{scanned_count}
 use Rattle.api.proofs.Showing.{shown, not_shown}

@@ -5,12 +5,6 @@ use Rattle.volume.specs.declared.answers.Rescue.TheVariants.{Cut, Refused}
 use Rattle.api.proofs.Showing.{shown, not_shown}
 use Rattle.volume.proofs.TextFronts.{rescue_front}
 use Rattle.api.proofs.Fronts.{no_side, refused_side}
-use Rattle.api.proofs.volumes.klapouzen_rescue.Reads as reads
-use Rattle.api.proofs.volumes.klapouzen_rescue.Lts as lts
-use Rattle.api.proofs.numbers.front.Reads as front_reads
-use Rattle.api.proofs.numbers.side.Reads as side_reads
-use Rattle.refusals.proofs.number.Reads as number_reads
-use Rattle.volume.proofs.find_cut.Reads as find_cut_reads
 use Rattle.api.proofs.volumes.klapouzen_rescue.Goals as goal
 
 pub returns-in-Cut : goal.returns-in-Cut

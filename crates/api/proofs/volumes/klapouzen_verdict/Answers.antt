@@ -5,12 +5,6 @@ use Rattle.api.proofs.Demands.{judges_out}
 use Rattle.api.proofs.Showing.{shown, not_shown}
 use Rattle.volume.proofs.TextFronts.{verdict_front}
 use Rattle.api.proofs.Fronts.{no_side, refused_side}
-use Rattle.api.proofs.volumes.klapouzen_verdict.Reads as reads
-use Rattle.api.proofs.volumes.klapouzen_verdict.Lts as lts
-use Rattle.api.proofs.numbers.front.Reads as front_reads
-use Rattle.api.proofs.numbers.side.Reads as side_reads
-use Rattle.refusals.proofs.number.Reads as number_reads
-use Rattle.volume.proofs.find_break.Reads as find_break_reads
 use Rattle.api.proofs.volumes.klapouzen_verdict.Goals as goal
 
 pub returns-in-Consistent : goal.returns-in-Consistent
