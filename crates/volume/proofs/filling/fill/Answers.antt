@@ -4,7 +4,7 @@ use Rattle.volume.proofs.filling.fill.Goals as goal
 
 pub shape_of-reach : goal.shape_of-reach
 shape_of-reach c =
-    c.fill_reach-elements.auto.1.1.1.0
+    c.fill_reach-elements.auto.table
 
 pub returns : goal.returns
 returns c =

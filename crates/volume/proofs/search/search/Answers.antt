@@ -5,7 +5,6 @@ use Rattle.index_values.specs.Steps.{given}
 use native.Mathlib.Omega.{arith}
 use Prim.Native.Nat.{◌-◌}
 use mathlib.Core.Path.{subst}
-use Rattle.volume.proofs.search.search.Invariants.{)}
 use Rattle.volume.proofs.search.search.Goals as goal
 
 pub loop-k-init : goal.loop-k-init
@@ -26,6 +25,7 @@ loop-k-preserved c = (
   searches_on (given c.args.uuid.now c.args.volume) c.args.volume c.args.store.now c.args.index_table.now c.args.n c.args.data_table.now c.args.generations.now c.args.beginnings.now c.args.index_reach.now c.args.data_reach.now
       c.loop-k.k c.loop-k.invariant.1 c.loop-k-test.true c.loop-k.invariant.0
       (subst (Tries (given c.args.uuid.now c.args.volume) c.args.volume c.args.store.now c.args.index_table.now (c.loop-k.k - 1) c.args.data_table.now c.args.generations.now c.args.beginnings.now c.args.index_reach.now c.args.data_reach.now) c.in-Fails.is c.try_cut.ensures),
+)
 
 pub returns : goal.returns
 returns c = searches_end (given c.args.uuid.now c.args.volume) c.args.volume c.args.store.now c.args.index_table.now c.args.n c.args.data_table.now c.args.generations.now c.args.beginnings.now c.args.index_reach.now c.args.data_reach.now c.loop-k.k c.loop-k.invariant.1 c.loop-k-test.false
