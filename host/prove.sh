@@ -1,18 +1,21 @@
 #!/usr/bin/env bash
-# rt with a line for each crate: prove.sh LOG RT-COMMAND CRATE
-# rt says all that it has to say of a crate when it is done with it; that goes to the log. Ends with rt's status.
+# rt with a line for each crate that it proves: prove.sh LOG RT-COMMAND CRATE, as `rt RT-COMMAND` in the crate's folder, on no input.
+# What rt says of functions and theorems goes to the log. Ends with rt's status.
 set -uo pipefail
 log=$(realpath "$1")
 command=$2
 crate=$3
-# One rt at a time, also where make runs rules side by side: they share ../target.
+# One rt at a time, also where make runs rules side by side: they share the crates' out/.
 exec 9> "$(dirname "$log")/prove.lock"
 flock 9
-cd "$(dirname "$0")/.." || exit 2
+cd "$(dirname "$0")/../crates" || exit 2
+repository=$(dirname "$PWD")
+cd "$crate" || exit 2
 
-# The crate and all that it uses, of those that crates.txt has: they are what is proved.
-crates=$(awk -v wanted="$crate" '
-    /^[^#]*:/ { name = $1; sub(/:$/, "", name); $1 = ""; uses[name] = $0 }
+# How many the crate and all that it uses are, of those that crates.txt has: they are what is proved.
+count=$(awk -v wanted="$crate" '
+    { sub(/#.*/, "") }
+    /:/ { name = $1; sub(/:.*/, "", name); sub(/^[^:]*:/, ""); uses[name] = $0 }
     END {
         todo = wanted
         while (split(todo, names, " ") > 0) {
@@ -21,34 +24,35 @@ crates=$(awk -v wanted="$crate" '
                 if (!(names[i] in uses) || names[i] in reached)
                     continue
                 reached[names[i]] = 1
-                print names[i]
+                count++
                 todo = todo " " uses[names[i]]
             }
         }
-    }' crates.txt)
-count=$(wc -l <<< "$crates")
-echo "proving $crate and what it uses, $count crates; from nothing this takes minutes. All of it: ${log#"$PWD"/}"
+        print count
+    }' ../../crates.txt)
+echo "proving $crate and what it uses, $count crates; what is proved here already is not proved again. From nothing this takes minutes. All of it: ${log#"$repository"/}"
 
-# A line for each crate of those that rt has one for; the others are of functions and theorems.
+# rt says of each crate that it chose a number of jobs for it, then much of functions and theorems, then whether it is proved.
 show_crates() {
-    local line name done=0 left=" ${crates//$'\n'/ } "
+    local line name='' began=0
     while IFS= read -r line; do
-        # The library is the last crate: rt names its file.
-        [[ $line =~ ^"rt: target/staticlib/lib"([^.]*) ]] && line="rt: ${BASH_REMATCH[1]} proved, and compiled"
-        [[ $line == "rt: "* ]] || continue
-        name=${line#rt: }
-        name=${name%% *}
-        [[ $left == *" $name "* ]] || continue
-        left=${left/ $name / }
-        done=$((done + 1))
-        echo "crate $done of $count: ${line#rt: }"
+        if [[ $line =~ ^"rt: chose --jobs "[0-9]+" for "([a-z0-9_]+)$ ]]; then
+            name=${BASH_REMATCH[1]}
+            began=$SECONDS
+        elif [[ -n $name && $line =~ ^"logic=proved functions="([0-9]+) ]]; then
+            echo "$name: proved (${BASH_REMATCH[1]} functions, $((SECONDS - began)) s)"
+            name=''
+        elif [[ -n $name && $line == "logic=not-proved"* ]]; then
+            echo "$name: NOT PROVED ($((SECONDS - began)) s)"
+            name=''
+        fi
     done
 }
 
-rt "$command" "$crate" 2>&1 | tee "$log" | show_crates
+rt "$command" < /dev/null 2>&1 | tee "$log" | show_crates
 status=${PIPESTATUS[0]}
 if [ "$status" -ne 0 ]; then
-    echo "rt $command $crate ended with status $status; the end of ${log#"$PWD"/}:" >&2
+    echo "rt $command of $crate ended with status $status; the end of ${log#"$repository"/}:" >&2
     tail -n 30 "$log" >&2
 fi
 exit "$status"

@@ -24,62 +24,70 @@ stand_in() { # NAME, its text on standard input
     chmod +x "$WORK/bin/$1"
 }
 
-# ---- Proving: a line a crate, the rest in the log, rt's status ----
+# ---- Proving: a line a crate that is proved, the rest in the log, rt's status ----
 
-mkdir -p "$WORK/repository/host"
+mkdir -p "$WORK/repository/host" "$WORK/repository/crates/top" "$WORK/repository/crates/program"
 cp prove.sh "$WORK/repository/host/"
 cat > "$WORK/repository/crates.txt" <<'END'
 # NAME: the crates it uses
-top: left right low io
+top staticlib: left right low io
 low:
 left: low libc
 right: low
 beside: low
 program: left io
 END
+# It says what rt says: of right nothing where that is proved already.
 stand_in rt <<'END'
 mkdir "$WORK/proving" || exit 8
-for crate in low left; do
-    for i in 1 2 3 4 5; do echo "fn $crate::number_$i: proved"; done
-    echo "logic=proved functions=5 theorems=2"
-    echo "rt: $crate proved (3 s)"
-done
+read -r line && exit 9
+folder=$(basename "$PWD")
+prove() { # CRATE, what the verdict is
+    echo "rt: chose --jobs 2 for $1"
+    for i in 1 2 3 4 5; do echo "fn $1::number_$i: proved"; done
+    echo "logic=$2 functions=5 sum=dac8208d650f15bf logic-built=trusted"
+}
+prove low proved
+prove left proved
 sleep 0.2
 rmdir "$WORK/proving"
 if [ -n "${BROKEN:-}" ]; then
     echo "error: a theorem is not proved" >&2
-    echo "rt: right NOT PROVED (exit 1, 2 s)"
+    prove right not-proved
+    echo "rt: the library right did not build, so nothing above it was checked"
     exit 3
 fi
-[ "$*" = "check program" ] && echo "rt: program proved (1 s)"
-[ "$*" = "staticlib top" ] || exit 0
-echo "rt: right proved (unchanged since it was last proved)"
-echo "rt: beside nothing of this"
-echo "rt: target/staticlib/libtop.a has the functions of top that are marked"
+case "$* $folder" in "lib top" | "run program") ;; *) exit 4 ;; esac
+prove "$folder" proved
 END
 
 prove() { # RT-COMMAND CRATE
     "$WORK/repository/host/prove.sh" "$WORK/target/$2.log" "$1" "$2"
 }
 
-prove staticlib top > "$WORK/out" 2>&1 || fail "status $?, not 0"
-says "crate 1 of 4: low proved (3 s)"
-says "crate 2 of 4: left proved (3 s)"
-says "crate 3 of 4: right proved (unchanged since it was last proved)"
-says "crate 4 of 4: top proved, and compiled"
-[ "$(wc -l < "$WORK/out")" -eq 5 ] || fail "not a line a crate"
+# shown CRATE WHAT: a line of the crate, whatever the seconds
+shown() { grep -qxE -- "$1: $2, [0-9]+ s\)" "$WORK/out" || fail "no line of $1: $2"; }
+
+prove lib top > "$WORK/out" 2>&1 || fail "status $?, not 0"
+grep -q "^proving top and what it uses, 4 crates" "$WORK/out" || fail "not the number of crates"
+shown low "proved \(5 functions"
+shown left "proved \(5 functions"
+shown top "proved \(5 functions"
+[ "$(wc -l < "$WORK/out")" -eq 4 ] || fail "not a line a crate"
 grep -qx "fn left::number_4: proved" "$WORK/target/top.log" || fail "the log is not whole"
 
-BROKEN=1 prove staticlib top > "$WORK/out" 2>&1
+BROKEN=1 prove lib top > "$WORK/out" 2>&1
 [ $? -eq 3 ] || fail "not rt's status"
-says "crate 3 of 4: right NOT PROVED (exit 1, 2 s)"
+grep -qxE "right: NOT PROVED \([0-9]+ s\)" "$WORK/out" || fail "no line of the crate that is not proved"
 says "error: a theorem is not proved"
+says "rt: the library right did not build, so nothing above it was checked"
 
 # Two rules of make side by side: one rt after the other.
-prove staticlib top > "$WORK/out" 2>&1 &
-prove check program > "$WORK/out2" 2>&1 || fail "two at once: $(tail -n 1 "$WORK/out2")"
+prove lib top > "$WORK/out" 2>&1 &
+prove run program > "$WORK/out2" 2>&1 || fail "two at once: $(tail -n 1 "$WORK/out2")"
 wait $! || fail "two at once"
-grep -qx "crate 3 of 3: program proved (1 s)" "$WORK/out2" || fail "not a program's crates: $(cat "$WORK/out2")"
+grep -q "^proving program and what it uses, 3 crates" "$WORK/out2" || fail "not a program's crates: $(cat "$WORK/out2")"
+grep -qxE "program: proved \(5 functions, [0-9]+ s\)" "$WORK/out2" || fail "not a program's line: $(cat "$WORK/out2")"
 
 # ---- Warnings, missing headers ----
 
