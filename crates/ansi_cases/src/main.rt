@@ -2,6 +2,8 @@
 #![tactic(auto)]
 
 use ansi::FilesRead;
+use std::fs::File;
+use std::io;
 use tape::ListChecked;
 
 // The number of a refusal, or 0, and the number of files, or 0.
@@ -22,73 +24,73 @@ fn read(list: &[u8], store: &[u8], out: &mut [u8]) -> Answer {
 }
 
 // The refusal, the number of files and the whole of out expected.
-fn files_as(list: &[u8], store: &[u8], out: &mut [u8], fd: i32) -> bool {
+fn files_as(list: &[u8], store: &[u8], out: &mut [u8], file: &mut File) -> io::Result<bool> {
     let told = read(list, store, out);
-    let refusal = case_files::number(fd);
-    let files = case_files::number(fd) as usize;
+    let refusal = case_files::number(file)?;
+    let files = case_files::number(file)? as usize;
     let mut after = [0u8; 4096];
-    let a = case_files::bytes(fd, &mut after);
+    let a = case_files::bytes(file, &mut after)?;
     if told.refusal != refusal {
-        return false;
+        return Ok(false);
     }
     if told.files != files {
-        return false;
+        return Ok(false);
     }
-    slices::same(out, &after[..a])
+    Ok(slices::same(out, &after[..a]))
 }
 
 // A lent buffer, and what is expected of it.
-fn files_case(list: &[u8], store: &[u8], fd: i32) -> bool {
+fn files_case(list: &[u8], store: &[u8], file: &mut File) -> io::Result<bool> {
     let mut out = [0u8; 4096];
-    let o = case_files::bytes(fd, &mut out);
-    files_as(list, store, &mut out[..o], fd)
+    let o = case_files::bytes(file, &mut out)?;
+    files_as(list, store, &mut out[..o], file)
 }
 
 // The refusal, where there is room for every file, and the place expected.
-fn place_case(list: &[u8], store: &[u8], fd: i32) -> bool {
-    let refusal = case_files::number(fd);
-    let place = case_files::number(fd) as usize;
+fn place_case(list: &[u8], store: &[u8], file: &mut File) -> io::Result<bool> {
+    let refusal = case_files::number(file)?;
+    let place = case_files::number(file)? as usize;
     let mut room = [0u8; 4096];
     let told = read(list, store, &mut room);
     if told.refusal != refusal {
-        return false;
+        return Ok(false);
     }
     match ansi::place(list, store) {
         ListChecked::Elements(n) => {
             // Only a bad list or store has no place.
             if refusal == 1 {
-                return false;
+                return Ok(false);
             }
-            n == place
+            Ok(n == place)
         }
-        ListChecked::Refused(r) => refusals::number(r) == refusal,
+        ListChecked::Refused(r) => Ok(refusals::number(r) == refusal),
     }
 }
 
 // A list and a store, and what is expected of them.
-fn one(kind: u64, fd: i32) -> bool {
+fn one(kind: u64, file: &mut File) -> io::Result<bool> {
     let mut list = [0u8; 4096];
-    let l = case_files::bytes(fd, &mut list);
+    let l = case_files::bytes(file, &mut list)?;
     let mut store = [0u8; 24576];
-    let s = case_files::bytes(fd, &mut store);
+    let s = case_files::bytes(file, &mut store)?;
     if kind == 0 {
-        return files_case(&list[..l], &store[..s], fd);
+        return files_case(&list[..l], &store[..s], file);
     }
-    place_case(&list[..l], &store[..s], fd)
+    place_case(&list[..l], &store[..s], file)
 }
 
 // The cases of one file.
-fn run(path: &[u8], kind: u64) {
-    let mut cases = case_files::open(path);
+fn run(rt: &HostRuntime, path: &str, kind: u64) -> io::Result<()> {
+    let mut cases = case_files::open(rt, path)?;
     while cases.left > 0 {
-        let good = one(kind, cases.fd);
-        cases = case_files::judged(cases, good);
+        let good = one(kind, &mut cases.file)?;
+        cases = case_files::judged(rt, cases, good)?;
     }
-    case_files::close(path, cases);
+    case_files::close(rt, path, cases)
 }
 
-fn main() {
-    run(b"vectors", 0);
-    run(b"places", 1);
-    run(b"unreadable", 1);
+fn main(rt: HostRuntime) -> io::Result<()> {
+    run(&rt, "vectors", 0)?;
+    run(&rt, "places", 1)?;
+    run(&rt, "unreadable", 1)
 }

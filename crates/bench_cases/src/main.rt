@@ -3,19 +3,21 @@
 #![tactic(auto)]
 
 use slices::Written;
+use std::fs::File;
+use std::io;
 
 // Four files; the lines expected.
-fn one(fd: i32) -> bool {
+fn one(file: &mut File) -> io::Result<bool> {
     let mut index_list = [0u8; 32768];
-    let il = case_files::bytes(fd, &mut index_list);
+    let il = case_files::bytes(file, &mut index_list)?;
     let mut index_store = [0u8; 32768];
-    let is = case_files::bytes(fd, &mut index_store);
+    let is = case_files::bytes(file, &mut index_store)?;
     let mut data_list = [0u8; 32768];
-    let dl = case_files::bytes(fd, &mut data_list);
+    let dl = case_files::bytes(file, &mut data_list)?;
     let mut data_store = [0u8; 32768];
-    let ds = case_files::bytes(fd, &mut data_store);
+    let ds = case_files::bytes(file, &mut data_store)?;
     let mut expected = [0u8; 256];
-    let e = case_files::bytes(fd, &mut expected);
+    let e = case_files::bytes(file, &mut expected)?;
     let mut lines = [0u8; 256];
     match bench_lines::write(
         &index_list[..il],
@@ -24,27 +26,27 @@ fn one(fd: i32) -> bool {
         &data_store[..ds],
         &mut lines,
     ) {
-        Written::To(n) => slices::same(slices::part(&lines, 0, n), &expected[..e]),
-        Written::Refused(_) => false,
+        Written::To(n) => Ok(slices::same(slices::part(&lines, 0, n), &expected[..e])),
+        Written::Refused(_) => Ok(false),
     }
 }
 
 // The cases of one file.
-fn run(path: &[u8]) {
-    let mut cases = case_files::open(path);
+fn run(rt: &HostRuntime, path: &str) -> io::Result<()> {
+    let mut cases = case_files::open(rt, path)?;
     while cases.left > 0 {
-        let good = one(cases.fd);
-        cases = case_files::judged(cases, good);
+        let good = one(&mut cases.file)?;
+        cases = case_files::judged(rt, cases, good)?;
     }
-    case_files::close(path, cases);
+    case_files::close(rt, path, cases)
 }
 
-fn main() {
-    run(b"examples");
-    run(b"vectors");
-    run(b"own");
-    run(b"spellings");
-    run(b"numbers");
-    run(b"kinds");
-    run(b"unreadable");
+fn main(rt: HostRuntime) -> io::Result<()> {
+    run(&rt, "examples")?;
+    run(&rt, "vectors")?;
+    run(&rt, "own")?;
+    run(&rt, "spellings")?;
+    run(&rt, "numbers")?;
+    run(&rt, "kinds")?;
+    run(&rt, "unreadable")
 }

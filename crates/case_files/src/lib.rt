@@ -1,9 +1,35 @@
-// Files of test cases: numbers of 8 bytes, low byte first, and byte strings, each behind its length as such a number. What cannot be
-// read is 0 or empty.
+// Files of test cases: numbers of 8 bytes, low byte first, and byte strings, each behind its length as such a number. What stands behind
+// the end of a file is 0 or empty; a read that fails is an error.
 #![tactic(auto)]
 
-ghost use Rattle.std.specs.Prelude.{◌≡◌, ◌-◌, ◌<◌, ◌≤◌};
-ghost use Rattle.io.specs.Counts.{IsPrefixLen};
+ghost use Rattle.std.specs.Prelude.{◌≡◌, ◌-◌, ◌<◌, ◌≤◌, IfOk};
+ghost use Rattle.case_files.specs.Counts.{IsPrefixLen};
+
+use std::io::{ErrorKind, Read};
+use std::rt::Files;
+use std::{fs, io};
+
+// Reads until buf is full or the input ends, and answers how many bytes it put at the front of buf.
+pub fn read_full<R: Read>(file: &mut R, buf: &mut [u8]) -> io::Result<usize>
+    ensures { IfOk result (λ n. IsPrefixLen n buf.new) }
+{
+    let mut done: usize = 0;
+    for _ in 0..u64::MAX {
+        if buf.len() <= done {
+            break;
+        }
+        match file.read(&mut buf[done..]) {
+            Ok(0) => break,
+            Ok(n) => done += n,
+            Err(e) => {
+                if e.kind() != ErrorKind::Interrupted {
+                    return Err(e);
+                }
+            }
+        }
+    }
+    Ok(done)
+}
 
 fn wide(x: u8) -> u64
     ensures { result < 256 }
@@ -18,94 +44,83 @@ fn half(a: u8, b: u8, c: u8, d: u8) -> u64
 }
 
 // The next number of a file.
-pub fn number(fd: i32) -> u64 {
+pub fn number<R: Read>(file: &mut R) -> io::Result<u64> {
     let mut b = [0u8; 8];
-    io::read_full(fd, &mut b);
-    half(b[0], b[1], b[2], b[3]) + half(b[4], b[5], b[6], b[7]) * 4294967296
+    read_full(file, &mut b)?;
+    Ok(half(b[0], b[1], b[2], b[3]) + half(b[4], b[5], b[6], b[7]) * 4294967296)
 }
 
 // The next byte string of a file, at the front of buf, where it has room for it.
-pub fn bytes(fd: i32, buf: &mut [u8]) -> usize
-    ensures { IsPrefixLen result buf.new }
+pub fn bytes<R: Read>(file: &mut R, buf: &mut [u8]) -> io::Result<usize>
+    ensures { IfOk result (λ n. IsPrefixLen n buf.new) }
 {
-    let n = number(fd) as usize;
+    let n = number(file)? as usize;
     if buf.len() < n {
-        return 0;
+        return Ok(0);
     }
-    io::read_full(fd, &mut buf[..n])
+    read_full(file, &mut buf[..n])
 }
 
 // Prints how many of the cases under a name were as expected.
-pub fn report(name: &[u8], good: u64, cases: u64) {
-    io::write_all(1, name);
-    io::write_all(1, b": ");
-    io::print_decimal(1, good);
-    io::write_all(1, b" of ");
-    io::print_decimal(1, cases);
-    io::write_all(1, b" as expected\n");
+pub fn report(rt: &impl Print, name: &str, good: u64, cases: u64) -> io::Result<()> {
+    println!(rt; "{name}: {good} of {cases} as expected")
 }
 
 // 1 for a case that was as expected; 0 for another, whose number is printed.
-pub fn shown_good(good: bool, case: u64) -> u64
-    ensures { result ≤ 1 }
+pub fn shown_good(rt: &impl Print, good: bool, case: u64) -> io::Result<u64>
+    ensures { IfOk result (λ n. n ≤ 1) }
 {
     if good {
-        return 1;
+        return Ok(1);
     }
-    io::write_all(1, b"not as expected: case ");
-    io::print_decimal(1, case);
-    io::write_all(1, b"\n");
-    0
+    println!(rt; "not as expected: case {case}")?;
+    Ok(0)
 }
 
 // The cases of a file: how many there are, how many are left, and how many were as expected.
-#[derive(Clone, Copy)]
-pub struct Cases {
-    pub fd: i32,
+#[derive(Drop)]
+pub struct Cases<R> {
+    pub file: R,
     pub all: u64,
     pub left: u64,
     pub good: u64,
 }
 
-// Begins with the cases of a file; none where it cannot be opened.
-pub fn open(path: &[u8]) -> Cases {
-    let fd = os::open_read(path);
-    if fd < 0 {
-        os::fail(path);
-        return Cases {
-            fd,
-            all: 0,
-            left: 0,
-            good: 0,
-        };
-    }
-    let all = number(fd);
-    Cases {
-        fd,
+// Begins with the cases of a file. Where it cannot be opened, the error is printed too, behind the file's name.
+pub fn open<S: Files + Eprint>(rt: &S, path: &str) -> io::Result<Cases<S::File>> {
+    let mut file = match fs::open(rt, path) {
+        Ok(file) => file,
+        Err(e) => {
+            eprintln!(rt; "{path}: {e}")?;
+            return Err(e);
+        }
+    };
+    let all = number(&mut file)?;
+    Ok(Cases {
+        file,
         all,
         left: all,
         good: 0,
-    }
+    })
 }
 
 // The next case was as expected or not.
-pub fn judged(cases: Cases, good: bool) -> Cases
-    ensures { result.left ≡ cases.left - 1 }
+pub fn judged<R: Drop>(rt: &impl Print, cases: Cases<R>, good: bool) -> io::Result<Cases<R>>
+    ensures { IfOk result (λ after. after.left ≡ cases.left - 1) }
 {
     if cases.left == 0 {
-        return cases;
+        return Ok(cases);
     }
-    let n = shown_good(good, std::num::wrapping_sub_u64(cases.all, cases.left));
-    Cases {
-        fd: cases.fd,
+    let n = shown_good(rt, good, std::num::wrapping_sub_u64(cases.all, cases.left))?;
+    Ok(Cases {
+        file: cases.file,
         all: cases.all,
         left: cases.left - 1,
         good: std::num::wrapping_add_u64(cases.good, n),
-    }
+    })
 }
 
 // Ends with the cases of a file, and prints how many were as expected.
-pub fn close(path: &[u8], cases: Cases) {
-    libc::close(cases.fd);
-    report(path, cases.good, cases.all);
+pub fn close<R: Drop>(rt: &impl Print, path: &str, cases: Cases<R>) -> io::Result<()> {
+    report(rt, path, cases.good, cases.all)
 }

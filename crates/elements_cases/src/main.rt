@@ -3,47 +3,49 @@
 
 use elements::{Child, Tag};
 use slices::Written;
+use std::io;
 
-fn put(s: &[u8]) {
-    io::write_all(1, s);
+fn put(rt: &impl Print, s: &[u8]) -> io::Result<()> {
+    rt.write_all(s)
 }
 
-fn line(s: &[u8]) {
-    put(s);
-    put(b"\n");
+fn line(rt: &impl Print, s: &[u8]) -> io::Result<()> {
+    put(rt, s)?;
+    put(rt, b"\n")
 }
 
-fn number(n: usize) {
-    put(b" ");
-    io::print_decimal(1, n as u64);
+fn number(rt: &impl Print, n: usize) -> io::Result<()> {
+    put(rt, b" ")?;
+    rt.print(n)
 }
 
-fn indent(depth: usize) {
+fn indent(rt: &impl Print, depth: usize) -> io::Result<()> {
     let mut i: usize = 0;
     while i < depth {
-        space();
+        space(rt)?;
         i += 1;
     }
+    Ok(())
 }
 
-fn space() {
-    put(b"  ");
+fn space(rt: &impl Print) -> io::Result<()> {
+    put(rt, b"  ")
 }
 
 // What the element at n says: `name key=[value] [text]`.
-fn element(text: &[u8], n: usize, depth: usize) {
-    indent(depth);
-    put(elements::name_of(text, n));
+fn element(rt: &impl Print, text: &[u8], n: usize, depth: usize) -> io::Result<()> {
+    indent(rt, depth)?;
+    put(rt, elements::name_of(text, n))?;
     if elements::key_of(text, n).len() != 0 {
-        put(b" ");
-        put(elements::key_of(text, n));
-        put(b"=[");
-        put(elements::value_of(text, n));
-        put(b"]");
+        put(rt, b" ")?;
+        put(rt, elements::key_of(text, n))?;
+        put(rt, b"=[")?;
+        put(rt, elements::value_of(text, n))?;
+        put(rt, b"]")?;
     }
-    put(b" [");
-    put(elements::text_of(text, n));
-    line(b"]");
+    put(rt, b" [")?;
+    put(rt, elements::text_of(text, n))?;
+    line(rt, b"]")
 }
 
 fn less(depth: usize) -> usize {
@@ -61,53 +63,53 @@ fn more(depth: usize) -> usize {
 }
 
 // Each element from at on, by its nesting.
-fn walk(text: &[u8], at: usize) {
+fn walk(rt: &impl Print, text: &[u8], at: usize) -> io::Result<()> {
     let mut i = at;
     let mut depth: usize = 0;
     loop {
         match elements::next_tag(text, i) {
             Tag::End => {
-                return;
+                return Ok(());
             }
             Tag::Close(n) => {
                 depth = less(depth);
                 i = n;
             }
             Tag::Open(n) => {
-                element(text, n, depth);
+                element(rt, text, n, depth)?;
                 depth = more(depth);
                 i = n;
             }
             Tag::Empty(n) => {
-                element(text, n, depth);
+                element(rt, text, n, depth)?;
                 i = n;
             }
         }
     }
 }
 
-fn child(text: &[u8], n: usize) {
-    put(b"- ");
-    put(elements::name_of(text, n));
+fn child(rt: &impl Print, text: &[u8], n: usize) -> io::Result<()> {
+    put(rt, b"- ")?;
+    put(rt, elements::name_of(text, n))?;
     if elements::has_children(text, n) {
-        put(b" with children");
+        put(rt, b" with children")?;
     }
     if elements::name_is(text, n, b"part") {
-        put(b", a part");
+        put(rt, b", a part")?;
     }
-    line(b"");
+    line(rt, b"")
 }
 
 // The elements of the row at at alone.
-fn row(text: &[u8], at: usize) {
+fn row(rt: &impl Print, text: &[u8], at: usize) -> io::Result<()> {
     let mut i = at;
     loop {
         match elements::next_child(text, i) {
             Child::Done => {
-                return;
+                return Ok(());
             }
             Child::At(n, next) => {
-                child(text, n);
+                child(rt, text, n)?;
                 i = next;
             }
         }
@@ -115,10 +117,10 @@ fn row(text: &[u8], at: usize) {
 }
 
 // The children of the first element from at on.
-fn children(text: &[u8], at: usize) {
+fn children(rt: &impl Print, text: &[u8], at: usize) -> io::Result<()> {
     match elements::next_child(text, at) {
-        Child::Done => line(b"no element"),
-        Child::At(n, _) => row(text, elements::first_child(text, n)),
+        Child::Done => line(rt, b"no element"),
+        Child::At(n, _) => row(rt, text, elements::first_child(text, n)),
     }
 }
 
@@ -148,100 +150,101 @@ fn tags(text: &[u8], at: usize) -> usize {
 }
 
 // What the element at n has in all: the bytes of its name, attribute and text.
-fn said(text: &[u8], n: usize) {
-    number(elements::name_of(text, n).len());
-    number(elements::key_of(text, n).len());
-    number(elements::value_of(text, n).len());
-    number(elements::text_of(text, n).len());
+fn said(rt: &impl Print, text: &[u8], n: usize) -> io::Result<()> {
+    number(rt, elements::name_of(text, n).len())?;
+    number(rt, elements::key_of(text, n).len())?;
+    number(rt, elements::value_of(text, n).len())?;
+    number(rt, elements::text_of(text, n).len())
 }
 
 // The first k bytes: its tags, where its first element is left, and what that says.
-fn front(text: &[u8], k: usize) {
+fn front(rt: &impl Print, text: &[u8], k: usize) -> io::Result<()> {
     if text.len() < k {
-        return;
+        return Ok(());
     }
     let part = &text[0..k];
-    number(k);
-    put(b":");
-    number(tags(part, 0));
-    number(elements::leave(part, 1));
-    said(part, 1);
-    line(b"");
+    number(rt, k)?;
+    put(rt, b":")?;
+    number(rt, tags(part, 0))?;
+    number(rt, elements::leave(part, 1))?;
+    said(rt, part, 1)?;
+    line(rt, b"")
 }
 
 // The same for each length of the text, and past its end.
-fn fronts(text: &[u8]) {
+fn fronts(rt: &impl Print, text: &[u8]) -> io::Result<()> {
     let mut k: usize = 0;
     while k <= text.len() {
-        front(text, k);
+        front(rt, text, k)?;
         k += 1;
     }
+    Ok(())
 }
 
 // A text, what is meant by it in a buffer of dots from the place 2 on, and its bytes and code points.
-fn show_decoded(raw: &[u8]) {
+fn show_decoded(rt: &impl Print, raw: &[u8]) -> io::Result<()> {
     let mut out = [46u8; 16];
-    put(raw);
-    put(b" = ");
+    put(rt, raw)?;
+    put(rt, b" = ")?;
     match texts::decode(raw, &mut out, 2) {
         Written::To(end) => {
-            put(&out);
-            number(end);
+            put(rt, &out)?;
+            number(rt, end)?;
         }
         Written::Refused(_) => {
-            put(&out);
-            put(b" refused");
+            put(rt, &out)?;
+            put(rt, b" refused")?;
         }
     }
-    number(texts::decoded_len(raw));
-    number(texts::code_points(raw));
-    number(texts::decoded_byte(raw, 1) as usize);
-    line(b"");
+    number(rt, texts::decoded_len(raw))?;
+    number(rt, texts::code_points(raw))?;
+    number(rt, texts::decoded_byte(raw, 1) as usize)?;
+    line(rt, b"")
 }
 
-fn show_same(a: &[u8], b: &[u8]) {
-    put(a);
+fn show_same(rt: &impl Print, a: &[u8], b: &[u8]) -> io::Result<()> {
+    put(rt, a)?;
     if texts::same_decoded(a, b) {
-        put(b" means ");
+        put(rt, b" means ")?;
     } else {
-        put(b" does not mean ");
+        put(rt, b" does not mean ")?;
     }
-    line(b);
+    line(rt, b)
 }
 
-fn in_form() {
+fn in_form(rt: &impl Print) -> io::Result<()> {
     let text =
         b"<?xml version=\"1.0\" encoding=\"UTF-8\"?>\n<book lang='en'>\n <part no = \"a>b\"><title>R&amp;D</title><empty/>\n </part>\n <part/>\n <note\t>1 &lt; 2</note >\n</book>\n";
-    walk(text, 38);
-    children(text, 38);
+    walk(rt, text, 38)?;
+    children(rt, text, 38)
 }
 
-fn outside_form() {
+fn outside_form(rt: &impl Print) -> io::Result<()> {
     let unquoted = b"<a b=c d='e><f/>g</a>";
-    walk(unquoted, 0);
+    walk(rt, unquoted, 0)?;
     let nested = b"text<<a<b/>x</b></b></b></b><c>";
-    walk(nested, 0);
-    children(nested, 5);
+    walk(rt, nested, 0)?;
+    children(rt, nested, 5)?;
     let open = b"<a><b><c>deep</c><d k=\"v\"/";
-    walk(open, 0);
-    children(open, 0);
-    walk(open, 27);
-    children(open, 18446744073709551615);
+    walk(rt, open, 0)?;
+    children(rt, open, 0)?;
+    walk(rt, open, 27)?;
+    children(rt, open, 18446744073709551615)
 }
 
-fn main() {
-    in_form();
-    outside_form();
-    fronts(b"<a b='c/'>d<e/>f</a>");
-    show_decoded(b"plain");
-    show_decoded(b"&amp;&lt;&gt;&quot;&apos;");
-    show_decoded(b"&amp;lt;");
-    show_decoded(b"R&D &am &#6;");
-    show_decoded(b"\xc3\xa9t\xc3\xa9 \xe2\x82\xac");
-    show_decoded(b"");
-    show_decoded(b"12345678901234");
-    show_decoded(b"123456789012345");
-    show_same(b"a&quot;b", b"a\"b");
-    show_same(b"a&lt;", b"a&lt");
-    show_same(b"", b"&");
+fn main(rt: HostRuntime) -> io::Result<()> {
+    in_form(&rt)?;
+    outside_form(&rt)?;
+    fronts(&rt, b"<a b='c/'>d<e/>f</a>")?;
+    show_decoded(&rt, b"plain")?;
+    show_decoded(&rt, b"&amp;&lt;&gt;&quot;&apos;")?;
+    show_decoded(&rt, b"&amp;lt;")?;
+    show_decoded(&rt, b"R&D &am &#6;")?;
+    show_decoded(&rt, b"\xc3\xa9t\xc3\xa9 \xe2\x82\xac")?;
+    show_decoded(&rt, b"")?;
+    show_decoded(&rt, b"12345678901234")?;
+    show_decoded(&rt, b"123456789012345")?;
+    show_same(&rt, b"a&quot;b", b"a\"b")?;
+    show_same(&rt, b"a&lt;", b"a&lt")?;
+    show_same(&rt, b"", b"&")
 }

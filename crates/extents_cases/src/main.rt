@@ -6,6 +6,7 @@ ghost use Rattle.std.specs.Prelude.{◌≤◌};
 use extents::ByteAt;
 use quantities::ByteCount;
 use slices::Written;
+use std::io;
 
 // Where the number at from ends.
 fn field_end(s: &[u8], from: usize) -> usize
@@ -34,22 +35,23 @@ fn number_at(s: &[u8], from: usize, end: usize) -> u64 {
     }
 }
 
-fn print_front(s: &[u8], n: usize) {
+fn print_front(rt: &impl Print, s: &[u8], n: usize) -> io::Result<()> {
     let first: usize = 0;
     if n <= s.len() {
-        io::write_all(1, &s[first..n]);
+        rt.write_all(&s[first..n])?;
     }
+    Ok(())
 }
 
-fn print_number(n: u64) {
+fn print_number(rt: &impl Print, n: u64) -> io::Result<()> {
     let mut out = [0u8; 20];
     match digits::write(&mut out, 0, n) {
-        Written::To(end) => print_front(&out, end),
-        Written::Refused(_) => {}
+        Written::To(end) => print_front(rt, &out, end),
+        Written::Refused(_) => Ok(()),
     }
 }
 
-fn print(answer: ByteAt) {
+fn print(rt: &impl Print, answer: ByteAt) -> io::Result<()> {
     match answer {
         ByteAt::Stored {
             letter,
@@ -57,38 +59,41 @@ fn print(answer: ByteAt) {
             byte,
         } => {
             let name = [letter];
-            io::write_all(1, b"stored ");
-            io::write_all(1, &name);
-            io::write_all(1, b" ");
-            print_number(block.0);
-            io::write_all(1, b" ");
-            print_number(byte.0);
+            rt.write_all(b"stored ")?;
+            rt.write_all(&name)?;
+            rt.write_all(b" ")?;
+            print_number(rt, block.0)?;
+            rt.write_all(b" ")?;
+            print_number(rt, byte.0)?;
         }
         ByteAt::Unstored => {
-            io::write_all(1, b"unstored");
+            rt.write_all(b"unstored")?;
         }
         ByteAt::Refused(r) => {
-            io::write_all(1, b"refused ");
-            print_number(refusals::number(r));
+            rt.write_all(b"refused ")?;
+            print_number(rt, refusals::number(r))?;
         }
     }
-    io::write_all(1, b"\n");
+    rt.write_all(b"\n")
 }
 
 // A case's answer, by its first n numbers.
-fn run_case(numbers: &[u64; 6000], n: usize) {
+fn run_case(rt: &impl Print, numbers: &[u64; 6000], n: usize) -> io::Result<()> {
     let all = &numbers[..];
     if n < 3 {
-        return;
+        return Ok(());
     }
     if all.len() < n {
-        return;
+        return Ok(());
     }
-    print(extents::byte_at(&all[3..n], ByteCount(all[0]), all[1], ByteCount(all[2])));
+    print(
+        rt,
+        extents::byte_at(&all[3..n], ByteCount(all[0]), all[1], ByteCount(all[2])),
+    )
 }
 
 // Reads and runs the case at from, and answers where the next begins.
-fn one_case(s: &[u8], from: usize) -> usize {
+fn one_case(rt: &impl Print, s: &[u8], from: usize) -> io::Result<usize> {
     let mut numbers = [0u64; 6000];
     let mut n: usize = 0;
     let mut at = from;
@@ -99,30 +104,31 @@ fn one_case(s: &[u8], from: usize) -> usize {
             n += 1;
         }
         if s.len() <= end {
-            return end;
+            return Ok(end);
         }
         at = end + 1;
         if s[end] == 10 {
-            run_case(&numbers, n);
-            return at;
+            run_case(rt, &numbers, n)?;
+            return Ok(at);
         }
     }
-    at
+    Ok(at)
 }
 
-fn run(s: &[u8]) {
+fn run(rt: &impl Print, s: &[u8]) -> io::Result<()> {
     let mut at: usize = 0;
     while at < s.len() {
-        let next = one_case(s, at);
+        let next = one_case(rt, s, at)?;
         if next <= at {
-            return;
+            return Ok(());
         }
         at = next;
     }
+    Ok(())
 }
 
-fn main() {
-    let mut text = io::large_buffer();
-    let n = io::read_full(0, &mut text);
-    run(&text[..n]);
+fn main(rt: HostRuntime) -> io::Result<()> {
+    let mut text = [0u8; 65536];
+    let n = case_files::read_full(&mut rt.stdin(), &mut text)?;
+    run(&rt, &text[..n])
 }

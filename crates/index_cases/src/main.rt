@@ -1,8 +1,8 @@
 // Cases of reading an index, of its files and of their rows, and of the index of a construct, read from files beside the program.
 #![tactic(auto)]
 
-ghost use Rattle.std.specs.Prelude.{◌≡◌, ◌≤◌, length};
-ghost use Rattle.io.specs.Counts.{IsPrefixLen};
+ghost use Rattle.std.specs.Prelude.{◌≡◌, ◌≤◌, length, IfOk};
+ghost use Rattle.case_files.specs.Counts.{IsPrefixLen};
 
 use constructs::Bounds;
 use elements::Span;
@@ -11,6 +11,8 @@ use index_files::{FileRead, Filled};
 use index_values::Partitions;
 use quantities::BlockNumber;
 use slices::Written;
+use std::fs::File;
+use std::io;
 use volume::Chosen;
 
 // A byte more than an index's text may have.
@@ -20,24 +22,24 @@ fn text_room() -> [u8; 1048577]
     [0u8; 1048577]
 }
 
-fn byte(fd: i32) -> u8 {
-    (case_files::number(fd) % 256) as u8
+fn byte(file: &mut File) -> io::Result<u8> {
+    Ok((case_files::number(file)? % 256) as u8)
 }
 
 // The numbers of a list, at the front of out, where it has room for them.
-fn numbers(fd: i32, out: &mut [u64]) -> usize
-    ensures { IsPrefixLen result out.new }
+fn numbers(file: &mut File, out: &mut [u64]) -> io::Result<usize>
+    ensures { IfOk result (λ n. IsPrefixLen n out.new) }
 {
-    let n = case_files::number(fd) as usize;
+    let n = case_files::number(file)? as usize;
     if out.len() < n {
-        return 0;
+        return Ok(0);
     }
     let mut i: usize = 0;
     while i < n {
-        out[i] = case_files::number(fd);
+        out[i] = case_files::number(file)?;
         i += 1;
     }
-    n
+    Ok(n)
 }
 
 fn same_numbers(a: &[u64], b: &[u64]) -> bool {
@@ -62,9 +64,9 @@ fn flag(b: bool) -> u64 {
 }
 
 // The numbers expected of a header.
-fn numbers_as(fd: i32, h: Header) -> bool {
+fn numbers_as(file: &mut File, h: Header) -> io::Result<bool> {
     let mut expected = [0u64; 11];
-    let n = numbers(fd, &mut expected);
+    let n = numbers(file, &mut expected)?;
     let found = [
         h.release,
         h.generation.0,
@@ -78,28 +80,28 @@ fn numbers_as(fd: i32, h: Header) -> bool {
         h.directories,
         h.files,
     ];
-    same_numbers(&found, &expected[..n])
+    Ok(same_numbers(&found, &expected[..n]))
 }
 
 // Those numbers, and the update time in the text.
-fn header_as(fd: i32, text: &[u8], h: Header) -> bool {
+fn header_as(file: &mut File, text: &[u8], h: Header) -> io::Result<bool> {
     let time = h.time;
-    if !numbers_as(fd, h) {
-        return false;
+    if !numbers_as(file, h)? {
+        return Ok(false);
     }
     let mut expected = [0u8; 64];
-    let n = case_files::bytes(fd, &mut expected);
-    slices::same(elements::part(text, time), &expected[..n])
+    let n = case_files::bytes(file, &mut expected)?;
+    Ok(slices::same(elements::part(text, time), &expected[..n]))
 }
 
-fn read_as(fd: i32, text: &[u8], read: Read, refusal: u64) -> bool {
+fn read_as(file: &mut File, text: &[u8], read: Read, refusal: u64) -> io::Result<bool> {
     match read {
-        Read::Refused(r) => refusals::number(r) == refusal,
+        Read::Refused(r) => Ok(refusals::number(r) == refusal),
         Read::Found(h) => {
             if refusal != 0 {
-                return false;
+                return Ok(false);
             }
-            header_as(fd, text, h)
+            header_as(file, text, h)
         }
     }
 }
@@ -126,21 +128,21 @@ fn put_as(
 
 // A lent buffer, and what is expected.
 fn rows_as(
-    fd: i32,
+    file: &mut File,
     text: &[u8],
     uuid: &[u8],
     volume: Partitions,
     letter: u8,
     block: u64,
     k: u64,
-) -> bool {
+) -> io::Result<bool> {
     let mut out = [0u64; 5200];
-    let n = numbers(fd, &mut out);
-    let refusal = case_files::number(fd);
-    let count = case_files::number(fd);
+    let n = numbers(file, &mut out)?;
+    let refusal = case_files::number(file)?;
+    let count = case_files::number(file)?;
     let mut expected = [0u64; 5200];
-    let e = numbers(fd, &mut expected);
-    put_as(
+    let e = numbers(file, &mut expected)?;
+    Ok(put_as(
         text,
         uuid,
         volume,
@@ -151,7 +153,7 @@ fn rows_as(
         &expected[..e],
         refusal,
         count,
-    )
+    ))
 }
 
 fn count_as(read: Filled, refusal: u64, count: u64) -> bool {
@@ -191,50 +193,64 @@ fn front_as(name: &[u8], n: usize, expected: &[u8]) -> bool {
 }
 
 // A file's number; the refusal, its length, its name and the number of its rows expected; then its rows in two lent buffers.
-fn file_as(fd: i32, text: &[u8], uuid: &[u8], volume: Partitions, letter: u8, block: u64) -> bool {
-    let k = case_files::number(fd);
-    let refusal = case_files::number(fd);
-    let bytes = case_files::number(fd);
+fn file_as(
+    file: &mut File,
+    text: &[u8],
+    uuid: &[u8],
+    volume: Partitions,
+    letter: u8,
+    block: u64,
+) -> io::Result<bool> {
+    let k = case_files::number(file)?;
+    let refusal = case_files::number(file)?;
+    let bytes = case_files::number(file)?;
     let mut name = [0u8; 2048];
-    let n = case_files::bytes(fd, &mut name);
-    let count = case_files::number(fd);
+    let n = case_files::bytes(file, &mut name)?;
+    let count = case_files::number(file)?;
     match index_files::file(text, uuid, volume, letter, BlockNumber(block), k) {
         FileRead::Refused(r) => {
             if refusals::number(r) != refusal {
-                return false;
+                return Ok(false);
             }
         }
         FileRead::Found(h) => {
             if refusal != 0 {
-                return false;
+                return Ok(false);
             }
             if h.length.0 != bytes {
-                return false;
+                return Ok(false);
             }
             if h.rows != count {
-                return false;
+                return Ok(false);
             }
             if !name_as(text, h.name.from, h.name.len, &name[..n]) {
-                return false;
+                return Ok(false);
             }
         }
     }
-    if !rows_as(fd, text, uuid, volume, letter, block, k) {
-        return false;
+    if !rows_as(file, text, uuid, volume, letter, block, k)? {
+        return Ok(false);
     }
-    rows_as(fd, text, uuid, volume, letter, block, k)
+    rows_as(file, text, uuid, volume, letter, block, k)
 }
 
-fn files_as(fd: i32, text: &[u8], uuid: &[u8], volume: Partitions, letter: u8, block: u64) -> bool {
-    let files = case_files::number(fd);
+fn files_as(
+    file: &mut File,
+    text: &[u8],
+    uuid: &[u8],
+    volume: Partitions,
+    letter: u8,
+    block: u64,
+) -> io::Result<bool> {
+    let files = case_files::number(file)?;
     let mut k: u64 = 0;
     while k < files {
-        if !file_as(fd, text, uuid, volume, letter, block) {
-            return false;
+        if !file_as(file, text, uuid, volume, letter, block)? {
+            return Ok(false);
         }
         k += 1;
     }
-    true
+    Ok(true)
 }
 
 // The length of a file, where one is expected.
@@ -251,79 +267,79 @@ fn length_as(read: FileRead, refusal: u64, bytes: u64) -> bool {
 }
 
 // The next case.
-fn one(kind: u64, fd: i32) -> bool {
+fn one(kind: u64, file: &mut File) -> io::Result<bool> {
     if kind == 2 {
-        return construct_case(fd);
+        return construct_case(file);
     }
-    text_case(kind, fd)
+    text_case(kind, file)
 }
 
 // A text, the label's UUID, letters and block size, a place; then the header and files expected.
-fn text_case(kind: u64, fd: i32) -> bool {
+fn text_case(kind: u64, file: &mut File) -> io::Result<bool> {
     let mut text = text_room();
-    let n = case_files::bytes(fd, &mut text);
+    let n = case_files::bytes(file, &mut text)?;
     let mut uuid = [0u8; 64];
-    let u = case_files::bytes(fd, &mut uuid);
-    let first = byte(fd);
-    let other = byte(fd);
-    let size = case_files::number(fd);
+    let u = case_files::bytes(file, &mut uuid)?;
+    let first = byte(file)?;
+    let other = byte(file)?;
+    let size = case_files::number(file)?;
     let volume = Partitions {
         index_letter: first,
         data_letter: other,
         block_size: size,
     };
-    let letter = byte(fd);
-    let block = case_files::number(fd);
+    let letter = byte(file)?;
+    let block = case_files::number(file)?;
     if kind == 1 {
-        return rows_case(fd, &text[..n], &uuid[..u], volume, letter, block);
+        return rows_case(file, &text[..n], &uuid[..u], volume, letter, block);
     }
-    index_case(fd, &text[..n], &uuid[..u], volume, letter, block)
+    index_case(file, &text[..n], &uuid[..u], volume, letter, block)
 }
 
 fn index_case(
-    fd: i32,
+    file: &mut File,
     text: &[u8],
     uuid: &[u8],
     volume: Partitions,
     letter: u8,
     block: u64,
-) -> bool {
-    let refusal = case_files::number(fd);
+) -> io::Result<bool> {
+    let refusal = case_files::number(file)?;
     let read = index::read_index(text, uuid, volume, letter, BlockNumber(block));
-    if !read_as(fd, text, read, refusal) {
-        return false;
+    if !read_as(file, text, read, refusal)? {
+        return Ok(false);
     }
-    files_as(fd, text, uuid, volume, letter, block)
+    files_as(file, text, uuid, volume, letter, block)
 }
 
 // A file's number and the length expected, then its rows in a lent buffer.
 fn rows_case(
-    fd: i32,
+    file: &mut File,
     text: &[u8],
     uuid: &[u8],
     volume: Partitions,
     letter: u8,
     block: u64,
-) -> bool {
-    let k = case_files::number(fd);
-    let refusal = case_files::number(fd);
-    let bytes = case_files::number(fd);
+) -> io::Result<bool> {
+    let k = case_files::number(file)?;
+    let refusal = case_files::number(file)?;
+    let bytes = case_files::number(file)?;
     let read = index_files::file(text, uuid, volume, letter, BlockNumber(block), k);
     if !length_as(read, refusal, bytes) {
-        return false;
+        return Ok(false);
     }
-    rows_as(fd, text, uuid, volume, letter, block, k)
+    rows_as(file, text, uuid, volume, letter, block, k)
 }
 
 // Where a construct lies: its first block and its closing mark; then its header.
-fn construct_as(fd: i32, store: &[u8], place: Bounds, h: Header) -> bool {
-    let first = case_files::number(fd);
-    let mark = case_files::number(fd) as usize;
+fn construct_as(file: &mut File, store: &[u8], place: Bounds, h: Header) -> io::Result<bool> {
+    let first = case_files::number(file)?;
+    let mark = case_files::number(file)? as usize;
     if place.first.0 != first {
-        return false;
+        return Ok(false);
     }
     if place.end != std::num::wrapping_add_usize(mark, 1) {
-        return false;
+        return Ok(false);
     }
     let len = volume::between(place.from, place.to);
     let text = elements::part(
@@ -333,52 +349,52 @@ fn construct_as(fd: i32, store: &[u8], place: Bounds, h: Header) -> bool {
             len,
         },
     );
-    header_as(fd, text, h)
+    header_as(file, text, h)
 }
 
-fn chosen_as(fd: i32, store: &[u8], chosen: Chosen, refusal: u64) -> bool {
+fn chosen_as(file: &mut File, store: &[u8], chosen: Chosen, refusal: u64) -> io::Result<bool> {
     match chosen {
-        Chosen::Refused(r) => refusals::number(r) == refusal,
+        Chosen::Refused(r) => Ok(refusals::number(r) == refusal),
         Chosen::Found(place, h) => {
             if refusal != 0 {
-                return false;
+                return Ok(false);
             }
-            construct_as(fd, store, place, h)
+            construct_as(file, store, place, h)
         }
     }
 }
 
 // A partition, the label's UUID, letters and block size, the partition's letter, a construct's number; then what is expected.
-fn construct_case(fd: i32) -> bool {
+fn construct_case(file: &mut File) -> io::Result<bool> {
     let mut list = [0u8; 4096];
-    let l = case_files::bytes(fd, &mut list);
+    let l = case_files::bytes(file, &mut list)?;
     let mut store = [0u8; 65536];
-    let s = case_files::bytes(fd, &mut store);
+    let s = case_files::bytes(file, &mut store)?;
     let mut uuid = [0u8; 64];
-    let u = case_files::bytes(fd, &mut uuid);
-    let first = byte(fd);
-    let other = byte(fd);
-    let size = case_files::number(fd);
+    let u = case_files::bytes(file, &mut uuid)?;
+    let first = byte(file)?;
+    let other = byte(file)?;
+    let size = case_files::number(file)?;
     let letters = Partitions {
         index_letter: first,
         data_letter: other,
         block_size: size,
     };
-    let letter = byte(fd);
-    let k = case_files::number(fd);
-    let refusal = case_files::number(fd);
+    let letter = byte(file)?;
+    let k = case_files::number(file)?;
+    let refusal = case_files::number(file)?;
     let chosen = volume::read_construct(&list[..l], &store[..s], &uuid[..u], letters, letter, k);
-    chosen_as(fd, &store[..s], chosen, refusal)
+    chosen_as(file, &store[..s], chosen, refusal)
 }
 
 // The cases of one file.
-fn run(path: &[u8], kind: u64) {
-    let mut cases = case_files::open(path);
+fn run(rt: &HostRuntime, path: &str, kind: u64) -> io::Result<()> {
+    let mut cases = case_files::open(rt, path)?;
     while cases.left > 0 {
-        let good = one(kind, cases.fd);
-        cases = case_files::judged(cases, good);
+        let good = one(kind, &mut cases.file)?;
+        cases = case_files::judged(rt, cases, good)?;
     }
-    case_files::close(path, cases);
+    case_files::close(rt, path, cases)
 }
 
 // Writes w from at on, if there is room, and answers the place behind it.
@@ -444,32 +460,33 @@ fn refused_as(text: &[u8], refusal: u64) -> bool {
 }
 
 // The refusal of an index with a root and so many files, whose values are all empty.
-fn entries(files: u64, refusal: u64) -> u64
-    ensures { result ≤ 1 }
+fn entries(rt: &HostRuntime, files: u64, refusal: u64) -> io::Result<u64>
+    ensures { IfOk result (λ n. n ≤ 1) }
 {
     let mut text = text_room();
     let n = add_files(&mut text, files);
-    case_files::shown_good(refused_as(slices::part(&text, 0, n), refusal), files)
+    case_files::shown_good(rt, refused_as(slices::part(&text, 0, n), refusal), files)
 }
 
-fn main() {
-    run(b"index", 0);
-    run(b"rows", 1);
-    run(b"own", 0);
-    run(b"uuid", 0);
-    run(b"spellings", 0);
-    run(b"numbers", 0);
-    run(b"number_spellings", 0);
-    run(b"constructs", 2);
-    run(b"construct_kinds", 2);
-    run(b"construct_unreadable", 2);
-    let good = entries(3999, 6) + entries(4095, 6) + entries(4096, 15);
-    case_files::report(b"entries", good, 3);
+fn main(rt: HostRuntime) -> io::Result<()> {
+    run(&rt, "index", 0)?;
+    run(&rt, "rows", 1)?;
+    run(&rt, "own", 0)?;
+    run(&rt, "uuid", 0)?;
+    run(&rt, "spellings", 0)?;
+    run(&rt, "numbers", 0)?;
+    run(&rt, "number_spellings", 0)?;
+    run(&rt, "constructs", 2)?;
+    run(&rt, "construct_kinds", 2)?;
+    run(&rt, "construct_unreadable", 2)?;
+    let good = entries(&rt, 3999, 6)? + entries(&rt, 4095, 6)? + entries(&rt, 4096, 15)?;
+    case_files::report(&rt, "entries", good, 3)?;
     // A text too long is refused before its bytes are looked at.
     let text = text_room();
     case_files::report(
-        b"too long",
-        case_files::shown_good(refused_as(&text, 15), 0),
+        &rt,
+        "too long",
+        case_files::shown_good(&rt, refused_as(&text, 15), 0)?,
         1,
-    );
+    )
 }

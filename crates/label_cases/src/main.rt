@@ -6,45 +6,48 @@ mod labels;
 mod parts;
 mod volumes;
 
-fn one(kind: u64, fd: i32) -> bool {
+use std::fs::File;
+use std::io;
+
+fn one(kind: u64, file: &mut File) -> io::Result<bool> {
     match kind {
-        0 => labels::read_case(fd),
-        1 => labels::write_case(fd),
-        2 => labels::agreement_case(fd),
-        3 => volumes::read_case(fd),
-        4 => volumes::write_case(fd),
-        5 => parts::name_case(fd),
-        6 => parts::number_case(fd),
-        _ => parts::row_case(fd),
+        0 => labels::read_case(file),
+        1 => labels::write_case(file),
+        2 => labels::agreement_case(file),
+        3 => volumes::read_case(file),
+        4 => volumes::write_case(file),
+        5 => parts::name_case(file),
+        6 => parts::number_case(file),
+        _ => parts::row_case(file),
     }
 }
 
 // The cases of one file.
-fn run(path: &[u8], kind: u64) {
-    let mut cases = case_files::open(path);
+fn run(rt: &HostRuntime, path: &str, kind: u64) -> io::Result<()> {
+    let mut cases = case_files::open(rt, path)?;
     while cases.left > 0 {
-        let good = one(kind, cases.fd);
-        cases = case_files::judged(cases, good);
+        let good = one(kind, &mut cases.file)?;
+        cases = case_files::judged(rt, cases, good)?;
     }
-    case_files::close(path, cases);
+    case_files::close(rt, path, cases)
 }
 
-fn main() {
-    run(b"vol1_read", 3);
-    run(b"vol1_write", 4);
-    run(b"read_vectors", 0);
-    run(b"read_example", 0);
-    run(b"read_structure", 0);
-    run(b"read_form", 0);
-    run(b"read_version", 0);
-    run(b"read_values", 0);
-    run(b"read_order", 0);
-    run(b"read_uuid", 0);
-    run(b"read_numbers", 0);
-    run(b"write", 1);
-    run(b"agreement", 2);
-    run(b"agreement_uuid", 2);
-    run(b"names", 5);
-    run(b"numbers", 6);
-    run(b"rows", 7);
+fn main(rt: HostRuntime) -> io::Result<()> {
+    run(&rt, "vol1_read", 3)?;
+    run(&rt, "vol1_write", 4)?;
+    run(&rt, "read_vectors", 0)?;
+    run(&rt, "read_example", 0)?;
+    run(&rt, "read_structure", 0)?;
+    run(&rt, "read_form", 0)?;
+    run(&rt, "read_version", 0)?;
+    run(&rt, "read_values", 0)?;
+    run(&rt, "read_order", 0)?;
+    run(&rt, "read_uuid", 0)?;
+    run(&rt, "read_numbers", 0)?;
+    run(&rt, "write", 1)?;
+    run(&rt, "agreement", 2)?;
+    run(&rt, "agreement_uuid", 2)?;
+    run(&rt, "names", 5)?;
+    run(&rt, "numbers", 6)?;
+    run(&rt, "rows", 7)
 }

@@ -2,40 +2,42 @@
 #![tactic(auto)]
 
 use quantities::BlockNumber;
+use std::fs::File;
+use std::io;
 
 // A list and a store; the refusal and the number of elements expected.
-fn check_case(fd: i32) -> bool {
+fn check_case(file: &mut File) -> io::Result<bool> {
     let mut list = [0u8; 131072];
-    let l = case_files::bytes(fd, &mut list);
+    let l = case_files::bytes(file, &mut list)?;
     let mut store = [0u8; 24576];
-    let s = case_files::bytes(fd, &mut store);
-    let refusal = case_files::number(fd);
-    let elements = case_files::number(fd) as usize;
+    let s = case_files::bytes(file, &mut store)?;
+    let refusal = case_files::number(file)?;
+    let elements = case_files::number(file)? as usize;
     match tape::check(&list[..l], &store[..s]) {
         tape::ListChecked::Elements(n) => {
             if refusal != 0 {
-                return false;
+                return Ok(false);
             }
-            n == elements
+            Ok(n == elements)
         }
-        tape::ListChecked::Refused(r) => refusals::number(r) == refusal,
+        tape::ListChecked::Refused(r) => Ok(refusals::number(r) == refusal),
     }
 }
 
 // A list, a store and a number of elements; the refusal and the two fronts expected.
-fn keep_case(fd: i32) -> bool {
+fn keep_case(file: &mut File) -> io::Result<bool> {
     let mut list = [0u8; 4096];
-    let l = case_files::bytes(fd, &mut list);
+    let l = case_files::bytes(file, &mut list)?;
     let mut store = [0u8; 24576];
-    let s = case_files::bytes(fd, &mut store);
-    let n = case_files::number(fd) as usize;
-    let refusal = case_files::number(fd);
+    let s = case_files::bytes(file, &mut store)?;
+    let n = case_files::number(file)? as usize;
+    let refusal = case_files::number(file)?;
     let mut list_front = [0u8; 4096];
-    let a = case_files::bytes(fd, &mut list_front);
+    let a = case_files::bytes(file, &mut list_front)?;
     let mut store_front = [0u8; 24576];
-    let b = case_files::bytes(fd, &mut store_front);
+    let b = case_files::bytes(file, &mut store_front)?;
     if !lengths_as(&list[..l], &store[..s], n, refusal, a, b) {
-        return false;
+        return Ok(false);
     }
     if !fronts_as(
         &list[..l],
@@ -45,18 +47,18 @@ fn keep_case(fd: i32) -> bool {
         &list_front[..a],
         &store_front[..b],
     ) {
-        return false;
+        return Ok(false);
     }
     if refusal != 0 {
-        return true;
+        return Ok(true);
     }
-    twice_as(
+    Ok(twice_as(
         &list[..l],
         &store[..s],
         n,
         &list_front[..a],
         &store_front[..b],
-    )
+    ))
 }
 
 fn fronts_as(
@@ -132,22 +134,22 @@ fn lengths_as(list: &[u8], store: &[u8], n: usize, refusal: u64, a: usize, b: us
 }
 
 // Two lists with their stores, three letters and a number; the refusal and the bytes expected.
-fn block_case(fd: i32) -> bool {
+fn block_case(file: &mut File) -> io::Result<bool> {
     let mut index_list = [0u8; 4096];
-    let il = case_files::bytes(fd, &mut index_list);
+    let il = case_files::bytes(file, &mut index_list)?;
     let mut index_store = [0u8; 24576];
-    let is = case_files::bytes(fd, &mut index_store);
+    let is = case_files::bytes(file, &mut index_store)?;
     let mut data_list = [0u8; 4096];
-    let dl = case_files::bytes(fd, &mut data_list);
+    let dl = case_files::bytes(file, &mut data_list)?;
     let mut data_store = [0u8; 24576];
-    let ds = case_files::bytes(fd, &mut data_store);
-    let i = (case_files::number(fd) % 256) as u8;
-    let d = (case_files::number(fd) % 256) as u8;
-    let letter = (case_files::number(fd) % 256) as u8;
-    let number = case_files::number(fd);
-    let refusal = case_files::number(fd);
+    let ds = case_files::bytes(file, &mut data_store)?;
+    let i = (case_files::number(file)? % 256) as u8;
+    let d = (case_files::number(file)? % 256) as u8;
+    let letter = (case_files::number(file)? % 256) as u8;
+    let number = case_files::number(file)?;
+    let refusal = case_files::number(file)?;
     let mut expected = [0u8; 24576];
-    let e = case_files::bytes(fd, &mut expected);
+    let e = case_files::bytes(file, &mut expected)?;
     let mut shown: u64 = 99;
     let part = tape::block(
         &index_list[..il],
@@ -161,39 +163,39 @@ fn block_case(fd: i32) -> bool {
         &mut shown,
     );
     if shown != refusal {
-        return false;
+        return Ok(false);
     }
-    slices::same(part, &expected[..e])
+    Ok(slices::same(part, &expected[..e]))
 }
 
-fn one(kind: u64, fd: i32) -> bool {
+fn one(kind: u64, file: &mut File) -> io::Result<bool> {
     if kind == 0 {
-        return check_case(fd);
+        return check_case(file);
     }
     if kind == 1 {
-        return keep_case(fd);
+        return keep_case(file);
     }
-    block_case(fd)
+    block_case(file)
 }
 
 // The cases of one file.
-fn run(path: &[u8], kind: u64) {
-    let mut cases = case_files::open(path);
+fn run(rt: &HostRuntime, path: &str, kind: u64) -> io::Result<()> {
+    let mut cases = case_files::open(rt, path)?;
     while cases.left > 0 {
-        let good = one(kind, cases.fd);
-        cases = case_files::judged(cases, good);
+        let good = one(kind, &mut cases.file)?;
+        cases = case_files::judged(rt, cases, good)?;
     }
-    case_files::close(path, cases);
+    case_files::close(rt, path, cases)
 }
 
-fn main() {
-    run(b"check", 0);
-    run(b"keep", 1);
-    run(b"block", 2);
-    run(b"block_own", 2);
-    run(b"check_unreadable", 0);
-    run(b"keep_kinds", 1);
-    run(b"keep_unreadable", 1);
-    run(b"block_kinds", 2);
-    run(b"block_unreadable", 2);
+fn main(rt: HostRuntime) -> io::Result<()> {
+    run(&rt, "check", 0)?;
+    run(&rt, "keep", 1)?;
+    run(&rt, "block", 2)?;
+    run(&rt, "block_own", 2)?;
+    run(&rt, "check_unreadable", 0)?;
+    run(&rt, "keep_kinds", 1)?;
+    run(&rt, "keep_unreadable", 1)?;
+    run(&rt, "block_kinds", 2)?;
+    run(&rt, "block_unreadable", 2)
 }

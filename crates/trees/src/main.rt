@@ -8,9 +8,10 @@ ghost use Rattle.std.specs.Prelude.{◌≡◌, length};
 
 use elements::Tag;
 use slices::Written;
+use std::io;
 
-fn put(s: &[u8]) {
-    io::write_all(1, s);
+fn put(rt: &impl Print, s: &[u8]) -> io::Result<()> {
+    rt.write_all(s)
 }
 
 // An index's text may be as long.
@@ -21,79 +22,78 @@ fn room() -> [u8; 1048576]
 }
 
 // A text with references, decoded.
-fn put_spelled(raw: &[u8]) {
-    let mut out = io::large_buffer();
+fn put_spelled(rt: &impl Print, raw: &[u8]) -> io::Result<()> {
+    let mut out = [0u8; 65536];
     match texts::decode(raw, &mut out, 0) {
-        Written::To(n) => put(slices::part(&out, 0, n)),
-        Written::Refused(_) => put(b"too long"),
+        Written::To(n) => put(rt, slices::part(&out, 0, n)),
+        Written::Refused(_) => put(rt, b"too long"),
     }
 }
 
 // A text decoded, behind its length. One without references is as long as it is spelled.
-fn put_decoded(raw: &[u8]) {
+fn put_decoded(rt: &impl Print, raw: &[u8]) -> io::Result<()> {
     let n = texts::decoded_len(raw);
-    io::print_decimal(1, n as u64);
-    put(b" ");
+    print!(rt; "{n} ")?;
     if n == raw.len() {
-        put(raw);
+        put(rt, raw)?;
     } else {
-        put_spelled(raw);
+        put_spelled(rt, raw)?;
     }
-    put(b"\n");
+    put(rt, b"\n")
 }
 
 // The element at n: its name, its attribute, its text.
-fn put_element(text: &[u8], n: usize) {
-    put(b"(");
-    put(elements::name_of(text, n));
-    put(b"\n");
+fn put_element(rt: &impl Print, text: &[u8], n: usize) -> io::Result<()> {
+    put(rt, b"(")?;
+    put(rt, elements::name_of(text, n))?;
+    put(rt, b"\n")?;
     let key = elements::key_of(text, n);
     if key.len() != 0 {
-        put(b"@");
-        put(key);
-        put(b"=");
-        put_decoded(elements::value_of(text, n));
+        put(rt, b"@")?;
+        put(rt, key)?;
+        put(rt, b"=")?;
+        put_decoded(rt, elements::value_of(text, n))?;
     }
     if !elements::has_children(text, n) {
-        put(b"\"");
-        put_decoded(elements::text_of(text, n));
+        put(rt, b"\"")?;
+        put_decoded(rt, elements::text_of(text, n))?;
     }
+    Ok(())
 }
 
-fn put_tree(text: &[u8]) {
+fn put_tree(rt: &impl Print, text: &[u8]) -> io::Result<()> {
     let mut i: usize = 38;
     loop {
         match elements::next_tag(text, i) {
             Tag::End => {
-                return;
+                return Ok(());
             }
             Tag::Close(n) => {
-                put(b")\n");
+                put(rt, b")\n")?;
                 i = n;
             }
             Tag::Open(n) => {
-                put_element(text, n);
+                put_element(rt, text, n)?;
                 i = n;
             }
             Tag::Empty(n) => {
-                put_element(text, n);
-                put(b")\n");
+                put_element(rt, text, n)?;
+                put(rt, b")\n")?;
                 i = n;
             }
         }
     }
 }
 
-fn main() {
+fn main(rt: HostRuntime) -> io::Result<()> {
     let mut text = room();
-    let mut texts: u64 = 0;
-    while texts < 18446744073709551615 {
-        let n = case_files::bytes(0, &mut text);
+    for _ in 0..u64::MAX {
+        let n = case_files::bytes(&mut rt.stdin(), &mut text)?;
         if n == 0 {
-            return;
+            break;
         }
-        put_tree(&text[..n]);
-        put(b".\n");
-        texts += 1;
+        put_tree(&rt, &text[..n])?;
+        put(&rt, b".\n")?;
     }
+    Ok(())
 }

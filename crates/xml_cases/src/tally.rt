@@ -1,5 +1,5 @@
 // The cases of a group: how many gave what they must.
-use libc::STDOUT_FILENO;
+use std::io;
 
 // Whether a group has begun; its texts in the form, and those that are not.
 #[derive(Clone, Copy)]
@@ -36,10 +36,10 @@ fn one_refused(tally: Tally) -> Tally {
 }
 
 // A case that gave something else.
-fn say(what: &[u8], text: &[u8]) {
-    io::write_all(STDOUT_FILENO, b"\n  ");
-    io::write_all(STDOUT_FILENO, what);
-    io::write_all(STDOUT_FILENO, text);
+fn say(rt: &impl Print, what: &[u8], text: &[u8]) -> io::Result<()> {
+    rt.write_all(b"\n  ")?;
+    rt.write_all(what)?;
+    rt.write_all(text)
 }
 
 // Whether the text is in the form, or can still be: all of it begins a text in the form.
@@ -63,69 +63,73 @@ fn fronts_fit(text: &[u8]) -> bool {
 }
 
 // A text in the form.
-fn in_form(tally: Tally, text: &[u8]) -> Tally {
+fn in_form(rt: &impl Print, tally: Tally, text: &[u8]) -> io::Result<Tally> {
     match xml::check(text) {
-        xml::FormChecked::Good => one_good(tally),
+        xml::FormChecked::Good => Ok(one_good(tally)),
         xml::FormChecked::Broken(_) => {
-            say(b"refused: ", text);
-            tally
+            say(rt, b"refused: ", text)?;
+            Ok(tally)
         }
     }
 }
 
 // A text that is not in the form.
-fn not_in_form(tally: Tally, text: &[u8]) -> Tally {
+fn not_in_form(rt: &impl Print, tally: Tally, text: &[u8]) -> io::Result<Tally> {
     match xml::check(text) {
         xml::FormChecked::Good => {
-            say(b"in the form: ", text);
-            tally
+            say(rt, b"in the form: ", text)?;
+            Ok(tally)
         }
-        xml::FormChecked::Broken(_) => one_refused(tally),
+        xml::FormChecked::Broken(_) => Ok(one_refused(tally)),
     }
 }
 
 // A text that leaves the form where so many bytes are left.
-fn leaves(tally: Tally, text: &[u8], left: usize) -> Tally {
+fn leaves(rt: &impl Print, tally: Tally, text: &[u8], left: usize) -> io::Result<Tally> {
     match xml::check(text) {
         xml::FormChecked::Good => {
-            say(b"in the form: ", text);
-            tally
+            say(rt, b"in the form: ", text)?;
+            Ok(tally)
         }
         xml::FormChecked::Broken(front) => {
             if std::num::wrapping_sub_usize(text.len(), front) == left {
-                return one_refused(tally);
+                return Ok(one_refused(tally));
             }
-            say(b"refused elsewhere: ", text);
-            tally
+            say(rt, b"refused elsewhere: ", text)?;
+            Ok(tally)
         }
     }
 }
 
 // A case of this kind.
-pub(crate) fn judge(tally: Tally, kind: u8, text: &[u8], left: usize) -> Tally {
+pub(crate) fn judge(
+    rt: &impl Print,
+    tally: Tally,
+    kind: u8,
+    text: &[u8],
+    left: usize,
+) -> io::Result<Tally> {
     if kind == b'+' {
         if !fronts_fit(text) {
-            say(b"a front refused: ", text);
+            say(rt, b"a front refused: ", text)?;
         }
-        return in_form(tally, text);
+        return in_form(rt, tally, text);
     }
     if kind == b'=' {
-        return in_form(tally, text);
+        return in_form(rt, tally, text);
     }
     if kind == b'!' {
-        return not_in_form(tally, text);
+        return not_in_form(rt, tally, text);
     }
-    leaves(tally, text, left)
+    leaves(rt, tally, text, left)
 }
 
 // The end of a group's line.
-pub(crate) fn report(tally: Tally) {
+pub(crate) fn report(rt: &impl Print, tally: Tally) -> io::Result<()> {
     if !tally.begun {
-        return;
+        return Ok(());
     }
-    io::write_all(STDOUT_FILENO, b": ");
-    io::print_decimal(STDOUT_FILENO, tally.good);
-    io::write_all(STDOUT_FILENO, b" in the form, ");
-    io::print_decimal(STDOUT_FILENO, tally.refused);
-    io::write_all(STDOUT_FILENO, b" refused\n");
+    let good = tally.good;
+    let refused = tally.refused;
+    println!(rt; ": {good} in the form, {refused} refused")
 }
