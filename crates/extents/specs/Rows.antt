@@ -1,5 +1,5 @@
 -- Rows of extents (01, Extents): five numbers each, in a list of numbers one after the other.
-use Rattle.std.specs.Prelude.{List, [], ◌∷◌, ◌++◌, ℕ, ◌+◌}
+use Rattle.std.specs.Prelude.{List, [], ◌∷◌, ◌++◌, ℕ}
 
 -- a row: which bytes of a file stand where on a partition
 pub record Row : Type 0 where

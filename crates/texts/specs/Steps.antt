@@ -1,6 +1,5 @@
 -- The next byte that a text means, as a reader finds it.
 use Rattle.std.specs.Prelude.{◌≡◌, List, [], ◌∷◌, ℕ, ◌<◌, ◌≤◌, length, drop}
-use Rattle.slices.specs.Words.{bytes}
 use Rattle.texts.specs.declared.Spelled.{Spelled}
 use Rattle.texts.specs.declared.Spelled.TheVariants.{End, Byte}
 use Rattle.texts.specs.Decoded.{decoded}

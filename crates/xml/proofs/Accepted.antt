@@ -9,7 +9,7 @@ use borrow.Author.Tests.{eq-eqb, ne_eqb, lt-ltb, le-ltb, lt-leb, eqb-true, ltb-t
 use lib.Dec.{eqb, ltb, leb, eqb-suc-zero}
 use lib.ListN.{length}
 use Rattle.xml.specs.Bytes.{is_space, is_ascii_letter, is_name_byte, declaration}
-use Rattle.xml.specs.CheckSteps.{Mode, before, root, name, tag, key, keyed, equals, value, valued, content, opens, closed, after, amp, more, lead239, Held, blank, words, children, State, at, reads, char, in_text, inside_element, tag_end, outside, leave, innermost, without_text, form_step, good, ended, form_run, form}
+use Rattle.xml.specs.CheckSteps.{Mode, before, root, name, tag, key, keyed, equals, value, valued, content, opens, closed, after, more, lead239, Held, blank, words, children, State, at, reads, char, in_text, inside_element, tag_end, outside, leave, innermost, without_text, form_step, good, ended, form_run, form}
 use Rattle.xml.specs.Tree.{Head, Forest, none, node}
 use Rattle.xml.specs.Grammar.{Spaces, NameBytes, Name, Char, Entity, Value, Quoted, Equals, Attribute, Start, End, Text, Elements, Document, utf8, is_char}
 use Rattle.xml.proofs.Runs.{run_to, run_word}

@@ -1,7 +1,6 @@
 -- `are_digits` meets its contract.
 use borrow.Author.Tests.{le-leb, lt-leb}
 use mathlib.Core.Path.{refl, sym, ◌∙◌}
-use Prim.Native.Nat.{◌-◌}
 use Rattle.digits.specs.Decimal.{is_digit}
 use Rattle.slices.proofs.Every.{every_on, every_off, every_end}
 use borrow.Author.Rules.{rules}

@@ -1,5 +1,4 @@
 -- `is_header2` meets its contract.
-use borrow.Author.Tests.{not-true, not-false}
 use mathlib.Core.Path.{sym, ap, ◌∙◌}
 use Rattle.slices.specs.Slices.{every}
 use Rattle.slices.specs.Words.{bytes}

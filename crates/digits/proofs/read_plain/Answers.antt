@@ -1,6 +1,5 @@
 -- `digits::read_plain` meets its contract: plain, and then a run.
 use mathlib.Core.Path.{sym, ◌∙◌}
-use borrow.Author.Tests.{not-true, not-false}
 use Rattle.digits.proofs.Numbers.{not_plain, plain_run}
 use Rattle.digits.proofs.read_plain.Goals as goal
 

@@ -1,6 +1,5 @@
 -- `digits::width` meets its contract. Invariant: w counts the digits taken off, and one.
 use native.Mathlib.Omega.{arith}
-use Rattle.digits.specs.Runs as run
 use Rattle.digits.proofs.Widths.{width_one, width_more}
 use Rattle.digits.proofs.Short.{short_width, length_short}
 use borrow.Author.Rules.{rules}

@@ -1,9 +1,8 @@
 -- `extents::apart` meets its contract. Invariant: the rows from i on are apart, and none of them begins below low.
 use mathlib.Core.Path.{◌≡◌, ap, sym, ◌∙◌}
-use mathlib.Core.Bool.{true}
 use Prim.Native.Nat.{ℕ, ◌+◌, ◌-◌, ◌*◌, ◌<◌, ◌≤◌}
 use native.Mathlib.Omega.{arith}
-use borrow.Author.Tests.{leb-true, not-true, not-false}
+use borrow.Author.Tests.{leb-true}
 use lib.ListN.{drop}
 use Rattle.slices.specs.Slices.{every}
 use Rattle.extents.specs.Rows.{rows_of}

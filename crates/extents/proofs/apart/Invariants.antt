@@ -1,7 +1,7 @@
 -- `extents::apart` meets its contract. Invariant: the rows from i on are apart, and none of them begins below low.
 use mathlib.Core.Path.{◌≡◌}
 use mathlib.Core.Bool.{true}
-use Prim.Native.Nat.{◌-◌, ◌/◌, ◌≤◌}
+use Prim.Native.Nat.{◌/◌, ◌≤◌}
 use lib.ListN.{length, drop}
 use Rattle.extents.specs.Rows.{rows_of}
 use Rattle.extents.specs.Lawful.{apart}

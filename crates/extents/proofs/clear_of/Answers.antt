@@ -1,8 +1,7 @@
 -- `extents::clear_of` meets its contract. Invariant: row k is clear of the rows passed.
 use mathlib.Core.Path.{refl, sym, ◌∙◌}
-use Prim.Native.Nat.{◌*◌, ◌-◌}
+use Prim.Native.Nat.{◌*◌}
 use native.Mathlib.Omega.{arith}
-use borrow.Author.Tests.{not-true, not-false}
 use Rattle.extents.specs.Steps.{row_from}
 use Rattle.extents.specs.Lawful.{clear}
 use Rattle.extents.proofs.Rows.{each_on, each_off, each_end}

@@ -1,8 +1,6 @@
 -- `extents::each_lawful` meets its contract. Invariant: the rows passed are lawful.
 use mathlib.Core.Path.{refl, sym, ◌∙◌}
-use Prim.Native.Nat.{◌-◌}
 use native.Mathlib.Omega.{arith}
-use borrow.Author.Tests.{not-true, not-false}
 use Rattle.extents.specs.Lawful.{row_lawful}
 use Rattle.extents.proofs.Rows.{each_on, each_off, each_end}
 use Rattle.extents.proofs.each_lawful.Goals as goal

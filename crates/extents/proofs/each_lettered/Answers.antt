@@ -1,9 +1,7 @@
 -- `extents::each_lettered` meets its contract. Invariant: the rows passed have letters.
 use mathlib.Core.Path.{refl, sym, ◌∙◌}
 use mathlib.Core.Bool.{Bool}
-use Prim.Native.Nat.{◌-◌}
 use native.Mathlib.Omega.{arith}
-use borrow.Author.Tests.{not-true, not-false}
 use Rattle.quantities.specs.Letters.{is_letter}
 use Rattle.extents.specs.Rows.{Row}
 use Rattle.extents.proofs.Rows.{each_on, each_off, each_end}

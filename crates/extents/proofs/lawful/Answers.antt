@@ -1,6 +1,5 @@
 -- `extents::lawful` meets its contract: each row by itself, then every two.
 use mathlib.Core.Path.{sym, ◌∙◌}
-use borrow.Author.Tests.{not-true, not-false}
 use Rattle.extents.specs.Lawful.{lawful}
 use Rattle.extents.proofs.lawful.Goals as goal
 

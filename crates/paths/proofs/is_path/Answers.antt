@@ -2,7 +2,6 @@
 use Prim.Native.Nat.{ℕ}
 use mathlib.Core.Path.{◌≡◌, refl, sym, ◌∙◌, ap}
 use native.Mathlib.Omega.{arith}
-use borrow.Author.Tests.{not-true, not-false}
 use Rattle.paths.specs.Paths.{path_down}
 use Rattle.paths.specs.Steps.{is_answer}
 use Rattle.paths.proofs.Walks.{placed_before, answered_on, answered_off, root_answered}

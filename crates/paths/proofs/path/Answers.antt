@@ -1,7 +1,6 @@
 -- `path` meets its contract: the tests in the order of the refusals, then the size, then the path.
 use mathlib.Core.Path.{sym, ◌∙◌}
 use native.Mathlib.Omega.{arith}
-use borrow.Author.Tests.{not-true, not-false}
 use lib.ListN.{length}
 use Rattle.refusals.specs.declared.Refusal.TheVariants.{Missing, Caller}
 use Rattle.paths.specs.Steps.{path_bytes}

@@ -1,5 +1,5 @@
 -- `path_len` meets its contract. Invariant: the path of the entry reached and the room that was taken are the whole path.
-use Prim.Native.Nat.{◌+◌, ◌-◌, ◌≤◌}
+use Prim.Native.Nat.{◌+◌, ◌≤◌}
 use mathlib.Core.Path.{◌≡◌}
 use mathlib.Core.Bool.{true}
 use lib.ListN.{length}

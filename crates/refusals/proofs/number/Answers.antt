@@ -1,6 +1,4 @@
 -- `number` meets its contract: each arm answers the number of its refusal.
-use Rattle.refusals.proofs.number.Reads as reads
-use Rattle.refusals.proofs.number.Lts as lts
 use Rattle.refusals.proofs.number.Goals as goal
 
 pub returns-in-List : goal.returns-in-List

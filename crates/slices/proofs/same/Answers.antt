@@ -1,8 +1,6 @@
 -- `slices::same` meets its contract. Invariant: what is left of both is the same exactly where they are.
 use mathlib.Core.Path.{refl, sym, ◌∙◌}
-use Prim.Native.Nat.{◌-◌}
 use borrow.Author.Rules.{rules}
-use Rattle.slices.specs.Slices as slices
 use Rattle.slices.proofs.Equal.{lengths_differ, same_on, same_off, same_end}
 use Rattle.slices.proofs.same.Goals as goal
 

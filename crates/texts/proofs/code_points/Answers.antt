@@ -1,5 +1,4 @@
 -- `code_points` meets its contract. Invariant: the code points counted and those still meant are all.
-use Prim.Native.Nat.{◌-◌}
 use mathlib.Core.Path.{ap, subst}
 use native.Mathlib.Omega.{arith}
 use Rattle.texts.specs.Decoded.{code_points}

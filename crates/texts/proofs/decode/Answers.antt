@@ -1,5 +1,5 @@
 -- `decode` meets its contract. Invariant: what is still meant, written behind what was written, leaves what is to be left.
-use Prim.Native.Nat.{ℕ, ◌-◌}
+use Prim.Native.Nat.{ℕ}
 use mathlib.Core.Path.{refl, ap, sym, ◌∙◌, subst}
 use mathlib.Core.List.{List}
 use native.Mathlib.Omega.{arith}

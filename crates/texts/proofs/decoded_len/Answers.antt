@@ -1,5 +1,4 @@
 -- `decoded_len` meets its contract. Invariant: the bytes counted and those still meant are all.
-use Prim.Native.Nat.{◌-◌}
 use mathlib.Core.Path.{ap, subst}
 use native.Mathlib.Omega.{arith}
 use lib.ListN.{length}

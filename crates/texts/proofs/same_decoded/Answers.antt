@@ -1,5 +1,4 @@
 -- `same_decoded` meets its contract. Invariant: what is still meant by both is the same exactly where all of it is.
-use Prim.Native.Nat.{◌-◌}
 use mathlib.Core.Path.{refl, ap₂, sym, ◌∙◌, subst}
 use borrow.Author.Tests.{eq-eqb, ne_eqb}
 use native.Mathlib.Omega.{arith}

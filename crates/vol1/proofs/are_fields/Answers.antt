@@ -1,6 +1,6 @@
 -- `are_fields` meets its contract: a test at each return.
 use mathlib.Core.Path.{sym, ◌∙◌}
-use borrow.Author.Tests.{eq-eqb, ne_eqb, not-true, not-false}
+use borrow.Author.Tests.{eq-eqb, ne_eqb}
 use Rattle.vol1.specs.Vol1.{are_fields}
 use Rattle.vol1.proofs.are_fields.Goals as goal
 

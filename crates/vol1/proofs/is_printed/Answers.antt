@@ -1,7 +1,6 @@
 -- `is_printed` meets its contract. Invariant: what is left is ASCII exactly where all is.
 use mathlib.Core.Path.{refl, sym, ◌∙◌}
 use borrow.Author.Tests.{le-leb, lt-leb}
-use Prim.Native.Nat.{◌-◌}
 use Rattle.slices.specs.Slices.{within}
 use Rattle.slices.proofs.Every.{every_on, every_off, every_end}
 use borrow.Author.Rules.{rules}

@@ -1,6 +1,5 @@
 -- `read_vol1` meets its contract: a test at each return; the block is compared with that of its own fields.
 use mathlib.Core.Path.{◌≡◌, ap, sym, ◌∙◌}
-use borrow.Author.Tests.{not-true, not-false}
 use Rattle.slices.specs.Slices as slices
 use Rattle.vol1.specs.Vol1.{vol1, identifier_in, owner_in, is_printed}
 use Rattle.vol1.proofs.Blocks.{own_block, other_length, other_constants, identifier_unprinted, owner_unprinted, the_vol1}

@@ -3,9 +3,6 @@ use mathlib.Core.Path.{ap, ◌∙◌, sym}
 use Rattle.xml.specs.CheckSteps.{outcome_of}
 use Rattle.xml.proofs.Fronts.{unread_inside}
 use Rattle.xml.proofs.Checked.{good_checked, broken_checked}
-use Rattle.xml.proofs.check.Reads as reads
-use Rattle.xml.proofs.check.Lts as lts
-use Rattle.xml.proofs.read_all.Reads as read_all_reads
 use Rattle.xml.proofs.check.Goals as goal
 
 pub overflow_sub-result : goal.overflow_sub-result

@@ -3,7 +3,7 @@ use mathlib.Core.Path.{◌≡◌, refl, ap, ◌∙◌, sym}
 use mathlib.Core.Bool.{true, false, and-false, and-true}
 use mathlib.Core.List.{◌∷◌}
 use Prim.Native.Nat.{◌+◌}
-use borrow.Author.Tests.{ne_eqb, not-true, not-false}
+use borrow.Author.Tests.{ne_eqb}
 use borrow.Author.Rules.{rules}
 use Rattle.xml.specs.CheckSteps.{at, opens, closed, reads, innermost, form_step, ended}
 use Rattle.xml.specs.ScanSteps.{part}

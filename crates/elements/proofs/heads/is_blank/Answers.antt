@@ -1,7 +1,5 @@
 -- `is_blank` meets its contract. Invariant: what is left is white space exactly where all is.
-use Prim.Native.Nat.{◌-◌}
 use mathlib.Core.Path.{refl, sym, ◌∙◌}
-use borrow.Author.Tests.{not-true, not-false}
 use Rattle.slices.proofs.Every.{every_on, every_off, every_end}
 use Rattle.xml.specs.Bytes.{is_space}
 use borrow.Author.Rules.{rules}

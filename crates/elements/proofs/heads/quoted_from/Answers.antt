@@ -1,5 +1,4 @@
 -- `quoted_from` meets its contract. Invariant: what is quoted from i on is what is quoted from at on.
-use Prim.Native.Nat.{◌-◌}
 use mathlib.Core.Path.{refl, sym, ◌∙◌}
 use Rattle.elements.proofs.Parts.{no_part, quoted_none, quoted_shut, quoted_on, quoted_some}
 use borrow.Author.Rules.{rules}

@@ -1,7 +1,7 @@
 -- `find_ahead` meets its contract. Invariant: b is found from i on where it is found from at on, and so i is in the text.
 use mathlib.Core.Path.{refl, ap}
 use mathlib.Core.Bool.{not}
-use Prim.Native.Nat.{◌+◌, ◌-◌}
+use Prim.Native.Nat.{◌+◌}
 use native.Mathlib.Omega.{arith}
 use borrow.Author.Tests.{eq-eqb, ne_eqb}
 use Rattle.xml.specs.Tree.{is_not}

@@ -1,5 +1,4 @@
 -- `find_one` meets its contract. Invariant: the byte found from i on is the one found from at on.
-use Prim.Native.Nat.{◌-◌}
 use mathlib.Core.Path.{refl, sym, ap, ◌∙◌}
 use mathlib.Core.Bool.{not}
 use borrow.Author.Tests.{eq-eqb, ne_eqb}

@@ -1,7 +1,7 @@
 -- `is_near` meets its contract. Invariant: so it is of the bytes passed.
 use mathlib.Core.Path.{◌≡◌, subst}
 use mathlib.Core.Bool.{false≢true}
-use Prim.Native.Nat.{ℕ, ◌-◌}
+use Prim.Native.Nat.{ℕ}
 use native.Mathlib.Omega.{arith}
 use Rattle.xml.specs.Tree.{is_not}
 use Rattle.elements.specs.ScanSteps.{Looked}

@@ -1,8 +1,7 @@
 -- `letters_end` meets its contract. Invariant: the name ends from i on where it ends from at on; the four places of a turn follow each other.
 use mathlib.Core.Path.{refl, sym, ◌∙◌}
-use Prim.Native.Nat.{◌+◌, ◌-◌}
+use Prim.Native.Nat.{◌+◌}
 use native.Mathlib.Omega.{arith}
-use borrow.Author.Tests.{not-false}
 use Rattle.elements.proofs.Names.{small_name}
 use Rattle.elements.proofs.Finding.{onward_here, onward_more}
 use Rattle.elements.proofs.scan.letters_end.Goals as goal

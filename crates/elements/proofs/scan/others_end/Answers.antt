@@ -1,6 +1,5 @@
 -- `others_end` meets its contract. Invariant: b is found from i on where it is found from at on.
 use mathlib.Core.Path.{refl}
-use Prim.Native.Nat.{◌-◌}
 use native.Mathlib.Omega.{arith}
 use Rattle.elements.proofs.Finding.{onward_here, onward_on}
 use Rattle.elements.proofs.scan.others_end.Goals as goal

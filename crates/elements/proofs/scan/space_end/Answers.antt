@@ -1,7 +1,5 @@
 -- `space_end` meets its contract. Invariant: the run ends from i on where it ends from at on.
-use Prim.Native.Nat.{◌-◌}
 use mathlib.Core.Path.{refl, sym, ◌∙◌}
-use borrow.Author.Tests.{not-true, not-false}
 use Rattle.xml.specs.Bytes.{is_space}
 use Rattle.xml.proofs.Past.{front_more, front_none, front_end}
 use borrow.Author.Rules.{rules}

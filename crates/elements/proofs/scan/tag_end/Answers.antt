@@ -1,5 +1,5 @@
 -- `tag_end` meets its contract: a name with `>` behind it at once; for any other, invariant: the tag ends from i on as it does from n on.
-use Prim.Native.Nat.{ℕ, ◌+◌, ◌-◌}
+use Prim.Native.Nat.{ℕ, ◌+◌}
 use mathlib.Core.Path.{◌≡◌, refl, sym, ap, ◌∙◌}
 use native.Mathlib.Omega.{arith}
 use lib.ListN.{drop, get_or}

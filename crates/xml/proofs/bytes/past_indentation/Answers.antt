@@ -1,5 +1,5 @@
 -- `past_indentation` meets its contract. Invariant: the bytes from `from` to i are white space; the four places of a turn follow each other.
-use Prim.Native.Nat.{◌+◌, ◌-◌}
+use Prim.Native.Nat.{◌+◌}
 use native.Mathlib.Omega.{arith}
 use borrow.Author.Rules.{rules}
 use Rattle.xml.proofs.Past.{along_none, along_blank}

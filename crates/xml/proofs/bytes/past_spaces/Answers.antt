@@ -1,6 +1,6 @@
 -- `past_spaces` meets its contract. Invariant: the bytes from `from` to i are white space.
 use mathlib.Core.Path.{refl}
-use Prim.Native.Nat.{◌+◌, ◌-◌}
+use Prim.Native.Nat.{◌+◌}
 use borrow.Author.Rules.{rules}
 use Rattle.xml.proofs.KindTable.{no_space, a_space}
 use Rattle.xml.proofs.Past.{along_none, along_on, along_then, along_stop, along_end}

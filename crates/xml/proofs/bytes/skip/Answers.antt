@@ -1,5 +1,5 @@
 -- `skip` meets its contract. Invariant: the bytes from `from` to i are of these kinds; the four places of a turn follow each other.
-use Prim.Native.Nat.{◌+◌, ◌-◌}
+use Prim.Native.Nat.{◌+◌}
 use native.Mathlib.Omega.{arith}
 use borrow.Author.Tests.{lt-leb, le-leb}
 use borrow.Author.Rules.{rules}

@@ -1,6 +1,5 @@
 -- `skip_one` meets its contract. Invariant: the bytes from `from` to i are of these kinds.
 use mathlib.Core.Path.{refl}
-use Prim.Native.Nat.{◌-◌}
 use borrow.Author.Tests.{lt-leb, le-leb}
 use borrow.Author.Rules.{rules}
 use Rattle.xml.proofs.Past.{along_none, along_on, along_stop, along_end}

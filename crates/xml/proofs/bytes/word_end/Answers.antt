@@ -1,6 +1,5 @@
 -- `word_end` meets its contract. Invariant: what is left of the word is read from i on.
 use mathlib.Core.Path.{refl, ◌∙◌}
-use Prim.Native.Nat.{◌-◌}
 use borrow.Author.Rules.{rules}
 use Rattle.xml.proofs.Scanning.{word_out, word_refused, word_on, word_done}
 use Rattle.xml.proofs.bytes.word_end.Goals as goal

@@ -1,6 +1,5 @@
 -- `past_wide` meets its contract. Invariant: what is before i is text; each turn passes one character.
 use mathlib.Core.Path.{refl}
-use Prim.Native.Nat.{◌-◌}
 use native.Mathlib.Omega.{arith}
 use borrow.Author.Rules.{rules}
 use Rattle.xml.proofs.KindTable.{a_text}

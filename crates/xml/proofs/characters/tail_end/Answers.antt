@@ -1,6 +1,5 @@
 -- `tail_end` meets its contract. Invariant: a scan from i on, where `left` more bytes are to follow, is a scan from `from` on.
 use mathlib.Core.Path.{refl}
-use Prim.Native.Nat.{◌-◌}
 use lib.ListN.{get_or}
 use borrow.Author.Tests.{eq-eqb, ne_eqb, lt-ltb, le-ltb}
 use borrow.Author.Rules.{rules}

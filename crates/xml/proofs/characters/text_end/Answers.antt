@@ -1,7 +1,5 @@
 -- `text_end` meets its contract. Invariant: a scan of the text from i on, behind n `]`, is a scan of it from `from` on.
 use mathlib.Core.Path.{refl}
-use mathlib.Core.Bool.{false}
-use Prim.Native.Nat.{◌-◌}
 use lib.ListN.{get_or}
 use borrow.Author.Tests.{eq-eqb, ne_eqb}
 use borrow.Author.Rules.{rules}

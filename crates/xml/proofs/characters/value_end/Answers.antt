@@ -1,6 +1,5 @@
 -- `value_end` meets its contract. Invariant: a scan of the value from i on is a scan of it from `from` on.
 use mathlib.Core.Path.{refl}
-use Prim.Native.Nat.{◌-◌}
 use lib.ListN.{get_or}
 use borrow.Author.Tests.{eq-eqb, ne_eqb}
 use borrow.Author.Rules.{rules}
