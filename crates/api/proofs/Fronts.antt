@@ -1,17 +1,16 @@
 -- What is told with a refusal of a text's form, and of whose label.
 use mathlib.Core.Path.{◌≡◌, refl, sym, ap, ◌∙◌}
-use mathlib.Core.Bool.{true, false, false≢true}
+use mathlib.Core.Bool.{false≢true}
 use mathlib.Core.List.{List}
 use mathlib.Core.Logic.{◌⊎◌, inl, inr}
 use Prim.Native.Nat.{ℕ}
 use native.Mathlib.Omega.{arith}
-use lib.Dec.{eqb}
 use lib.ListN.{take, get_or}
 use borrow.Author.Tests.{eq-eqb}
 use Rattle.refusals.specs.declared.Refusal.{Refusal}
 use Rattle.refusals.specs.declared.Refusal.TheVariants.{Form}
 use Rattle.refusals.specs.declared.Place.{Place}
-use Rattle.refusals.specs.Refusals.{Answer, refused, answer, number_of, place_of}
+use Rattle.refusals.specs.Refusals.{Answer, refused, number_of, place_of}
 use Rattle.refusals.proofs.Places.{Another, form_or_another}
 use Rattle.refusals.proofs.Refusing.{Refuses}
 use Rattle.xml.specs.CheckSteps.{front}
