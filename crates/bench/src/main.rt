@@ -1,33 +1,55 @@
 // Writes the verdict on the volume in the current folder, and the rescue's cut (01, Bench examples).
 #![tactic(auto)]
 
-ghost use Rattle.std.specs.Prelude.{IfOk};
 ghost use Rattle.case_files.specs.Counts.{IsPrefixLen};
 
 use slices::Written;
+use std::io::{ErrorKind, Read};
 use std::rt::Files;
 use std::{fs, io};
 
-// The bytes of a file, at the front of buf, as far as it has room; none where the file cannot be opened.
-fn load(rt: &impl Files, path: &str, buf: &mut [u8]) -> io::Result<usize>
-    ensures { IfOk result (λ n. IsPrefixLen n buf.new) }
+// Reads until buf is full, the input ends or a read fails, and answers how many bytes it put at the front of buf.
+fn read_on<R: Read>(file: &mut R, buf: &mut [u8]) -> usize
+    ensures { IsPrefixLen result buf.new }
+{
+    let mut done: usize = 0;
+    for _ in 0..u64::MAX {
+        if buf.len() <= done {
+            break;
+        }
+        match file.read(&mut buf[done..]) {
+            Ok(0) => break,
+            Ok(n) => done += n,
+            Err(e) => {
+                if e.kind() != ErrorKind::Interrupted {
+                    break;
+                }
+            }
+        }
+    }
+    done
+}
+
+// The bytes of a file, at the front of buf, as far as it has room and can be read; none where the file cannot be opened.
+fn load(rt: &impl Files, path: &str, buf: &mut [u8]) -> usize
+    ensures { IsPrefixLen result buf.new }
 {
     let Ok(mut file) = fs::open(rt, path) else {
-        return Ok(0);
+        return 0;
     };
-    case_files::read_full(&mut file, buf)
+    read_on(&mut file, buf)
 }
 
 // Each buffer has room for a byte more than its file may have, so that a longer file is told.
 fn main(rt: HostRuntime) -> io::Result<()> {
     let mut index_list = [0u8; 4097];
-    let il = load(&rt, "index.list", &mut index_list)?;
+    let il = load(&rt, "index.list", &mut index_list);
     let mut index_store = [0u8; 24577];
-    let is = load(&rt, "index.store", &mut index_store)?;
+    let is = load(&rt, "index.store", &mut index_store);
     let mut data_list = [0u8; 4097];
-    let dl = load(&rt, "data.list", &mut data_list)?;
+    let dl = load(&rt, "data.list", &mut data_list);
     let mut data_store = [0u8; 24577];
-    let ds = load(&rt, "data.store", &mut data_store)?;
+    let ds = load(&rt, "data.store", &mut data_store);
     let mut lines = [0u8; 256];
     match bench_lines::write(
         &index_list[..il],
