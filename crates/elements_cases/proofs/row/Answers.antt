@@ -1,5 +1,5 @@
 -- `row` ends, since a row goes on behind each of its elements.
-use Rattle.std.proofs.Common.{◌-◌, subst, arith}
+use Rattle.std.proofs.Common.{subst, arith}
 use Rattle.elements.specs.TagSteps.{NextChild}
 use Rattle.elements_cases.proofs.row.Goals as goal
 

@@ -1,5 +1,5 @@
 -- `tags` ends, since each tag stands behind the one before it.
-use Rattle.std.proofs.Common.{◌-◌, subst, arith}
+use Rattle.std.proofs.Common.{subst, arith}
 use Rattle.elements.specs.TagSteps.{NextTag}
 use Rattle.elements_cases.proofs.tags.Goals as goal
 

@@ -1,5 +1,5 @@
 -- `walk` ends, since each tag stands behind the one before it.
-use Rattle.std.proofs.Common.{◌-◌, subst, arith}
+use Rattle.std.proofs.Common.{subst, arith}
 use Rattle.elements.specs.TagSteps.{NextTag}
 use Rattle.elements_cases.proofs.walk.Goals as goal
 

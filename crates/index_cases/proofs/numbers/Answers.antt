@@ -1,5 +1,5 @@
 -- `numbers` keeps to its buffer, which keeps its length.
-use Rattle.std.proofs.Common.{◌≡◌, ℕ, ◌-◌, ◌≤◌, List, length, take, sym, arith, length-take-le}
+use Rattle.std.proofs.Common.{◌≡◌, ℕ, ◌≤◌, List, length, take, sym, arith, length-take-le}
 use Rattle.index_cases.proofs.numbers.Goals as goal
 
 counts : (l : List ℕ) (n : ℕ) → n ≤ length l → (n ≤ length l) × (n ≡ length (take n l))

@@ -1,5 +1,4 @@
 -- `put_tree` ends, since each tag stands behind the one before it.
-use Prim.Native.Nat.{◌-◌}
 use mathlib.Core.Path.{subst}
 use native.Mathlib.Omega.{arith}
 use Rattle.elements.specs.TagSteps.{NextTag}
