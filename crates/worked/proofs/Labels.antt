@@ -1,19 +1,20 @@
 -- The labels such as the bench's: one of them, the length of each, and what a buffer one byte short of it gives.
-use mathlib.Core.Path.{◌≡◌, refl, ap}
+use mathlib.Core.Path.{◌≡◌, refl, ap, ◌∙◌}
 use mathlib.Core.Bool.{Bool, true, not, ◌&&◌, ◌||◌}
 use mathlib.Core.List.{List}
-use Prim.Native.Nat.{ℕ}
+use Prim.Native.Nat.{ℕ, suc, ◌^◌}
 use native.Mathlib.Omega.{arith}
 use borrow.Author.Tests.{eq-eqb, eqb-true}
-use lib.Dec.{eqb}
+use lib.Dec.{eqb, ltb}
 use lib.ListN.{length}
 use Rattle.slices.specs.Slices.{every, same}
 use Rattle.slices.specs.Words.{bytes}
 use Rattle.slices.proofs.Booleans.{split, and_left, and_right}
 use Rattle.slices.proofs.Equal.{same_eq}
 use Rattle.slices.proofs.Writers.{placed_short}
-use Rattle.digits.specs.Runs.{digits, first_from, width}
+use Rattle.digits.specs.Runs.{first_from, width}
 use Rattle.digits.specs.Decimal.{short}
+use Rattle.digits.proofs.Short.{short_width}
 use Rattle.xml.specs.Grammar.{is_char, utf8}
 use Rattle.values.specs.Values.{by_pattern, in_pattern, in_ranges, is_time, is_uuid, is_creator}
 use Rattle.label.specs.Label.{Label, letters_fit}
@@ -28,9 +29,17 @@ pub one : is_bench sample ≡ true
 unfolding is_bench sample is_given is_lawful_label are_numbers is_creator is_time is_uuid in_pattern by_pattern in_ranges letters_fit every same bytes escaped escape characters_behind is_character code_point following is_char utf8
 one = refl
 
+-- the search for the width stops at its sixth number, however far it may go
+wide_from : (m : ℕ) → first_from (λ w. ltb 524288 (10 ^ w)) 1 (suc (suc (suc (suc (suc (suc m)))))) ≡ 6
+unfolding first_from
+wide_from m = refl
+
+wide : width 10 524288 ≡ 6
+unfolding width
+wide = wide_from 524282
+
 size : length (short 524288) ≡ 6
-unfolding short width first_from digits
-size = refl
+size = short_width 524288 ∙ wide
 
 compressed : length (boolean_word true) ≡ 4
 unfolding boolean_word bytes
