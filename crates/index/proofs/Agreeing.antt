@@ -4,7 +4,6 @@ use mathlib.Core.Bool.{Bool, true, false, cond, not, ◌||◌}
 use mathlib.Core.List.{List, [], ◌∷◌, ◌++◌, append-nil, append_assoc}
 use Prim.Native.Nat.{ℕ, suc, ◌+◌, ◌*◌, ◌≤◌}
 use native.Mathlib.Omega.{arith}
-use native.Mathlib.Nat.{add-zero}
 use borrow.Author.Tests.{leb-true}
 use lib.Dec.{eqb, leb}
 use lib.ListN.{length, length-append}
@@ -17,7 +16,7 @@ use Rattle.index_names.specs.Sorts.{root, directory, file, holds_elements}
 use Rattle.index_values.specs.Elements.{IndexElement, element, elements, sort_of}
 use Rattle.index_values.specs.Entries.{is_entry, uid_of, uids_of, many}
 use Rattle.index_values.specs.Tests.{few, extent_rows, rows_held}
-use Rattle.index.specs.Index.{File, file_of, files_of, file_count, all_rows}
+use Rattle.index.specs.Index.{file_of, files_of, file_count, all_rows}
 use Rattle.index.specs.Entries.{Entry, holder, entry_with, entry_of, entry_itself, entries_in, entry_rows, entry_files}
 use Rattle.index.proofs.Listing.{uids_in}
 

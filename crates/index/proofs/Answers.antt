@@ -22,7 +22,6 @@ use Rattle.elements.specs.TagSteps.{NextTag}
 use Rattle.elements.specs.declared.tags.Tag.TheVariants.{Open, Empty}
 use Rattle.elements.proofs.Rows.{first_empty}
 use Rattle.children.specs.Children.{children_of_first}
-use Rattle.elements.specs.declared.heads.Span.{Span}
 use Rattle.elements.specs.Reading.{forest_at, has_element}
 use Rattle.values.specs.Values as values
 use Rattle.index_names.specs.Sorts.{index, file}

@@ -18,17 +18,15 @@ use Rattle.extents.proofs.Rows.{length_numbers}
 use Rattle.index_names.specs.Sorts.{root, directory, file, extentinfo, extent, unknown, holds_elements}
 use Rattle.index_names.specs.Rows.{sorts_of}
 use Rattle.index_names.specs.Tables.{times, entry_table, of_file, extentinfo_table, extent_table, table, sort}
-use Rattle.index_values.specs.Elements.{IndexElement, element, elements, name_number, sort_of}
+use Rattle.index_values.specs.Elements.{IndexElement, elements, name_number, sort_of}
 use Rattle.index_values.specs.Entries.{is_entry, uid_of}
-use Rattle.index_values.specs.Tests.{Given, few, lawful_file, extent_rows, rows_held}
+use Rattle.index_values.specs.Tests.{Given, few, extent_rows, rows_held}
 use Rattle.index_values.specs.Steps.{rows_taken}
 use Rattle.index.specs.Entries.{Entry, holder, entry_with, entry_of, entry_itself, entries_in, entry_rows, entry_files, nine, nines_from}
 use Rattle.index.specs.SweepSteps.{All, with_sums, one_more, more_rows, none_seen, marked, after_row, ended_sums, begun, settled, entry_put, rows_put, after_element, sweep}
-use Rattle.index.specs.declared.walk.Sums.{Sums}
 use Rattle.index.proofs.Counted.{sat_below, more_sat}
 use Rattle.index.proofs.EachFile.{here, inside, behind}
 use Rattle.index.proofs.Gathering.{closed_other}
-use Rattle.index.proofs.Steps.{no_entry}
 
 -- stores that do not meet may change places, and one behind the other is one
 set_later : (u t : List ℕ) (k n v : ℕ) → k < n → set (sets t n u) k v ≡ sets (set t k v) n u

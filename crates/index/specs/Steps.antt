@@ -16,7 +16,7 @@ use Rattle.children.specs.Children.{children_of_first}
 use Rattle.index_rows.specs.Steps.{noted, Placed, TagsPlaced}
 use Rattle.index_values.specs.Elements.{IndexElement, name_number, sort_of, elements}
 use Rattle.index_values.specs.Entries.{is_entry, uid_of, entries_of}
-use Rattle.index_values.specs.Tests.{Given, own, few}
+use Rattle.index_values.specs.Tests.{Given}
 use Rattle.index_values.specs.Steps.{given}
 use Rattle.index_values.specs.declared.tests.Partitions.{Partitions}
 use Rattle.index.specs.Index.{children_read, tag_read, root_read, Index, Summary, all_lawful, all_own, all_valued, bounded, all_rows, file_count, files_of, heading_of, structured, summary_of}

@@ -1,14 +1,14 @@
 -- The names of an index's entries lie in its text, and each parent comes before what it holds.
-use mathlib.Core.Path.{◌≡◌, refl, ap, sym, ◌∙◌, subst}
+use mathlib.Core.Path.{◌≡◌, subst}
 use mathlib.Core.Bool.{Bool, true, false, cond}
 use mathlib.Core.List.{List, [], ◌∷◌, ◌++◌}
-use Prim.Native.Nat.{ℕ, suc, ◌+◌, ◌-◌, ◌≤◌, min}
+use Prim.Native.Nat.{ℕ, suc, ◌+◌, ◌-◌, ◌≤◌}
 use native.Mathlib.Nat.{add-zero}
 use native.Mathlib.Omega.{arith}
 use lib.Dec.{eqb}
 use lib.ListN.{length, take, drop, get_or, length-take, length-drop}
 use Rattle.slices.specs.Words.{bytes}
-use Rattle.xml.specs.Tree.{Head, Tree, none, node, front, not_open, quote_after, past, head_of, behind_tag, tag_head, top, pop, closed, opened, alone, put, trees}
+use Rattle.xml.specs.Tree.{none, node, front, not_open, quote_after, past, head_of, behind_tag, tag_head, top, pop, closed, opened, alone, put, trees}
 use Rattle.elements.specs.Tags.{Tags, tags_of, tags_at, text_place}
 use Rattle.elements.specs.Reading.{Inside}
 use Rattle.children.specs.Children.{matching, children_of_first}

@@ -1,7 +1,7 @@
 -- All of an index, by its tables: what its header counts is what its entries and rows are.
 use mathlib.Core.Path.{◌≡◌, refl, ap, sym, ◌∙◌, subst}
 use mathlib.Core.Bool.{Bool, true, false, cond, ◌&&◌}
-use mathlib.Core.List.{List, [], ◌∷◌, ◌++◌}
+use mathlib.Core.List.{List}
 use Prim.Native.Nat.{ℕ, ◌+◌, ◌*◌, ◌-◌, ◌/◌, ◌≤◌, ◌<◌}
 use native.Mathlib.Nat.{zero-add}
 use native.Mathlib.Omega.{arith}
@@ -9,15 +9,14 @@ use borrow.Author.Tests.{le-leb, lt-leb, leb-true, leb-false}
 use lib.Dec.{leb}
 use lib.ListN.{length, take, drop}
 use lib.Seq.{sets, sets-eq, length-sets, take-append_seam}
-use Rattle.refusals.specs.Refusals.{Answer, refused, answer, require, and_then}
+use Rattle.refusals.specs.Refusals.{Answer, refused, answer, require}
 use Rattle.refusals.specs.declared.Refusal.{Refusal}
 use Rattle.refusals.specs.declared.Refusal.TheVariants.{Short}
 use Rattle.slices.specs.Slices.{written}
 use Rattle.slices.proofs.Booleans.{and_left, and_right}
 use Rattle.tables.specs.Copying.{copied}
-use Rattle.xml.specs.Tree.{Tree, Forest, none, node, tag_head}
+use Rattle.xml.specs.Tree.{Forest, none, node}
 use Rattle.elements.specs.Tags.{Tags, told, heads, tags_at}
-use Rattle.elements.specs.Reading.{forest_at}
 use Rattle.elements.proofs.ByTag.{row_told}
 use Rattle.elements.proofs.Roots.{root_row}
 use Rattle.children.specs.Children.{children_of_first}
@@ -28,7 +27,7 @@ use Rattle.index_values.specs.Elements.{IndexElement, elements}
 use Rattle.index_values.specs.Entries.{entries_of}
 use Rattle.index_values.specs.Tests.{Given}
 use Rattle.index.specs.Index.{Index, Summary, summary, summary_of, files_of, file_count, all_rows, index_of}
-use Rattle.index.specs.Entries.{Entry, index_entries, entry_rows, nines}
+use Rattle.index.specs.Entries.{index_entries, entry_rows, nines}
 use Rattle.index.specs.Steps.{Listed, IsListed, ReadsIndex, means, summary_in}
 use Rattle.index.specs.declared.read.Header.{Header}
 use Rattle.index.specs.declared.read.Read.{Read}
@@ -40,7 +39,7 @@ use Rattle.index.proofs.Answers.{files_length}
 use Rattle.index_files.specs.Whole.{has_room, whole_for, Held, HoldsWhole}
 use Rattle.index_files.specs.WholeSteps.{enough, ReadsWhole}
 use Rattle.index_files.proofs.Accepted.{accepted}
-use Rattle.index_files.proofs.Mapped.{mapped, mapped_refused}
+use Rattle.index_files.proofs.Mapped.{mapped_refused}
 
 -- numbers in the front of a table with room for them
 pub front_is : (w t : List ℕ) → length w ≤ length t → take (length w) (sets t 0 w) ≡ w

@@ -1,5 +1,5 @@
 -- What filling a lent buffer with rows owes.
-use Rattle.std.specs.Prelude.{◌≡◌, List, [], ◌∷◌, ℕ, ◌+◌, ◌*◌, length}
+use Rattle.std.specs.Prelude.{◌≡◌, List, ℕ, ◌+◌, ◌*◌, length}
 use Rattle.refusals.specs.Refusals.{Answer, refused, answer, and_then}
 use Rattle.slices.specs.Slices.{written}
 use Rattle.extents.specs.Rows.{Row, numbers_of}

@@ -17,7 +17,7 @@ use Rattle.index_names.specs.Sorts.{file}
 use Rattle.index_values.specs.Elements.{text_in, children_in}
 use Rattle.index_values.specs.Entries.{number_or_zero}
 use Rattle.index_values.specs.Tests.{rows_in, extent_rows, length_of, few, lawful_file, rows_held}
-use Rattle.index_values.specs.Steps.{given, RowsRead, rows_taken, Tested}
+use Rattle.index_values.specs.Steps.{RowsRead, rows_taken, Tested}
 use Rattle.index_values.specs.declared.tests.Partitions.{Partitions}
 
 -- numbers in fives are those of their rows

@@ -9,7 +9,7 @@ use Rattle.extents.specs.Rows as numbers
 use Rattle.extents.specs.Rows.{Row}
 use Rattle.extents.specs.Map.{max_rows}
 use Rattle.index_rows.specs.Steps.{Placed}
-use Rattle.index_names.specs.Sorts.{file, uuid}
+use Rattle.index_names.specs.Sorts.{file}
 use Rattle.index_values.specs.declared.tests.Partitions.{Partitions}
 use Rattle.index_values.specs.Elements.{text_in}
 use Rattle.index_values.specs.declared.tests.Judged.{Judged}

@@ -12,7 +12,7 @@ use Rattle.slices.proofs.Booleans.{and_parts, and_both}
 use Rattle.refusals.specs.declared.Refusal.{Refusal}
 use Rattle.refusals.specs.Refusals.{Answer, refused, answer, and_then, Shows}
 use Rattle.refusals.proofs.Numbers.{not_zero}
-use Rattle.tape.specs.Tape.{Tape, list, store, cell_of, is_lawful_cell, lawful_tape, Encodes}
+use Rattle.tape.specs.Tape.{Tape, cell_of, is_lawful_cell, lawful_tape, Encodes}
 use Rattle.tape.specs.ReadingSteps.{tape_of}
 use Rattle.tape.specs.Answers.{or_refused, element_count, Fronts, kept, keeping, Lengths, lengths, kept_of}
 use Rattle.tape.specs.Again.{fronts_of, KeepsAgain}

@@ -7,7 +7,7 @@ use Rattle.tape.specs.declared.Kept.{Kept}
 use Rattle.tape.specs.declared.Kept.TheVariants as kept_is
 use Rattle.tape.specs.declared.Located.{Located}
 use Rattle.tape.specs.declared.Located.TheVariants as located_is
-use Rattle.tape.specs.Tape.{Tape, list, store, Encodes}
+use Rattle.tape.specs.Tape.{Tape, Encodes}
 use Rattle.tape.specs.Answers.{Lengths, keeping, kept_of, Holds, StorePart, block_of, place_of}
 use Rattle.tape.specs.Again.{fronts_of, KeepsAgain}
 

@@ -2,13 +2,13 @@
 use mathlib.Core.Path.{◌≡◌, refl, ap, ap₂, ◌∙◌}
 use mathlib.Core.Bool.{Bool, true, false, not, ◌&&◌, and-true, and-false}
 use mathlib.Core.List.{List, [], ◌∷◌}
-use Prim.Native.Nat.{ℕ, suc, ◌+◌, ◌<◌, ◌≤◌}
+use Prim.Native.Nat.{ℕ, ◌<◌, ◌≤◌}
 use native.Mathlib.Omega.{arith}
 use borrow.Author.Tests.{eq-eqb, ne_eqb, le-leb, lt-leb, leb-true, not-true}
 use lib.Dec.{leb, eqb}
 use lib.ListN.{length}
 use Rattle.slices.specs.Slices.{within, every}
-use Rattle.slices.proofs.Booleans.{and_both, and_parts}
+use Rattle.slices.proofs.Booleans.{and_parts}
 use Rattle.texts.specs.Decoded.{meaning, decoded_behind, decoded, code_points}
 use Rattle.values.specs.Values.{is_plain, is_name}
 use Rattle.values.specs.Steps.{is_common}

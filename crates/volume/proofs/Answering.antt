@@ -24,7 +24,7 @@ use Rattle.labels.specs.Labels.{labels_of, labels_in}
 use Rattle.index_values.specs.Tests.{Given}
 use Rattle.index_values.specs.declared.tests.Partitions.{Partitions}
 use Rattle.verdict.specs.Verdict.{Volume, ends_with, chain_break, verdict, Cut}
-use Rattle.verdict.specs.Rescue.{generation_of, through, chain, cut_among, rescue}
+use Rattle.verdict.specs.Rescue.{generation_of, through, cut_among, rescue}
 use Rattle.verdict.specs.Steps.{beginnings, firsts}
 use Rattle.verdict.specs.Demand.{Demand3}
 use Rattle.verdict.proofs.Orders.{firsts_suffix, firsts_all}

@@ -11,7 +11,7 @@ use lib.ListN.{length, get_or, take, drop}
 use Rattle.refusals.specs.declared.Refusal.{Refusal}
 use Rattle.refusals.specs.declared.Refusal.TheVariants.{Short}
 use Rattle.refusals.specs.Refusals.{Answer, refused, answer, require, and_then}
-use Rattle.tape.specs.Tape.{Tape, Encodes, store}
+use Rattle.tape.specs.Tape.{Tape, Encodes}
 use Rattle.tape.specs.Answers.{tape_in, bytes_before, or_refused}
 use Rattle.tape.specs.Steps.{counted}
 use Rattle.tape.specs.declared.ListChecked.{ListChecked}

@@ -12,7 +12,6 @@ use Rattle.tape.specs.Tape.{Tape}
 use Rattle.constructs.specs.Constructs.{Construct, standing, data_lengths}
 use Rattle.constructs.specs.TableSteps.{bounds_in}
 use Rattle.constructs.specs.declared.Bounds.{Bounds}
-use Rattle.constructs.specs.Steps.{here}
 use Rattle.index.specs.Index.{index_of}
 use Rattle.index_values.specs.Steps.{given}
 use Rattle.index_values.specs.declared.tests.Partitions.{Partitions}

@@ -1,6 +1,5 @@
 -- `walk` meets its contract. Invariant: `Matched`, what was read so far is what a reading comes to, and the rows hold its files.
 use mathlib.Core.Path.{sym, ◌∙◌, ap}
-use Prim.Native.Nat.{◌-◌}
 use native.Mathlib.Omega.{arith}
 use Rattle.ansi.specs.PhaseSteps.{step_of}
 use Rattle.ansi.proofs.Matching.{matched_start, says_here, at_small, matched_mark, matched_block, stopped_mark, stopped_block, stopped_unreadable, small, bytes_bound, rows_kept, matched_end}

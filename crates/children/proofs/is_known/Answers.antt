@@ -1,6 +1,5 @@
 -- `children::is_known` meets its contract: no attribute, then what it holds.
 use mathlib.Core.Path.{sym, ◌∙◌}
-use borrow.Author.Tests.{not-true, not-false}
 use Rattle.children.proofs.is_known.Goals as goal
 
 pub returns-then-not-no_attribute : goal.returns-then-not-no_attribute

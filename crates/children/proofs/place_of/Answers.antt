@@ -1,10 +1,9 @@
 -- `children::place_of` meets its contract. Invariant: the rule found from i on is the rule found, k rules later.
 use mathlib.Core.Path.{refl, sym, ◌∙◌}
 use native.Mathlib.Omega.{arith}
-use Prim.Native.Nat.{◌-◌, ◌≤◌}
+use Prim.Native.Nat.{◌≤◌}
 use lib.ListN.{length}
 use Rattle.xml.proofs.Past.{past_ahead}
-use Rattle.children.specs.RowSteps.{rules}
 use Rattle.children.proofs.Tables.{place_on, mark_on, place_hit, mark_hit, place_off, mark_off, place_end, mark_end}
 use borrow.Author.Rules.{rules as needed}
 use Rattle.children.proofs.place_of.Goals as goal

@@ -4,7 +4,6 @@ use Prim.Native.Nat.{◌+◌, ◌-◌, ◌≤◌}
 use lib.ListN.{length, drop}
 use Rattle.children.specs.Rules.{rule_number, mark_of}
 use Rattle.children.specs.RowSteps.{rules}
-use borrow.Author.Rules.{rules as needed}
 use Rattle.children.proofs.place_of.Given as goal
 
 abbrev pub invariant-loop-i : goal.invariant-loop-i

@@ -1,8 +1,7 @@
 -- `children::read_row` meets its contract. Invariant: the elements before i are passed, each with its place at its rule's number.
 use mathlib.Core.Path.{◌≡◌, refl, ap, sym, subst, ◌∙◌}
-use borrow.Author.Tests.{not-true, not-false}
 use native.Mathlib.Omega.{arith}
-use Prim.Native.Nat.{ℕ, ◌-◌, ◌<◌}
+use Prim.Native.Nat.{ℕ, ◌<◌}
 use mathlib.Core.Bool.{◌&&◌}
 use lib.ListN.{length, take, replicate, length-take, length-set}
 use Rattle.elements.specs.Reading.{forest_at, head_at, children_at}

@@ -1,6 +1,5 @@
 -- `children::rule_end` meets its contract. Invariant: the first mark from i on is the first from `at` on.
 use mathlib.Core.Path.{refl, ap, sym, ◌∙◌}
-use Prim.Native.Nat.{◌-◌}
 use Rattle.xml.proofs.Past.{front_more, front_none, front_end}
 use mathlib.Core.Bool.{not}
 use Rattle.children.specs.RowSteps.{not_rule_mark}

@@ -1,6 +1,6 @@
 -- `constructs::fill` meets its contract. Invariant: the walk matches the scan of the elements passed.
 use mathlib.Core.Path.{sym, ◌∙◌}
-use Prim.Native.Nat.{◌+◌, ◌-◌, ◌≤◌}
+use Prim.Native.Nat.{◌+◌, ◌≤◌}
 use native.Mathlib.Omega.{arith}
 use Rattle.tape.proofs.Elements.{says_at}
 use Rattle.constructs.proofs.Filling.{matched_start, matched_mark, matched_block, matched_unreadable, matched_end, roomy_mark, bytes_bound}

@@ -1,6 +1,5 @@
 -- `read_row` meets its contract. Invariant: the places noted so far and what is left of the row.
 use mathlib.Core.Path.{refl, ap, ◌∙◌, subst}
-use Prim.Native.Nat.{◌-◌}
 use native.Mathlib.Omega.{arith}
 use Rattle.elements.specs.declared.starts.Next.TheVariants.{End, Close, Opens}
 use Rattle.elements.specs.TagSteps.{FirstOf}

@@ -2,7 +2,6 @@
 use mathlib.Core.Path.{refl, sym}
 use Rattle.label_writer.specs.Text.{escaped}
 use Rattle.writing.proofs.Adding.{adds_as, adds_none, adds_then}
-use Prim.Native.Nat.{◌-◌}
 use Rattle.label_writer.proofs.Escaping.{escaped_on, escaped_all}
 use borrow.Author.Rules.{rules}
 use Rattle.label_writer.proofs.add_escaped.Goals as goal

@@ -1,6 +1,5 @@
 -- `are_numbers` meets its contract: a test at each return.
 use mathlib.Core.Path.{sym, ◌∙◌}
-use borrow.Author.Tests.{not-true, not-false}
 use Rattle.label_writer.specs.Text.{are_numbers}
 use Rattle.values.proofs.Parts.{last_of_five}
 use Rattle.label_writer.proofs.are_numbers.Goals as goal

@@ -1,6 +1,5 @@
 -- `are_texts` meets its contract: a text at each return.
 use mathlib.Core.Path.{sym, ◌∙◌}
-use borrow.Author.Tests.{not-true, not-false}
 use Rattle.label_writer.proofs.are_texts.Goals as goal
 
 pub returns-then-not-is_creator : goal.returns-then-not-is_creator

@@ -4,7 +4,6 @@ use borrow.Author.Tests.{le-leb, lt-leb}
 use Rattle.slices.proofs.Every.{every_on, every_off, every_end}
 use Rattle.values.specs.Values.{is_creator, is_plain}
 use mathlib.Core.Bool.{true}
-use Prim.Native.Nat.{◌-◌}
 use borrow.Author.Rules.{rules}
 use Rattle.label_writer.proofs.is_creator.Goals as goal
 

@@ -1,5 +1,5 @@
 -- `tape::are_letters` meets its contract: each answer rewrites with the tests that led to it.
-use borrow.Author.Tests.{eq-eqb, ne_eqb, not-true, not-false}
+use borrow.Author.Tests.{eq-eqb, ne_eqb}
 use Rattle.tape.proofs.are_letters.Goals as goal
 
 pub returns-then-not-is_letter : goal.returns-then-not-is_letter

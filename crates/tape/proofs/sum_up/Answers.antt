@@ -1,5 +1,5 @@
 -- `tape::sum_up` meets its contract. Invariant: the totals so far and those of the rest are the whole list's.
-use Prim.Native.Nat.{ℕ, ◌-◌}
+use Prim.Native.Nat.{ℕ}
 use mathlib.Core.Path.{◌≡◌, sym, ◌∙◌, ap}
 use native.Mathlib.Nat.{add-zero}
 use native.Mathlib.Omega.{arith}

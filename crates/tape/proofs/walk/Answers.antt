@@ -1,6 +1,5 @@
 -- `tape::walk` meets its contract. Invariant: the walk over what is left, from here, reaches as far as the whole walk.
 use mathlib.Core.Path.{refl, sym, ◌∙◌}
-use Prim.Native.Nat.{◌-◌}
 use borrow.Author.Rules.{rules}
 use Rattle.tape.proofs.Entries.{lies_as}
 use Rattle.tape.proofs.Walking.{reach_step, reach_done}

@@ -1,7 +1,5 @@
 -- `values::all_common` meets its contract. Invariant: what is left is common exactly where all is.
-use Prim.Native.Nat.{◌-◌}
 use mathlib.Core.Path.{refl, sym, ◌∙◌}
-use borrow.Author.Tests.{not-true, not-false}
 use Rattle.slices.proofs.Every.{every_on, every_off, every_end}
 use Rattle.values.specs.Steps.{is_common}
 use borrow.Author.Rules.{rules}

@@ -1,9 +1,7 @@
 -- `values::all_plain` meets its contract. Invariant: the bytes still meant are plain exactly where all are.
 use mathlib.Core.Path.{refl, ap, sym, subst, ◌∙◌}
-use borrow.Author.Tests.{not-true, not-false}
 use Rattle.values.specs.Values.{is_plain}
 use native.Mathlib.Omega.{arith}
-use Prim.Native.Nat.{◌-◌}
 use Rattle.slices.specs.Slices.{every}
 use Rattle.texts.specs.declared.Spelled.TheVariants.{End, Byte}
 use Rattle.texts.specs.Steps.{NextByte}

@@ -1,7 +1,6 @@
 -- `values::is_between` meets its contract. Invariant: the bytes still to come decide, where none passed lies outside.
 use mathlib.Core.Path.{refl, ap, sym, ◌∙◌}
 use mathlib.Core.Bool.{Bool, and-true, and_assoc, ◌&&◌}
-use Prim.Native.Nat.{◌-◌}
 use Rattle.values.proofs.Patterns.{between_step, between_end}
 use borrow.Author.Rules.{rules}
 use Rattle.values.proofs.is_between.Goals as goal

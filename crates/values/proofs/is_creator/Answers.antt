@@ -1,6 +1,5 @@
 -- `values::is_creator` meets its contract: the count, then each byte.
 use mathlib.Core.Path.{sym, ◌∙◌}
-use borrow.Author.Tests.{not-true, not-false}
 use Rattle.values.specs.Values.{is_creator}
 use Rattle.values.proofs.is_creator.Goals as goal
 

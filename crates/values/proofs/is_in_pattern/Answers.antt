@@ -1,7 +1,5 @@
 -- `values::is_in_pattern` meets its contract. Invariant: what is left is in what is left of the pattern exactly where the text is in the pattern.
 use mathlib.Core.Path.{refl, sym, ◌∙◌}
-use borrow.Author.Tests.{not-true, not-false}
-use Prim.Native.Nat.{◌-◌}
 use Rattle.values.proofs.Patterns.{pattern_on, pattern_off, pattern_end, pattern_differs}
 use borrow.Author.Rules.{rules}
 use Rattle.values.proofs.is_in_pattern.Goals as goal

@@ -1,7 +1,6 @@
 -- `values::is_in_ranges` meets its contract: a field at each return.
 use Rattle.values.proofs.Parts.{last_of_five}
 use mathlib.Core.Path.{sym, ◌∙◌}
-use borrow.Author.Tests.{not-true, not-false}
 use Rattle.values.specs.Values.{in_ranges}
 use Rattle.values.proofs.is_in_ranges.Goals as goal
 

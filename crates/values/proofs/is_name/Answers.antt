@@ -1,6 +1,5 @@
 -- `values::is_name` meets its contract: common bytes by their number; else the count, then each byte.
 use mathlib.Core.Path.{sym, ◌∙◌}
-use borrow.Author.Tests.{not-true, not-false}
 use Rattle.values.specs.Values.{is_name}
 use Rattle.values.proofs.Common.{name_common}
 use Rattle.values.proofs.is_name.Goals as goal

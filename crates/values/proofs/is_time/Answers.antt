@@ -1,6 +1,5 @@
 -- `values::is_time` meets its contract: the length, the pattern by its least and its greatest text, and then the ranges.
 use mathlib.Core.Path.{sym, ◌∙◌}
-use borrow.Author.Tests.{not-true, not-false}
 use Rattle.values.specs.Values.{is_time}
 use Rattle.slices.specs.Words.{bytes}
 use Rattle.values.proofs.Patterns.{pattern_differs, time_between}

@@ -1,6 +1,6 @@
 -- `values::read_version` meets its contract: the first four bytes, then the number of the rest.
 use mathlib.Core.Path.{◌≡◌, ap, sym, ◌∙◌}
-use borrow.Author.Tests.{le-leb, lt-leb, not-true, not-false}
+use borrow.Author.Tests.{le-leb, lt-leb}
 use mathlib.Core.Bool.{true}
 use mathlib.Core.Option.{some, none}
 use Rattle.digits.specs.Steps.{value_of}

@@ -1,6 +1,5 @@
 -- `values::same_uuid` meets its contract: both are UUIDs, and they are spelled alike, or alike but for case.
 use mathlib.Core.Path.{◌≡◌, sym, ◌∙◌, ap}
-use borrow.Author.Tests.{not-true, not-false}
 use Rattle.slices.proofs.Equal.{same_eq}
 use Rattle.values.specs.Values.{same_uuid}
 use Rattle.values.proofs.Uuids.{same_itself, same_but_case}

@@ -1,5 +1,4 @@
 -- `in_blocks` meets its contract.
-use borrow.Author.Tests.{not-true, not-false}
 use mathlib.Core.Path.{sym, ap, ◌∙◌}
 use Rattle.ansi_labels.specs.Labels.{is_data}
 use Rattle.ansi.specs.ReadingSteps.{at_block}

@@ -1,5 +1,4 @@
 -- `in_second` meets its contract.
-use borrow.Author.Tests.{not-true, not-false}
 use mathlib.Core.Path.{sym, ap, ◌∙◌}
 use Rattle.slices.specs.Words.{bytes}
 use Rattle.ansi_labels.specs.Labels.{is_label}

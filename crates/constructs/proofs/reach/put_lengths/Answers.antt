@@ -1,6 +1,5 @@
 -- `put_lengths` meets its contract. Invariant: the table holds the lengths of the elements passed, and those left go on from here.
 use mathlib.Core.Path.{sym, ◌∙◌}
-use Prim.Native.Nat.{◌-◌}
 use native.Mathlib.Omega.{arith}
 use Rattle.tape.proofs.Entries.{lies_as}
 use Rattle.tape.proofs.Elements.{says_at}

@@ -10,16 +10,6 @@ use Rattle.index_values.specs.Entries.{number_or_zero}
 use Rattle.index.specs.Index.{is_true, location_of}
 use Rattle.index.proofs.Answers.{same_heading, no_back_at}
 use Rattle.index_values.proofs.Seated.{generation_placed, updatetime_placed, updatetime_stands, location_placed, allow_placed, highest_placed, back_placed}
-use Rattle.index.proofs.read.head_from.Reads as reads
-use Rattle.index.proofs.read.head_from.Lts as lts
-use Rattle.index.proofs.read.block_named.Reads as block_named_reads
-use Rattle.index.proofs.read.has_row.Reads as has_row_reads
-use Rattle.index.proofs.read.is_true.Reads as is_true_reads
-use Rattle.index.proofs.read.letter_named.Reads as letter_named_reads
-use Rattle.index_rows.proofs.row_at.Reads as row_at_reads
-use Rattle.index_rows.proofs.span_at.Reads as span_at_reads
-use Rattle.index_rows.proofs.text_at.Reads as text_at_reads
-use Rattle.index_values.proofs.number_placed.Reads as number_placed_reads
 use Rattle.index.proofs.read.head_from.Goals as goal
 
 pub overflow_sub-result : goal.overflow_sub-result

@@ -4,7 +4,7 @@ use lib.Dec.{eqb}
 use Rattle.index_values.specs.Steps.{given}
 use Rattle.index.proofs.Answers.{caller_last}
 use mathlib.Core.Path.{ap, sym, ◌∙◌}
-use borrow.Author.Tests.{eq-eqb, ne_eqb, not-true, not-false}
+use borrow.Author.Tests.{eq-eqb, ne_eqb}
 use Rattle.index.specs.Index.{caller_right}
 use Rattle.index.proofs.read.is_caller_right.Goals as goal
 

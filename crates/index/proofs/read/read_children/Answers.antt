@@ -13,12 +13,6 @@ use Rattle.index.proofs.Surveying.{files_few}
 use Rattle.index.proofs.Answers.{into_refused, reads_children, children_5, children_15, children_6, children_8, children_11, children_12, children_read_lem}
 use Rattle.index_values.proofs.Seated.{location_placed}
 use borrow.Author.Rules.{rules}
-use Rattle.index.proofs.read.read_children.Reads as reads
-use Rattle.index.proofs.read.read_children.Lts as lts
-use Rattle.index.proofs.read.head_from.Reads as head_from_reads
-use Rattle.index.proofs.read.is_place.Reads as is_place_reads
-use Rattle.index.proofs.survey.survey.Reads as survey_reads
-use Rattle.index_rows.proofs.row_at.Reads as row_at_reads
 use Rattle.index.proofs.read.read_children.Goals as goal
 
 pub returns-then-not-s : goal.returns-then-not-s

@@ -1,15 +1,10 @@
 -- `read_into` meets its contract: what the caller gives, the length, the form, then the root.
 use mathlib.Core.Path.{sym, ◌∙◌}
-use borrow.Author.Tests.{le-leb, lt-leb, not-true, not-false}
+use borrow.Author.Tests.{le-leb, lt-leb}
 use Rattle.xml.proofs.Form.{in_form_lem}
 use Rattle.xml.proofs.Checked.{checked_good, checked_broken}
 use Rattle.index_values.specs.Steps.{given}
 use Rattle.index.proofs.Answers.{into_refused, same_into, index_14, index_15, index_4, index_read}
-use Rattle.index.proofs.read.read_into.Reads as reads
-use Rattle.index.proofs.read.read_into.Lts as lts
-use Rattle.index.proofs.read.is_caller_right.Reads as is_caller_right_reads
-use Rattle.index.proofs.read.read_root.Reads as read_root_reads
-use Rattle.xml.proofs.check.Reads as check_reads
 use Rattle.index.proofs.read.read_into.Goals as goal
 
 pub returns-then-not-is_caller_right : goal.returns-then-not-is_caller_right

@@ -11,10 +11,6 @@ use Rattle.elements.proofs.Roots.{root_height, height_children}
 use Rattle.elements.proofs.Rows.{row_end, row_close, node_open, node_empty}
 use Rattle.index_values.specs.Steps.{given}
 use Rattle.index.proofs.Answers.{into_refused, same_into, same_tags, root_none, root_tag, tags_open, tags_empty}
-use Rattle.index.proofs.read.read_root.Reads as reads
-use Rattle.index.proofs.read.read_root.Lts as lts
-use Rattle.elements.proofs.next_tag.Reads as next_tag_reads
-use Rattle.index.proofs.read.read_tag.Reads as read_tag_reads
 use Rattle.index.proofs.read.read_root.Goals as goal
 
 pub read_tag-requires : goal.read_tag-requires

@@ -2,7 +2,6 @@
 use mathlib.Core.Path.{ap, sym, ◌∙◌, subst}
 use mathlib.Core.List.{List}
 use Prim.Native.Nat.{ℕ, ◌≤◌}
-use borrow.Author.Tests.{not-true, not-false}
 use Rattle.slices.specs.Slices.{same}
 use Rattle.slices.specs.Words.{bytes}
 use Rattle.xml.specs.FormSteps.{height}
@@ -13,15 +12,6 @@ use Rattle.values.specs.Steps.{version_of}
 use Rattle.index_values.specs.Steps.{given}
 use Rattle.index.specs.Index.{children_read}
 use Rattle.index.proofs.Answers.{into_refused, same_into, same_tags, root_name, root_key, root_version, root_read_lem}
-use Rattle.index.proofs.read.read_tag.Reads as reads
-use Rattle.index.proofs.read.read_tag.Lts as lts
-use Rattle.elements.proofs.first_child.Reads as first_child_reads
-use Rattle.elements.proofs.key_of.Reads as key_of_reads
-use Rattle.elements.proofs.name_is.Reads as name_is_reads
-use Rattle.elements.proofs.value_of.Reads as value_of_reads
-use Rattle.index.proofs.read.read_children.Reads as read_children_reads
-use Rattle.slices.proofs.same.Reads as same_Reads
-use Rattle.values.proofs.read_version.Reads as read_version_reads
 use Rattle.index.proofs.read.read_tag.Goals as goal
 
 pub returns-then-not-name_is : goal.returns-then-not-name_is

@@ -5,10 +5,6 @@ use Rattle.elements.specs.Tags.{tags_at}
 use Rattle.elements.proofs.ByTag.{row_told}
 use Rattle.index.specs.Steps.{Surveyed}
 use Rattle.index_values.specs.Steps.{given}
-use Rattle.index.proofs.survey.survey_with.Reads as reads
-use Rattle.index.proofs.survey.survey_with.Lts as lts
-use Rattle.index.proofs.survey.sum_up.Reads as sum_up_reads
-use Rattle.index.proofs.walk.walk.Reads as walk_reads
 use Rattle.index.proofs.survey.survey_with.Goals as goal
 
 pub returns : goal.returns

@@ -1,9 +1,8 @@
 -- The walk meets its contract. Invariant: sweeping the whole row comes to the same as sweeping its rest with what is gathered so far. It
 -- calls itself with one level of nesting less, for the elements inside one.
-use mathlib.Core.Path.{◌≡◌, refl, ap, sym, ◌∙◌, subst}
+use mathlib.Core.Path.{refl, ap, sym, ◌∙◌, subst}
 use Prim.Native.Nat.{ℕ, ◌-◌, ◌≤◌, ◌<◌}
 use native.Mathlib.Omega.{arith}
-use borrow.Author.Tests.{not-true, not-false}
 use lib.ListN.{length, drop}
 use Rattle.xml.specs.Tree.{Forest, none}
 use Rattle.xml.specs.FormSteps.{height}

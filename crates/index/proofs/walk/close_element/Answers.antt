@@ -9,12 +9,6 @@ use Rattle.index_values.specs.Steps.{given, rows_taken}
 use Rattle.index.specs.Steps.{rows_copied}
 use Rattle.index.proofs.Gathering.{closed_parts}
 use Rattle.index.proofs.Numbered.{rows_kept, taken_few}
-use Rattle.index.proofs.walk.close_element.Reads as reads
-use Rattle.index.proofs.walk.close_element.Lts as lts
-use Rattle.index.proofs.walk.keep_rows.Reads as keep_rows_reads
-use Rattle.index.proofs.walk.list_entry.Reads as list_entry_reads
-use Rattle.index.proofs.walk.settle.Reads as settle_reads
-use Rattle.index_values.proofs.judge.Reads as judge_reads
 use Rattle.index.proofs.walk.close_element.Goals as goal
 
 pub returns : goal.returns

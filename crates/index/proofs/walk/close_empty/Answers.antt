@@ -6,10 +6,6 @@ use Rattle.index_rows.proofs.Placing.{placed_none, tags_none}
 use Rattle.index_values.specs.Steps.{given}
 use Rattle.index.specs.SweepSteps.{gathered, after_row, after_element}
 use Rattle.index.specs.declared.walk.Sums.{Sums}
-use Rattle.index.proofs.walk.close_empty.Reads as reads
-use Rattle.index.proofs.walk.close_empty.Lts as lts
-use Rattle.index.proofs.walk.close_element.Reads as close_element_reads
-use Rattle.index.proofs.walk.over.Reads as over_reads
 use Rattle.index.proofs.walk.close_empty.Goals as goal
 
 pub returns : goal.returns

@@ -1,7 +1,6 @@
 -- `list_entry` meets its contract: no entry, no room, or both tables.
 use mathlib.Core.Path.{sym, ◌∙◌}
 use native.Mathlib.Omega.{arith}
-use borrow.Author.Tests.{not-true, not-false}
 use Rattle.elements.specs.Tags.{heads}
 use Rattle.index_values.proofs.Seated.{fileuid_placed}
 use Rattle.index.proofs.Numbered.{puts_none, puts_full, puts_room}

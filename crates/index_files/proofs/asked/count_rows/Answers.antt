@@ -1,6 +1,5 @@
 -- `count_rows` meets its contract. Invariant: those counted and those of the rest of the row are all.
 use mathlib.Core.Path.{ap, subst}
-use Prim.Native.Nat.{◌-◌}
 use native.Mathlib.Omega.{arith}
 use lib.ListN.{length}
 use Rattle.elements.specs.declared.tags.Child.TheVariants.{Done, At}

@@ -1,7 +1,6 @@
 -- `find` meets its contract. Invariant: the file asked for is that of the number left, among those that are left.
 use mathlib.Core.List.{[]}
 use mathlib.Core.Path.{refl, sym, ◌∙◌, subst}
-use Prim.Native.Nat.{◌-◌}
 use native.Mathlib.Omega.{arith}
 use lib.ListN.{drop}
 use Rattle.elements.specs.Reading.{left_at, children_at}

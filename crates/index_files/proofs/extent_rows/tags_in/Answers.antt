@@ -1,6 +1,5 @@
 -- `tags_in` meets its contract. Invariant: the tags that were met, and the rest of the row, say the five texts.
 use mathlib.Core.Path.{subst}
-use Prim.Native.Nat.{◌-◌}
 use native.Mathlib.Omega.{arith}
 use Rattle.elements.specs.declared.tags.Child.TheVariants.{Done, At}
 use Rattle.elements.specs.TagSteps.{NextChild}

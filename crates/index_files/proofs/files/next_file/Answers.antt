@@ -1,6 +1,5 @@
 -- `next_file` meets its contract. Invariant: no file was passed.
 use mathlib.Core.Path.{refl, ap, sym, ◌∙◌, subst}
-use Prim.Native.Nat.{◌-◌}
 use native.Mathlib.Omega.{arith}
 use Rattle.elements.specs.declared.tags.Tag.TheVariants.{End, Close, Open, Empty}
 use Rattle.elements.specs.TagSteps.{NextTag}

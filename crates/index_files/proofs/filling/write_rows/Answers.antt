@@ -1,6 +1,5 @@
 -- `write_rows` meets its contract. Invariant: with the rows of the rest written from j on, the buffer holds all.
 use mathlib.Core.Path.{subst}
-use Prim.Native.Nat.{◌-◌}
 use native.Mathlib.Omega.{arith}
 use Rattle.elements.specs.Reading.{forest_at}
 use Rattle.index_values.specs.Tests.{rows_in}

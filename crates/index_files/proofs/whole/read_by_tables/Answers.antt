@@ -2,7 +2,6 @@
 use mathlib.Core.Path.{◌≡◌, ap, sym, ◌∙◌, subst}
 use mathlib.Core.Bool.{true, false}
 use Prim.Native.Nat.{◌+◌}
-use borrow.Author.Tests.{not-true, not-false}
 use lib.ListN.{length}
 use Rattle.refusals.specs.Refusals.{Answer}
 use Rattle.index.specs.Index.{Index, summary, summary_of, index_of}
@@ -13,7 +12,6 @@ use Rattle.index_values.specs.Steps.{given}
 use Rattle.index_files.specs.Whole.{has_room}
 use Rattle.index_files.proofs.Mapped.{mapped}
 use Rattle.index_files.proofs.Handing.{rows_of, counted, rows_counted, room_as, whole_as, whole_refused, whole_short, whole_held, held_there, held_copied, found_again, enough_parts}
-use borrow.Author.Rules.{rules}
 use Rattle.index_files.proofs.whole.read_by_tables.Goals as goal
 
 pub returns-then-not-is_enough : goal.returns-then-not-is_enough

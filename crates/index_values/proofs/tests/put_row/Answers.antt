@@ -1,7 +1,6 @@
 -- `put_row` meets its contract: the five numbers one after the other, each by the place of its element.
 use mathlib.Core.Path.{ap, sym, ◌∙◌}
 use Prim.Native.Nat.{ℕ, ◌+◌}
-use native.Mathlib.Omega.{arith}
 use lib.ListN.{set}
 use Rattle.elements.specs.Reading.{forest_at}
 use Rattle.index_values.specs.Entries.{number_or_zero}

@@ -1,6 +1,6 @@
 -- `read_rows` meets its contract. Invariant: the rows read so far and those of the rest of the row are all.
 use mathlib.Core.Path.{refl, ap, sym, ◌∙◌, subst}
-use Prim.Native.Nat.{◌+◌, ◌-◌, ◌*◌, ◌≤◌}
+use Prim.Native.Nat.{◌+◌, ◌*◌, ◌≤◌}
 use native.Mathlib.Omega.{arith}
 use lib.ListN.{length, take}
 use lib.Seq.{length-sets}

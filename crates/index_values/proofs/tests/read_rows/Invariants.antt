@@ -1,7 +1,7 @@
 -- `read_rows` meets its contract. Invariant: the rows read so far and those of the rest of the row are all.
 use mathlib.Core.Path.{◌≡◌}
 use mathlib.Core.List.{◌++◌}
-use Prim.Native.Nat.{◌+◌, ◌-◌, ◌*◌, ◌≤◌}
+use Prim.Native.Nat.{◌-◌, ◌*◌, ◌≤◌}
 use lib.ListN.{length, take}
 use Rattle.elements.specs.Reading.{forest_at}
 use Rattle.extents.specs.Rows.{rows_of}

@@ -2,7 +2,6 @@
 use Rattle.index_values.proofs.Differ.{front_cons, front_out}
 use Rattle.index_values.specs.Different.{member}
 use mathlib.Core.Path.{refl, sym, ap, ◌∙◌}
-use Prim.Native.Nat.{◌-◌}
 use borrow.Author.Tests.{eq-eqb, ne_eqb}
 use borrow.Author.Rules.{rules}
 use Rattle.index_values.proofs.uids.among.Goals as goal

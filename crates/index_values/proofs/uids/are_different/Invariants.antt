@@ -4,7 +4,7 @@ use Rattle.index_values.specs.Different.{different}
 use lib.ListN.{take, drop}
 use mathlib.Core.Path.{◌≡◌}
 use mathlib.Core.Bool.{true}
-use Prim.Native.Nat.{◌-◌, ◌≤◌}
+use Prim.Native.Nat.{◌≤◌}
 use Rattle.index_values.proofs.uids.are_different.Given as goal
 
 abbrev pub invariant-loop-i : goal.invariant-loop-i

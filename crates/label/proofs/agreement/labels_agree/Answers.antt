@@ -3,7 +3,6 @@ use Rattle.label.specs.Agreement.{agree, same_texts, same_numbers, own_letters}
 use Rattle.slices.specs.Slices as slices
 use Rattle.label.specs.Steps.{fields_in}
 use mathlib.Core.Path.{sym, ◌∙◌}
-use borrow.Author.Tests.{not-true, not-false}
 use Rattle.label.proofs.Tests.{first_off, second_off, third_off, fourth}
 use Rattle.label.proofs.agreement.labels_agree.Goals as goal
 

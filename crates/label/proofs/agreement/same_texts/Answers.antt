@@ -1,6 +1,5 @@
 -- `same_texts` meets its contract: a text at each return.
 use mathlib.Core.Path.{ap₂, sym, ◌∙◌}
-use borrow.Author.Tests.{not-true, not-false}
 use Rattle.slices.specs.Slices as slices
 use Rattle.values.specs.Values.{same_uuid}
 use mathlib.Core.List.{List}

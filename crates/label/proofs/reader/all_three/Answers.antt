@@ -1,5 +1,4 @@
 -- `all_three` meets its contract: a test at each return.
-use borrow.Author.Tests.{not-true, not-false}
 use Rattle.label.proofs.reader.all_three.Goals as goal
 
 pub returns-then-not-a : goal.returns-then-not-a

@@ -8,7 +8,6 @@ use Rattle.children.specs.RowSteps.{is_rule_mark, rules, longer, Seated, PlacedS
 use Rattle.label.specs.Label.{of_root, of_location, of_partitions}
 use Rattle.label.proofs.Shape.{shaped, found, standing}
 use Rattle.xml.specs.Tree.{Forest}
-use borrow.Author.Rules.{rules as needed}
 use Rattle.label.proofs.reader.find_places.Goals as goal
 
 pub returns : goal.returns

@@ -1,6 +1,5 @@
 -- `is_root` meets its contract: the name, then the attribute.
 use mathlib.Core.Path.{ap, sym, ◌∙◌}
-use borrow.Author.Tests.{not-true, not-false}
 use Rattle.slices.specs.Words.{bytes}
 use mathlib.Core.List.{List}
 use Prim.Native.Nat.{ℕ}

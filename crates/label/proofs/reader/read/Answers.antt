@@ -10,11 +10,6 @@ use Rattle.children.specs.Children.{children_of_first}
 use Rattle.label.specs.TextPlaces.{places_in}
 use Rattle.label.proofs.Values.{too_long, unformed, no_first, the_first}
 use Rattle.label.proofs.Places.{refuses, reads_as}
-use Rattle.label.proofs.reader.read.Reads as reads
-use Rattle.label.proofs.reader.read.Lts as lts
-use Rattle.elements.proofs.next_child.Reads as next_child_reads
-use Rattle.label.proofs.reader.read_root.Reads as read_root_reads
-use Rattle.xml.proofs.check.Reads as check_reads
 use Rattle.label.proofs.reader.read.Goals as goal
 
 pub returns-then-text-gt4096 : goal.returns-then-text-gt4096

@@ -1,7 +1,6 @@
 -- `read_letters` meets its contract: a letter at each return, and whether they fit.
 use mathlib.Core.Path.{◌≡◌, ap, sym, ◌∙◌}
 use mathlib.Core.Option.{some, none}
-use borrow.Author.Tests.{not-true, not-false}
 use Rattle.values.specs.Values.{letter}
 use Rattle.values.specs.Steps.{letter_of}
 use Rattle.label.proofs.reader.read_letters.Goals as goal

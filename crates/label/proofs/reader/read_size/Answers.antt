@@ -1,7 +1,6 @@
 -- `read_size` meets its contract: a number, and whether it is a block size.
 use mathlib.Core.Path.{◌≡◌, ap, sym, ◌∙◌}
 use mathlib.Core.Option.{some, none}
-use borrow.Author.Tests.{not-true, not-false}
 use Rattle.digits.specs.Steps.{value_of}
 use Rattle.values.specs.Values.{number}
 use Rattle.label.proofs.reader.read_size.Goals as goal

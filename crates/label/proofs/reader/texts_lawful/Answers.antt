@@ -1,6 +1,5 @@
 -- `texts_lawful` meets its contract: a text at each return.
 use mathlib.Core.Path.{sym, ◌∙◌}
-use borrow.Author.Tests.{not-true, not-false}
 use Rattle.label.proofs.reader.texts_lawful.Goals as goal
 
 pub returns-then-not-is_creator : goal.returns-then-not-is_creator

@@ -1,7 +1,6 @@
 -- `values::numbers::end_trimmed` meets its contract. Invariant: white space was passed from the end on.
 use mathlib.Core.Path.{ap, sym, ◌∙◌}
 use native.Mathlib.Omega.{arith}
-use borrow.Author.Tests.{not-true, not-false}
 use lib.ListN.{length, length-take}
 use lib.Seq.{take_all}
 use Rattle.values.specs.Values.{end_trimmed}

@@ -1,8 +1,6 @@
 -- `values::numbers::front_trimmed` meets its contract. Invariant: white space was passed.
 use mathlib.Core.Path.{sym, ◌∙◌}
-use Prim.Native.Nat.{◌-◌}
 use native.Mathlib.Omega.{arith}
-use borrow.Author.Tests.{not-true, not-false}
 use Rattle.xml.specs.Bytes.{is_space}
 use Rattle.xml.proofs.Past.{front_more, front_none, front_end}
 use Rattle.values.proofs.SchemaForm.{rest_behind}

@@ -6,7 +6,7 @@ use Rattle.volume.specs.Volume.{volume_with}
 use Rattle.index_values.specs.Steps.{given}
 use borrow.Author.Tests.{not-true, not-false}
 use lib.ListN.{length, length-set}
-use Prim.Native.Nat.{ℕ, ◌+◌, ◌-◌}
+use Prim.Native.Nat.{ℕ, ◌+◌}
 use mathlib.Core.Path.{refl, sym, ap, subst, ◌∙◌}
 use Rattle.volume.proofs.chains.chain.Goals as goal
 

@@ -2,7 +2,6 @@
 use Rattle.volume.proofs.Choosing.{chosen_caller, chosen_list, chosen_missing, chosen_found}
 use Rattle.index_values.specs.Steps.{given}
 use Rattle.constructs.specs.TableSteps.{scanned_count}
-use borrow.Author.Tests.{not-true, not-false}
 use lib.ListN.{replicate, length-replicate}
 use Prim.Native.Nat.{ℕ}
 use mathlib.Core.Path.{sym, ap, ◌∙◌}

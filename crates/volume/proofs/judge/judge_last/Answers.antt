@@ -4,7 +4,6 @@ use Rattle.volume.specs.declared.judge.Judgement.TheVariants.{Sound, Broken}
 use Rattle.volume.specs.declared.lost.Lost.{Lost}
 use Rattle.volume.specs.Steps.{lost_file}
 use Rattle.verdict.specs.Verdict.{numbered}
-use borrow.Author.Tests.{not-true, not-false}
 use mathlib.Core.Path.{sym, ap, ◌∙◌}
 use Rattle.volume.proofs.judge.judge_last.Goals as goal
 

@@ -6,9 +6,7 @@ use Rattle.index_values.specs.Tests.{extent_rows, rows_in}
 use Rattle.elements.specs.Reading.{forest_at, children_at}
 use Rattle.xml.specs.Tree.{Forest}
 use Rattle.slices.specs.Slices.{every}
-use borrow.Author.Tests.{not-true, not-false}
 use native.Mathlib.Omega.{arith}
-use Prim.Native.Nat.{◌-◌}
 use mathlib.Core.Path.{sym, ap, subst, ◌∙◌}
 use Rattle.volume.proofs.lost.file_lies.Goals as goal
 

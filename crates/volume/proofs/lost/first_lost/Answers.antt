@@ -7,9 +7,7 @@ use Rattle.index_files.specs.FileSteps.{files_left, FileFrom}
 use Rattle.index_values.specs.Tests.{extent_rows}
 use Rattle.elements.specs.Reading.{left_at, children_at}
 use Rattle.slices.specs.Slices.{every}
-use borrow.Author.Tests.{not-true, not-false}
 use native.Mathlib.Omega.{arith}
-use Prim.Native.Nat.{◌-◌}
 use mathlib.Core.List.{map}
 use mathlib.Core.Path.{refl, sym, subst, ◌∙◌}
 use Rattle.volume.proofs.lost.first_lost.Goals as goal

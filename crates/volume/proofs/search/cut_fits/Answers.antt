@@ -1,6 +1,5 @@
 -- `cut_fits` meets its contract: each answer is one of its cases.
 use Rattle.volume.specs.Steps.{lost_file, Loses, apart, losing, fitting}
-use borrow.Author.Tests.{not-true, not-false}
 use mathlib.Core.List.{List}
 use Prim.Native.Nat.{ℕ}
 use mathlib.Core.Path.{refl, sym, ap, subst, ◌∙◌}

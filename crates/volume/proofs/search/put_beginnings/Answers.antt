@@ -2,7 +2,7 @@
 use Rattle.volume.proofs.Searching.{BeginsAt, begins_start, begins_more, begins_end}
 use lib.ListN.{length, length-set}
 use native.Mathlib.Omega.{arith}
-use Prim.Native.Nat.{ℕ, ◌+◌, ◌-◌}
+use Prim.Native.Nat.{ℕ, ◌+◌}
 use mathlib.Core.List.{List}
 use mathlib.Core.Path.{refl, sym, ap, subst, ◌∙◌}
 use Rattle.volume.proofs.search.put_beginnings.Goals as goal

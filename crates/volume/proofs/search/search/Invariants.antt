@@ -1,7 +1,7 @@
 -- `search` meets its contract: from the last construct back.
 use Rattle.volume.proofs.Trying.{SearchesAt}
 use Rattle.index_values.specs.Steps.{given}
-use Prim.Native.Nat.{◌-◌, ◌≤◌}
+use Prim.Native.Nat.{◌≤◌}
 use Rattle.volume.proofs.search.search.Given as goal
 
 abbrev pub invariant-loop-k : goal.invariant-loop-k

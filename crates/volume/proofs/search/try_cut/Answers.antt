@@ -1,7 +1,6 @@
 -- `try_cut` meets its contract: each answer is one case of the law.
 use Rattle.volume.proofs.Trying.{tries_nowhere, tries_not, tries_so}
 use Rattle.volume.specs.Steps.{bounds_text}
-use borrow.Author.Tests.{not-true, not-false}
 use mathlib.Core.Path.{refl, sym, ◌∙◌}
 use Rattle.volume.proofs.search.try_cut.Goals as goal
 
