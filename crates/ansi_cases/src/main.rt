@@ -24,55 +24,55 @@ fn read(list: &[u8], store: &[u8], out: &mut [u8]) -> Answer {
 }
 
 // The refusal, the number of files and the whole of out expected.
-fn files_as(list: &[u8], store: &[u8], out: &mut [u8], file: &mut File) -> io::Result<bool> {
+fn files_as(list: &[u8], store: &[u8], out: &mut [u8], file: &mut File) -> bool {
     let told = read(list, store, out);
-    let refusal = case_files::number(file)?;
-    let files = case_files::number(file)? as usize;
+    let refusal = case_files::number(file);
+    let files = case_files::number(file) as usize;
     let mut after = [0u8; 4096];
-    let a = case_files::bytes(file, &mut after)?;
+    let a = case_files::bytes(file, &mut after);
     if told.refusal != refusal {
-        return Ok(false);
+        return false;
     }
     if told.files != files {
-        return Ok(false);
+        return false;
     }
-    Ok(slices::same(out, &after[..a]))
+    slices::same(out, &after[..a])
 }
 
 // A lent buffer, and what is expected of it.
-fn files_case(list: &[u8], store: &[u8], file: &mut File) -> io::Result<bool> {
+fn files_case(list: &[u8], store: &[u8], file: &mut File) -> bool {
     let mut out = [0u8; 4096];
-    let o = case_files::bytes(file, &mut out)?;
+    let o = case_files::bytes(file, &mut out);
     files_as(list, store, &mut out[..o], file)
 }
 
 // The refusal, where there is room for every file, and the place expected.
-fn place_case(list: &[u8], store: &[u8], file: &mut File) -> io::Result<bool> {
-    let refusal = case_files::number(file)?;
-    let place = case_files::number(file)? as usize;
+fn place_case(list: &[u8], store: &[u8], file: &mut File) -> bool {
+    let refusal = case_files::number(file);
+    let place = case_files::number(file) as usize;
     let mut room = [0u8; 4096];
     let told = read(list, store, &mut room);
     if told.refusal != refusal {
-        return Ok(false);
+        return false;
     }
     match ansi::place(list, store) {
         ListChecked::Elements(n) => {
             // Only a bad list or store has no place.
             if refusal == 1 {
-                return Ok(false);
+                return false;
             }
-            Ok(n == place)
+            n == place
         }
-        ListChecked::Refused(r) => Ok(refusals::number(r) == refusal),
+        ListChecked::Refused(r) => refusals::number(r) == refusal,
     }
 }
 
 // A list and a store, and what is expected of them.
-fn one(kind: u64, file: &mut File) -> io::Result<bool> {
+fn one(kind: u64, file: &mut File) -> bool {
     let mut list = [0u8; 4096];
-    let l = case_files::bytes(file, &mut list)?;
+    let l = case_files::bytes(file, &mut list);
     let mut store = [0u8; 24576];
-    let s = case_files::bytes(file, &mut store)?;
+    let s = case_files::bytes(file, &mut store);
     if kind == 0 {
         return files_case(&list[..l], &store[..s], file);
     }
@@ -83,8 +83,8 @@ fn one(kind: u64, file: &mut File) -> io::Result<bool> {
 fn run(rt: &HostRuntime, path: &str, kind: u64) -> io::Result<()> {
     let mut cases = case_files::open(rt, path)?;
     while cases.left > 0 {
-        let good = one(kind, &mut cases.file)?;
-        cases = case_files::judged(rt, cases, good)?;
+        let good = one(kind, &mut cases.file);
+        cases = case_files::judged(rt, cases, good);
     }
     case_files::close(rt, path, cases)
 }

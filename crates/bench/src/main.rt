@@ -4,31 +4,8 @@
 ghost use Rattle.case_files.specs.Counts.{IsPrefixLen};
 
 use slices::Written;
-use std::io::{ErrorKind, Read};
 use std::rt::Files;
 use std::{fs, io};
-
-// Reads until buf is full, the input ends or a read fails, and answers how many bytes it put at the front of buf.
-fn read_on<R: Read>(file: &mut R, buf: &mut [u8]) -> usize
-    ensures { IsPrefixLen result buf.new }
-{
-    let mut done: usize = 0;
-    for _ in 0..u64::MAX {
-        if buf.len() <= done {
-            break;
-        }
-        match file.read(&mut buf[done..]) {
-            Ok(0) => break,
-            Ok(n) => done += n,
-            Err(e) => {
-                if e.kind() != ErrorKind::Interrupted {
-                    break;
-                }
-            }
-        }
-    }
-    done
-}
 
 // The bytes of a file, at the front of buf, as far as it has room and can be read; none where the file cannot be opened.
 fn load(rt: &impl Files, path: &str, buf: &mut [u8]) -> usize
@@ -37,7 +14,7 @@ fn load(rt: &impl Files, path: &str, buf: &mut [u8]) -> usize
     let Ok(mut file) = fs::open(rt, path) else {
         return 0;
     };
-    read_on(&mut file, buf)
+    case_files::read_full(&mut file, buf)
 }
 
 // Each buffer has room for a byte more than its file may have, so that a longer file is told.

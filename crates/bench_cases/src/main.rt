@@ -7,17 +7,17 @@ use std::fs::File;
 use std::io;
 
 // Four files; the lines expected.
-fn one(file: &mut File) -> io::Result<bool> {
+fn one(file: &mut File) -> bool {
     let mut index_list = [0u8; 32768];
-    let il = case_files::bytes(file, &mut index_list)?;
+    let il = case_files::bytes(file, &mut index_list);
     let mut index_store = [0u8; 32768];
-    let is = case_files::bytes(file, &mut index_store)?;
+    let is = case_files::bytes(file, &mut index_store);
     let mut data_list = [0u8; 32768];
-    let dl = case_files::bytes(file, &mut data_list)?;
+    let dl = case_files::bytes(file, &mut data_list);
     let mut data_store = [0u8; 32768];
-    let ds = case_files::bytes(file, &mut data_store)?;
+    let ds = case_files::bytes(file, &mut data_store);
     let mut expected = [0u8; 256];
-    let e = case_files::bytes(file, &mut expected)?;
+    let e = case_files::bytes(file, &mut expected);
     let mut lines = [0u8; 256];
     match bench_lines::write(
         &index_list[..il],
@@ -26,8 +26,8 @@ fn one(file: &mut File) -> io::Result<bool> {
         &data_store[..ds],
         &mut lines,
     ) {
-        Written::To(n) => Ok(slices::same(slices::part(&lines, 0, n), &expected[..e])),
-        Written::Refused(_) => Ok(false),
+        Written::To(n) => slices::same(slices::part(&lines, 0, n), &expected[..e]),
+        Written::Refused(_) => false,
     }
 }
 
@@ -35,8 +35,8 @@ fn one(file: &mut File) -> io::Result<bool> {
 fn run(rt: &HostRuntime, path: &str) -> io::Result<()> {
     let mut cases = case_files::open(rt, path)?;
     while cases.left > 0 {
-        let good = one(&mut cases.file)?;
-        cases = case_files::judged(rt, cases, good)?;
+        let good = one(&mut cases.file);
+        cases = case_files::judged(rt, cases, good);
     }
     case_files::close(rt, path, cases)
 }

@@ -1,17 +1,17 @@
-// Files of test cases: numbers of 8 bytes, low byte first, and byte strings, each behind its length as such a number. What stands behind
-// the end of a file is 0 or empty; a read that fails is an error.
+// Files of test cases: numbers of 8 bytes, low byte first, and byte strings, each behind its length as such a number. What cannot be
+// read is 0 or empty.
 #![tactic(auto)]
 
-ghost use Rattle.std.specs.Prelude.{◌≡◌, ◌-◌, ◌<◌, ◌≤◌, IfOk};
+ghost use Rattle.std.specs.Prelude.{◌≡◌, ◌-◌, ◌<◌, ◌≤◌};
 ghost use Rattle.case_files.specs.Counts.{IsPrefixLen};
 
 use std::io::{ErrorKind, Read};
 use std::rt::Files;
 use std::{fs, io};
 
-// Reads until buf is full or the input ends, and answers how many bytes it put at the front of buf.
-pub fn read_full<R: Read>(file: &mut R, buf: &mut [u8]) -> io::Result<usize>
-    ensures { IfOk result (λ n. IsPrefixLen n buf.new) }
+// Reads until buf is full, the input ends or a read fails, and answers how many bytes it put at the front of buf.
+pub fn read_full<R: Read>(file: &mut R, buf: &mut [u8]) -> usize
+    ensures { IsPrefixLen result buf.new }
 {
     let mut done: usize = 0;
     for _ in 0..u64::MAX {
@@ -23,12 +23,12 @@ pub fn read_full<R: Read>(file: &mut R, buf: &mut [u8]) -> io::Result<usize>
             Ok(n) => done += n,
             Err(e) => {
                 if e.kind() != ErrorKind::Interrupted {
-                    return Err(e);
+                    break;
                 }
             }
         }
     }
-    Ok(done)
+    done
 }
 
 fn wide(x: u8) -> u64
@@ -44,19 +44,19 @@ fn half(a: u8, b: u8, c: u8, d: u8) -> u64
 }
 
 // The next number of a file.
-pub fn number<R: Read>(file: &mut R) -> io::Result<u64> {
+pub fn number<R: Read>(file: &mut R) -> u64 {
     let mut b = [0u8; 8];
-    read_full(file, &mut b)?;
-    Ok(half(b[0], b[1], b[2], b[3]) + half(b[4], b[5], b[6], b[7]) * 4294967296)
+    read_full(file, &mut b);
+    half(b[0], b[1], b[2], b[3]) + half(b[4], b[5], b[6], b[7]) * 4294967296
 }
 
 // The next byte string of a file, at the front of buf, where it has room for it.
-pub fn bytes<R: Read>(file: &mut R, buf: &mut [u8]) -> io::Result<usize>
-    ensures { IfOk result (λ n. IsPrefixLen n buf.new) }
+pub fn bytes<R: Read>(file: &mut R, buf: &mut [u8]) -> usize
+    ensures { IsPrefixLen result buf.new }
 {
-    let n = number(file)? as usize;
+    let n = number(file) as usize;
     if buf.len() < n {
-        return Ok(0);
+        return 0;
     }
     read_full(file, &mut buf[..n])
 }
@@ -67,14 +67,14 @@ pub fn report(rt: &impl Print, name: &str, good: u64, cases: u64) -> io::Result<
 }
 
 // 1 for a case that was as expected; 0 for another, whose number is printed.
-pub fn shown_good(rt: &impl Print, good: bool, case: u64) -> io::Result<u64>
-    ensures { IfOk result (λ n. n ≤ 1) }
+pub fn shown_good(rt: &impl Print, good: bool, case: u64) -> u64
+    ensures { result ≤ 1 }
 {
     if good {
-        return Ok(1);
+        return 1;
     }
-    println!(rt; "not as expected: case {case}")?;
-    Ok(0)
+    let _ = println!(rt; "not as expected: case {case}");
+    0
 }
 
 // The cases of a file: how many there are, how many are left, and how many were as expected.
@@ -95,7 +95,7 @@ pub fn open<S: Files + Eprint>(rt: &S, path: &str) -> io::Result<Cases<S::File>>
             return Err(e);
         }
     };
-    let all = number(&mut file)?;
+    let all = number(&mut file);
     Ok(Cases {
         file,
         all,
@@ -105,19 +105,19 @@ pub fn open<S: Files + Eprint>(rt: &S, path: &str) -> io::Result<Cases<S::File>>
 }
 
 // The next case was as expected or not.
-pub fn judged<R: Drop>(rt: &impl Print, cases: Cases<R>, good: bool) -> io::Result<Cases<R>>
-    ensures { IfOk result (λ after. after.left ≡ cases.left - 1) }
+pub fn judged<R: Drop>(rt: &impl Print, cases: Cases<R>, good: bool) -> Cases<R>
+    ensures { result.left ≡ cases.left - 1 }
 {
     if cases.left == 0 {
-        return Ok(cases);
+        return cases;
     }
-    let n = shown_good(rt, good, std::num::wrapping_sub_u64(cases.all, cases.left))?;
-    Ok(Cases {
+    let n = shown_good(rt, good, std::num::wrapping_sub_u64(cases.all, cases.left));
+    Cases {
         file: cases.file,
         all: cases.all,
         left: cases.left - 1,
         good: std::num::wrapping_add_u64(cases.good, n),
-    })
+    }
 }
 
 // Ends with the cases of a file, and prints how many were as expected.

@@ -1,7 +1,7 @@
 // Cases of reading an index, of its files and of their rows, and of the index of a construct, read from files beside the program.
 #![tactic(auto)]
 
-ghost use Rattle.std.specs.Prelude.{◌≡◌, ◌≤◌, length, IfOk};
+ghost use Rattle.std.specs.Prelude.{◌≡◌, ◌≤◌, length};
 ghost use Rattle.case_files.specs.Counts.{IsPrefixLen};
 
 use constructs::Bounds;
@@ -22,24 +22,24 @@ fn text_room() -> [u8; 1048577]
     [0u8; 1048577]
 }
 
-fn byte(file: &mut File) -> io::Result<u8> {
-    Ok((case_files::number(file)? % 256) as u8)
+fn byte(file: &mut File) -> u8 {
+    (case_files::number(file) % 256) as u8
 }
 
 // The numbers of a list, at the front of out, where it has room for them.
-fn numbers(file: &mut File, out: &mut [u64]) -> io::Result<usize>
-    ensures { IfOk result (λ n. IsPrefixLen n out.new) }
+fn numbers(file: &mut File, out: &mut [u64]) -> usize
+    ensures { IsPrefixLen result out.new }
 {
-    let n = case_files::number(file)? as usize;
+    let n = case_files::number(file) as usize;
     if out.len() < n {
-        return Ok(0);
+        return 0;
     }
     let mut i: usize = 0;
     while i < n {
-        out[i] = case_files::number(file)?;
+        out[i] = case_files::number(file);
         i += 1;
     }
-    Ok(n)
+    n
 }
 
 fn same_numbers(a: &[u64], b: &[u64]) -> bool {
@@ -64,9 +64,9 @@ fn flag(b: bool) -> u64 {
 }
 
 // The numbers expected of a header.
-fn numbers_as(file: &mut File, h: Header) -> io::Result<bool> {
+fn numbers_as(file: &mut File, h: Header) -> bool {
     let mut expected = [0u64; 11];
-    let n = numbers(file, &mut expected)?;
+    let n = numbers(file, &mut expected);
     let found = [
         h.release,
         h.generation.0,
@@ -80,26 +80,26 @@ fn numbers_as(file: &mut File, h: Header) -> io::Result<bool> {
         h.directories,
         h.files,
     ];
-    Ok(same_numbers(&found, &expected[..n]))
+    same_numbers(&found, &expected[..n])
 }
 
 // Those numbers, and the update time in the text.
-fn header_as(file: &mut File, text: &[u8], h: Header) -> io::Result<bool> {
+fn header_as(file: &mut File, text: &[u8], h: Header) -> bool {
     let time = h.time;
-    if !numbers_as(file, h)? {
-        return Ok(false);
+    if !numbers_as(file, h) {
+        return false;
     }
     let mut expected = [0u8; 64];
-    let n = case_files::bytes(file, &mut expected)?;
-    Ok(slices::same(elements::part(text, time), &expected[..n]))
+    let n = case_files::bytes(file, &mut expected);
+    slices::same(elements::part(text, time), &expected[..n])
 }
 
-fn read_as(file: &mut File, text: &[u8], read: Read, refusal: u64) -> io::Result<bool> {
+fn read_as(file: &mut File, text: &[u8], read: Read, refusal: u64) -> bool {
     match read {
-        Read::Refused(r) => Ok(refusals::number(r) == refusal),
+        Read::Refused(r) => refusals::number(r) == refusal,
         Read::Found(h) => {
             if refusal != 0 {
-                return Ok(false);
+                return false;
             }
             header_as(file, text, h)
         }
@@ -135,14 +135,14 @@ fn rows_as(
     letter: u8,
     block: u64,
     k: u64,
-) -> io::Result<bool> {
+) -> bool {
     let mut out = [0u64; 5200];
-    let n = numbers(file, &mut out)?;
-    let refusal = case_files::number(file)?;
-    let count = case_files::number(file)?;
+    let n = numbers(file, &mut out);
+    let refusal = case_files::number(file);
+    let count = case_files::number(file);
     let mut expected = [0u64; 5200];
-    let e = numbers(file, &mut expected)?;
-    Ok(put_as(
+    let e = numbers(file, &mut expected);
+    put_as(
         text,
         uuid,
         volume,
@@ -153,7 +153,7 @@ fn rows_as(
         &expected[..e],
         refusal,
         count,
-    ))
+    )
 }
 
 fn count_as(read: Filled, refusal: u64, count: u64) -> bool {
@@ -200,36 +200,36 @@ fn file_as(
     volume: Partitions,
     letter: u8,
     block: u64,
-) -> io::Result<bool> {
-    let k = case_files::number(file)?;
-    let refusal = case_files::number(file)?;
-    let bytes = case_files::number(file)?;
+) -> bool {
+    let k = case_files::number(file);
+    let refusal = case_files::number(file);
+    let bytes = case_files::number(file);
     let mut name = [0u8; 2048];
-    let n = case_files::bytes(file, &mut name)?;
-    let count = case_files::number(file)?;
+    let n = case_files::bytes(file, &mut name);
+    let count = case_files::number(file);
     match index_files::file(text, uuid, volume, letter, BlockNumber(block), k) {
         FileRead::Refused(r) => {
             if refusals::number(r) != refusal {
-                return Ok(false);
+                return false;
             }
         }
         FileRead::Found(h) => {
             if refusal != 0 {
-                return Ok(false);
+                return false;
             }
             if h.length.0 != bytes {
-                return Ok(false);
+                return false;
             }
             if h.rows != count {
-                return Ok(false);
+                return false;
             }
             if !name_as(text, h.name.from, h.name.len, &name[..n]) {
-                return Ok(false);
+                return false;
             }
         }
     }
-    if !rows_as(file, text, uuid, volume, letter, block, k)? {
-        return Ok(false);
+    if !rows_as(file, text, uuid, volume, letter, block, k) {
+        return false;
     }
     rows_as(file, text, uuid, volume, letter, block, k)
 }
@@ -241,16 +241,16 @@ fn files_as(
     volume: Partitions,
     letter: u8,
     block: u64,
-) -> io::Result<bool> {
-    let files = case_files::number(file)?;
+) -> bool {
+    let files = case_files::number(file);
     let mut k: u64 = 0;
     while k < files {
-        if !file_as(file, text, uuid, volume, letter, block)? {
-            return Ok(false);
+        if !file_as(file, text, uuid, volume, letter, block) {
+            return false;
         }
         k += 1;
     }
-    Ok(true)
+    true
 }
 
 // The length of a file, where one is expected.
@@ -267,7 +267,7 @@ fn length_as(read: FileRead, refusal: u64, bytes: u64) -> bool {
 }
 
 // The next case.
-fn one(kind: u64, file: &mut File) -> io::Result<bool> {
+fn one(kind: u64, file: &mut File) -> bool {
     if kind == 2 {
         return construct_case(file);
     }
@@ -275,21 +275,21 @@ fn one(kind: u64, file: &mut File) -> io::Result<bool> {
 }
 
 // A text, the label's UUID, letters and block size, a place; then the header and files expected.
-fn text_case(kind: u64, file: &mut File) -> io::Result<bool> {
+fn text_case(kind: u64, file: &mut File) -> bool {
     let mut text = text_room();
-    let n = case_files::bytes(file, &mut text)?;
+    let n = case_files::bytes(file, &mut text);
     let mut uuid = [0u8; 64];
-    let u = case_files::bytes(file, &mut uuid)?;
-    let first = byte(file)?;
-    let other = byte(file)?;
-    let size = case_files::number(file)?;
+    let u = case_files::bytes(file, &mut uuid);
+    let first = byte(file);
+    let other = byte(file);
+    let size = case_files::number(file);
     let volume = Partitions {
         index_letter: first,
         data_letter: other,
         block_size: size,
     };
-    let letter = byte(file)?;
-    let block = case_files::number(file)?;
+    let letter = byte(file);
+    let block = case_files::number(file);
     if kind == 1 {
         return rows_case(file, &text[..n], &uuid[..u], volume, letter, block);
     }
@@ -303,11 +303,11 @@ fn index_case(
     volume: Partitions,
     letter: u8,
     block: u64,
-) -> io::Result<bool> {
-    let refusal = case_files::number(file)?;
+) -> bool {
+    let refusal = case_files::number(file);
     let read = index::read_index(text, uuid, volume, letter, BlockNumber(block));
-    if !read_as(file, text, read, refusal)? {
-        return Ok(false);
+    if !read_as(file, text, read, refusal) {
+        return false;
     }
     files_as(file, text, uuid, volume, letter, block)
 }
@@ -320,26 +320,26 @@ fn rows_case(
     volume: Partitions,
     letter: u8,
     block: u64,
-) -> io::Result<bool> {
-    let k = case_files::number(file)?;
-    let refusal = case_files::number(file)?;
-    let bytes = case_files::number(file)?;
+) -> bool {
+    let k = case_files::number(file);
+    let refusal = case_files::number(file);
+    let bytes = case_files::number(file);
     let read = index_files::file(text, uuid, volume, letter, BlockNumber(block), k);
     if !length_as(read, refusal, bytes) {
-        return Ok(false);
+        return false;
     }
     rows_as(file, text, uuid, volume, letter, block, k)
 }
 
 // Where a construct lies: its first block and its closing mark; then its header.
-fn construct_as(file: &mut File, store: &[u8], place: Bounds, h: Header) -> io::Result<bool> {
-    let first = case_files::number(file)?;
-    let mark = case_files::number(file)? as usize;
+fn construct_as(file: &mut File, store: &[u8], place: Bounds, h: Header) -> bool {
+    let first = case_files::number(file);
+    let mark = case_files::number(file) as usize;
     if place.first.0 != first {
-        return Ok(false);
+        return false;
     }
     if place.end != std::num::wrapping_add_usize(mark, 1) {
-        return Ok(false);
+        return false;
     }
     let len = volume::between(place.from, place.to);
     let text = elements::part(
@@ -352,12 +352,12 @@ fn construct_as(file: &mut File, store: &[u8], place: Bounds, h: Header) -> io::
     header_as(file, text, h)
 }
 
-fn chosen_as(file: &mut File, store: &[u8], chosen: Chosen, refusal: u64) -> io::Result<bool> {
+fn chosen_as(file: &mut File, store: &[u8], chosen: Chosen, refusal: u64) -> bool {
     match chosen {
-        Chosen::Refused(r) => Ok(refusals::number(r) == refusal),
+        Chosen::Refused(r) => refusals::number(r) == refusal,
         Chosen::Found(place, h) => {
             if refusal != 0 {
-                return Ok(false);
+                return false;
             }
             construct_as(file, store, place, h)
         }
@@ -365,24 +365,24 @@ fn chosen_as(file: &mut File, store: &[u8], chosen: Chosen, refusal: u64) -> io:
 }
 
 // A partition, the label's UUID, letters and block size, the partition's letter, a construct's number; then what is expected.
-fn construct_case(file: &mut File) -> io::Result<bool> {
+fn construct_case(file: &mut File) -> bool {
     let mut list = [0u8; 4096];
-    let l = case_files::bytes(file, &mut list)?;
+    let l = case_files::bytes(file, &mut list);
     let mut store = [0u8; 65536];
-    let s = case_files::bytes(file, &mut store)?;
+    let s = case_files::bytes(file, &mut store);
     let mut uuid = [0u8; 64];
-    let u = case_files::bytes(file, &mut uuid)?;
-    let first = byte(file)?;
-    let other = byte(file)?;
-    let size = case_files::number(file)?;
+    let u = case_files::bytes(file, &mut uuid);
+    let first = byte(file);
+    let other = byte(file);
+    let size = case_files::number(file);
     let letters = Partitions {
         index_letter: first,
         data_letter: other,
         block_size: size,
     };
-    let letter = byte(file)?;
-    let k = case_files::number(file)?;
-    let refusal = case_files::number(file)?;
+    let letter = byte(file);
+    let k = case_files::number(file);
+    let refusal = case_files::number(file);
     let chosen = volume::read_construct(&list[..l], &store[..s], &uuid[..u], letters, letter, k);
     chosen_as(file, &store[..s], chosen, refusal)
 }
@@ -391,8 +391,8 @@ fn construct_case(file: &mut File) -> io::Result<bool> {
 fn run(rt: &HostRuntime, path: &str, kind: u64) -> io::Result<()> {
     let mut cases = case_files::open(rt, path)?;
     while cases.left > 0 {
-        let good = one(kind, &mut cases.file)?;
-        cases = case_files::judged(rt, cases, good)?;
+        let good = one(kind, &mut cases.file);
+        cases = case_files::judged(rt, cases, good);
     }
     case_files::close(rt, path, cases)
 }
@@ -460,8 +460,8 @@ fn refused_as(text: &[u8], refusal: u64) -> bool {
 }
 
 // The refusal of an index with a root and so many files, whose values are all empty.
-fn entries(rt: &HostRuntime, files: u64, refusal: u64) -> io::Result<u64>
-    ensures { IfOk result (λ n. n ≤ 1) }
+fn entries(rt: &HostRuntime, files: u64, refusal: u64) -> u64
+    ensures { result ≤ 1 }
 {
     let mut text = text_room();
     let n = add_files(&mut text, files);
@@ -479,14 +479,14 @@ fn main(rt: HostRuntime) -> io::Result<()> {
     run(&rt, "constructs", 2)?;
     run(&rt, "construct_kinds", 2)?;
     run(&rt, "construct_unreadable", 2)?;
-    let good = entries(&rt, 3999, 6)? + entries(&rt, 4095, 6)? + entries(&rt, 4096, 15)?;
+    let good = entries(&rt, 3999, 6) + entries(&rt, 4095, 6) + entries(&rt, 4096, 15);
     case_files::report(&rt, "entries", good, 3)?;
     // A text too long is refused before its bytes are looked at.
     let text = text_room();
     case_files::report(
         &rt,
         "too long",
-        case_files::shown_good(&rt, refused_as(&text, 15), 0)?,
+        case_files::shown_good(&rt, refused_as(&text, 15), 0),
         1,
     )
 }

@@ -86,50 +86,50 @@ fn is_refused(text: &[u8], refusal: u64) -> bool {
     }
 }
 
-fn byte(file: &mut File) -> io::Result<u8> {
-    Ok((case_files::number(file)? % 256) as u8)
+fn byte(file: &mut File) -> u8 {
+    (case_files::number(file) % 256) as u8
 }
 
 // Three letters, a block size, and whether it is compressed.
-fn given(file: &mut File) -> io::Result<Given> {
-    let location = byte(file)?;
-    let index_letter = byte(file)?;
-    let data_letter = byte(file)?;
-    let block_size = case_files::number(file)?;
-    let compression = case_files::number(file)? != 0;
-    Ok(Given {
+fn given(file: &mut File) -> Given {
+    let location = byte(file);
+    let index_letter = byte(file);
+    let data_letter = byte(file);
+    let block_size = case_files::number(file);
+    let compression = case_files::number(file) != 0;
+    Given {
         location,
         index_letter,
         data_letter,
         block_size,
         compression,
-    })
+    }
 }
 
 // A text; the refusal and the values expected.
-pub fn read_case(file: &mut File) -> io::Result<bool> {
+pub fn read_case(file: &mut File) -> bool {
     let mut text = [0u8; 8192];
-    let n = case_files::bytes(file, &mut text)?;
-    let refusal = case_files::number(file)?;
-    let release = case_files::number(file)?;
+    let n = case_files::bytes(file, &mut text);
+    let refusal = case_files::number(file);
+    let release = case_files::number(file);
     let mut creator = [0u8; 512];
-    let c = case_files::bytes(file, &mut creator)?;
+    let c = case_files::bytes(file, &mut creator);
     let mut time = [0u8; 64];
-    let t = case_files::bytes(file, &mut time)?;
+    let t = case_files::bytes(file, &mut time);
     let mut uuid = [0u8; 64];
-    let u = case_files::bytes(file, &mut uuid)?;
-    let g = given(file)?;
+    let u = case_files::bytes(file, &mut uuid);
+    let g = given(file);
     if refusal != 0 {
-        return Ok(is_refused(&text[..n], refusal));
+        return is_refused(&text[..n], refusal);
     }
-    Ok(says(
+    says(
         &text[..n],
         release,
         &creator[..c],
         &time[..t],
         &uuid[..u],
         g,
-    ))
+    )
 }
 
 // Whether the first n bytes read as the values that were given, version 2.0.1.
@@ -170,20 +170,20 @@ fn written_as(
 }
 
 // The fields of a label and a buffer; the refusal and the buffer's content expected.
-pub fn write_case(file: &mut File) -> io::Result<bool> {
+pub fn write_case(file: &mut File) -> bool {
     let mut creator = [0u8; 512];
-    let c = case_files::bytes(file, &mut creator)?;
+    let c = case_files::bytes(file, &mut creator);
     let mut time = [0u8; 64];
-    let t = case_files::bytes(file, &mut time)?;
+    let t = case_files::bytes(file, &mut time);
     let mut uuid = [0u8; 64];
-    let u = case_files::bytes(file, &mut uuid)?;
-    let g = given(file)?;
+    let u = case_files::bytes(file, &mut uuid);
+    let g = given(file);
     let mut out = [0u8; 4096];
-    let b = case_files::bytes(file, &mut out)?;
-    let refusal = case_files::number(file)?;
+    let b = case_files::bytes(file, &mut out);
+    let refusal = case_files::number(file);
     let mut after = [0u8; 4096];
-    let a = case_files::bytes(file, &mut after)?;
-    Ok(written_as(
+    let a = case_files::bytes(file, &mut after);
+    written_as(
         &mut out[..b],
         &creator[..c],
         &time[..t],
@@ -191,7 +191,7 @@ pub fn write_case(file: &mut File) -> io::Result<bool> {
         g,
         refusal,
         &after[..a],
-    ))
+    )
 }
 
 // Whether the labels agree; no where one of the texts is no label.
@@ -206,18 +206,18 @@ fn agree(v: &[u8], s: &[u8], w: &[u8], t: &[u8]) -> bool {
 }
 
 // VOL1 and label text of the index side, and of the data side; whether they agree.
-pub fn agreement_case(file: &mut File) -> io::Result<bool> {
+pub fn agreement_case(file: &mut File) -> bool {
     let mut v = [0u8; 128];
-    let a = case_files::bytes(file, &mut v)?;
+    let a = case_files::bytes(file, &mut v);
     let mut s = [0u8; 4096];
-    let b = case_files::bytes(file, &mut s)?;
+    let b = case_files::bytes(file, &mut s);
     let mut w = [0u8; 128];
-    let c = case_files::bytes(file, &mut w)?;
+    let c = case_files::bytes(file, &mut w);
     let mut t = [0u8; 4096];
-    let d = case_files::bytes(file, &mut t)?;
-    let expected = case_files::number(file)?;
+    let d = case_files::bytes(file, &mut t);
+    let expected = case_files::number(file);
     if agree(&v[..a], &s[..b], &w[..c], &t[..d]) {
-        return Ok(expected == 1);
+        return expected == 1;
     }
-    Ok(expected == 0)
+    expected == 0
 }

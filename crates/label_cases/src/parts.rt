@@ -11,62 +11,62 @@ fn is_one(b: bool, expected: u64) -> bool {
 }
 
 // A text; whether it is a name, and whether it is the root directory's.
-pub fn name_case(file: &mut File) -> io::Result<bool> {
+pub fn name_case(file: &mut File) -> bool {
     let mut raw = [0u8; 2048];
-    let n = case_files::bytes(file, &mut raw)?;
-    let name = case_files::number(file)?;
-    let root = case_files::number(file)?;
+    let n = case_files::bytes(file, &mut raw);
+    let name = case_files::number(file);
+    let root = case_files::number(file);
     if !is_one(values::is_name(&raw[..n]), name) {
-        return Ok(false);
+        return false;
     }
-    Ok(is_one(values::is_root_name(&raw[..n]), root))
+    is_one(values::is_root_name(&raw[..n]), root)
 }
 
 // A text; whether it is a number, and which.
-pub fn number_case(file: &mut File) -> io::Result<bool> {
+pub fn number_case(file: &mut File) -> bool {
     let mut raw = [0u8; 64];
-    let n = case_files::bytes(file, &mut raw)?;
-    let said = case_files::number(file)?;
-    let value = case_files::number(file)?;
+    let n = case_files::bytes(file, &mut raw);
+    let said = case_files::number(file);
+    let value = case_files::number(file);
     match values::read_number(&raw[..n]) {
         Number::Value(m) => {
             if said != 1 {
-                return Ok(false);
+                return false;
             }
-            Ok(m == value)
+            m == value
         }
-        Number::Nothing => Ok(said == 0),
+        Number::Nothing => said == 0,
     }
 }
 
 // Whether the next 16 numbers of a file are the seats.
-fn seats_as(file: &mut File, seats: &[usize; 16]) -> io::Result<bool> {
+fn seats_as(file: &mut File, seats: &[usize; 16]) -> bool {
     let mut good = true;
     for i in 0..16 {
-        if case_files::number(file)? as usize != seats[i] {
+        if case_files::number(file) as usize != seats[i] {
             good = false;
         }
     }
-    Ok(good)
+    good
 }
 
 // A text, a place in it, a table of rules and how many of them are required; whether the row there is lawful, and where each child stands.
-pub fn row_case(file: &mut File) -> io::Result<bool> {
+pub fn row_case(file: &mut File) -> bool {
     let mut text = [0u8; 2048];
-    let n = case_files::bytes(file, &mut text)?;
-    let at = case_files::number(file)? as usize;
+    let n = case_files::bytes(file, &mut text);
+    let at = case_files::number(file) as usize;
     let mut table = [0u8; 256];
-    let t = case_files::bytes(file, &mut table)?;
-    let must = case_files::number(file)? as usize;
-    let lawful = case_files::number(file)?;
+    let t = case_files::bytes(file, &mut table);
+    let must = case_files::number(file) as usize;
+    let lawful = case_files::number(file);
     let row = children::read_row(&text[..n], at, &table[..t], must);
     let found = row.seats;
-    let seated = seats_as(file, &found)?;
+    let seated = seats_as(file, &found);
     if !is_one(row.ok, lawful) {
-        return Ok(false);
+        return false;
     }
     if lawful == 0 {
-        return Ok(true);
+        return true;
     }
-    Ok(seated)
+    seated
 }

@@ -5,13 +5,13 @@ use std::io;
 use vol1::Vol1Read;
 
 // A block; the refusal expected.
-pub fn read_case(file: &mut File) -> io::Result<bool> {
+pub fn read_case(file: &mut File) -> bool {
     let mut block = [0u8; 512];
-    let n = case_files::bytes(file, &mut block)?;
-    let refusal = case_files::number(file)?;
+    let n = case_files::bytes(file, &mut block);
+    let refusal = case_files::number(file);
     match vol1::read_vol1(&block[..n]) {
-        Vol1Read::Good => Ok(refusal == 0),
-        Vol1Read::Refused(r) => Ok(refusals::number(r) == refusal),
+        Vol1Read::Good => refusal == 0,
+        Vol1Read::Refused(r) => refusals::number(r) == refusal,
     }
 }
 
@@ -36,21 +36,21 @@ fn written_as(out: &mut [u8], identifier: &[u8], owner: &[u8], refusal: u64, aft
 }
 
 // An identifier, an owner and a buffer; the refusal and the buffer's content expected.
-pub fn write_case(file: &mut File) -> io::Result<bool> {
+pub fn write_case(file: &mut File) -> bool {
     let mut identifier = [0u8; 64];
-    let i = case_files::bytes(file, &mut identifier)?;
+    let i = case_files::bytes(file, &mut identifier);
     let mut owner = [0u8; 64];
-    let o = case_files::bytes(file, &mut owner)?;
+    let o = case_files::bytes(file, &mut owner);
     let mut out = [0u8; 512];
-    let b = case_files::bytes(file, &mut out)?;
-    let refusal = case_files::number(file)?;
+    let b = case_files::bytes(file, &mut out);
+    let refusal = case_files::number(file);
     let mut after = [0u8; 512];
-    let a = case_files::bytes(file, &mut after)?;
-    Ok(written_as(
+    let a = case_files::bytes(file, &mut after);
+    written_as(
         &mut out[..b],
         &identifier[..i],
         &owner[..o],
         refusal,
         &after[..a],
-    ))
+    )
 }

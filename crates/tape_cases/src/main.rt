@@ -6,38 +6,38 @@ use std::fs::File;
 use std::io;
 
 // A list and a store; the refusal and the number of elements expected.
-fn check_case(file: &mut File) -> io::Result<bool> {
+fn check_case(file: &mut File) -> bool {
     let mut list = [0u8; 131072];
-    let l = case_files::bytes(file, &mut list)?;
+    let l = case_files::bytes(file, &mut list);
     let mut store = [0u8; 24576];
-    let s = case_files::bytes(file, &mut store)?;
-    let refusal = case_files::number(file)?;
-    let elements = case_files::number(file)? as usize;
+    let s = case_files::bytes(file, &mut store);
+    let refusal = case_files::number(file);
+    let elements = case_files::number(file) as usize;
     match tape::check(&list[..l], &store[..s]) {
         tape::ListChecked::Elements(n) => {
             if refusal != 0 {
-                return Ok(false);
+                return false;
             }
-            Ok(n == elements)
+            n == elements
         }
-        tape::ListChecked::Refused(r) => Ok(refusals::number(r) == refusal),
+        tape::ListChecked::Refused(r) => refusals::number(r) == refusal,
     }
 }
 
 // A list, a store and a number of elements; the refusal and the two fronts expected.
-fn keep_case(file: &mut File) -> io::Result<bool> {
+fn keep_case(file: &mut File) -> bool {
     let mut list = [0u8; 4096];
-    let l = case_files::bytes(file, &mut list)?;
+    let l = case_files::bytes(file, &mut list);
     let mut store = [0u8; 24576];
-    let s = case_files::bytes(file, &mut store)?;
-    let n = case_files::number(file)? as usize;
-    let refusal = case_files::number(file)?;
+    let s = case_files::bytes(file, &mut store);
+    let n = case_files::number(file) as usize;
+    let refusal = case_files::number(file);
     let mut list_front = [0u8; 4096];
-    let a = case_files::bytes(file, &mut list_front)?;
+    let a = case_files::bytes(file, &mut list_front);
     let mut store_front = [0u8; 24576];
-    let b = case_files::bytes(file, &mut store_front)?;
+    let b = case_files::bytes(file, &mut store_front);
     if !lengths_as(&list[..l], &store[..s], n, refusal, a, b) {
-        return Ok(false);
+        return false;
     }
     if !fronts_as(
         &list[..l],
@@ -47,18 +47,18 @@ fn keep_case(file: &mut File) -> io::Result<bool> {
         &list_front[..a],
         &store_front[..b],
     ) {
-        return Ok(false);
+        return false;
     }
     if refusal != 0 {
-        return Ok(true);
+        return true;
     }
-    Ok(twice_as(
+    twice_as(
         &list[..l],
         &store[..s],
         n,
         &list_front[..a],
         &store_front[..b],
-    ))
+    )
 }
 
 fn fronts_as(
@@ -134,22 +134,22 @@ fn lengths_as(list: &[u8], store: &[u8], n: usize, refusal: u64, a: usize, b: us
 }
 
 // Two lists with their stores, three letters and a number; the refusal and the bytes expected.
-fn block_case(file: &mut File) -> io::Result<bool> {
+fn block_case(file: &mut File) -> bool {
     let mut index_list = [0u8; 4096];
-    let il = case_files::bytes(file, &mut index_list)?;
+    let il = case_files::bytes(file, &mut index_list);
     let mut index_store = [0u8; 24576];
-    let is = case_files::bytes(file, &mut index_store)?;
+    let is = case_files::bytes(file, &mut index_store);
     let mut data_list = [0u8; 4096];
-    let dl = case_files::bytes(file, &mut data_list)?;
+    let dl = case_files::bytes(file, &mut data_list);
     let mut data_store = [0u8; 24576];
-    let ds = case_files::bytes(file, &mut data_store)?;
-    let i = (case_files::number(file)? % 256) as u8;
-    let d = (case_files::number(file)? % 256) as u8;
-    let letter = (case_files::number(file)? % 256) as u8;
-    let number = case_files::number(file)?;
-    let refusal = case_files::number(file)?;
+    let ds = case_files::bytes(file, &mut data_store);
+    let i = (case_files::number(file) % 256) as u8;
+    let d = (case_files::number(file) % 256) as u8;
+    let letter = (case_files::number(file) % 256) as u8;
+    let number = case_files::number(file);
+    let refusal = case_files::number(file);
     let mut expected = [0u8; 24576];
-    let e = case_files::bytes(file, &mut expected)?;
+    let e = case_files::bytes(file, &mut expected);
     let mut shown: u64 = 99;
     let part = tape::block(
         &index_list[..il],
@@ -163,12 +163,12 @@ fn block_case(file: &mut File) -> io::Result<bool> {
         &mut shown,
     );
     if shown != refusal {
-        return Ok(false);
+        return false;
     }
-    Ok(slices::same(part, &expected[..e]))
+    slices::same(part, &expected[..e])
 }
 
-fn one(kind: u64, file: &mut File) -> io::Result<bool> {
+fn one(kind: u64, file: &mut File) -> bool {
     if kind == 0 {
         return check_case(file);
     }
@@ -182,8 +182,8 @@ fn one(kind: u64, file: &mut File) -> io::Result<bool> {
 fn run(rt: &HostRuntime, path: &str, kind: u64) -> io::Result<()> {
     let mut cases = case_files::open(rt, path)?;
     while cases.left > 0 {
-        let good = one(kind, &mut cases.file)?;
-        cases = case_files::judged(rt, cases, good)?;
+        let good = one(kind, &mut cases.file);
+        cases = case_files::judged(rt, cases, good);
     }
     case_files::close(rt, path, cases)
 }
