@@ -1,4 +1,5 @@
 -- From the walk's answer to what is promised of a list and a store.
+use Rattle.std.specs.Prelude.{Result, Err, Ok}
 use mathlib.Core.Path.{◌≡◌, refl, sym, ap, ◌∙◌, subst}
 use mathlib.Core.Bool.{Bool, true, false, cond}
 use mathlib.Core.List.{List}
@@ -9,7 +10,7 @@ use lib.Dec.{leb}
 use lib.ListN.{length, take}
 use Rattle.refusals.specs.declared.Refusal.{Refusal}
 use Rattle.refusals.specs.declared.Refusal.TheVariants.{List as BadList, Short}
-use Rattle.refusals.specs.Refusals.{Answer, refused, answer, require, and_then}
+use Rattle.refusals.specs.Refusals.{Answer, require, and_then}
 use Rattle.slices.specs.Slices.{written}
 use Rattle.slices.specs.Writers.{held_after, room}
 use Rattle.slices.proofs.Writing.{front_written}
@@ -17,8 +18,7 @@ use Rattle.tape.specs.Tape.{Tape, max_elements}
 use Rattle.tape.specs.Answers.{tape_in, element_count}
 use Rattle.tape.proofs.Encoding.{Bytes, encodes_read, tape_read}
 use Rattle.tape.proofs.Keeping.{Present, absent_list}
-use Rattle.ansi.specs.declared.FilesRead.{FilesRead}
-use Rattle.ansi.specs.declared.FilesRead.TheVariants as read_is
+use Rattle.core.specs.declared.result.Result.TheVariants as read_is
 use Rattle.ansi.specs.Layout.{TapeFile, Layout, max_files}
 use Rattle.ansi.specs.Places.{LongestFront}
 use Rattle.ansi.specs.ReadingSteps.{ansi_of, front_of}
@@ -29,12 +29,12 @@ use Rattle.ansi.proofs.Refused.{means, one_meaning, longest_front}
 use Rattle.ansi.proofs.Few.{few_files}
 
 counted_room : (b : Bool) (k : ℕ) (fs : List TapeFile) → k ≡ length fs
-    → require b Short (answer k) ≡ and_then (require b Short (answer fs)) (λ gs. answer (length gs))
-counted_room true k fs e = ap (λ (n : ℕ). answer n) e
+    → require b Short (Ok k) ≡ and_then (require b Short (Ok fs)) (λ gs. Ok (length gs))
+counted_room true k fs e = ap (λ (n : ℕ). Ok n) e
 counted_room false k fs e = refl
 
 stored_room : (b : Bool) (fs : List TapeFile) (before : List ℕ)
-    → cond b (written 0 (all_bytes fs) before) before ≡ files_after (require b Short (answer fs)) before
+    → cond b (written 0 (all_bytes fs) before) before ≡ files_after (require b Short (Ok fs)) before
 stored_room true fs before = refl
 stored_room false fs before = refl
 
@@ -43,11 +43,11 @@ rows_are : (fs : List TapeFile) (b : List ℕ) → take (length (all_bytes fs)) 
 rows_are fs b = ap (λ (n : ℕ). take n (written 0 (all_bytes fs) b)) (sym (zero-add (length (all_bytes fs)))) ∙ front_written 0 (all_bytes fs) b (omega arith)
 
 module _ (l s : List ℕ) (count : ℕ) (p : Present l s count) where
-  module _ (before : List ℕ) (fs : List TapeFile) (read : ansi_of p.tape ≡ answer fs) where
+  module _ (before : List ℕ) (fs : List TapeFile) (read : ansi_of p.tape ≡ Ok fs) where
     files_are : files_on (length before) l s ≡ room_for (length before) fs
     files_are = rw (p.read, read)
 
-  pub reads_found : {b text : List ℕ} {end : ℕ} (before after : List ℕ) (r : FilesRead) → AllRead p.tape b text end → HandsOut (take end text) before after r → ReadsFiles l s before after r
+  pub reads_found : {b text : List ℕ} {end : ℕ} (before after : List ℕ) (r : Result ℕ Refusal) → AllRead p.tape b text end → HandsOut (take end text) before after r → ReadsFiles l s before after r
   unfolding held_after
   reads_found {b} {text} {end} before after r f h =
       let fs = f.files in
@@ -56,31 +56,31 @@ module _ (l s : List ℕ) (count : ℕ) (p : Present l s count) where
       let k : length (take end text) / 36 ≡ length fs = omega arith in
       let i : files_on (length before) l s ≡ room_for (length before) fs = files_are before fs f.read in
       record {
-        answers = h.answers ∙ ap (λ (x : ℕ). require (leb x (length before)) Short (answer (length (take end text) / 36))) n
+        answers = h.answers ∙ ap (λ (x : ℕ). require (leb x (length before)) Short (Ok (length (take end text) / 36))) n
             ∙ counted_room (leb (36 * length fs) (length before)) (length (take end text) / 36) fs k
-            ∙ ap (λ (a : Answer (List TapeFile)). and_then a (λ gs. answer (length gs))) (sym i);
+            ∙ ap (λ (a : Answer (List TapeFile)). and_then a (λ gs. Ok (length gs))) (sym i);
         holds = h.holds ∙ ap (λ (x : List ℕ). held_after 0 x before) w
             ∙ ap (λ (x : ℕ). cond (leb x (length before)) (written 0 (all_bytes fs) before) before) (zero-add (length (all_bytes fs)) ∙ f.sized)
             ∙ stored_room (leb (36 * length fs) (length before)) fs before ∙ ap (λ (a : Answer (List TapeFile)). files_after a before) (sym i);
       }
 
-  pub reads_stopped : {place : ℕ} (before : List ℕ) (r : Refusal) → Stopped p.tape r place → ReadsFiles l s before before (read_is.Refused r)
+  pub reads_stopped : {place : ℕ} (before : List ℕ) (r : Refusal) → Stopped p.tape r place → ReadsFiles l s before before (read_is.Err r)
   reads_stopped before r f = record { answers = rw (p.read, f.read); holds = rw (p.read, f.read) }
 
-  pub place_found : {b text : List ℕ} {end : ℕ} → AllRead p.tape b text end → answer count ≡ front_in l s
-  place_found f = rw p.read (ap (λ (n : ℕ). answer n) (sym (f.passed ∙ p.count)))
+  pub place_found : {b text : List ℕ} {end : ℕ} → AllRead p.tape b text end → Ok count ≡ front_in l s
+  place_found f = rw p.read (ap (λ (n : ℕ). Ok n) (sym (f.passed ∙ p.count)))
 
-  pub place_stopped : {place : ℕ} (r : Refusal) → Stopped p.tape r place → answer place ≡ front_in l s
-  place_stopped r f = rw p.read (ap (λ (n : ℕ). answer n) (sym f.passed))
+  pub place_stopped : {place : ℕ} (r : Refusal) → Stopped p.tape r place → Ok place ≡ front_in l s
+  place_stopped r f = rw p.read (ap (λ (n : ℕ). Ok n) (sym f.passed))
 
-pub reads_refused : (l s before : List ℕ) (r : Refusal) → refused r ≡ element_count l s → ReadsFiles l s before before (read_is.Refused BadList)
+pub reads_refused : (l s before : List ℕ) (r : Refusal) → Err r ≡ element_count l s → ReadsFiles l s before before (read_is.Err BadList)
 reads_refused l s before r e = let a = absent_list l s r e in record { answers = rw a; holds = rw a }
 
-pub place_refused : (l s : List ℕ) (r : Refusal) → refused r ≡ element_count l s → refused BadList ≡ front_in l s
+pub place_refused : (l s : List ℕ) (r : Refusal) → Err r ≡ element_count l s → Err BadList ≡ front_in l s
 place_refused l s r e = rw (absent_list l s r e)
 
 -- a tape that was read from a list is within the bounds
-tape_small : (l s : List ℕ) (t : Tape) → Bytes l → tape_in l s ≡ answer t → length t ≤ max_elements
+tape_small : (l s : List ℕ) (t : Tape) → Bytes l → tape_in l s ≡ Ok t → length t ≤ max_elements
 tape_small l s t w e = (encodes_read l s t w (tape_read l s t e)).elements
 
 pub by_layout : (room : ℕ) (l s : List ℕ) → Bytes l → ByLayout room l s
@@ -88,33 +88,33 @@ by_layout room l s w t e =
     let b = tape_small l s t w e in
     record { meaning = ansi_of t; means = means t b; one = λ a m. sym (one_meaning t a b m); holds = rw e }
 
-same_answer : {A : Type 0} {x y : A} → answer x ≡ answer y → x ≡ y
+same_answer : {A : Type 0} {x y : A} → Ok x ≡ Ok y → x ≡ y
 same_answer e = cc
 
 -- the place that is answered is behind the longest front that begins a layout
-pub place_longest : (l s : List ℕ) (n : ℕ) → Bytes l → answer n ≡ front_in l s → (t : Tape) → tape_in l s ≡ answer t → LongestFront t n
+pub place_longest : (l s : List ℕ) (n : ℕ) → Bytes l → Ok n ≡ front_in l s → (t : Tape) → tape_in l s ≡ Ok t → LongestFront t n
 place_longest l s n w q t e =
-    let z : answer n ≡ answer (front_of t) = q ∙ ap (λ (a : Answer Tape). and_then a (λ u. answer (front_of u))) e in
+    let z : Ok n ≡ Ok (front_of t) = q ∙ ap (λ (a : Answer Tape). and_then a (λ u. Ok (front_of u))) e in
     subst (LongestFront t) (sym (same_answer z)) (longest_front t (tape_small l s t w e))
 
-pub place_none : (l s : List ℕ) (r : Refusal) → refused r ≡ front_in l s → (t : Tape) → tape_in l s ≡ answer t → (n : ℕ) → LongestFront t n
+pub place_none : (l s : List ℕ) (r : Refusal) → Err r ≡ front_in l s → (t : Tape) → tape_in l s ≡ Ok t → (n : ℕ) → LongestFront t n
 place_none l s r q t e n =
-    let z : refused r ≡ answer (front_of t) = q ∙ ap (λ (a : Answer Tape). and_then a (λ u. answer (front_of u))) e in
+    let z : Err r ≡ Ok (front_of t) = q ∙ ap (λ (a : Answer Tape). and_then a (λ u. Ok (front_of u))) e in
     let y : ◌≡◌ {A = ℕ} 0 1 = cc in
     absurd (omega arith)
 
 -- the number that is told is one that a tape can have
-pub few_told : (room : ℕ) (l s : List ℕ) (n : ℕ) → Bytes l → answer n ≡ and_then (files_on room l s) (λ fs. answer (length fs)) → n ≤ max_files
+pub few_told : (room : ℕ) (l s : List ℕ) (n : ℕ) → Bytes l → Ok n ≡ and_then (files_on room l s) (λ fs. Ok (length fs)) → n ≤ max_files
 few_told room l s n w e = on (tape_in l s) refl e
   where
-    fit : (b : Bool) (t : Tape) (fs : List TapeFile) → length t ≤ max_elements → Layout t fs → answer n ≡ and_then (require b Short (answer fs)) (λ gs. answer (length gs)) → n ≤ max_files
+    fit : (b : Bool) (t : Tape) (fs : List TapeFile) → length t ≤ max_elements → Layout t fs → Ok n ≡ and_then (require b Short (Ok fs)) (λ gs. Ok (length gs)) → n ≤ max_files
     fit true t fs small y q = let z : n ≡ length fs = same_answer q in omega (arith, few_files small y)
     fit false t fs small y q = let z : ◌≡◌ {A = ℕ} 0 1 = cc in absurd (omega arith)
 
-    read : (t : Tape) (a : Answer (List TapeFile)) → length t ≤ max_elements → ansi_of t ≡ a → answer n ≡ and_then (and_then a (room_for room)) (λ fs. answer (length fs)) → n ≤ max_files
-    read t (refused r) small h q = let z : ◌≡◌ {A = ℕ} 0 1 = cc in absurd (omega arith)
-    read t (answer fs) small h q = fit (leb (36 * length fs) room) t fs small ((same_layout t fs).0 h) q
+    read : (t : Tape) (a : Answer (List TapeFile)) → length t ≤ max_elements → ansi_of t ≡ a → Ok n ≡ and_then (and_then a (room_for room)) (λ fs. Ok (length fs)) → n ≤ max_files
+    read t (Err r) small h q = let z : ◌≡◌ {A = ℕ} 0 1 = cc in absurd (omega arith)
+    read t (Ok fs) small h q = fit (leb (36 * length fs) room) t fs small ((same_layout t fs).0 h) q
 
-    on : (a : Answer Tape) → tape_in l s ≡ a → answer n ≡ and_then (and_then a (λ t. and_then (ansi_of t) (room_for room))) (λ fs. answer (length fs)) → n ≤ max_files
-    on (refused r) h q = let z : ◌≡◌ {A = ℕ} 0 1 = cc in absurd (omega arith)
-    on (answer t) h q = read t (ansi_of t) (tape_small l s t w h) refl q
+    on : (a : Answer Tape) → tape_in l s ≡ a → Ok n ≡ and_then (and_then a (λ t. and_then (ansi_of t) (room_for room))) (λ fs. Ok (length fs)) → n ≤ max_files
+    on (Err r) h q = let z : ◌≡◌ {A = ℕ} 0 1 = cc in absurd (omega arith)
+    on (Ok t) h q = read t (ansi_of t) (tape_small l s t w h) refl q

@@ -1,4 +1,5 @@
 -- The stages that a reading comes to, and for each of them a tape that ends a layout from there.
+use Rattle.std.specs.Prelude.{Ok}
 use mathlib.Core.Path.{◌≡◌, refl}
 use mathlib.Core.Bool.{Bool, true, false, cond}
 use mathlib.Core.List.{List, [], ◌∷◌, ◌++◌}
@@ -9,7 +10,6 @@ use lib.ListN.{length, replicate}
 use borrow.Author.Tests.{eq-eqb, leb-true}
 use Rattle.refusals.specs.declared.Refusal.{Refusal}
 use Rattle.refusals.specs.declared.Refusal.TheVariants.{Labels, EndOfVolume, BlockCount}
-use Rattle.refusals.specs.Refusals.{answer}
 use Rattle.slices.specs.Slices.{within, every, same}
 use Rattle.slices.specs.Words.{bytes}
 use Rattle.slices.proofs.Booleans.{and_left, and_right}
@@ -96,7 +96,7 @@ step_live n σ unreadable l = LiveAt.halts Labels
 
 -- some tape ends a layout from here
 abbrev pub Ends : ℕ → Stage → Type 0
-Ends n σ = (t : Tape) × (fs : List TapeFile) × (read_run t n σ ≡ answer fs)
+Ends n σ = (t : Tape) × (fs : List TapeFile) × (read_run t n σ ≡ Ok fs)
 
 -- a step, and then the rest
 pub ends_go : (n : ℕ) (σ τ : Stage) (e : Element) → read_step n σ e ≡ go τ → Ends (suc n) τ → Ends n σ

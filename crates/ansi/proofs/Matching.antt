@@ -1,4 +1,5 @@
 -- The walk over a list: at each place what was read so far is what a reading comes to there, and the rows hold the files made known.
+use Rattle.std.specs.Prelude.{Err, Ok}
 use mathlib.Core.Path.{◌≡◌, refl, sym, ap, ◌∙◌}
 use mathlib.Core.Bool.{Bool, true, false, cond}
 use mathlib.Core.List.{List, [], ◌∷◌, ◌++◌, append-nil}
@@ -11,7 +12,6 @@ use lib.ListN.{length, take, drop, length-append, take-append-drop}
 use lib.Seq.{take_all, take-append_seam}
 use Rattle.refusals.specs.declared.Refusal.{Refusal}
 use Rattle.refusals.specs.declared.Refusal.TheVariants.{Labels}
-use Rattle.refusals.specs.Refusals.{refused, answer}
 use Rattle.slices.specs.Slices.{written}
 use Rattle.slices.specs.Words.{bytes}
 use Rattle.slices.proofs.Writing.{length_written, written_nil}
@@ -324,14 +324,14 @@ module _ {l s : List ℕ} {count : ℕ} {b rows : List ℕ} {place at off end : 
       let i = m.inside in
       ap (λ (x : Tape). passed_from x 0 start) (sym all_passed ∙ sym (append-nil (take at m.tape))) ∙ reach_passed [] m.reach ∙ omega arith
 
-  unfinished : ending (stage_of s p) ≡ refused Labels → Stopped m.tape Labels count
+  unfinished : ending (stage_of s p) ≡ Err Labels → Stopped m.tape Labels count
   unfinished e = record { read = read_all ∙ ap (behind m.files) e; passed = place_all }
 
-  finished : ending (stage_of s p) ≡ answer [] → AllRead m.tape b rows end
+  finished : ending (stage_of s p) ≡ Ok [] → AllRead m.tape b rows end
   finished e =
       record {
         files = m.files;
-        read = read_all ∙ ap (behind m.files) e ∙ ap (λ (fs : List TapeFile). answer fs) (append-nil m.files);
+        read = read_all ∙ ap (behind m.files) e ∙ ap (λ (fs : List TapeFile). Ok fs) (append-nil m.files);
         passed = place_all ∙ sym m.counted;
         sized = m.sized;
         room = omega (arith, m.few, m.sized, m.big, m.counted, m.encodes.elements, m.inside);

@@ -1,9 +1,9 @@
 -- The reading refuses a tape at its first wrong place, with the number that the layout gives there, and a tape has one refusal at most.
+use Rattle.std.specs.Prelude.{None, Option, Some, Err, Ok}
 use mathlib.Core.Path.{◌≡◌, refl, sym, ap, ◌∙◌}
 use mathlib.Core.Bool.{Bool, true, false, cond, ◌&&◌, false≢true}
 use mathlib.Core.List.{List, [], ◌∷◌, ◌++◌, append_assoc, append-nil}
 use mathlib.Core.Logic.{◌⊎◌, inl, inr, ◌↔◌}
-use mathlib.Core.Option.{Option, none, some}
 use Prim.Native.Nat.{ℕ, suc, ◌+◌, ◌-◌, ◌≤◌, ◌<◌}
 use native.Mathlib.Omega.{arith}
 use lib.Dec.{eqb, leb}
@@ -12,7 +12,7 @@ use lib.Seq.{take-append_seam, take-add, take-length}
 use borrow.Author.Tests.{le-leb}
 use Rattle.refusals.specs.declared.Refusal.{Refusal}
 use Rattle.refusals.specs.declared.Refusal.TheVariants.{Labels, EndOfVolume, BlockCount}
-use Rattle.refusals.specs.Refusals.{Answer, refused, answer}
+use Rattle.refusals.specs.Refusals.{Answer}
 use Rattle.slices.specs.Slices.{every, same}
 use Rattle.slices.specs.Words.{bytes}
 use Rattle.slices.proofs.Booleans.{and_left, and_right, and_both}
@@ -31,11 +31,11 @@ use Rattle.ansi.proofs.Stops.{AtTrailer, stops, EofAt, eof_at}
 use Rattle.ansi.proofs.Fronts.{Reach, reach_length, reach_passed, answered, front_begins, next_begins, next_stops, Reason, Halt, halts}
 
 -- the element behind a front
-element_behind : (s : Tape) (e : Element) (t : Tape) → get_elem? (s ++ (e ∷ t)) (length s) ≡ some e
+element_behind : (s : Tape) (e : Element) (t : Tape) → get_elem? (s ++ (e ∷ t)) (length s) ≡ Some e
 element_behind [] e t = refl
 element_behind (x ∷ s) e t = element_behind s e t
 
-nothing_behind : (s : Tape) → get_elem? (s ++ []) (length s) ≡ none
+nothing_behind : (s : Tape) → get_elem? (s ++ []) (length s) ≡ None
 nothing_behind [] = refl
 nothing_behind (x ∷ s) = nothing_behind s
 
@@ -43,7 +43,7 @@ one_more : (s : Tape) (e : Element) (t : Tape) → take (suc (length s)) (s ++ (
 one_more [] e t = refl
 one_more (x ∷ s) e t = ap (λ (u : Tape). x ∷ u) (one_more s e t)
 
-same_block : {x y : List ℕ} → ◌≡◌ {A = Option Element} (some (block x)) (some (block y)) → x ≡ y
+same_block : {x y : List ℕ} → ◌≡◌ {A = Option Element} (Some (block x)) (Some (block y)) → x ≡ y
 same_block e = cc
 
 -- a label can be data
@@ -142,7 +142,7 @@ module _ (front : Tape) (m : ℕ) (τ : Stage) (fs : List TapeFile) (reach : Rea
   labels_at_end =
       RefusalAt.labels (λ c. no c.label (sym (nothing_behind front) ∙ c.is)) (λ c. no c.label (sym (nothing_behind front) ∙ c.is))
     where
-      no : (x : List ℕ) → ◌≡◌ {A = Option Element} none (some (block x)) → ⊥
+      no : (x : List ℕ) → ◌≡◌ {A = Option Element} None (Some (block x)) → ⊥
       no x e = let z : ◌≡◌ {A = ℕ} 0 1 = cc in omega arith
 
 -- 17 and 18 are given behind the data blocks
@@ -189,9 +189,9 @@ module _ (front : Tape) (m : ℕ) (fs : List TapeFile) (small : m < 1000000) whe
   last_place τ [] r reach (Reason.ends q) g b = omega (arith, length-append front [])
   last_place τ (e ∷ t) r reach (Reason.stops q) g b = next_stops front m τ fs reach e r q (rw (one_more front e t) at b)
 
-not_laid_out : (t : Tape) (r : Refusal) → ansi_of t ≡ refused r → (fs : List TapeFile) → Layout t fs → ⊥
+not_laid_out : (t : Tape) (r : Refusal) → ansi_of t ≡ Err r → (fs : List TapeFile) → Layout t fs → ⊥
 not_laid_out t r e fs l =
-    let z : ansi_of t ≡ answer fs = (same_layout t fs).1 l in
+    let z : ansi_of t ≡ Ok fs = (same_layout t fs).1 l in
     let w : ◌≡◌ {A = ℕ} 0 1 = cc in
     omega arith
 
@@ -213,7 +213,7 @@ module _ (t : Tape) (r : Refusal) (small : length t ≤ max_elements) (h : Halt 
         longest = rw h.is (last_place h.front h.number h.files halt_small h.state h.back r h.reach h.reason);
       }
 
-  refused_at : ansi_of t ≡ refused r → Refuses t r
+  refused_at : ansi_of t ≡ Err r → Refuses t r
   refused_at e =
       record {
         not_laid_out = not_laid_out t r e;
@@ -271,40 +271,40 @@ one_reason t n (RefusalAt.labels a b) (RefusalAt.labels c d) = refl
 pub one_refusal : (t : Tape) (r q : Refusal) → Refuses t r → Refuses t q → r ≡ q
 one_refusal t r q f g = one_reason t f.place f.reason (rw (one_place t g.place f.place g.front f.front) at g.reason)
 
-halted : (t : Tape) (r : Refusal) → ansi_of t ≡ refused r → Halt t 0 start r
+halted : (t : Tape) (r : Refusal) → ansi_of t ≡ Err r → Halt t 0 start r
 unfolding ansi_of
 halted t r e = halts t 0 start r tt e
 
-refuses : (t : Tape) (r : Refusal) → length t ≤ max_elements → ansi_of t ≡ refused r → Refuses t r
+refuses : (t : Tape) (r : Refusal) → length t ≤ max_elements → ansi_of t ≡ Err r → Refuses t r
 refuses t r b e = refused_at t r b (halted t r e) e
 
 -- the reading refuses a tape exactly where the layout does, with the same number
-pub same_refusal : (t : Tape) (r : Refusal) → length t ≤ max_elements → (ansi_of t ≡ refused r) ↔ Refuses t r
+pub same_refusal : (t : Tape) (r : Refusal) → length t ≤ max_elements → (ansi_of t ≡ Err r) ↔ Refuses t r
 same_refusal t r b = (refuses t r b, λ f. by f (ansi_of t) refl)
   where
-    by : Refuses t r → (a : Answer (List TapeFile)) → ansi_of t ≡ a → a ≡ refused r
-    by f (refused q) e = ap (λ (p : Refusal). refused p) (one_refusal t q r (refuses t q b e) f)
-    by f (answer fs) e = absurd (f.not_laid_out fs ((same_layout t fs).0 e))
+    by : Refuses t r → (a : Answer (List TapeFile)) → ansi_of t ≡ a → a ≡ Err r
+    by f (Err q) e = ap (λ (p : Refusal). Err p) (one_refusal t q r (refuses t q b e) f)
+    by f (Ok fs) e = absurd (f.not_laid_out fs ((same_layout t fs).0 e))
 
 -- what is read is what the tape means, and a tape has one meaning
 pub means : (t : Tape) → length t ≤ max_elements → TapeMeans t (ansi_of t)
 means t b = by (ansi_of t) refl
   where
     by : (a : Answer (List TapeFile)) → ansi_of t ≡ a → TapeMeans t a
-    by (refused r) e = TapeMeans.refuses (refuses t r b e)
-    by (answer fs) e = TapeMeans.laid_out ((same_layout t fs).0 e)
+    by (Err r) e = TapeMeans.refuses (refuses t r b e)
+    by (Ok fs) e = TapeMeans.laid_out ((same_layout t fs).0 e)
 
 pub one_meaning : (t : Tape) (a : Answer (List TapeFile)) → length t ≤ max_elements → TapeMeans t a → ansi_of t ≡ a
 one_meaning t a b (TapeMeans.laid_out {fs} l) = (same_layout t fs).1 l
 one_meaning t a b (TapeMeans.refuses {r} f) = (same_refusal t r b).1 f
 
 -- a tape that is read to its end is its own longest front
-run_passed : (t : Tape) (n : ℕ) (σ : Stage) (fs : List TapeFile) → read_run t n σ ≡ answer fs → passed_from t n σ ≡ n + length t
+run_passed : (t : Tape) (n : ℕ) (σ : Stage) (fs : List TapeFile) → read_run t n σ ≡ Ok fs → passed_from t n σ ≡ n + length t
 unfolding read_run follow passed_from passed_on
 run_passed [] n σ fs e = omega arith
 run_passed (x ∷ t) n σ fs e = by (read_step n σ x) (run_passed t (suc n)) e
   where
-    by : (s : Step) → ((τ : Stage) (gs : List TapeFile) → read_run t (suc n) τ ≡ answer gs → passed_from t (suc n) τ ≡ suc n + length t) → follow (read_run t (suc n)) s ≡ answer fs
+    by : (s : Step) → ((τ : Stage) (gs : List TapeFile) → read_run t (suc n) τ ≡ Ok gs → passed_from t (suc n) τ ≡ suc n + length t) → follow (read_run t (suc n)) s ≡ Ok fs
         → passed_on n (passed_from t (suc n)) s ≡ n + suc (length t)
     by (go τ) k f = k τ fs f ∙ omega arith
     by (found g τ) k f = let (gs, q) = answered (g ∷ []) (read_run t (suc n) τ) fs f in k τ gs q ∙ omega arith
@@ -323,9 +323,9 @@ pub longest_front : (t : Tape) → length t ≤ max_elements → LongestFront t 
 unfolding ansi_of front_of
 longest_front t b = by (ansi_of t) refl
   where
-    all : (fs : List TapeFile) → ansi_of t ≡ answer fs → front_of t ≡ length t
+    all : (fs : List TapeFile) → ansi_of t ≡ Ok fs → front_of t ≡ length t
     all fs e = run_passed t 0 start fs e ∙ omega arith
 
     by : (a : Answer (List TapeFile)) → ansi_of t ≡ a → LongestFront t (front_of t)
-    by (refused r) e = let h = halted t r e in rw (halt_place t r b h) (halt_front t r b h)
-    by (answer fs) e = rw (all fs e) (whole_front t fs ((same_layout t fs).0 e))
+    by (Err r) e = let h = halted t r e in rw (halt_place t r b h) (halt_front t r b h)
+    by (Ok fs) e = rw (all fs e) (whole_front t fs ((same_layout t fs).0 e))

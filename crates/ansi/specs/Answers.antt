@@ -1,8 +1,8 @@
 -- What is answered of a list and a store: the files of an ANSI labelled tape in a lent buffer, or a refusal (02, Item 1: 1, then 16, 17 or 18,
 -- then 10); and where the tape leaves the layout.
-use Rattle.std.specs.Prelude.{◌≡◌, List, [], ◌∷◌, ◌++◌, ℕ, ◌*◌, leb, length}
+use Rattle.std.specs.Prelude.{◌≡◌, List, [], ◌∷◌, ◌++◌, ℕ, ◌*◌, leb, length, Err, Ok}
 use Rattle.refusals.specs.declared.Refusal.TheVariants.{Short}
-use Rattle.refusals.specs.Refusals.{Answer, refused, answer, require, and_then}
+use Rattle.refusals.specs.Refusals.{Answer, require, and_then}
 use Rattle.slices.specs.Slices.{written}
 use Rattle.big_endian.specs.BigEndian.{big_endian}
 use Rattle.tape.specs.Tape.{Tape}
@@ -25,7 +25,7 @@ all_bytes (f ∷ fs) = file_bytes f ++ all_bytes fs
 
 -- files that a lent buffer of so many bytes has room for
 abbrev pub room_for : ℕ → List TapeFile → Answer (List TapeFile)
-room_for room fs = require (leb (file_size * length fs) room) Short (answer fs)
+room_for room fs = require (leb (file_size * length fs) room) Short (Ok fs)
 
 -- the files of the tape that a list and a store encode
 abbrev pub files_on : ℕ → List ℕ → List ℕ → Answer (List TapeFile)
@@ -33,12 +33,12 @@ files_on room l s = and_then (tape_in l s) (λ t. and_then (ansi_of t) (room_for
 
 -- what the buffer holds then: the files' bytes at its front and all else as it was; refused, what it held
 abbrev pub files_after : Answer (List TapeFile) → List ℕ → List ℕ
-files_after (refused r) before = before
-files_after (answer fs) before = written 0 (all_bytes fs) before
+files_after (Err r) before = before
+files_after (Ok fs) before = written 0 (all_bytes fs) before
 
 -- how many elements of a list are passed before one can't stand
 abbrev pub front_in : List ℕ → List ℕ → Answer ℕ
-front_in l s = and_then (tape_in l s) (λ t. answer (front_of t))
+front_in l s = and_then (tape_in l s) (λ t. Ok (front_of t))
 
 -- what holds of the one meaning of a tape
 pub record OneMeaning (t : Tape) (P : Answer (List TapeFile) → Type 0) : Type 0 where
@@ -49,4 +49,4 @@ pub record OneMeaning (t : Tape) (P : Answer (List TapeFile) → Type 0) : Type 
 
 -- the files are those of the tape's layout, and a refusal is the layout's: what is said of a list and a store without the reader
 abbrev pub ByLayout : ℕ → List ℕ → List ℕ → Type 0
-ByLayout room l s = (t : Tape) → tape_in l s ≡ answer t → OneMeaning t (λ a. files_on room l s ≡ and_then a (room_for room))
+ByLayout room l s = (t : Tape) → tape_in l s ≡ Ok t → OneMeaning t (λ a. files_on room l s ≡ and_then a (room_for room))

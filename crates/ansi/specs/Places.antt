@@ -1,10 +1,9 @@
 -- Where a tape leaves the layout, and the refusal that is given there (02, Item 1), from the layout alone.
-use Rattle.std.specs.Prelude.{◌≡◌, true, List, [], ◌∷◌, ◌++◌, ℕ, suc, ◌<◌, ◌≤◌, length, take}
-use Rattle.std.proofs.Math.Option.{some}
+use Rattle.std.specs.Prelude.{◌≡◌, true, List, [], ◌∷◌, ◌++◌, ℕ, suc, ◌<◌, ◌≤◌, length, take, Some, Err, Ok}
 use Rattle.std.proofs.Math.ListN.{get_elem?}
 use Rattle.refusals.specs.declared.Refusal.{Refusal}
 use Rattle.refusals.specs.declared.Refusal.TheVariants.{Labels, EndOfVolume, BlockCount}
-use Rattle.refusals.specs.Refusals.{Answer, refused, answer}
+use Rattle.refusals.specs.Refusals.{Answer}
 use Rattle.slices.specs.Slices.{every}
 use Rattle.slices.specs.Words.{bytes}
 use Rattle.digits.specs.Decimal.{is_digit}
@@ -29,7 +28,7 @@ pub record LongestFront (t : Tape) (n : ℕ) : Type 0 where
 -- element n is a label EOV1 where a label EOF1 could stand
 pub record IsEndOfVolume (t : Tape) (n : ℕ) : Type 0 where
   pub label : List ℕ
-  pub is : get_elem? t n ≡ some (block label)
+  pub is : get_elem? t n ≡ Some (block label)
   pub eov1 : is_label (bytes "EOV1") label ≡ true
   pub other : List ℕ
   pub eof1 : is_label (bytes "EOF1") other ≡ true
@@ -38,7 +37,7 @@ pub record IsEndOfVolume (t : Tape) (n : ℕ) : Type 0 where
 -- element n is a label EOF1 with six digits that could stand if its digits were others
 pub record IsOtherCount (t : Tape) (n : ℕ) : Type 0 where
   pub label : List ℕ
-  pub is : get_elem? t n ≡ some (block label)
+  pub is : get_elem? t n ≡ Some (block label)
   pub eof1 : is_label (bytes "EOF1") label ≡ true
   pub digits : every is_digit (label_part 55 60 label) ≡ true
   pub other : List ℕ
@@ -61,5 +60,5 @@ pub record Refuses (t : Tape) (r : Refusal) : Type 0 where
 
 -- what a tape is read as: the files of its layout, or a refusal
 pub data TapeMeans (t : Tape) : Answer (List TapeFile) → Type 0 where
-  laid_out : {fs : List TapeFile} → Layout t fs → TapeMeans t (answer fs)
-  refuses : {r : Refusal} → Refuses t r → TapeMeans t (refused r)
+  laid_out : {fs : List TapeFile} → Layout t fs → TapeMeans t (Ok fs)
+  refuses : {r : Refusal} → Refuses t r → TapeMeans t (Err r)

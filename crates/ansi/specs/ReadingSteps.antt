@@ -1,8 +1,8 @@
 -- An ANSI labelled tape read element by element, from left to right: its files, or the refusal at the first element that can't stand.
-use Rattle.std.specs.Prelude.{cond, List, [], ◌∷◌, ℕ, suc, eqb}
+use Rattle.std.specs.Prelude.{cond, List, [], ◌∷◌, ℕ, suc, eqb, Err, Ok}
 use Rattle.refusals.specs.declared.Refusal.{Refusal}
 use Rattle.refusals.specs.declared.Refusal.TheVariants.{Labels, EndOfVolume, BlockCount}
-use Rattle.refusals.specs.Refusals.{Answer, refused, answer, and_then}
+use Rattle.refusals.specs.Refusals.{Answer, and_then}
 use Rattle.slices.specs.Words.{bytes}
 use Rattle.tape.specs.Tape.{Element, Tape, mark, block, unreadable}
 use Rattle.ansi_labels.specs.Labels.{is_label, label_number, is_numbered, is_volume, is_header2, is_trailer, block_count, is_data}
@@ -79,21 +79,21 @@ read_step n σ unreadable = wrong
 
 -- where the tape ends
 unfoldable pub ending : Stage → Answer (List TapeFile)
-ending start = refused Labels
-ending (volume k) = refused Labels
-ending (header h) = refused Labels
-ending (headers h g k) = refused Labels
-ending (blocks h m) = refused Labels
-ending (trailer h m) = refused Labels
-ending second = refused Labels
-ending (trailers k) = refused Labels
-ending between = refused Labels
-ending done = answer []
+ending start = Err Labels
+ending (volume k) = Err Labels
+ending (header h) = Err Labels
+ending (headers h g k) = Err Labels
+ending (blocks h m) = Err Labels
+ending (trailer h m) = Err Labels
+ending second = Err Labels
+ending (trailers k) = Err Labels
+ending between = Err Labels
+ending done = Ok []
 
 unfoldable pub follow : (Stage → Answer (List TapeFile)) → Step → Answer (List TapeFile)
 follow next (go σ) = next σ
-follow next (found f σ) = and_then (next σ) (λ fs. answer (f ∷ fs))
-follow next (stop r) = refused r
+follow next (found f σ) = and_then (next σ) (λ fs. Ok (f ∷ fs))
+follow next (stop r) = Err r
 
 -- the files from element n on
 unfoldable pub read_run : Tape → ℕ → Stage → Answer (List TapeFile)

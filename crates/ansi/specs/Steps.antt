@@ -1,8 +1,8 @@
 -- What the functions of this crate owe each other: the walk over a list, its end, and the rows that are handed out.
-use Rattle.std.specs.Prelude.{◌≡◌, List, ℕ, ◌+◌, ◌*◌, ◌/◌, ◌≤◌, leb, length}
+use Rattle.std.specs.Prelude.{◌≡◌, List, ℕ, ◌+◌, ◌*◌, ◌/◌, ◌≤◌, leb, length, Result, Err, Ok}
 use Rattle.refusals.specs.declared.Refusal.{Refusal}
 use Rattle.refusals.specs.declared.Refusal.TheVariants.{Labels, Short}
-use Rattle.refusals.specs.Refusals.{refused, answer, require, Answer, and_then}
+use Rattle.refusals.specs.Refusals.{require, Answer, and_then}
 use Rattle.slices.specs.Slices.{written}
 use Rattle.slices.specs.Writers.{held_after}
 use Rattle.tape.specs.Tape.{Tape, Encodes}
@@ -10,25 +10,20 @@ use Rattle.ansi.specs.declared.Walked.{Walked}
 use Rattle.ansi.specs.declared.Walked.TheVariants as walked_is
 use Rattle.ansi.specs.declared.phases.Phase.{Phase}
 use Rattle.ansi.specs.declared.phases.Phase.TheVariants as phase
-use Rattle.ansi.specs.declared.FilesRead.{FilesRead}
 use Rattle.ansi.specs.Layout.{TapeFile, max_files}
 use Rattle.ansi.specs.ReadingSteps.{ansi_of, front_of}
 use Rattle.ansi.specs.Answers.{file_size, all_bytes, files_after, files_on}
-use Rattle.ansi.specs.declared.FilesRead.TheVariants as read_is
-
-abbrev pub read_count : FilesRead → Answer ℕ
-read_count (read_is.Files n) = answer n
-read_count (read_is.Refused r) = refused r
+use Rattle.core.specs.declared.result.Result.TheVariants as read_is
 
 -- what reading answers, and what the buffer holds after
-pub record ReadsFiles (l s before after : List ℕ) (r : FilesRead) : Type 0 where
-  pub answers : read_count r ≡ and_then (files_on (length before) l s) (λ fs. answer (length fs))
+pub record ReadsFiles (l s before after : List ℕ) (r : Result ℕ Refusal) : Type 0 where
+  pub answers : r ≡ and_then (files_on (length before) l s) (λ fs. Ok (length fs))
   pub holds : after ≡ files_after (files_on (length before) l s) before
 
 -- the walk over a list: the bytes of all files at the front of the rows, and where they end
 pub record AllRead (t : Tape) (before after : List ℕ) (end : ℕ) : Type 0 where
   pub files : List TapeFile
-  pub read : ansi_of t ≡ answer files
+  pub read : ansi_of t ≡ Ok files
   pub passed : front_of t ≡ length t
   pub sized : length (all_bytes files) ≡ file_size * length files
   pub room : length (all_bytes files) ≤ length before
@@ -37,7 +32,7 @@ pub record AllRead (t : Tape) (before after : List ℕ) (end : ℕ) : Type 0 whe
 
 -- or the refusal, and the element where it is given
 pub record Stopped (t : Tape) (r : Refusal) (place : ℕ) : Type 0 where
-  pub read : ansi_of t ≡ refused r
+  pub read : ansi_of t ≡ Err r
   pub passed : front_of t ≡ place
 
 abbrev pub WalkedAs : Tape → List ℕ → List ℕ → Walked → Type 0
@@ -61,8 +56,8 @@ at_end (phase.Trailers k) end count = walked_is.Refused Labels count
 at_end phase.Between end count = walked_is.Refused Labels count
 
 -- the rows w put to the front of a lent buffer
-pub record HandsOut (w before after : List ℕ) (r : FilesRead) : Type 0 where
-  pub answers : read_count r ≡ require (leb (length w) (length before)) Short (answer (length w / file_size))
+pub record HandsOut (w before after : List ℕ) (r : Result ℕ Refusal) : Type 0 where
+  pub answers : r ≡ require (leb (length w) (length before)) Short (Ok (length w / file_size))
   pub holds : after ≡ held_after 0 w before
 
 -- the length of the rows: one file more than a tape can have

@@ -5,16 +5,15 @@ mod phases;
 mod rows;
 
 ghost use Rattle.std.specs.Prelude.{◌≡◌, ◌<◌, length, take};
-ghost use Rattle.tape.specs.Steps.{Encoded, counted};
+ghost use Rattle.tape.specs.Steps.{Encoded};
 ghost use Rattle.writing.specs.Steps.{AddsAtMost};
 ghost use Rattle.ansi.specs.PhaseSteps.{known_at};
 ghost use Rattle.ansi.specs.Answers.{all_bytes, front_in};
 ghost use Rattle.ansi.specs.Steps.{ReadsFiles, Walks, rows_length, at_end, HandsOut};
 
-use phases::{Phase, PhaseNext};
+use phases::Phase;
 use refusals::Refusal;
-use slices::Written;
-use tape::{Entry, ListChecked};
+use tape::Entry;
 
 // Adds the file that a mark, element at, makes known, and answers where the rows end then.
 fn note(out: &mut [u8], end: usize, phase: Phase, store: &[u8], at: usize) -> usize
@@ -81,23 +80,23 @@ fn walk(list: &[u8], store: &[u8], count: usize, out: &mut [u8]) -> Walked
             Entry::Mark(next) => {
                 end = note(out, end, phase, store, at);
                 match phases::after_mark(phase, store) {
-                    PhaseNext::Go(p) => {
+                    Ok(p) => {
                         phase = p;
                         place = next;
                         at += 1;
                     }
-                    PhaseNext::Stop(r) => return Walked::Refused(r, at),
+                    Err(r) => return Walked::Refused(r, at),
                 }
             }
             Entry::Block(k, next) => {
                 match phases::after_block(phase, store, off, k) {
-                    PhaseNext::Go(p) => {
+                    Ok(p) => {
                         phase = p;
                         off += k;
                         place = next;
                         at += 1;
                     }
-                    PhaseNext::Stop(r) => return Walked::Refused(r, at),
+                    Err(r) => return Walked::Refused(r, at),
                 }
             }
             Entry::Unreadable(_) => return Walked::Refused(Refusal::Labels, at),
@@ -115,48 +114,41 @@ fn empty() -> [u8; 337068]
     [0; 337068]
 }
 
-// What is read of a tape: so many files, or a refusal.
-#[derive(Clone, Copy)]
-pub enum FilesRead {
-    Files(usize),
-    Refused(Refusal),
-}
-
 // Puts the rows that stand in so many bytes of a text to the front of out.
-fn hand_out(text: &[u8], end: usize, out: &mut [u8]) -> FilesRead
+fn hand_out(text: &[u8], end: usize, out: &mut [u8]) -> Result<usize, Refusal>
     ensures { HandsOut (take end text.now) out.old out.new result }
 {
     let rows = slices::part(text, 0, end);
     match slices::put(out, 0, rows) {
-        Written::To(_) => FilesRead::Files(rows.len() / 36),
-        Written::Refused(r) => FilesRead::Refused(r),
+        Ok(_) => Ok(rows.len() / 36),
+        Err(r) => Err(r),
     }
 }
 
 // Reads the files of an ANSI labelled tape to the front of out, 36 bytes each.
-pub fn files(list: &[u8], store: &[u8], out: &mut [u8]) -> FilesRead
+pub fn files(list: &[u8], store: &[u8], out: &mut [u8]) -> Result<usize, Refusal>
     ensures { ReadsFiles list.now store.now out.old out.new result }
 {
-    let ListChecked::Elements(count) = tape::check(list, store) else {
-        return FilesRead::Refused(Refusal::List);
+    let Ok(count) = tape::check(list, store) else {
+        return Err(Refusal::List);
     };
     let mut text = empty();
     match walk(list, store, count, &mut text) {
         Walked::Files(end) => hand_out(&text, end, out),
-        Walked::Refused(r, _) => FilesRead::Refused(r),
+        Walked::Refused(r, _) => Err(r),
     }
 }
 
 // How many elements at the front of a tape some tape in the layout begins with.
-pub fn place(list: &[u8], store: &[u8]) -> ListChecked
-    ensures { counted result ≡ front_in list.now store.now }
+pub fn place(list: &[u8], store: &[u8]) -> Result<usize, Refusal>
+    ensures { result ≡ front_in list.now store.now }
 {
-    let ListChecked::Elements(count) = tape::check(list, store) else {
-        return ListChecked::Refused(Refusal::List);
+    let Ok(count) = tape::check(list, store) else {
+        return Err(Refusal::List);
     };
     let mut text = empty();
     match walk(list, store, count, &mut text) {
-        Walked::Files(_) => ListChecked::Elements(count),
-        Walked::Refused(_, at) => ListChecked::Elements(at),
+        Walked::Files(_) => Ok(count),
+        Walked::Refused(_, at) => Ok(at),
     }
 }

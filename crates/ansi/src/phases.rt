@@ -21,28 +21,21 @@ pub enum Phase {
     Done,
 }
 
-// What an element does: another phase, or it can't stand.
-#[derive(Clone, Copy)]
-pub enum PhaseNext {
-    Go(Phase),
-    Stop(Refusal),
-}
-
 // The phase behind a mark.
-pub fn after_mark(phase: Phase, store: &[u8]) -> PhaseNext
+pub fn after_mark(phase: Phase, store: &[u8]) -> Result<Phase, Refusal>
     ensures { step_of store.now result ≡ mark_step store.now phase }
 {
     match phase {
-        Phase::Start => PhaseNext::Stop(Refusal::Labels),
-        Phase::Volume(_) => PhaseNext::Stop(Refusal::Labels),
-        Phase::Header(_) => PhaseNext::Stop(Refusal::Labels),
-        Phase::Headers(h, _, _) => PhaseNext::Go(Phase::Blocks(h, 0)),
-        Phase::Blocks(h, m) => PhaseNext::Go(Phase::Trailer(h, m)),
-        Phase::Trailer(_, _) => PhaseNext::Stop(Refusal::Labels),
-        Phase::Second => PhaseNext::Stop(Refusal::Labels),
-        Phase::Trailers(_) => PhaseNext::Go(Phase::Between),
-        Phase::Between => PhaseNext::Go(Phase::Done),
-        Phase::Done => PhaseNext::Stop(Refusal::Labels),
+        Phase::Start => Err(Refusal::Labels),
+        Phase::Volume(_) => Err(Refusal::Labels),
+        Phase::Header(_) => Err(Refusal::Labels),
+        Phase::Headers(h, _, _) => Ok(Phase::Blocks(h, 0)),
+        Phase::Blocks(h, m) => Ok(Phase::Trailer(h, m)),
+        Phase::Trailer(_, _) => Err(Refusal::Labels),
+        Phase::Second => Err(Refusal::Labels),
+        Phase::Trailers(_) => Ok(Phase::Between),
+        Phase::Between => Ok(Phase::Done),
+        Phase::Done => Err(Refusal::Labels),
     }
 }
 
@@ -60,29 +53,29 @@ fn passed(x: &[u8], w: &[u8], u: &[u8], k: usize) -> usize
 }
 
 // A block at the tape's start.
-fn in_start(store: &[u8], from: usize, len: usize) -> PhaseNext
+fn in_start(store: &[u8], from: usize, len: usize) -> Result<Phase, Refusal>
     ensures { step_of store.now result ≡ block_step store.now phase.Start from len }
 {
     let x = slices::part(store, from, len);
     if !ansi_labels::is_volume(x) {
-        return PhaseNext::Stop(Refusal::Labels);
+        return Err(Refusal::Labels);
     }
-    PhaseNext::Go(Phase::Volume(2))
+    Ok(Phase::Volume(2))
 }
 
 // A block where a file may begin.
-fn begin_file(store: &[u8], from: usize, len: usize) -> PhaseNext
+fn begin_file(store: &[u8], from: usize, len: usize) -> Result<Phase, Refusal>
     ensures { step_of store.now result ≡ opening (take len (drop from store.now)) }
 {
     let x = slices::part(store, from, len);
     if !ansi_labels::is_label(x, b"HDR1") {
-        return PhaseNext::Stop(Refusal::Labels);
+        return Err(Refusal::Labels);
     }
-    PhaseNext::Go(Phase::Header(from))
+    Ok(Phase::Header(from))
 }
 
 // A block among the volume's labels.
-fn in_volume(store: &[u8], from: usize, len: usize, k: usize) -> PhaseNext
+fn in_volume(store: &[u8], from: usize, len: usize, k: usize) -> Result<Phase, Refusal>
     ensures { step_of store.now result ≡ block_step store.now (phase.Volume k) from len }
 {
     let x = slices::part(store, from, len);
@@ -90,86 +83,86 @@ fn in_volume(store: &[u8], from: usize, len: usize, k: usize) -> PhaseNext
     if next == 0 {
         return begin_file(store, from, len);
     }
-    PhaseNext::Go(Phase::Volume(next))
+    Ok(Phase::Volume(next))
 }
 
 // A block behind HDR1.
-fn in_header(store: &[u8], from: usize, len: usize, h: usize) -> PhaseNext
+fn in_header(store: &[u8], from: usize, len: usize, h: usize) -> Result<Phase, Refusal>
     ensures { step_of store.now result ≡ block_step store.now (phase.Header h) from len }
 {
     let x = slices::part(store, from, len);
     if !ansi_labels::is_header2(x) {
-        return PhaseNext::Stop(Refusal::Labels);
+        return Err(Refusal::Labels);
     }
-    PhaseNext::Go(Phase::Headers(h, from, 3))
+    Ok(Phase::Headers(h, from, 3))
 }
 
 // A block among the header labels.
-fn in_headers(store: &[u8], from: usize, len: usize, h: usize, g: usize, k: usize) -> PhaseNext
+fn in_headers(store: &[u8], from: usize, len: usize, h: usize, g: usize, k: usize) -> Result<Phase, Refusal>
     ensures { step_of store.now result ≡ block_step store.now (phase.Headers h g k) from len }
 {
     let x = slices::part(store, from, len);
     let next = passed(x, b"HDR", b"UHL", k);
     if next == 0 {
-        return PhaseNext::Stop(Refusal::Labels);
+        return Err(Refusal::Labels);
     }
-    PhaseNext::Go(Phase::Headers(h, g, next))
+    Ok(Phase::Headers(h, g, next))
 }
 
 // A block among the data blocks.
-fn in_blocks(store: &[u8], from: usize, len: usize, h: usize, m: usize) -> PhaseNext
+fn in_blocks(store: &[u8], from: usize, len: usize, h: usize, m: usize) -> Result<Phase, Refusal>
     requires { m < 65536 }
     ensures { step_of store.now result ≡ block_step store.now (phase.Blocks h m) from len }
 {
     let x = slices::part(store, from, len);
     if !ansi_labels::is_data(x) {
-        return PhaseNext::Stop(Refusal::Labels);
+        return Err(Refusal::Labels);
     }
-    PhaseNext::Go(Phase::Blocks(h, m + 1))
+    Ok(Phase::Blocks(h, m + 1))
 }
 
 // A block behind the data blocks.
-fn in_trailer(store: &[u8], from: usize, len: usize, h: usize, m: usize) -> PhaseNext
+fn in_trailer(store: &[u8], from: usize, len: usize, h: usize, m: usize) -> Result<Phase, Refusal>
     ensures { step_of store.now result ≡ block_step store.now (phase.Trailer h m) from len }
 {
     let x = slices::part(store, from, len);
     if ansi_labels::is_trailer(x, slices::part(store, h, 80)) {
         if ansi_labels::has_count(x, m) {
-            return PhaseNext::Go(Phase::Second);
+            return Ok(Phase::Second);
         }
-        return PhaseNext::Stop(Refusal::BlockCount);
+        return Err(Refusal::BlockCount);
     }
     if ansi_labels::is_label(x, b"EOV1") {
-        return PhaseNext::Stop(Refusal::EndOfVolume);
+        return Err(Refusal::EndOfVolume);
     }
-    PhaseNext::Stop(Refusal::Labels)
+    Err(Refusal::Labels)
 }
 
 // A block behind EOF1.
-fn in_second(store: &[u8], from: usize, len: usize) -> PhaseNext
+fn in_second(store: &[u8], from: usize, len: usize) -> Result<Phase, Refusal>
     ensures { step_of store.now result ≡ block_step store.now phase.Second from len }
 {
     let x = slices::part(store, from, len);
     if !ansi_labels::is_label(x, b"EOF2") {
-        return PhaseNext::Stop(Refusal::Labels);
+        return Err(Refusal::Labels);
     }
-    PhaseNext::Go(Phase::Trailers(3))
+    Ok(Phase::Trailers(3))
 }
 
 // A block among the trailer labels.
-fn in_trailers(store: &[u8], from: usize, len: usize, k: usize) -> PhaseNext
+fn in_trailers(store: &[u8], from: usize, len: usize, k: usize) -> Result<Phase, Refusal>
     ensures { step_of store.now result ≡ block_step store.now (phase.Trailers k) from len }
 {
     let x = slices::part(store, from, len);
     let next = passed(x, b"EOF", b"UTL", k);
     if next == 0 {
-        return PhaseNext::Stop(Refusal::Labels);
+        return Err(Refusal::Labels);
     }
-    PhaseNext::Go(Phase::Trailers(next))
+    Ok(Phase::Trailers(next))
 }
 
 // The phase behind the block of so many bytes that begins at a place of the store.
-pub fn after_block(phase: Phase, store: &[u8], from: usize, len: usize) -> PhaseNext
+pub fn after_block(phase: Phase, store: &[u8], from: usize, len: usize) -> Result<Phase, Refusal>
     requires { Small phase }
     ensures { step_of store.now result ≡ block_step store.now phase from len }
 {
@@ -183,6 +176,6 @@ pub fn after_block(phase: Phase, store: &[u8], from: usize, len: usize) -> Phase
         Phase::Second => in_second(store, from, len),
         Phase::Trailers(k) => in_trailers(store, from, len, k),
         Phase::Between => begin_file(store, from, len),
-        Phase::Done => PhaseNext::Stop(Refusal::Labels),
+        Phase::Done => Err(Refusal::Labels),
     }
 }

@@ -4,7 +4,6 @@ ghost use Rattle.writing.specs.Steps.{AddsAtMost};
 ghost use Rattle.ansi.specs.Layout.{tape_file_of};
 ghost use Rattle.ansi.specs.Answers.{file_bytes};
 
-use slices::Written;
 use writing::add;
 
 // Adds a number in 8 bytes, high byte first.
@@ -12,8 +11,8 @@ fn add_number(out: &mut [u8], at: usize, n: usize) -> usize
     ensures { AddsAtMost 8 out.old at (big_endian 8 n) out.new result }
 {
     match big_endian::put(out, at, 8, n as u64) {
-        Written::To(end) => end,
-        Written::Refused(_) => at,
+        Ok(end) => end,
+        Err(_) => at,
     }
 }
 

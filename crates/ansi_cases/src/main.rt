@@ -1,10 +1,8 @@
 // Cases of ANSI labelled tapes (02, Item 1), read from files beside the program: the files of a tape, and where it leaves the layout.
 #![tactic(auto)]
 
-use ansi::FilesRead;
 use std::fs::File;
 use std::io;
-use tape::ListChecked;
 
 // The number of a refusal, or 0, and the number of files, or 0.
 #[derive(Clone, Copy)]
@@ -15,8 +13,8 @@ struct Answer {
 
 fn read(list: &[u8], store: &[u8], out: &mut [u8]) -> Answer {
     match ansi::files(list, store, out) {
-        FilesRead::Files(files) => Answer { refusal: 0, files },
-        FilesRead::Refused(r) => Answer {
+        Ok(files) => Answer { refusal: 0, files },
+        Err(r) => Answer {
             refusal: refusals::number(r),
             files: 0,
         },
@@ -56,14 +54,14 @@ fn place_case(list: &[u8], store: &[u8], file: &mut File) -> bool {
         return false;
     }
     match ansi::place(list, store) {
-        ListChecked::Elements(n) => {
+        Ok(n) => {
             // Only a bad list or store has no place.
             if refusal == 1 {
                 return false;
             }
             n == place
         }
-        ListChecked::Refused(r) => refusals::number(r) == refusal,
+        Err(r) => refusals::number(r) == refusal,
     }
 }
 

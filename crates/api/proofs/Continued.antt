@@ -1,13 +1,13 @@
 -- Reading on never hurts (02, Item 14), of two calls of `klapouzen_rescue`, the first of which was answered with a cut: the second read has
 -- what that cut keeps, as it has where it continues the first.
+use Rattle.std.specs.Prelude.{Some, Err, Ok}
 use mathlib.Core.Path.{◌≡◌, refl, sym, ap, ◌∙◌}
 use mathlib.Core.Logic.{◌⊎◌, inl, inr}
 use mathlib.Core.List.{List}
-use mathlib.Core.Option.{some}
 use Prim.Native.Nat.{ℕ, ◌<◌}
 use native.Mathlib.Omega.{arith}
 use lib.ListN.{take}
-use Rattle.refusals.specs.Refusals.{Answer, refused, answer}
+use Rattle.refusals.specs.Refusals.{Answer}
 use Rattle.refusals.proofs.Numbers.{not_zero}
 use Rattle.tape.specs.Continued.{Continued}
 use Rattle.verdict.specs.Verdict.{Cut}
@@ -19,13 +19,13 @@ use Rattle.api.specs.Volumes.{cut_numbers, ShowsCut, RescuesOut}
 use Rattle.api.specs.Continued.{KeptAlikeOut, RescuesOnOut}
 
 -- what is shown of a cut: 0, and its numbers
-cut_shown : (x : Answer Cut) {n : ℕ} {out : List ℕ} → Shown 5 cut_numbers x n out → n ≡ 0 → (a : Cut) × (x ≡ answer a) × (out ≡ cut_numbers a)
-cut_shown (refused r) s h = absurd (not_zero r (sym s.refusal ∙ h))
-cut_shown (answer a) s h = (a, refl, s.holds)
+cut_shown : (x : Answer Cut) {n : ℕ} {out : List ℕ} → Shown 5 cut_numbers x n out → n ≡ 0 → (a : Cut) × (x ≡ Ok a) × (out ≡ cut_numbers a)
+cut_shown (Err r) s h = absurd (not_zero r (sym s.refusal ∙ h))
+cut_shown (Ok a) s h = (a, refl, s.holds)
 
-cut_told : (x : Answer Cut) (b : Cut) {n : ℕ} {out : List ℕ} → Shown 5 cut_numbers x n out → cut_of x ≡ some b → (n ≡ 0) × (out ≡ cut_numbers b)
-cut_told (refused r) b s h = let z : ◌≡◌ {A = ℕ} 0 1 = cc in absurd (omega arith)
-cut_told (answer c) b s h = let e : c ≡ b = cc in (s.refusal, s.holds ∙ ap cut_numbers e)
+cut_told : (x : Answer Cut) (b : Cut) {n : ℕ} {out : List ℕ} → Shown 5 cut_numbers x n out → cut_of x ≡ Some b → (n ≡ 0) × (out ≡ cut_numbers b)
+cut_told (Err r) b s h = let z : ◌≡◌ {A = ℕ} 0 1 = cc in absurd (omega arith)
+cut_told (Ok c) b s h = let e : c ≡ b = cc in (s.refusal, s.holds ∙ ap cut_numbers e)
 
 as_told : (a b : Cut) → (b ≡ a) ⊎ (a.index_construct < b.index_construct) → (cut_numbers b ≡ cut_numbers a) ⊎ (a.index_construct < b.index_construct)
 as_told a b (inl e) = inl (ap cut_numbers e)

@@ -1,4 +1,5 @@
 -- What is told with a refusal of a text's form, and of whose label.
+use Rattle.std.specs.Prelude.{Err}
 use mathlib.Core.Path.{◌≡◌, refl, sym, ap, ◌∙◌}
 use mathlib.Core.Bool.{false≢true}
 use mathlib.Core.List.{List}
@@ -10,7 +11,7 @@ use borrow.Author.Tests.{eq-eqb}
 use Rattle.refusals.specs.declared.Refusal.{Refusal}
 use Rattle.refusals.specs.declared.Refusal.TheVariants.{Form}
 use Rattle.refusals.specs.declared.Place.{Place}
-use Rattle.refusals.specs.Refusals.{Answer, refused, number_of, place_of}
+use Rattle.refusals.specs.Refusals.{Answer, number_of, place_of}
 use Rattle.refusals.proofs.Places.{Another, form_or_another}
 use Rattle.refusals.proofs.Refusing.{Refuses}
 use Rattle.xml.specs.CheckSteps.{front}
@@ -28,7 +29,7 @@ module _ {s : List ℕ} where
   pub no_front : TellsFront s 0 0
   no_front = record { with4 = λ z. absurd (omega arith); else = λ z. refl }
 
-  pub refused_front : {A : Type 0} {a : Answer A} (r : Refusal) {k f : ℕ} → Refuses (OfText s) a → refused r ≡ a → k ≡ number_of r → f ≡ (place_of r).front → TellsFront s k f
+  pub refused_front : {A : Type 0} {a : Answer A} (r : Refusal) {k f : ℕ} → Refuses (OfText s) a → Err r ≡ a → k ≡ number_of r → f ≡ (place_of r).front → TellsFront s k f
   refused_front r {k} {f} q e h p = go (form_or_another r)
     where
       of : OfText s r
@@ -45,7 +46,7 @@ module _ {s : List ℕ} where
     pub with_answer : shows 0 (take n out) → get_or out n 0 ≡ 0 → WithFront n s shows 0 out
     with_answer w z = record { numbers = w; front = rw z no_front }
 
-    pub with_refusal : {A : Type 0} {a : Answer A} (r : Refusal) {k : ℕ} → Refuses (OfText s) a → refused r ≡ a → k ≡ number_of r → get_or out n 0 ≡ (place_of r).front → shows k (take n out)
+    pub with_refusal : {A : Type 0} {a : Answer A} (r : Refusal) {k : ℕ} → Refuses (OfText s) a → Err r ≡ a → k ≡ number_of r → get_or out n 0 ≡ (place_of r).front → shows k (take n out)
         → WithFront n s shows k out
     with_refusal r q e h p w = record { numbers = w; front = refused_front r q e h p }
 
@@ -65,7 +66,7 @@ module _ {s t : List ℕ} where
         else = λ n. absurd (n refl);
       }
 
-  pub refused_side : {A : Type 0} {a : Answer A} (r : Refusal) {k f d : ℕ} → Refuses (OfLabels s t) a → refused r ≡ a → k ≡ number_of r → f ≡ (place_of r).front → d ≡ bit (place_of r).on_data
+  pub refused_side : {A : Type 0} {a : Answer A} (r : Refusal) {k f d : ℕ} → Refuses (OfLabels s t) a → Err r ≡ a → k ≡ number_of r → f ≡ (place_of r).front → d ≡ bit (place_of r).on_data
       → TellsSide s t k f d
   refused_side r {k} {f} {d} q e h p g = go (form_or_another r)
     where

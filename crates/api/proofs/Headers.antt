@@ -1,25 +1,24 @@
 -- An index's header and a file in numbers say what was read; so does a buffer that was filled.
+use Rattle.refusals.specs.declared.Refusal.{Refusal}
+use Rattle.std.specs.Prelude.{None, Ok, Result, Some, Err}
 use mathlib.Core.Path.{◌≡◌, refl, subst, sym, ap, ◌∙◌}
 use mathlib.Core.Bool.{Bool, true, false, cond}
 use mathlib.Core.List.{List, [], ◌∷◌}
-use mathlib.Core.Option.{none, some}
 use Prim.Native.Nat.{ℕ, ◌-◌, min}
 use native.Mathlib.Omega.{arith}
 use lib.ListN.{length, take, drop, length-take, length-drop}
-use Rattle.refusals.specs.Refusals.{Answer, refused, answer}
+use Rattle.refusals.specs.Refusals.{Answer}
 use Rattle.quantities.specs.Addresses.{Address}
 use Rattle.constructs.specs.declared.Bounds.{Bounds}
 use Rattle.index.specs.Index.{Index, File, Summary, summary}
 use Rattle.index.specs.Places.{update_time_place}
 use Rattle.index.specs.Steps.{summary_in, Definite, ReadsIndex}
 use Rattle.index.specs.declared.read.Header.{Header}
-use Rattle.index.specs.declared.read.Read.TheVariants.{Found}
 use Rattle.index_files.specs.AskedSteps.{FileShown as Head, shown as head_of, ReadsFile}
 use Rattle.index_files.specs.Filling.{SaysFile}
-use Rattle.index_files.specs.FillingSteps.{count_answered, count_of, FillsBuffer}
+use Rattle.index_files.specs.FillingSteps.{count_of, FillsBuffer}
 use Rattle.index_files.specs.declared.asked.FileHead.{FileHead}
-use Rattle.index_files.specs.declared.asked.FileRead.TheVariants as file
-use Rattle.index_files.specs.declared.filling.Filled.{Filled}
+use Rattle.core.specs.declared.result.Result.TheVariants as file
 use Rattle.index_files.proofs.Mapped.{mapped}
 use Rattle.volume.specs.Steps.{bounds_text}
 use Rattle.volume.specs.Chosen.{Indexed}
@@ -35,7 +34,7 @@ use Rattle.api.proofs.Fronts.{no_front, refused_front}
 use Rattle.api.proofs.Showing.{told as tells}
 
 back_numbers_lem : (b : Bool) (l k : ℕ) → (b ≡ false → ◌≡◌ {A = Address} (record { letter = l; block = k }) (record { letter = 0; block = 0 }))
-    → bit b ∷ l ∷ k ∷ [] ≡ back_numbers (cond b (some (record { letter = l; block = k })) none)
+    → bit b ∷ l ∷ k ∷ [] ≡ back_numbers (cond b (Some (record { letter = l; block = k })) None)
 back_numbers_lem true l k z = refl
 back_numbers_lem false l k z = ap (λ (p : Address). 0 ∷ p.letter ∷ p.block ∷ []) (z refl)
 
@@ -56,7 +55,7 @@ says_header s h d =
       rows = refl;
     }
 
-pub says_index : (s : List ℕ) (a : Answer Index) (h : Header) {out : List ℕ} → ReadsIndex s a (Found h) → out ≡ header_numbers h → ShownAs 14 (SaysIndex s) a 0 (take 14 out)
+pub says_index : (s : List ℕ) (a : Answer Index) (h : Header) {out : List ℕ} → ReadsIndex s a (Ok h) → out ≡ header_numbers h → ShownAs 14 (SaysIndex s) a 0 (take 14 out)
 says_index s a h {out} w q =
     let (x, g, p) = mapped summary a _ w.answers in
     tells x g (subst (λ (o : List ℕ). SaysIndex s x (take 14 o)) (sym q) (subst (λ (t : Summary). SaysHeader s t (take 14 (header_numbers h))) p (says_header s h w.header)))
@@ -80,7 +79,7 @@ pub says_construct : (s : List ℕ) (a : Answer Indexed) (p : Bounds) (h : Heade
 says_construct s a p h w q =
     tells (indexed_in s p h) w.answers (subst (λ (o : List ℕ). SaysConstruct s (indexed_in s p h) (take 18 o)) (sym q) (says_place s p h w.inside))
 
-pub says_file : (s t : List ℕ) (a : Answer File) (h : FileHead) → ReadsFile s t a (file.Found h)
+pub says_file : (s t : List ℕ) (a : Answer File) (h : FileHead) → ReadsFile s t a (file.Ok h)
     → ShownAs 4 (SaysFile s t) a 0 (h.length.0 ∷ h.name.from ∷ h.name.len ∷ h.rows ∷ [])
 says_file s t a h r =
     let (f, g, p) = mapped head_of a _ r.says in
@@ -95,19 +94,19 @@ says_file s t a h r =
 -- a buffer filled, and the number of what was written
 module _ {A : Type 0} where
   pub shown_counted : (a : Answer (List A)) {returned : ℕ} {out : List ℕ} → Shown 1 one (count_of a) returned out → Shown 1 how_many a returned out
-  shown_counted (refused r) s = record { refusal = s.refusal; holds = s.holds }
-  shown_counted (answer l) s = record { refusal = s.refusal; holds = s.holds }
+  shown_counted (Err r) s = record { refusal = s.refusal; holds = s.holds }
+  shown_counted (Ok l) s = record { refusal = s.refusal; holds = s.holds }
 
-  pub fills_out : {holds : List A → List ℕ → List ℕ → Type 0} {a : Answer (List A)} {before after : List ℕ} {r : Filled} {returned told : ℕ}
-      → FillsBuffer holds a before after r → Shown 1 one (count_answered r) returned (one told) → FillsOut holds a before after returned told
+  pub fills_out : {holds : List A → List ℕ → List ℕ → Type 0} {a : Answer (List A)} {before after : List ℕ} {r : (Result ℕ Refusal)} {returned told : ℕ}
+      → FillsBuffer holds a before after r → Shown 1 one r returned (one told) → FillsOut holds a before after returned told
   fills_out {a = a} {returned = returned} {told = told} p s =
       record { answers = shown_counted a (subst (λ (n : Answer ℕ). Shown 1 one n returned (one told)) p.says s); stored = p.stored }
 
 -- the front beside that number
-pub counted_front : {A : Type 0} {s : List ℕ} {a : Answer (List A)} (r : Filled) {returned count place : ℕ}
-    → Refuses (OfText s) a → count_answered r ≡ count_of a → Counts (count_answered r) returned count place → TellsFront s returned place
+pub counted_front : {A : Type 0} {s : List ℕ} {a : Answer (List A)} (r : Result ℕ Refusal) {returned count place : ℕ}
+    → Refuses (OfText s) a → r ≡ count_of a → Counts r returned count place → TellsFront s returned place
 counted_front {A} {s} {a = a} r {returned = returned} {count = count} {place = place} q e w = go a q (subst (λ (n : Answer ℕ). Counts n returned count place) e w)
   where
     go : (x : Answer (List A)) → Refuses (OfText s) x → Counts (count_of x) returned count place → TellsFront s returned place
-    go (refused y) o k = refused_front y o refl k.shows.refusal k.place
-    go (answer l) o k = rw (k.shows.refusal, k.place) no_front
+    go (Err y) o k = refused_front y o refl k.shows.refusal k.place
+    go (Ok l) o k = rw (k.shows.refusal, k.place) no_front

@@ -1,9 +1,10 @@
 -- What keeping shows of `tape::keep`'s answer.
+use Rattle.std.specs.Prelude.{Err, Ok}
 use mathlib.Core.Path.{◌≡◌, refl, sym, ◌∙◌, ap}
 use mathlib.Core.List.{List, [], ◌∷◌}
 use Prim.Native.Nat.{ℕ, min}
 use Rattle.refusals.specs.declared.Refusal.{Refusal}
-use Rattle.refusals.specs.Refusals.{refused, answer, number_of, shown_number}
+use Rattle.refusals.specs.Refusals.{number_of, shown_number}
 use Rattle.refusals.proofs.Numbers.{not_zero}
 use Rattle.tape.specs.Answers.{kept_of}
 use Rattle.tape.specs.Steps.{Keeps}
@@ -12,10 +13,10 @@ use Rattle.api.specs.Partitions.{fronts, told_fronts, ShowsKept}
 use Rattle.api.proofs.Showing.{shown, not_shown}
 
 module _ {m : ℕ} {l s : List ℕ} where
-  pub kept_shown : {a b : ℕ} → Keeps m l s (answer (record { list = a; store = b })) → ShowsKept m l s 0 (a ∷ b ∷ [])
+  pub kept_shown : {a b : ℕ} → Keeps m l s (Ok (record { list = a; store = b })) → ShowsKept m l s 0 (a ∷ b ∷ [])
   kept_shown k = record { shown = shown _ k.answers; bytes = λ z. k.bytes; again = λ z. k.again _ refl }
 
-  pub kept_refused : (r : Refusal) {n : ℕ} → Keeps m l s (refused r) → n ≡ number_of r → ShowsKept m l s n (0 ∷ 0 ∷ [])
+  pub kept_refused : (r : Refusal) {n : ℕ} → Keeps m l s (Err r) → n ≡ number_of r → ShowsKept m l s n (0 ∷ 0 ∷ [])
   kept_refused r {n} k h =
       record {
         shown = not_shown r k.answers h;

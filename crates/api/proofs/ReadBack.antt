@@ -1,4 +1,6 @@
 -- What a writer for C stored, a reader for C reads as the fields given; and it is the same in any two buffers.
+use Rattle.refusals.specs.declared.Refusal.{Refusal}
+use Rattle.std.specs.Prelude.{Err, Ok, Result}
 use mathlib.Core.Path.{◌≡◌, refl, ap, ap₂, ◌∙◌, sym, subst}
 use mathlib.Core.Bool.{Bool, true, false}
 use mathlib.Core.List.{List, [], ◌∷◌}
@@ -6,12 +8,10 @@ use Prim.Native.Nat.{ℕ, zero, suc, ◌≤◌}
 use native.Mathlib.Omega.{arith}
 use lib.Dec.{leb}
 use lib.ListN.{length, take, drop, get_or, length-drop}
-use Rattle.refusals.specs.Refusals.{Answer, answer}
+use Rattle.refusals.specs.Refusals.{Answer}
 use Rattle.refusals.proofs.Numbers.{not_zero}
 use Rattle.slices.specs.Slices.{written}
 use Rattle.slices.proofs.Booleans.{and_right}
-use Rattle.slices.specs.declared.Written.{Written}
-use Rattle.slices.specs.declared.Written.TheVariants.{To, Refused}
 use Rattle.slices.proofs.Writers.{reached}
 use Rattle.slices.proofs.Writing.{part_written}
 use Rattle.elements.specs.Reading.{Spans}
@@ -22,23 +22,23 @@ use Rattle.label.specs.Label.{Label}
 use Rattle.label.specs.TextPlaces.{text_places}
 use Rattle.label_writer.specs.Text.{label_text, is_given}
 use Rattle.label_writer.proofs.RoundTrip.{text_reads}
-use Rattle.api.specs.Outputs.{Shown, ShownAs, one, written_length, WritesOut, Stores}
+use Rattle.api.specs.Outputs.{Shown, ShownAs, one, WritesOut, Stores}
 use Rattle.api.specs.Labels.{vol1_places, SaysLabel, ReadAsVol1, ReadAsLabel, WritesVol1, WritesLabel, is_writable}
 
 -- what is not refused was written whole
 wrote_all : (w before after : List ℕ) (n : ℕ) (given : Bool) → WritesOut given w before after 0 n → (given ≡ true) × (take n after ≡ w)
 wrote_all w before after n given p = go given p.written p.writes p.shows
   where
-    go : (given : Bool) (a : Written) → Writes given w before after a → Shown 1 one (written_length a) 0 (one n) → (given ≡ true) × (take n after ≡ w)
-    go given (Refused r) q s = absurd (not_zero r (sym s.refusal))
-    go true (To m) q s =
+    go : (given : Bool) (a : Result ℕ Refusal) → Writes given w before after a → Shown 1 one a 0 (one n) → (given ≡ true) × (take n after ≡ w)
+    go given (Err r) q s = absurd (not_zero r (sym s.refusal))
+    go true (Ok m) q s =
         let (h, e, z) = reached 0 w before after m (record { answers = q.answers; holds = q.holds }) in
         let l : n ∷ [] ≡ m ∷ [] = s.holds in
         let k : n ≡ m = cc in
         let f : n ≡ length w = omega arith in
         let part : take (length w) (drop 0 (written 0 w before)) ≡ w = part_written 0 w before (omega arith) in
         (refl, ap₂ take f z ∙ part)
-    go false (To m) q s = let e = q.answers in let z : ◌≡◌ {A = ℕ} 0 1 = cc in absurd (omega arith)
+    go false (Ok m) q s = let e = q.answers in let z : ◌≡◌ {A = ℕ} 0 1 = cc in absurd (omega arith)
 
 stores : (given : Bool) (w : List ℕ) (reads : List ℕ → Type 0) (before after : List ℕ) (r n : ℕ) → (given ≡ true → reads w) → WritesOut given w before after r n
     → Stores given w reads before after r n
@@ -67,7 +67,7 @@ read_as_vol1 : (i o : List ℕ) → are_fields i o ≡ true → ReadAsVol1 i o (
 read_as_vol1 i o ok r out q =
     let a = given_identifier i o ok in
     let b = given_owner i o ok in
-    let t : Shown 4 vol1_places (answer (record { identifier = i; owner = o })) r out
+    let t : Shown 4 vol1_places (Ok (record { identifier = i; owner = o })) r out
     = subst (λ (x : Answer Vol1Fields). Shown 4 vol1_places x r out) (vol1_reads i o ok) q in (
       t.refusal,
       subst (λ (x : List ℕ). Spans (vol1 i o) (get_or x 0 0) (get_or x 1 0) i) (sym t.holds) (part_inside 4 6 (vol1 i o) i (omega arith) (identifier_vol1 i o a b) a),
@@ -79,7 +79,7 @@ vol1_stored {i} {o} {before} {after} {r} {n} = stores (are_fields i o) (vol1 i o
 
 read_as_label : (f : Label) → f.release ≡ 1 → is_given f ≡ true → ReadAsLabel f (label_text f)
 read_as_label f e g r out q =
-    let t : ShownAs 12 (SaysLabel (label_text f) (text_places (label_text f))) (answer f) r (take 12 out)
+    let t : ShownAs 12 (SaysLabel (label_text f) (text_places (label_text f))) (Ok f) r (take 12 out)
     = subst (λ (a : Answer Label). ShownAs 12 (SaysLabel (label_text f) (text_places (label_text f))) a r (take 12 out)) (text_reads f g e) q.numbers in
     (t.refusal, t.tells)
 

@@ -1,6 +1,5 @@
 -- What is shown of an index: its header, its files, their rows.
-use Rattle.std.specs.Prelude.{◌≡◌, List, [], ◌∷◌, ℕ}
-use Rattle.std.proofs.Math.Option.{Option, none, some}
+use Rattle.std.specs.Prelude.{◌≡◌, List, [], ◌∷◌, ℕ, None, Option, Some}
 use lib.ListN.{length, take, drop, get_or}
 use Rattle.refusals.specs.Refusals.{Answer}
 use Rattle.quantities.specs.Addresses.{Address}
@@ -17,8 +16,8 @@ use Rattle.api.specs.Fronts.{TellsFront, WithFront}
 
 -- whether there is a back pointer, its letter, its block
 abbrev pub back_numbers : Option Address → List ℕ
-back_numbers none = 0 ∷ 0 ∷ 0 ∷ []
-back_numbers (some p) = 1 ∷ p.letter ∷ p.block ∷ []
+back_numbers None = 0 ∷ 0 ∷ 0 ∷ []
+back_numbers (Some p) = 1 ∷ p.letter ∷ p.block ∷ []
 
 -- fourteen numbers say what an index says: the R of its version, its generation, the place of its update time in s, its text, and its length, its
 -- location's letter and block, its back pointer, the policy's boolean, the highest file UID, and how many directories, files and rows it has

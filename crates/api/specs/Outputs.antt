@@ -1,15 +1,14 @@
 -- What C is answered (01, Refusal numbers): the number of a refusal, or 0, and numbers in the outputs, all of them zero where refused.
-use Rattle.std.specs.Prelude.{◌≡◌, Bool, true, false, List, [], ◌∷◌, ℕ, take, replicate}
-use Rattle.refusals.specs.Refusals.{Answer, refused, answer, shown_number}
-use Rattle.slices.specs.declared.Written.{Written}
-use Rattle.slices.specs.declared.Written.TheVariants.{To, Refused}
+use Rattle.refusals.specs.declared.Refusal.{Refusal}
+use Rattle.std.specs.Prelude.{◌≡◌, Bool, true, false, List, [], ◌∷◌, ℕ, take, replicate, Err, Ok, Result}
+use Rattle.refusals.specs.Refusals.{Answer, shown_number}
 use Rattle.writing.specs.Writing.{Writes}
 
 module _ {A : Type 0} where
   -- n numbers: what is shown of the value, or zeros
   abbrev pub numbers : ℕ → (A → List ℕ) → Answer A → List ℕ
-  numbers n show (refused r) = replicate n 0
-  numbers n show (answer a) = show a
+  numbers n show (Err r) = replicate n 0
+  numbers n show (Ok a) = show a
 
   -- what a function returns and what its outputs hold
   pub record Shown (n : ℕ) (show : A → List ℕ) (a : Answer A) (returned : ℕ) (outputs : List ℕ) : Type 0 where
@@ -18,8 +17,8 @@ module _ {A : Type 0} where
 
   -- the same where the outputs tell places in a text, for which says is what holds of them
   abbrev pub Tells : ℕ → (A → List ℕ → Type 0) → Answer A → List ℕ → Type 0
-  Tells n says (refused r) outputs = outputs ≡ replicate n 0
-  Tells n says (answer a) outputs = says a outputs
+  Tells n says (Err r) outputs = outputs ≡ replicate n 0
+  Tells n says (Ok a) outputs = says a outputs
 
   pub record ShownAs (n : ℕ) (says : A → List ℕ → Type 0) (a : Answer A) (returned : ℕ) (outputs : List ℕ) : Type 0 where
     pub refusal : returned ≡ shown_number a
@@ -34,16 +33,11 @@ abbrev pub bit : Bool → ℕ
 bit true = 1
 bit false = 0
 
--- how many bytes a writer wrote
-abbrev pub written_length : Written → Answer ℕ
-written_length (To n) = answer n
-written_length (Refused r) = refused r
-
 -- what a writer answers and what the buffer holds after, and how that is shown: the number returned, and the length that is told
 pub record WritesOut (given : Bool) (w before after : List ℕ) (returned told : ℕ) : Type 0 where
-  pub written : Written
+  pub written : Result ℕ Refusal
   pub writes : Writes given w before after written
-  pub shows : Shown 1 one (written_length written) returned (one told)
+  pub shows : Shown 1 one written returned (one told)
 
 -- and of the bytes that it stored: what a reader makes of them, and that they are the same in any two buffers
 pub record Stores (given : Bool) (w : List ℕ) (reads : List ℕ → Type 0) (before after : List ℕ) (returned told : ℕ) : Type 0 where

@@ -1,7 +1,7 @@
 -- What is shown of a partition's elements: fronts that are kept, the place of a block.
-use Rattle.std.specs.Prelude.{◌≡◌, not, List, [], ◌∷◌, ℕ, length, get_or}
+use Rattle.std.specs.Prelude.{◌≡◌, not, List, [], ◌∷◌, ℕ, length, get_or, Ok}
 use Rattle.refusals.specs.declared.Refusal.TheVariants.{Caller}
-use Rattle.refusals.specs.Refusals.{Answer, answer, require, and_then}
+use Rattle.refusals.specs.Refusals.{Answer, require, and_then}
 use Rattle.quantities.specs.Sizes.{is_block_size}
 use Rattle.tape.specs.Tape.{Tape}
 use Rattle.tape.specs.Answers.{tape_in, Fronts, Lengths, keeping, kept_of, StorePart, place_of, block_of, Holds}
@@ -21,7 +21,7 @@ told_fronts outputs l s = fronts_of (record { list = get_or outputs 0 0; store =
 -- what keeping m elements shows: the lengths; those bytes are what is kept, and keeping n of them is keeping the smaller number
 pub record ShowsKept (m : ℕ) (l s : List ℕ) (returned : ℕ) (outputs : List ℕ) : Type 0 where
   pub shown : Shown 2 fronts (kept_of m l s) returned outputs
-  pub bytes : returned ≡ 0 → keeping m l s ≡ answer (told_fronts outputs l s)
+  pub bytes : returned ≡ 0 → keeping m l s ≡ Ok (told_fronts outputs l s)
   pub again : returned ≡ 0 → KeepsAgain m l s (told_fronts outputs l s)
 
 -- the side, 0 for the index side and 1 for the data side; where the block begins in that side's store, and its length
@@ -39,7 +39,7 @@ sized_in B l s = require (is_block_size B) Caller (tape_in l s)
 
 -- how many constructs stand
 abbrev pub standing_count : ℕ → List ℕ → List ℕ → Answer ℕ
-standing_count B l s = and_then (sized_in B l s) (λ t. answer (length (standing B t)))
+standing_count B l s = and_then (sized_in B l s) (λ t. Ok (length (standing B t)))
 
 -- their number, and the table that they were put into
 pub record ListsConstructs (B : ℕ) (l s before after : List ℕ) (returned told : ℕ) : Type 0 where

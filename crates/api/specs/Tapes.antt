@@ -1,6 +1,5 @@
 -- What C is told of an ANSI labelled tape (02, Item 1).
-use Rattle.std.specs.Prelude.{◌≡◌, List, ℕ, ◌≤◌, length}
-use Rattle.refusals.specs.Refusals.{answer}
+use Rattle.std.specs.Prelude.{◌≡◌, List, ℕ, ◌≤◌, length, Ok}
 use Rattle.tape.specs.Tape.{Tape}
 use Rattle.tape.specs.Answers.{tape_in}
 use Rattle.ansi.specs.Layout.{max_files}
@@ -19,4 +18,4 @@ pub record ReadsAnsi (l s before after : List ℕ) (returned told : ℕ) : Type 
 -- how many elements are passed; and that they are the longest front that begins a layout
 pub record PlacesAnsi (l s : List ℕ) (returned told : ℕ) : Type 0 where
   pub answers : Shown 1 one (front_in l s) returned (one told)
-  pub longest : (t : Tape) → tape_in l s ≡ answer t → LongestFront t told
+  pub longest : (t : Tape) → tape_in l s ≡ Ok t → LongestFront t told

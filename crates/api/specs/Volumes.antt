@@ -1,17 +1,16 @@
 -- What is shown of a volume: its verdict and the rescue's cut, with demand 3.
-use Rattle.std.specs.Prelude.{◌≡◌, List, [], ◌∷◌, ℕ, get_or}
-use Rattle.std.proofs.Math.Option.{Option, none, some}
+use Rattle.refusals.specs.declared.Refusal.{Refusal}
+use Rattle.std.specs.Prelude.{◌≡◌, List, [], ◌∷◌, ℕ, get_or, None, Option, Result, Some}
 use Rattle.verdict.specs.Verdict.{Break, Cut}
 use Rattle.volume.specs.Volume.{verdict_in}
 use Rattle.volume.specs.Answers.{VerdictOwes, rescued, Rescues}
-use Rattle.volume.specs.declared.answers.Rescue.{Rescue}
 use Rattle.api.specs.Outputs.{Shown}
 use Rattle.api.specs.Fronts.{WithSide}
 
 -- which of the five breaks, 0 for none, and its number
 abbrev pub break_numbers : Option Break → List ℕ
-break_numbers none = 0 ∷ 0 ∷ []
-break_numbers (some b) = b.which ∷ b.number ∷ []
+break_numbers None = 0 ∷ 0 ∷ []
+break_numbers (Some b) = b.which ∷ b.number ∷ []
 
 -- the index construct, the data construct, the elements kept of each side, and the generation
 abbrev pub cut_numbers : Cut → List ℕ
@@ -31,7 +30,7 @@ JudgesOut il is dl ds = WithSide 2 il is dl ds (ShowsBreak il is dl ds)
 
 -- the rescue's answer, which keeps demand 3, and how it is shown
 pub record ShowsCut (indexList indexStore dataList dataStore : List ℕ) (returned : ℕ) (out : List ℕ) : Type 0 where
-  pub rescue : Rescue
+  pub rescue : Result FoundCut Refusal
   pub rescues : Rescues indexList indexStore dataList dataStore rescue
   pub shows : Shown 5 cut_numbers (rescued rescue) returned out
 

@@ -1,8 +1,6 @@
 // ANSI labelled tapes: their files, and where a tape leaves the layout.
 ghost use Rattle.api.specs.Tapes.{ReadsAnsi, PlacesAnsi};
 
-use ansi::FilesRead;
-use tape::ListChecked;
 
 // The files of an ANSI labelled tape, 36 bytes each, at the front of buffer.
 #[unsafe(no_mangle)]
@@ -15,11 +13,11 @@ pub extern "C" fn klapouzen_ansi(
     ensures { ReadsAnsi list.now store.now buffer.old buffer.new result count.new }
 {
     match ansi::files(list, store, buffer) {
-        FilesRead::Files(n) => {
+        Ok(n) => {
             *count = n as u64;
             0
         }
-        FilesRead::Refused(r) => {
+        Err(r) => {
             *count = 0;
             refusals::number(r)
         }
@@ -32,11 +30,11 @@ pub extern "C" fn klapouzen_ansi_place(list: &[u8], store: &[u8], place: &mut u6
     ensures { PlacesAnsi list.now store.now result place.new }
 {
     match ansi::place(list, store) {
-        ListChecked::Elements(n) => {
+        Ok(n) => {
             *place = n as u64;
             0
         }
-        ListChecked::Refused(r) => {
+        Err(r) => {
             *place = 0;
             refusals::number(r)
         }

@@ -1,13 +1,12 @@
 // Indexes: an index's text read, its files, and their rows.
 ghost use Rattle.std.specs.Prelude.{◌≡◌};
-ghost use Rattle.index_files.specs.FillingSteps.{count_answered};
 ghost use Rattle.api.specs.Indexes.{ReadsIndexOut, ReadsFileOut, FillsRows, ReadsWholeOut, ReadsConstructOut};
 ghost use Rattle.api.specs.Steps.{header_numbers, construct_numbers, Counts};
 
+use refusals::Refusal;
 use crate::numbers::{flag, front};
 use constructs::Bounds;
-use index::{Header, Read};
-use index_files::{FileRead, Filled};
+use index::Header;
 use index_values::Partitions;
 use quantities::BlockNumber;
 use volume::Chosen;
@@ -57,11 +56,11 @@ pub extern "C" fn klapouzen_read_index(
         block_size,
     };
     match index::read_index(text, uuid, volume, letter, BlockNumber(block)) {
-        Read::Found(h) => {
+        Ok(h) => {
             *out = in_numbers(h);
             0
         }
-        Read::Refused(r) => {
+        Err(r) => {
             *out = [0; 15];
             out[14] = front(r);
             refusals::number(r)
@@ -91,11 +90,11 @@ pub extern "C" fn klapouzen_read_file(
         block_size,
     };
     match index_files::file(text, uuid, volume, letter, BlockNumber(block), file) {
-        FileRead::Found(h) => {
+        Ok(h) => {
             *out = [h.length.0, h.name.from as u64, h.name.len as u64, h.rows, 0];
             0
         }
-        FileRead::Refused(r) => {
+        Err(r) => {
             *out = [0; 5];
             out[4] = front(r);
             refusals::number(r)
@@ -104,16 +103,16 @@ pub extern "C" fn klapouzen_read_file(
 }
 
 // How many were written, 0 where refused; and the front.
-fn counted(filled: Filled, count: &mut u64, place: &mut u64) -> u64
-    ensures { Counts (count_answered filled) result count.new place.new }
+fn counted(filled: Result<u64, Refusal>, count: &mut u64, place: &mut u64) -> u64
+    ensures { Counts filled result count.new place.new }
 {
     match filled {
-        Filled::Count(n) => {
+        Ok(n) => {
             *count = n;
             *place = 0;
             0
         }
-        Filled::Refused(r) => {
+        Err(r) => {
             *count = 0;
             *place = front(r);
             refusals::number(r)
@@ -179,11 +178,11 @@ pub extern "C" fn klapouzen_read_whole(
         entries,
         rows,
     ) {
-        Read::Found(h) => {
+        Ok(h) => {
             *out = in_numbers(h);
             0
         }
-        Read::Refused(r) => {
+        Err(r) => {
             *out = [0; 15];
             out[14] = front(r);
             refusals::number(r)

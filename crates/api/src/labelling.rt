@@ -4,11 +4,10 @@ ghost use Rattle.api.specs.Labels.{given_label, ReadsVol1Out, WritesVol1, ReadsL
 ghost use Rattle.api.specs.Steps.{label_numbers};
 
 use crate::numbers::{flag, front, side};
-use label::{Label, LabelFields};
+use label::LabelFields;
 use label_writer::Given;
 use refusals::Refusal;
-use slices::Written;
-use vol1::{Vol1, Vol1Read};
+use vol1::Vol1;
 
 // The last number is the place of the front.
 fn in_numbers(f: LabelFields) -> [u64; 13]
@@ -37,7 +36,7 @@ pub extern "C" fn klapouzen_read_vol1(block: &[u8], out: &mut [u64; 4]) -> u64
     ensures { ReadsVol1Out block.now result out.new }
 {
     match vol1::read_vol1(block) {
-        Vol1Read::Good => {
+        Ok(()) => {
             *out = [
                 Vol1::IDENTIFIER_AT as u64,
                 Vol1::IDENTIFIER_LENGTH as u64,
@@ -46,7 +45,7 @@ pub extern "C" fn klapouzen_read_vol1(block: &[u8], out: &mut [u64; 4]) -> u64
             ];
             0
         }
-        Vol1Read::Refused(r) => {
+        Err(r) => {
             *out = [0; 4];
             refusals::number(r)
         }
@@ -64,11 +63,11 @@ pub extern "C" fn klapouzen_write_vol1(
     ensures { WritesVol1 identifier.now owner.now out.old out.new result length.new }
 {
     match vol1::write_vol1(out, identifier, owner) {
-        Written::To(n) => {
+        Ok(n) => {
             *length = n as u64;
             0
         }
-        Written::Refused(r) => {
+        Err(r) => {
             *length = 0;
             refusals::number(r)
         }
@@ -81,11 +80,11 @@ pub extern "C" fn klapouzen_read_label(text: &[u8], out: &mut [u64; 13]) -> u64
     ensures { ReadsLabelOut text.now result out.new }
 {
     match label::read(text) {
-        Label::Says(f) => {
+        Ok(f) => {
             *out = in_numbers(f);
             0
         }
-        Label::Refused(r) => {
+        Err(r) => {
             *out = [0; 13];
             out[12] = front(r);
             refusals::number(r)
@@ -122,11 +121,11 @@ pub extern "C" fn klapouzen_write_label(
         compression: compression == 1,
     };
     match label_writer::write(out, creator, time, uuid, given) {
-        Written::To(n) => {
+        Ok(n) => {
             *length = n as u64;
             0
         }
-        Written::Refused(r) => {
+        Err(r) => {
             *length = 0;
             refusals::number(r)
         }
@@ -156,11 +155,11 @@ pub extern "C" fn klapouzen_check_labels(
         result out.new }
 {
     match labels::check(index_list, index_store, data_list, data_store) {
-        Label::Says(f) => {
+        Ok(f) => {
             *out = on_volume(f);
             0
         }
-        Label::Refused(r) => {
+        Err(r) => {
             *out = [0; 14];
             out[12] = front(r);
             out[13] = side(r);

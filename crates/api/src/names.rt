@@ -1,19 +1,18 @@
 // Names: a text decoded, and the path of an entry.
-ghost use Rattle.api.specs.Outputs.{Shown, one, written_length};
+ghost use Rattle.api.specs.Outputs.{Shown, one};
 ghost use Rattle.api.specs.Names.{DecodesOut, WritesPathOut};
 
-use slices::Written;
 
 // How many bytes were written; 0 where refused.
-fn told(wrote: Written, count: &mut u64) -> u64
-    ensures { Shown 1 one (written_length wrote) result (one count.new) }
+fn told(wrote: Result<usize, Refusal>, count: &mut u64) -> u64
+    ensures { Shown 1 one wrote result (one count.new) }
 {
     match wrote {
-        Written::To(n) => {
+        Ok(n) => {
             *count = n as u64;
             0
         }
-        Written::Refused(r) => {
+        Err(r) => {
             *count = 0;
             refusals::number(r)
         }

@@ -3,10 +3,9 @@ ghost use Rattle.tape.specs.Answers.{element_count};
 ghost use Rattle.api.specs.Outputs.{Shown, one};
 ghost use Rattle.api.specs.Partitions.{ShowsKept, ShowsPlace, ListsConstructs};
 
-use constructs::Scanned;
 use quantities::BlockNumber;
 use refusals::Refusal;
-use tape::{Kept, ListChecked, Located};
+use tape::{Kept, Located};
 
 // The number of elements of a partition.
 #[unsafe(no_mangle)]
@@ -14,11 +13,11 @@ pub extern "C" fn klapouzen_check_list(list: &[u8], store: &[u8], count: &mut u6
     ensures { Shown 1 one (element_count list.now store.now) result (one count.new) }
 {
     match tape::check(list, store) {
-        ListChecked::Elements(n) => {
+        Ok(n) => {
             *count = n as u64;
             0
         }
-        ListChecked::Refused(r) => {
+        Err(r) => {
             *count = 0;
             refusals::number(r)
         }
@@ -100,11 +99,11 @@ pub extern "C" fn klapouzen_constructs(
         return refusals::number(Refusal::Caller);
     }
     match constructs::scan(list, store, block_size as usize, table) {
-        Scanned::Constructs(n) => {
+        Ok(n) => {
             *count = n as u64;
             0
         }
-        Scanned::Refused(r) => {
+        Err(r) => {
             *count = 0;
             refusals::number(r)
         }

@@ -2,7 +2,7 @@
 ghost use Rattle.api.specs.Volumes.{JudgesOut, RescuesOut};
 
 use crate::numbers::{front, side};
-use volume::{Rescue, Verdict};
+use volume::Verdict;
 
 // Whether the volume is consistent, or which break comes first.
 #[unsafe(no_mangle)]
@@ -47,7 +47,7 @@ pub extern "C" fn klapouzen_rescue(
         result out.new }
 {
     match volume::find_cut(index_list, index_store, data_list, data_store) {
-        Rescue::Cut(k) => {
+        Ok(k) => {
             *out = [
                 k.index_construct,
                 k.data_construct,
@@ -59,7 +59,7 @@ pub extern "C" fn klapouzen_rescue(
             ];
             0
         }
-        Rescue::Refused(r) => {
+        Err(r) => {
             *out = [0; 7];
             out[5] = front(r);
             out[6] = side(r);

@@ -3,7 +3,6 @@
 
 ghost use Rattle.case_files.specs.Counts.{IsPrefixLen};
 
-use slices::Written;
 use std::rt::Files;
 use std::{fs, io};
 
@@ -35,7 +34,7 @@ fn main(rt: HostRuntime) -> io::Result<()> {
         &data_store[..ds],
         &mut lines,
     ) {
-        Written::To(n) => rt.write_all(slices::part(&lines, 0, n)),
-        Written::Refused(_) => Ok(()),
+        Ok(n) => rt.write_all(slices::part(&lines, 0, n)),
+        Err(_) => Ok(()),
     }
 }

@@ -2,7 +2,6 @@
 // cuts that are not the first or the obvious ones, files at and past their bounds, and UUIDs in several spellings on one volume.
 #![tactic(auto)]
 
-use slices::Written;
 use std::fs::File;
 use std::io;
 
@@ -26,8 +25,8 @@ fn one(file: &mut File) -> bool {
         &data_store[..ds],
         &mut lines,
     ) {
-        Written::To(n) => slices::same(slices::part(&lines, 0, n), &expected[..e]),
-        Written::Refused(_) => false,
+        Ok(n) => slices::same(slices::part(&lines, 0, n), &expected[..e]),
+        Err(_) => false,
     }
 }
 

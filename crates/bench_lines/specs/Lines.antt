@@ -1,7 +1,6 @@
 -- What the program writes for the four files of a volume (01, Bench examples). Each line ends with LF.
-use Rattle.std.specs.Prelude.{Bool, cond, ◌&&◌, List, [], ◌∷◌, ◌++◌, ℕ, leb, length}
-use Rattle.std.proofs.Math.Option.{Option, none, some}
-use Rattle.refusals.specs.Refusals.{Answer, refused, answer, number_of}
+use Rattle.std.specs.Prelude.{Bool, cond, ◌&&◌, List, [], ◌∷◌, ◌++◌, ℕ, leb, length, None, Option, Some, Err, Ok}
+use Rattle.refusals.specs.Refusals.{Answer, number_of}
 use Rattle.refusals.specs.declared.Refusal.{Refusal}
 use Rattle.refusals.specs.declared.Refusal.TheVariants.{TooMany}
 use Rattle.slices.specs.Words.{bytes}
@@ -10,7 +9,7 @@ use Rattle.verdict.specs.Verdict.{Break, Cut}
 use Rattle.volume.specs.Volume.{verdict_in, rescue_in}
 
 unfoldable pub refused_line : Refusal → List ℕ
-refused_line r = bytes "refused " ++ short (number_of r) ++ (10 ∷ [])
+refused_line r = bytes "Err " ++ short (number_of r) ++ (10 ∷ [])
 
 -- a word and two numbers
 unfoldable pub pair : List ℕ → ℕ → ℕ → List ℕ
@@ -23,11 +22,11 @@ unfoldable pub break_line : ℕ → ℕ → List ℕ
 break_line which number = pair (bytes "verdict break ") which number ++ (10 ∷ [])
 
 abbrev pub verdict_line : Option Break → List ℕ
-verdict_line none = consistent_line
-verdict_line (some b) = break_line b.which b.number
+verdict_line None = consistent_line
+verdict_line (Some b) = break_line b.which b.number
 
 unfoldable pub none_line : List ℕ
-none_line = bytes "cut none" ++ (10 ∷ [])
+none_line = bytes "cut None" ++ (10 ∷ [])
 
 unfoldable pub cut_line : Cut → List ℕ
 cut_line k =
@@ -36,12 +35,12 @@ cut_line k =
 
 -- where there is a verdict, 13 is the only refusal of the rescue
 abbrev pub rescue_line : Answer Cut → List ℕ
-rescue_line (refused r) = none_line
-rescue_line (answer k) = cut_line k
+rescue_line (Err r) = none_line
+rescue_line (Ok k) = cut_line k
 
 abbrev pub lines_of : Answer (Option Break) → Answer Cut → List ℕ
-lines_of (refused r) k = refused_line r
-lines_of (answer b) k = verdict_line b ++ rescue_line k
+lines_of (Err r) k = refused_line r
+lines_of (Ok b) k = verdict_line b ++ rescue_line k
 
 -- the bounds of the files: lists, then stores
 abbrev pub files_bounded : List ℕ → List ℕ → List ℕ → List ℕ → Bool

@@ -6,7 +6,7 @@ ghost use Rattle.bench_lines.specs.Lines.{pair, refused_line, break_line, cut_li
 ghost use Rattle.writing.specs.Steps.{AddsAtMost};
 
 use refusals::Refusal;
-use volume::{FoundCut, Rescue, Verdict};
+use volume::{FoundCut, Verdict};
 use writing::{add, add_number};
 
 // Adds a word and two numbers with a space between.
@@ -48,17 +48,17 @@ fn add_cut(out: &mut [u8], from: usize, cut: FoundCut) -> usize
 }
 
 // Adds the rescue's line.
-fn add_rescue(out: &mut [u8], from: usize, rescue: Rescue) -> usize
+fn add_rescue(out: &mut [u8], from: usize, rescue: Result<FoundCut, Refusal>) -> usize
     ensures { AddsAtMost 125 out.old from (rescue_line (rescued rescue)) out.new result }
 {
     match rescue {
-        Rescue::Cut(cut) => add_cut(out, from, cut),
-        Rescue::Refused(_) => add(out, from, b"cut none\n"),
+        Ok(cut) => add_cut(out, from, cut),
+        Err(_) => add(out, from, b"cut none\n"),
     }
 }
 
 // Adds both lines, or the one of a refusal.
-pub fn add_lines(out: &mut [u8], from: usize, verdict: Verdict, rescue: Rescue) -> usize
+pub fn add_lines(out: &mut [u8], from: usize, verdict: Verdict, rescue: Result<FoundCut, Refusal>) -> usize
     ensures { AddsAtMost 181 out.old from (lines_of (judged verdict) (rescued rescue)) out.new result }
 {
     match verdict {

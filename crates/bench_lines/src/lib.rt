@@ -8,7 +8,6 @@ ghost use Rattle.slices.specs.Writers.{Puts};
 ghost use Rattle.bench_lines.specs.Lines.{files_bounded, lines_in};
 
 use refusals::Refusal;
-use slices::Written;
 
 // Whether each file is within its bound.
 fn is_bounded(index_list: &[u8], index_store: &[u8], data_list: &[u8], data_store: &[u8]) -> bool
@@ -34,7 +33,7 @@ pub fn write(
     data_list: &[u8],
     data_store: &[u8],
     out: &mut [u8],
-) -> Written
+) -> Result<usize, Refusal>
     ensures { Puts 0 (lines_in index_list.now index_store.now data_list.now data_store.now)
         out.old out.new result }
 {

@@ -6,7 +6,6 @@ ghost use Rattle.slices.specs.Writers.{Puts};
 ghost use Rattle.big_endian.specs.BigEndian.{big_endian};
 
 use refusals::Refusal;
-use slices::Written;
 
 // The lowest byte of n.
 fn lowest(n: u64) -> u8
@@ -16,14 +15,14 @@ fn lowest(n: u64) -> u8
 }
 
 // Writes n in width bytes into out from its place at, the last byte first, if there is room for all.
-pub fn put(out: &mut [u8], at: usize, width: usize, n: u64) -> Written
+pub fn put(out: &mut [u8], at: usize, width: usize, n: u64) -> Result<usize, Refusal>
     ensures { Puts at (big_endian width n) out.old out.new result }
 {
     if out.len() < at {
-        return Written::Refused(Refusal::Short);
+        return Err(Refusal::Short);
     }
     if out.len() - at < width {
-        return Written::Refused(Refusal::Short);
+        return Err(Refusal::Short);
     }
     let mut rest = n;
     let mut i = width;
@@ -32,5 +31,5 @@ pub fn put(out: &mut [u8], at: usize, width: usize, n: u64) -> Written
         out[at + i] = lowest(rest);
         rest /= 256;
     }
-    Written::To(at + width)
+    Ok(at + width)
 }

@@ -1,9 +1,9 @@
 -- The scan of a front of a tape against the scan of the whole tape: its constructs are the first of the tape, in order and apart.
+use Rattle.std.specs.Prelude.{None, Option}
 use mathlib.Core.Path.{◌≡◌, refl, sym, ap, subst, ◌∙◌}
 use mathlib.Core.Logic.{◌⊎◌, inl, inr}
 use mathlib.Core.Bool.{Bool, true, false, not, cond}
 use mathlib.Core.List.{List, [], ◌∷◌}
-use mathlib.Core.Option.{Option, none}
 use Prim.Native.Nat.{ℕ, zero, suc, ◌+◌, ◌≤◌, ◌<◌}
 use native.Mathlib.Omega.{arith}
 use lib.ListN.{length, take}
@@ -152,7 +152,7 @@ sane_step b n data_run cs (block x) w = sane_data (suc n) (ltb b (length x)) cs 
 sane_step b n data_run cs unreadable w = below_le n (suc n) cs (omega arith) w
 sane_step b n (index_run f t s) cs mark w = sane_mark n f (eqb f n) t cs refl w.0 w.1
 sane_step b n (index_run f t s) cs (block x) w = sane_block n f s (ltb b (length x)) (ltb (length x) b) (with_bytes t x) cs w.0 w.1
-sane_step b n (index_run f t s) cs unreadable w = sane_block n f s false false none cs w.0 w.1
+sane_step b n (index_run f t s) cs unreadable w = sane_block n f s false false None cs w.0 w.1
 sane_step b n defect cs e w = below_le n (suc n) cs (omega arith) w
 
 below_of : (n : ℕ) (m : Run) (cs : List Construct) → Sane n m cs → Below n cs

@@ -1,9 +1,9 @@
 -- The scan of a tape element by element, against the walk over its list: the phase is the model's run in numbers, and the table holds
 -- the constructs closed so far.
+use Rattle.std.specs.Prelude.{None, Option, Some}
 use mathlib.Core.Path.{◌≡◌, refl, sym, ◌∙◌, ap, subst}
 use mathlib.Core.Bool.{Bool, true, false, cond}
 use mathlib.Core.List.{List, [], ◌∷◌, ◌++◌}
-use mathlib.Core.Option.{Option, none, some}
 use Prim.Native.Nat.{ℕ, zero, suc, ◌+◌, ◌-◌, ◌*◌, ◌≤◌, ◌<◌}
 use native.Mathlib.Nat.{add-zero, zero-add}
 use native.Mathlib.Numerals.{add-one}
@@ -68,8 +68,8 @@ phase_mark B t n off (index_run f x short) h = phase_if t (eqb f n) defect data_
 phase_mark B t n off defect h = refl
 
 holed_still : (y : Option (List ℕ)) (x : List ℕ) → is_holed (with_bytes y x) ≡ is_holed y
-holed_still none x = refl
-holed_still (some y) x = refl
+holed_still None x = refl
+holed_still (Some y) x = refl
 
 pub phase_block : (B : ℕ) (t : Tape) (n : ℕ) (r : Run) (x : List ℕ) → after_block (phase_of t r) B (length x) ≡ phase_of t (run_after B n r (block x))
 unfolding run_after
@@ -85,7 +85,7 @@ pub phase_unreadable : (B : ℕ) (t : Tape) (n : ℕ) (r : Run) → after_unread
 unfolding run_after
 phase_unreadable B t n (labels k) = past_phase t k
 phase_unreadable B t n data_run = refl
-phase_unreadable B t n (index_run f y short) = phase_if t short defect (index_run f none false)
+phase_unreadable B t n (index_run f y short) = phase_if t short defect (index_run f None false)
 phase_unreadable B t n defect = refl
 
 pub count_mark : (t : Tape) (n : ℕ) (r : Run) (cs : List Construct) → closed_count (length cs) (phase_of t r) n ≡ length (closed_by n r cs mark)
@@ -161,7 +161,7 @@ room_step B n (index_run f y short) cs (block x) w =
     split (λ b. RoomIn (suc n) (cond b defect (cond (ltb B (length x)) defect (index_run f (with_bytes y x) (ltb (length x) B)))) cs) short (λ e. omega arith)
     (λ e. split (λ b. RoomIn (suc n) (cond b defect (index_run f (with_bytes y x) (ltb (length x) B))) cs) (ltb B (length x)) (λ u. omega arith) (λ u. (w.0, omega arith)))
 room_step B n (index_run f y short) cs unreadable w =
-    split (λ b. RoomIn (suc n) (cond b defect (index_run f none false)) cs) short (λ e. omega arith) (λ e. (w.0, omega arith))
+    split (λ b. RoomIn (suc n) (cond b defect (index_run f None false)) cs) short (λ e. omega arith) (λ e. (w.0, omega arith))
 room_step B n defect cs e w = omega arith
 
 room_scan : (B : ℕ) (s : Scan) (t : Tape) → RoomIn s.at s.run s.done → RoomIn (scan B s t).at (scan B s t).run (scan B s t).done

@@ -1,9 +1,9 @@
 -- A construct's text, where it has one, is the part of the store from its first block to its last, and not empty.
+use Rattle.std.specs.Prelude.{None, Option, Some}
 use mathlib.Core.Path.{◌≡◌, refl, sym, ◌∙◌, ap}
 use mathlib.Core.Logic.{◌↔◌}
 use mathlib.Core.Bool.{true, false, cond}
 use mathlib.Core.List.{List, [], ◌∷◌, ◌++◌}
-use mathlib.Core.Option.{Option, none, some}
 use Prim.Native.Nat.{ℕ, zero, suc, ◌+◌, ◌-◌, ◌*◌, ◌≤◌, ◌<◌}
 use native.Mathlib.Omega.{arith}
 use lib.Dec.{ltb, eqb}
@@ -54,8 +54,8 @@ part_next t a n e rest h d =
 
 -- the text of a run from element a to element b, b not included, if it has one: these bytes, and some if the run has elements
 abbrev pub TextIs : Tape → ℕ → ℕ → Option (List ℕ) → Type 0
-TextIs t a b none = Unit {0}
-TextIs t a b (some x) = (x ≡ part t a b) × (a < b → 0 < length x)
+TextIs t a b None = Unit {0}
+TextIs t a b (Some x) = (x ≡ part t a b) × (a < b → 0 < length x)
 
 -- what holds of a scan of the first n elements
 abbrev TextIn : Tape → ℕ → Run → Type 0
@@ -81,8 +81,8 @@ text_past t n (suc k) = tt
 module _ (B : ℕ) (t : Tape) (legal : lawful_tape t ≡ true) (n : ℕ) where
   text_more : (f : ℕ) (x : Option (List ℕ)) (y : List ℕ) (rest : Tape) → drop n t ≡ block y ∷ rest → f ≤ n → TextIs t f n x → TextIs t f (suc n) (with_bytes x y)
   unfolding content
-  text_more f none y rest d h w = tt
-  text_more f (some x) y rest d h w =
+  text_more f None y rest d h w = tt
+  text_more f (Some x) y rest d h w =
       let (some_bytes, few) = length_between (length y) (lawful_at t n (block y) rest legal d) in
       (ap (λ (p : List ℕ). p ++ y) w.0 ∙ sym (part_next t f n (block y) rest h d), λ m. omega (arith, length-append x y))
 
@@ -98,7 +98,7 @@ module _ (B : ℕ) (t : Tape) (legal : lawful_tape t ≡ true) (n : ℕ) where
       (λ u. split (λ b. TextIn t (suc n) (cond b defect (index_run f (with_bytes x y) (ltb (length y) B)))) (ltb B (length y)) (λ z. tt)
       (λ z. (omega arith, text_more f x y rest d w.0 w.1)))
   text_step (index_run f x short) unreadable rest d w =
-      split (λ b. TextIn t (suc n) (cond b defect (index_run f none false))) short (λ u. tt) (λ u. (omega arith, tt))
+      split (λ b. TextIn t (suc n) (cond b defect (index_run f None false))) short (λ u. tt) (λ u. (omega arith, tt))
   text_step defect e rest d w = tt
 
   texts_step : (r : Run) (cs : List Construct) (e : Element) → TextIn t n r → Texts t cs → Texts t (closed_by n r cs e)
@@ -137,20 +137,20 @@ text_at {c} {ds = d ∷ ds} t (here q) w = let z : c ≡ d = cc in rw z w.0
 text_at {c} {ds = d ∷ ds} t (there s) w = text_at t s w.1
 
 -- a construct with a text begins and ends at different places
-pub text_apart : (t : Tape) (a b : ℕ) (x : List ℕ) → TextIs t a b (some x) → a < b → bytes_before t a < bytes_before t b
+pub text_apart : (t : Tape) (a b : ℕ) (x : List ℕ) → TextIs t a b (Some x) → a < b → bytes_before t a < bytes_before t b
 text_apart t a b x w h =
     let n = w.1 h in
     omega (arith, ap length w.0, length-take (bytes_before t b - bytes_before t a) (drop (bytes_before t a) (store t)))
 
 -- the places in its row say whether a construct has a text
 pub row_tells : (B : ℕ) (t : Tape) → lawful_tape t ≡ true → {c : Construct} {cs : List Construct} → Suffix (c ∷ cs) (standing B t)
-    → (text_end (is_holed c.text) (bytes_before t c.first) (bytes_before t (c.end - 1)) ≡ bytes_before t c.first) ↔ (c.text ≡ none)
+    → (text_end (is_holed c.text) (bytes_before t c.first) (bytes_before t (c.end - 1)) ≡ bytes_before t c.first) ↔ (c.text ≡ None)
 row_tells B t legal {c} suf = let w = text_at t suf (texts_standing B t legal) in go c.text w.is w.blocks
   where
     go : (o : Option (List ℕ)) → TextIs t c.first (c.end - 1) o → c.first < c.end - 1
-        → (text_end (is_holed o) (bytes_before t c.first) (bytes_before t (c.end - 1)) ≡ bytes_before t c.first) ↔ (o ≡ none)
-    go none w h = (λ e. refl, λ e. refl)
-    go (some x) w h = (
+        → (text_end (is_holed o) (bytes_before t c.first) (bytes_before t (c.end - 1)) ≡ bytes_before t c.first) ↔ (o ≡ None)
+    go None w h = (λ e. refl, λ e. refl)
+    go (Some x) w h = (
       λ e. absurd (omega (arith, text_apart t c.first (c.end - 1) x w h)),
       λ e. let z : ◌≡◌ {A = ℕ} 0 1 = cc in absurd (omega arith),
     )

@@ -1,7 +1,6 @@
 -- What stands on a partition from element 4 on: data runs and index runs, the standing constructs, the data blocks (01, Constructs,
 -- verdict and cut; 02, Item 7, for unreadable blocks). B is the block size.
-use Rattle.std.specs.Prelude.{Bool, true, false, not, cond, List, [], ◌∷◌, ◌++◌, ℕ, zero, suc, ◌/◌, length, ltb, eqb}
-use Rattle.std.proofs.Math.Option.{Option, none, some}
+use Rattle.std.specs.Prelude.{Bool, true, false, not, cond, List, [], ◌∷◌, ◌++◌, ℕ, zero, suc, ◌/◌, length, ltb, eqb, None, Option, Some}
 use Rattle.tape.specs.Tape.{Element, mark, block, unreadable, Tape, max_elements}
 
 -- an index construct that stands: the number of its first block, the number of elements through its closing mark, and its text, none with
@@ -30,19 +29,19 @@ past_label (suc k) = labels k
 
 -- a run's bytes and a block's
 abbrev pub with_bytes : Option (List ℕ) → List ℕ → Option (List ℕ)
-with_bytes none x = none
-with_bytes (some t) x = some (t ++ x)
+with_bytes None x = None
+with_bytes (Some t) x = Some (t ++ x)
 
 -- where the element after element n stands. Defects: a block longer than B, an empty index run, a block before the last of an index run
 -- that is not B long; an unreadable block is none itself
 unfoldable pub run_after : ℕ → ℕ → Run → Element → Run
 run_after B n (labels k) e = past_label k
-run_after B n data_run mark = index_run (suc n) (some []) false
+run_after B n data_run mark = index_run (suc n) (Some []) false
 run_after B n data_run (block x) = cond (ltb B (length x)) defect data_run
 run_after B n data_run unreadable = data_run
 run_after B n (index_run f t short) mark = cond (eqb f n) defect data_run
 run_after B n (index_run f t short) (block x) = cond short defect (cond (ltb B (length x)) defect (index_run f (with_bytes t x) (ltb (length x) B)))
-run_after B n (index_run f t short) unreadable = cond short defect (index_run f none false)
+run_after B n (index_run f t short) unreadable = cond short defect (index_run f None false)
 run_after B n defect e = defect
 
 -- the constructs closed through element n, the last one first: a mark closes an index run that is not empty

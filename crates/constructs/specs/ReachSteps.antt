@@ -1,12 +1,11 @@
 -- How far data blocks reach from each element on, so that one number tells whether an extent lies on the tape.
-use Rattle.std.specs.Prelude.{Bool, not, cond, ◌&&◌, List, [], ◌∷◌, ◌++◌, ℕ, ◌+◌, ◌-◌, ◌/◌, min, eqb, leb, ltb, length, get_or, drop, ◌≡◌}
+use Rattle.refusals.specs.declared.Refusal.{Refusal}
+use Rattle.std.specs.Prelude.{Bool, not, cond, ◌&&◌, List, [], ◌∷◌, ◌++◌, ℕ, ◌+◌, ◌-◌, ◌/◌, min, eqb, leb, ltb, length, get_or, drop, ◌≡◌, Result, Err, Ok}
 use Rattle.std.proofs.lemmas.List.Edits.{sets}
 use Rattle.refusals.specs.declared.Refusal.TheVariants.{Short}
-use Rattle.refusals.specs.Refusals.{Answer, refused, answer, require, and_then}
-use Rattle.tape.specs.declared.ListChecked.{ListChecked}
+use Rattle.refusals.specs.Refusals.{Answer, require, and_then}
 use Rattle.tape.specs.Tape.{Tape, Encodes}
 use Rattle.tape.specs.Answers.{tape_in}
-use Rattle.tape.specs.Steps.{counted}
 use Rattle.constructs.specs.Constructs.{data_lengths}
 
 -- a data block of x bytes, or 0 for any other element, before an element from which data blocks reach next bytes: a block of exactly B
@@ -42,11 +41,11 @@ PutsLengths l s before after = (t : Tape) → Encodes l s t → after ≡ sets b
 -- what is answered of a partition: the number of elements, and the table with how far data blocks reach from each at its front; or a
 -- refusal, 10 among them, and the table as it was
 abbrev pub reach_after : ℕ → List ℕ → Answer Tape → List ℕ
-reach_after B before (refused r) = before
-reach_after B before (answer t) = cond (leb (length t) (length before)) (reaches B (data_lengths t) ++ drop (length t) before) before
+reach_after B before (Err r) = before
+reach_after B before (Ok t) = cond (leb (length t) (length before)) (reaches B (data_lengths t) ++ drop (length t) before) before
 
-pub record Reaches (B : ℕ) (l s before after : List ℕ) (r : ListChecked) : Type 0 where
-  pub answers : counted r ≡ and_then (tape_in l s) (λ t. require (leb (length t) (length before)) Short (answer (length t)))
+pub record Reaches (B : ℕ) (l s before after : List ℕ) (r : Result ℕ Refusal) : Type 0 where
+  pub answers : r ≡ and_then (tape_in l s) (λ t. require (leb (length t) (length before)) Short (Ok (length t)))
   pub holds : after ≡ reach_after B before (tape_in l s)
 
 -- by a table of reaches: the bytes from an offset in a first block on end in a block below n, and data blocks reach that far

@@ -1,12 +1,12 @@
 -- What scanning a list owes: the table with the constructs that stand, and a construct read from it.
-use Rattle.std.specs.Prelude.{◌≡◌, cond, List, ℕ, ◌+◌, ◌*◌, leb, length, get_or}
+use Rattle.refusals.specs.declared.Refusal.{Refusal}
+use Rattle.std.specs.Prelude.{◌≡◌, cond, List, ℕ, ◌+◌, ◌*◌, leb, length, get_or, Result, Err, Ok}
 use Rattle.std.proofs.lemmas.List.Edits.{sets}
 use Rattle.tape.specs.Tape.{Tape, Encodes}
 use Rattle.tape.specs.Answers.{tape_in}
-use Rattle.refusals.specs.Refusals.{Answer, refused, answer, and_then}
+use Rattle.refusals.specs.Refusals.{Answer, and_then}
 use Rattle.constructs.specs.declared.Bounds.{Bounds}
-use Rattle.constructs.specs.declared.Scanned.{Scanned}
-use Rattle.constructs.specs.declared.Scanned.TheVariants as scanned_is
+use Rattle.core.specs.declared.result.Result.TheVariants as scanned_is
 use Rattle.constructs.specs.Constructs.{max_constructs, standing}
 use Rattle.constructs.specs.Tables.{construct_entries, table_after}
 
@@ -22,12 +22,8 @@ pub record Found (B : ℕ) (t : Tape) (before after : List ℕ) (n : ℕ) : Type
 abbrev pub FindsConstructs : ℕ → List ℕ → List ℕ → List ℕ → List ℕ → ℕ → Type 0
 FindsConstructs B l s before after n = (t : Tape) → Encodes l s t → Found B t before after n
 
-abbrev pub scanned_count : Scanned → Answer ℕ
-scanned_count (scanned_is.Constructs n) = answer n
-scanned_count (scanned_is.Refused r) = refused r
-
-pub record ScansPartition (B : ℕ) (l s before after : List ℕ) (r : Scanned) : Type 0 where
-  pub answers : scanned_count r ≡ and_then (tape_in l s) (λ t. answer (length (standing B t)))
+pub record ScansPartition (B : ℕ) (l s before after : List ℕ) (r : Result ℕ Refusal) : Type 0 where
+  pub answers : r ≡ and_then (tape_in l s) (λ t. Ok (length (standing B t)))
   pub holds : after ≡ table_after B before (tape_in l s)
 
 -- the construct with number k of a table

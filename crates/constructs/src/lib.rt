@@ -14,7 +14,7 @@ ghost use Rattle.constructs.specs.PhaseSteps.{past_labels, after_mark, after_blo
 
 use quantities::BlockNumber;
 use refusals::Refusal;
-use tape::{Entry, ListChecked};
+use tape::Entry;
 
 // The most standing constructs of a partition, and the numbers of a table of them, four for each.
 pub const CONSTRUCTS: usize = 21845;
@@ -216,23 +216,16 @@ fn fill(list: &[u8], store: &[u8], count: usize, size: usize, table: &mut [u32; 
     n
 }
 
-// What a scan for constructs answers: how many stand.
-#[derive(Clone, Copy)]
-pub enum Scanned {
-    Constructs(usize),
-    Refused(Refusal),
-}
-
 // Puts the standing constructs of a partition into a table, four numbers for each: its first block, the elements through its closing
 // mark, and where its text begins and ends in the store, the same place where it has an unreadable block.
-pub fn scan(list: &[u8], store: &[u8], block_size: usize, table: &mut [u32; NUMBERS]) -> Scanned
+pub fn scan(list: &[u8], store: &[u8], block_size: usize, table: &mut [u32; NUMBERS]) -> Result<usize, Refusal>
     ensures { ScansPartition block_size list.now store.now table.old table.new result }
 {
     match tape::check(list, store) {
-        ListChecked::Elements(count) => Scanned::Constructs(fill(
+        Ok(count) => Ok(fill(
             list, store, count, block_size, table,
         )),
-        ListChecked::Refused(r) => Scanned::Refused(r),
+        Err(r) => Err(r),
     }
 }
 

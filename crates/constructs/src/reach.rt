@@ -6,7 +6,7 @@ ghost use Rattle.tape.specs.Steps.{Encoded};
 
 use quantities::{BlockNumber, ByteCount};
 use refusals::Refusal;
-use tape::{Entry, ListChecked};
+use tape::Entry;
 
 fn labels_after(k: usize) -> usize
     ensures { result ≡ labels_after k }
@@ -106,19 +106,19 @@ fn extend(count: usize, size: usize, table: &mut [u32])
 }
 
 // Puts into a table, for each element of a partition, how far data blocks reach from there; the number of elements.
-pub fn reach(list: &[u8], store: &[u8], block_size: usize, table: &mut [u32]) -> ListChecked
+pub fn reach(list: &[u8], store: &[u8], block_size: usize, table: &mut [u32]) -> Result<usize, Refusal>
     ensures { Reaches block_size list.now store.now table.old table.new result }
 {
     match tape::check(list, store) {
-        ListChecked::Elements(count) => {
+        Ok(count) => {
             if table.len() < count {
-                return ListChecked::Refused(Refusal::Short);
+                return Err(Refusal::Short);
             }
             put_lengths(list, store, count, table);
             extend(count, block_size, table);
-            ListChecked::Elements(count)
+            Ok(count)
         }
-        ListChecked::Refused(r) => ListChecked::Refused(r),
+        Err(r) => Err(r),
     }
 }
 

@@ -1,6 +1,5 @@
 -- Numbers as texts (01, Values and Refusal numbers: 7): the number that decimal digits say, and the short form of a number.
-use Rattle.std.specs.Prelude.{Bool, true, false, not, cond, ◌&&◌, List, [], ◌∷◌, map, ℕ, ◌+◌, ◌-◌, leb, ltb, eqb, length}
-use Rattle.std.proofs.Math.Option.{Option, some, none}
+use Rattle.std.specs.Prelude.{Bool, true, false, not, cond, ◌&&◌, List, [], ◌∷◌, map, ℕ, ◌+◌, ◌-◌, leb, ltb, eqb, length, None, Option, Some}
 use Rattle.slices.specs.Slices.{within, every}
 use Rattle.digits.specs.Runs.{value, digits, width}
 
@@ -28,7 +27,7 @@ is_run s = every is_digit s && ltb 0 (length s) && leb (decimal 0 s) largest
 
 -- the number that a run of digits says
 unfoldable pub run : List ℕ → Option ℕ
-run s = cond (is_run s) (some (decimal 0 s)) none
+run s = cond (is_run s) (Some (decimal 0 s)) None
 
 -- at least one digit, and no leading zero except `0` itself
 unfoldable pub plain : List ℕ → Bool
@@ -38,7 +37,7 @@ plain (b ∷ c ∷ s) = not (eqb b 48)
 
 -- the number that a plain run of digits says
 unfoldable pub plain_number : List ℕ → Option ℕ
-plain_number s = cond (plain s) (run s) none
+plain_number s = cond (plain s) (run s) None
 
 -- the short form: the digits of n, as many as it has
 unfoldable pub short : ℕ → List ℕ

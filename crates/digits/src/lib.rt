@@ -6,17 +6,9 @@ pub mod hex;
 ghost use Rattle.std.specs.Prelude.{◌≡◌, ◌%◌, length};
 ghost use Rattle.slices.specs.Writers.{Puts};
 ghost use Rattle.digits.specs.Decimal.{run, plain, plain_number, byte_of, short};
-ghost use Rattle.digits.specs.Steps.{value_of, of_few};
+ghost use Rattle.digits.specs.Steps.{of_few};
 
 use refusals::Refusal;
-use slices::Written;
-
-// What a text says as a number.
-#[derive(Clone, Copy)]
-pub enum Number {
-    Value(u64),
-    Nothing,
-}
 
 fn wide(b: u8) -> u64
     ensures { result ≡ b }
@@ -25,60 +17,60 @@ fn wide(b: u8) -> u64
 }
 
 // The number that a run of digits says, leading zeros or not.
-pub fn read_run(s: &[u8]) -> Number
-    ensures { value_of result ≡ run s.now }
+pub fn read_run(s: &[u8]) -> Option<u64>
+    ensures { result ≡ run s.now }
 {
     if s.len() == 0 {
-        return Number::Nothing;
+        return None;
     }
     let mut v: u64 = 0;
     let mut i: usize = 0;
     while i < s.len() {
         let b = s[i];
         if b < 48 {
-            return Number::Nothing;
+            return None;
         }
         if 57 < b {
-            return Number::Nothing;
+            return None;
         }
         let d = wide(b - 48);
         if 1844674407370955161 < v {
-            return Number::Nothing;
+            return None;
         }
         let t = v * 10;
         if 18446744073709551615 - t < d {
-            return Number::Nothing;
+            return None;
         }
         v = t + d;
         i += 1;
     }
-    Number::Value(v)
+    Some(v)
 }
 
 // The same of up to 19 digits alone: no digit takes their number past 64 bits, so none is tested for that.
-pub fn read_few(s: &[u8]) -> Number
-    ensures { value_of result ≡ of_few s.now }
+pub fn read_few(s: &[u8]) -> Option<u64>
+    ensures { result ≡ of_few s.now }
 {
     if s.len() == 0 {
-        return Number::Nothing;
+        return None;
     }
     if 19 < s.len() {
-        return Number::Nothing;
+        return None;
     }
     let mut v: u64 = 0;
     let mut i: usize = 0;
     while i < s.len() {
         let b = wide(s[i]);
         if b < 48 {
-            return Number::Nothing;
+            return None;
         }
         if 57 < b {
-            return Number::Nothing;
+            return None;
         }
         v = v * 10 + (b - 48);
         i += 1;
     }
-    Number::Value(v)
+    Some(v)
 }
 
 // Whether digits do not begin with a zero that is not alone.
@@ -95,11 +87,11 @@ fn is_plain(s: &[u8]) -> bool
 }
 
 // The number that a plain run of digits says.
-pub fn read_plain(s: &[u8]) -> Number
-    ensures { value_of result ≡ plain_number s.now }
+pub fn read_plain(s: &[u8]) -> Option<u64>
+    ensures { result ≡ plain_number s.now }
 {
     if !is_plain(s) {
-        return Number::Nothing;
+        return None;
     }
     read_run(s)
 }
@@ -125,15 +117,15 @@ fn last(v: u64) -> u8
 }
 
 // Writes n's digits into out from its place at, the last one first, if there is room for all.
-pub fn write(out: &mut [u8], at: usize, n: u64) -> Written
+pub fn write(out: &mut [u8], at: usize, n: u64) -> Result<usize, Refusal>
     ensures { Puts at (short n) out.old out.new result }
 {
     let w = width(n);
     if out.len() < at {
-        return Written::Refused(Refusal::Short);
+        return Err(Refusal::Short);
     }
     if out.len() - at < w {
-        return Written::Refused(Refusal::Short);
+        return Err(Refusal::Short);
     }
     let mut v = n;
     let mut i = w;
@@ -142,5 +134,5 @@ pub fn write(out: &mut [u8], at: usize, n: u64) -> Written
         out[at + i] = last(v);
         v /= 10;
     }
-    Written::To(at + w)
+    Ok(at + w)
 }

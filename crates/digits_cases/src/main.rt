@@ -1,7 +1,6 @@
 // Texts read as numbers and written again, each into a buffer of dots; and the bytes that are hex digits.
 #![tactic(auto)]
 
-use slices::Written;
 use std::io;
 
 fn line(rt: &impl Print, s: &[u8]) -> io::Result<()> {
@@ -13,8 +12,8 @@ fn line(rt: &impl Print, s: &[u8]) -> io::Result<()> {
 fn show_written(rt: &impl Print, n: u64, at: usize) -> io::Result<()> {
     let mut out = [46u8; 24];
     match digits::write(&mut out, at, n) {
-        Written::To(_) => line(rt, &out),
-        Written::Refused(_) => {
+        Ok(_) => line(rt, &out),
+        Err(_) => {
             rt.write_all(&out)?;
             line(rt, b" refused")
         }
@@ -25,8 +24,8 @@ fn show_read(rt: &impl Print, s: &[u8]) -> io::Result<()> {
     rt.write_all(s)?;
     rt.write_all(b" = ")?;
     match digits::read_plain(s) {
-        digits::Number::Value(n) => show_written(rt, n, 2),
-        digits::Number::Nothing => line(rt, b"no number"),
+        Some(n) => show_written(rt, n, 2),
+        None => line(rt, b"no number"),
     }
 }
 

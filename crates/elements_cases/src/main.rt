@@ -2,7 +2,6 @@
 #![tactic(auto)]
 
 use elements::{Child, Tag};
-use slices::Written;
 use std::io;
 
 fn put(rt: &impl Print, s: &[u8]) -> io::Result<()> {
@@ -187,11 +186,11 @@ fn show_decoded(rt: &impl Print, raw: &[u8]) -> io::Result<()> {
     put(rt, raw)?;
     put(rt, b" = ")?;
     match texts::decode(raw, &mut out, 2) {
-        Written::To(end) => {
+        Ok(end) => {
             put(rt, &out)?;
             number(rt, end)?;
         }
-        Written::Refused(_) => {
+        Err(_) => {
             put(rt, &out)?;
             put(rt, b" refused")?;
         }

@@ -1,4 +1,5 @@
 -- The byte map's answers: what each failed test gives, and the place along the rows.
+use Rattle.std.specs.Prelude.{Err, Ok}
 use mathlib.Core.Path.{◌≡◌, refl, ap, ◌∙◌}
 use mathlib.Core.Bool.{Bool, true, false, cond, ◌&&◌, and-false}
 use mathlib.Core.List.{List, [], ◌∷◌}
@@ -8,7 +9,7 @@ use native.Mathlib.Omega.{arith}
 use borrow.Author.Tests.{le-leb, lt-leb, eq-eqb, ne_eqb}
 use lib.Dec.{leb, ltb, eqb}
 use lib.ListN.{length, drop, get_or}
-use Rattle.refusals.specs.Refusals.{refused, answer, require}
+use Rattle.refusals.specs.Refusals.{require}
 use Rattle.refusals.specs.declared.Refusal.TheVariants.{Caller, TooMany, Extents, Missing}
 use Rattle.quantities.specs.Sizes.{is_block_size}
 use Rattle.extents.specs.Rows.{Row, rows_of, numbers_of}
@@ -18,17 +19,17 @@ use Rattle.extents.specs.Map.{stored, unstored, byte_in_row, byte_at, lettered, 
 use Rattle.extents.proofs.Rows.{rows_on, rows_end, rows_count, rows_numbers, length_numbers}
 
 module _ (s : List ℕ) (L B p : ℕ) where
-  caller_wrong : (is_block_size B && lettered (rows_of s) && eqb (length s % 5) 0) ≡ false → byte_map s L B p ≡ refused Caller
+  caller_wrong : (is_block_size B && lettered (rows_of s) && eqb (length s % 5) 0) ≡ false → byte_map s L B p ≡ Err Caller
   unfolding byte_map
   caller_wrong e = rw e
 
-  pub size_wrong : is_block_size B ≡ false → byte_map s L B p ≡ refused Caller
+  pub size_wrong : is_block_size B ≡ false → byte_map s L B p ≡ Err Caller
   size_wrong e = caller_wrong (rw e)
 
-  pub unlettered : lettered (rows_of s) ≡ false → byte_map s L B p ≡ refused Caller
+  pub unlettered : lettered (rows_of s) ≡ false → byte_map s L B p ≡ Err Caller
   unlettered e = caller_wrong (rw (e, and-false (is_block_size B)))
 
-  pub not_fives : (length s % 5 ≡ 0 → ⊥) → byte_map s L B p ≡ refused Caller
+  pub not_fives : (length s % 5 ≡ 0 → ⊥) → byte_map s L B p ≡ Err Caller
   not_fives n = caller_wrong (rw (ne_eqb (length s % 5) 0 n, and-false (is_block_size B && lettered (rows_of s))))
 
   -- the caller's numbers pass
@@ -36,7 +37,7 @@ module _ (s : List ℕ) (L B p : ℕ) where
     caller_right : (is_block_size B && lettered (rows_of s) && eqb (length s % 5) 0) ≡ true
     caller_right = rw (size, letters, eq-eqb (length s % 5) 0 fives)
 
-    pub too_many : 1024 < length s / 5 → byte_map s L B p ≡ refused TooMany
+    pub too_many : 1024 < length s / 5 → byte_map s L B p ≡ Err TooMany
     unfolding byte_map
     too_many h = let n : 1024 < length (rows_of s) = rw (rows_count s) h in rw (caller_right, lt-leb (length (rows_of s)) 1024 n)
 
@@ -44,20 +45,20 @@ module _ (s : List ℕ) (L B p : ℕ) where
       few_rows : leb (length (rows_of s)) 1024 ≡ true
       few_rows = let n : length (rows_of s) ≤ 1024 = rw (rows_count s) few in le-leb (length (rows_of s)) 1024 n
 
-      pub unlawful : lawful L B (rows_of s) ≡ false → byte_map s L B p ≡ refused Extents
+      pub unlawful : lawful L B (rows_of s) ≡ false → byte_map s L B p ≡ Err Extents
       unfolding byte_map
       unlawful e = rw (caller_right, few_rows, e)
 
-      pub mapped : lawful L B (rows_of s) ≡ true → byte_map s L B p ≡ require (ltb p L) Missing (answer (byte_at B p (rows_of s)))
+      pub mapped : lawful L B (rows_of s) ≡ true → byte_map s L B p ≡ require (ltb p L) Missing (Ok (byte_at B p (rows_of s)))
       unfolding byte_map
       mapped e = rw (caller_right, few_rows, e)
 
 -- rows by their numbers, where each test passes
 pub numbers_mapped : (rows : List Row) (L B p : ℕ) → is_block_size B ≡ true → lettered rows ≡ true → length rows ≤ 1024 → lawful L B rows ≡ true
-    → byte_map (numbers_of rows) L B p ≡ require (ltb p L) Missing (answer (byte_at B p rows))
+    → byte_map (numbers_of rows) L B p ≡ require (ltb p L) Missing (Ok (byte_at B p rows))
 numbers_mapped rows L B p size letters few law =
     mapped (numbers_of rows) L B p size (rw (rows_numbers rows) letters) (omega (arith, length_numbers rows)) (omega (arith, length_numbers rows)) (rw (rows_numbers rows) law)
-    ∙ ap (λ (l : List Row). require (ltb p L) Missing (answer (byte_at B p l))) (rows_numbers rows)
+    ∙ ap (λ (l : List Row). require (ltb p L) Missing (Ok (byte_at B p l))) (rows_numbers rows)
 
 -- along the rows, of which i were passed
 module _ (s : List ℕ) (B p i : ℕ) where

@@ -1,6 +1,6 @@
 -- The byte map (01, Extents): where the byte at a file position is.
-use Rattle.std.specs.Prelude.{Bool, cond, ◌&&◌, List, [], ◌∷◌, ℕ, ◌+◌, ◌-◌, ◌/◌, ◌%◌, leb, ltb, eqb, length}
-use Rattle.refusals.specs.Refusals.{Answer, answer, require}
+use Rattle.std.specs.Prelude.{Bool, cond, ◌&&◌, List, [], ◌∷◌, ℕ, ◌+◌, ◌-◌, ◌/◌, ◌%◌, leb, ltb, eqb, length, Ok}
+use Rattle.refusals.specs.Refusals.{Answer, require}
 use Rattle.refusals.specs.declared.Refusal.TheVariants.{Caller, TooMany, Extents, Missing}
 use Rattle.slices.specs.Slices.{every}
 use Rattle.quantities.specs.Letters.{is_letter}
@@ -38,4 +38,4 @@ byte_map numbers L B p =
     (require (leb (length (rows_of numbers)) max_rows) TooMany
     (require (lawful L B (rows_of numbers)) Extents
     (require (ltb p L) Missing
-    (answer (byte_at B p (rows_of numbers))))))
+    (Ok (byte_at B p (rows_of numbers))))))

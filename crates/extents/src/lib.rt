@@ -1,8 +1,8 @@
 // Extents: rows of five numbers, when they are lawful, and where a byte of a file is.
 #![tactic(auto)]
 
-ghost use Rattle.std.specs.Prelude.{◌≡◌, true, ◌+◌, ◌*◌, ◌/◌, ◌%◌, ◌<◌, ◌≤◌, min, leb, ltb, length, drop};
-ghost use Rattle.refusals.specs.Refusals.{answer, require};
+ghost use Rattle.std.specs.Prelude.{◌≡◌, true, ◌+◌, ◌*◌, ◌/◌, ◌%◌, ◌<◌, ◌≤◌, min, leb, ltb, length, drop, Ok};
+ghost use Rattle.refusals.specs.Refusals.{require};
 ghost use Rattle.refusals.specs.declared.Refusal.TheVariants.{Missing};
 ghost use Rattle.slices.specs.Slices.{every};
 ghost use Rattle.extents.specs.Rows.{rows_of};

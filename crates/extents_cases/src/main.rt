@@ -5,7 +5,6 @@ ghost use Rattle.std.specs.Prelude.{◌≤◌};
 
 use extents::ByteAt;
 use quantities::ByteCount;
-use slices::Written;
 use std::io;
 
 // Where the number at from ends.
@@ -30,8 +29,8 @@ fn number_at(s: &[u8], from: usize, end: usize) -> u64 {
         return 0;
     }
     match digits::read_plain(&s[from..end]) {
-        digits::Number::Value(n) => n,
-        digits::Number::Nothing => 0,
+        Some(n) => n,
+        None => 0,
     }
 }
 
@@ -46,8 +45,8 @@ fn print_front(rt: &impl Print, s: &[u8], n: usize) -> io::Result<()> {
 fn print_number(rt: &impl Print, n: u64) -> io::Result<()> {
     let mut out = [0u8; 20];
     match digits::write(&mut out, 0, n) {
-        Written::To(end) => print_front(rt, &out, end),
-        Written::Refused(_) => Ok(()),
+        Ok(end) => print_front(rt, &out, end),
+        Err(_) => Ok(()),
     }
 }
 

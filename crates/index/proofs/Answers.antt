@@ -1,14 +1,14 @@
 -- The order of the classes, class by class, and the header that is handed out.
+use Rattle.std.specs.Prelude.{Err, None, Ok, Result, Some}
 use mathlib.Core.Path.{◌≡◌, refl, ap, sym, subst, ◌∙◌}
 use mathlib.Core.Bool.{Bool, true, false, cond, ◌||◌, and-true}
 use mathlib.Core.List.{List, [], ◌∷◌}
-use mathlib.Core.Option.{some, none}
 use Prim.Native.Nat.{ℕ, suc, ◌-◌}
 use lib.Dec.{eqb, leb}
 use lib.ListN.{length, drop}
 use native.Mathlib.Omega.{arith}
 use Rattle.refusals.specs.declared.Refusal.{Refusal}
-use Rattle.refusals.specs.Refusals.{Answer, refused, answer, left_at}
+use Rattle.refusals.specs.Refusals.{Answer, left_at}
 use Rattle.refusals.specs.declared.Refusal.TheVariants.{Caller, TooMany, Form, Structure, Version, Value, Foreign, Extents, Location}
 use Rattle.slices.specs.Slices.{same}
 use Rattle.slices.specs.Words.{bytes}
@@ -31,8 +31,6 @@ use Rattle.index_values.specs.Tests.{Given}
 use Rattle.index_values.proofs.Seated.{no_number}
 use Rattle.index_rows.specs.Steps.{Placed, TagsPlaced}
 use Rattle.index.specs.declared.read.Header.{Header}
-use Rattle.index.specs.declared.read.Read.{Read}
-use Rattle.index.specs.declared.read.Read.TheVariants.{Found, Refused}
 use Rattle.index.specs.Index.{Index, Summary, heading_of, index_with, summary_of, is_true, structured, bounded, all_valued, all_own, all_lawful, stands_at, location_of, location_in, files_of, file_of, file_count, children_read, tag_read, root_read, caller_right, index_of}
 use Rattle.index.specs.Places.{update_time_in}
 use Rattle.index.specs.Steps.{ReadsAs, HeaderOf, ReadsInto, row_count}
@@ -44,37 +42,37 @@ unfolding caller_right
 caller_last g letter a b c d e = rw (a, b, c, d, e, and-true, and-true)
 
 module _ (g : Given) (letter block release : ℕ) (k : Forest) where
-  pub children_5 : structured k ≡ false → children_read g letter block release k ≡ refused Structure
+  pub children_5 : structured k ≡ false → children_read g letter block release k ≡ Err Structure
   unfolding children_read
   children_5 a = rw a
 
   module _ (a : structured k ≡ true) where
-    pub children_15 : bounded (elements index k) ≡ false → children_read g letter block release k ≡ refused TooMany
+    pub children_15 : bounded (elements index k) ≡ false → children_read g letter block release k ≡ Err TooMany
     unfolding children_read
     children_15 b = rw (a, b)
 
     module _ (b : bounded (elements index k) ≡ true) where
-      pub children_6 : all_valued (elements index k) ≡ false → children_read g letter block release k ≡ refused Value
+      pub children_6 : all_valued (elements index k) ≡ false → children_read g letter block release k ≡ Err Value
       unfolding children_read
       children_6 c = rw (a, b, c)
 
       module _ (c : all_valued (elements index k) ≡ true) where
-        pub children_8 : all_own g (elements index k) ≡ false → children_read g letter block release k ≡ refused Foreign
+        pub children_8 : all_own g (elements index k) ≡ false → children_read g letter block release k ≡ Err Foreign
         unfolding children_read
         children_8 d = rw (a, b, c, d)
 
         module _ (d : all_own g (elements index k) ≡ true) where
-          pub children_11 : all_lawful g (elements index k) ≡ false → children_read g letter block release k ≡ refused Extents
+          pub children_11 : all_lawful g (elements index k) ≡ false → children_read g letter block release k ≡ Err Extents
           unfolding children_read
           children_11 e = rw (a, b, c, d, e)
 
           module _ (e : all_lawful g (elements index k) ≡ true) where
-            pub children_12 : stands_at letter block (location_in k) ≡ false → children_read g letter block release k ≡ refused Location
+            pub children_12 : stands_at letter block (location_in k) ≡ false → children_read g letter block release k ≡ Err Location
             unfolding children_read
             children_12 f = rw (a, b, c, d, e, f)
 
             pub children_read_lem : stands_at letter block (location_in k) ≡ true
-                → children_read g letter block release k ≡ answer (index_with release k)
+                → children_read g letter block release k ≡ Ok (index_with release k)
             unfolding children_read
             children_read_lem f = rw (a, b, c, d, e, f)
 
@@ -88,30 +86,30 @@ files_length (e ∷ l) = go (eqb e.sort file) (files_length l)
     go false i = i
 
 module _ {s : List ℕ} {t : Tags} {a : Answer Index} {e e' o o' : List ℕ} where
-  pub into_refused : {r : Refusal} → a ≡ refused r → ReadsInto s t a e e' o o' (Refused r)
+  pub into_refused : {r : Refusal} → a ≡ Err r → ReadsInto s t a e e' o o' (Err r)
   into_refused {r} q = record { reads = record { answers = ap summary_of (sym q); header = tt }; tables = tt }
 
-  pub same_into : {b : Answer Index} {r : Read} → ReadsInto s t a e e' o o' r → a ≡ b → ReadsInto s t b e e' o o' r
+  pub same_into : {b : Answer Index} {r : (Result Header Refusal)} → ReadsInto s t a e e' o o' r → a ≡ b → ReadsInto s t b e e' o o' r
   same_into {r = r} p q = subst (λ (x : Answer Index). ReadsInto s t x e e' o o' r) q p
 
   -- the root's children are those
-  pub same_tags : {u : Tags} {r : Read} → t ≡ u → ReadsInto s t a e e' o o' r → ReadsInto s u a e e' o o' r
+  pub same_tags : {u : Tags} {r : (Result Header Refusal)} → t ≡ u → ReadsInto s t a e e' o o' r → ReadsInto s u a e e' o o' r
   same_tags {r = r} q p = subst (λ (x : Tags). ReadsInto s x a e e' o o' r) q p
 
 -- an index whose children are those of the header
 pub reads_children : {s t : List ℕ} {a : Answer Index} {h : Header} (release entries files rows : ℕ) (k : Forest) (c : Tags) → HeaderOf s t release entries files rows h
     → Placed s index k t → TagsPlaced s index c t → entries ≡ entries_of (elements index k) → files ≡ file_count (elements index k) → rows ≡ row_count (elements index k)
-    → a ≡ answer (index_with release k) → ReadsAs s (update_time_in s c) a (Found h)
+    → a ≡ Ok (index_with release k) → ReadsAs s (update_time_in s c) a (Ok h)
 reads_children release entries files rows k c w p r e f o q =
     record {
       answers =
-          ap answer (w.heading k p e f o ∙ ap (λ (n : ℕ). record { heading = heading_of release k; files = n; rows = row_count (elements index k) }) (sym (files_length (elements index k))))
+          ap Ok (w.heading k p e f o ∙ ap (λ (n : ℕ). record { heading = heading_of release k; files = n; rows = row_count (elements index k) }) (sym (files_length (elements index k))))
           ∙ ap summary_of (sym q);
       header = w.definite c r;
     }
 
 module _ (g : Given) (letter block : ℕ) (f : Forest) where
-  pub root_none : f ≡ no_element → root_read g letter block f ≡ refused Structure
+  pub root_none : f ≡ no_element → root_read g letter block f ≡ Err Structure
   unfolding root_read
   root_none e = ap (root_read g letter block) e
 
@@ -130,36 +128,36 @@ module _ {s : List ℕ} {i n : ℕ} where
   tags_empty t = sym (ap children_of_first (first_empty t).tags)
 
 module _ (g : Given) (letter block : ℕ) (h : Head) (k : Forest) where
-  pub root_name : same h.name (bytes "ltfsindex") ≡ false → tag_read g letter block h k ≡ refused Structure
+  pub root_name : same h.name (bytes "ltfsindex") ≡ false → tag_read g letter block h k ≡ Err Structure
   unfolding tag_read
   root_name a = rw a
 
   module _ (a : same h.name (bytes "ltfsindex") ≡ true) where
-    pub root_key : same h.key (bytes "version") ≡ false → tag_read g letter block h k ≡ refused Structure
+    pub root_key : same h.key (bytes "version") ≡ false → tag_read g letter block h k ≡ Err Structure
     unfolding tag_read
     root_key b = rw (a, b)
 
     module _ (b : same h.key (bytes "version") ≡ true) where
-      pub root_version : values.version h.value ≡ none → tag_read g letter block h k ≡ refused Version
+      pub root_version : values.version h.value ≡ None → tag_read g letter block h k ≡ Err Version
       unfolding tag_read
       root_version c = rw (a, b, c)
 
-      pub root_read_lem : (release : ℕ) → values.version h.value ≡ some release → children_read g letter block release k ≡ tag_read g letter block h k
+      pub root_read_lem : (release : ℕ) → values.version h.value ≡ Some release → children_read g letter block release k ≡ tag_read g letter block h k
       unfolding tag_read
       root_read_lem release c = sym (rw (a, b, c))
 
 module _ (g : Given) (letter block : ℕ) (text : List ℕ) where
-  pub index_14 : caller_right g letter ≡ false → index_of g letter block text ≡ refused Caller
+  pub index_14 : caller_right g letter ≡ false → index_of g letter block text ≡ Err Caller
   unfolding index_of
   index_14 a = rw a
 
   module _ (a : caller_right g letter ≡ true) where
-    pub index_15 : leb (length text) 1048576 ≡ false → index_of g letter block text ≡ refused TooMany
+    pub index_15 : leb (length text) 1048576 ≡ false → index_of g letter block text ≡ Err TooMany
     unfolding index_of
     index_15 b = rw (a, b)
 
     module _ (b : leb (length text) 1048576 ≡ true) where
-      pub index_4 : (n : ℕ) → in_form text ≡ false → n ≡ front text → index_of g letter block text ≡ refused (Form (left_at n))
+      pub index_4 : (n : ℕ) → in_form text ≡ false → n ≡ front text → index_of g letter block text ≡ Err (Form (left_at n))
       unfolding index_of
       index_4 n c z = rw (a, b, c, z)
 
@@ -192,7 +190,7 @@ pub same_heading : (release : ℕ) (k : Forest) (entries files rows generation h
             generation = generation;
             updatetime = time;
             location = record { letter = letter; block = block };
-            back = cond back (some (record { letter = letter₂; block = block₂ })) none;
+            back = cond back (Some (record { letter = letter₂; block = block₂ })) None;
             allowpolicyupdate = allow;
             highestfileuid = highest;
             directories = directories;

@@ -1,9 +1,9 @@
 -- What each file of an index passes where all its elements pass their tests: its rows have letters (5 and 6), are not too many (15) and are
 -- lawful (11).
+use Rattle.std.specs.Prelude.{None, Some}
 use mathlib.Core.Path.{◌≡◌, refl, ap, sym, ◌∙◌}
 use mathlib.Core.Bool.{Bool, true, false, cond, not, ◌&&◌, ◌||◌, false≢true}
 use mathlib.Core.List.{List, [], ◌∷◌, ◌++◌}
-use mathlib.Core.Option.{some, none}
 use Prim.Native.Nat.{ℕ, zero, suc, ◌≤◌}
 use native.Mathlib.Omega.{arith}
 use borrow.Author.Tests.{eqb-true}
@@ -65,7 +65,7 @@ unfolding values.letter
 letter_said [] e = absurd (false≢true e)
 letter_said (b ∷ []) e = go (is_letter b) refl e
   where
-    go : (x : Bool) → is_letter b ≡ x → is_some (cond x (some b) none) ≡ true → is_letter (or_zero (cond x (some b) none)) ≡ true
+    go : (x : Bool) → is_letter b ≡ x → is_some (cond x (Some b) None) ≡ true → is_letter (or_zero (cond x (Some b) None)) ≡ true
     go true q e = q
     go false q e = absurd (false≢true e)
 letter_said (b ∷ c ∷ t) e = absurd (false≢true e)

@@ -1,7 +1,6 @@
 -- An index's text (01, Index and Refusal numbers): what it is refused for, in the order of the classes, and what it holds.
-use Rattle.std.specs.Prelude.{Bool, false, cond, ◌&&◌, List, [], ◌∷◌, ◌++◌, ℕ, ◌-◌, eqb, leb, length}
-use Rattle.std.proofs.Math.Option.{Option, some, none}
-use Rattle.refusals.specs.Refusals.{Answer, refused, answer, require, and_then}
+use Rattle.std.specs.Prelude.{Bool, false, cond, ◌&&◌, List, [], ◌∷◌, ◌++◌, ℕ, ◌-◌, eqb, leb, length, None, Option, Some, Err, Ok}
+use Rattle.refusals.specs.Refusals.{Answer, require, and_then}
 use Rattle.refusals.specs.declared.Refusal.TheVariants.{Caller, TooMany, Structure, Version, Value, Foreign, Extents, Location}
 use Rattle.slices.specs.Slices.{every, same}
 use Rattle.slices.specs.Words.{bytes}
@@ -50,7 +49,7 @@ location_in k = location_of (children_in (bytes "location") k)
 
 -- the back pointer, if there is one
 abbrev pub back_in : Forest → Option Address
-back_in k = cond (has_element (children_in (bytes "previousgenerationlocation") k)) (some (location_of (children_in (bytes "previousgenerationlocation") k))) none
+back_in k = cond (has_element (children_in (bytes "previousgenerationlocation") k)) (Some (location_of (children_in (bytes "previousgenerationlocation") k))) None
 
 abbrev pub file_of : Forest → File
 file_of c = record { length = length_of c; name = text_in (bytes "name") c; rows = extent_rows c }
@@ -64,8 +63,8 @@ abbrev pub file_count : List IndexElement → ℕ
 file_count l = many (λ e. eqb e.sort file) l
 
 abbrev pub is_true : Option Bool → Bool
-is_true none = false
-is_true (some b) = b
+is_true None = false
+is_true (Some b) = b
 
 -- the heading of an index with that release and those children
 abbrev pub heading_of : ℕ → Forest → Heading
@@ -117,7 +116,7 @@ children_read g letter block release k =
     (require (all_own g (elements index k)) Foreign
     (require (all_lawful g (elements index k)) Extents
     (require (stands_at letter block (location_in k)) Location
-    (answer (index_with release k)))))))
+    (Ok (index_with release k)))))))
 
 -- 5 for the root's name and its one attribute, then 7 for its value, then the rest
 unfoldable pub tag_read : Given → ℕ → ℕ → Head → Forest → Answer Index
@@ -127,7 +126,7 @@ tag_read g letter block h k =
     (children_read g letter block (or_zero (values.version h.value)) k))
 
 unfoldable pub root_read : Given → ℕ → ℕ → Forest → Answer Index
-root_read g letter block no_element = refused Structure
+root_read g letter block no_element = Err Structure
 root_read g letter block (node h k r) = tag_read g letter block h k
 
 -- 14: the caller's letters, block size, UUID and place
@@ -162,4 +161,4 @@ abbrev pub summary : Index → Summary
 summary x = record { heading = x.heading; files = length x.files; rows = length (all_rows x.files) }
 
 abbrev pub summary_of : Answer Index → Answer Summary
-summary_of a = and_then a (λ x. answer (summary x))
+summary_of a = and_then a (λ x. Ok (summary x))

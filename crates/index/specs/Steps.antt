@@ -1,5 +1,6 @@
 -- What this crate's functions owe each other.
-use Rattle.std.specs.Prelude.{◌≡◌, true, false, cond, ◌&&◌, List, ℕ, ◌*◌, ◌/◌, ◌≤◌, leb, length, set, drop}
+use Rattle.refusals.specs.declared.Refusal.{Refusal}
+use Rattle.std.specs.Prelude.{◌≡◌, true, false, cond, ◌&&◌, List, ℕ, ◌*◌, ◌/◌, ◌≤◌, leb, length, set, drop, Err, None, Ok, Option, Result, Some}
 use Rattle.std.proofs.lemmas.List.Edits.{sets}
 use Rattle.quantities.specs.declared.BlockNumber.{BlockNumber}
 use Rattle.tables.specs.Copying.{copied}
@@ -23,15 +24,12 @@ use Rattle.index.specs.Index.{children_read, tag_read, root_read, Index, Summary
 use Rattle.index.specs.Entries.{Entry, entry_with, entries_in, entry_rows, nine, nines}
 use Rattle.index.specs.Places.{update_time_in, update_time_place}
 use Rattle.index.specs.SweepSteps.{All, gathered, none_seen, marked, after_row, ended_sums, entry_put, after_element, sweep}
-use Rattle.index.specs.declared.read.Read.{Read}
 use Rattle.index.specs.declared.survey.Gathered.{Gathered}
 use Rattle.index.specs.declared.walk.Sums.{Sums}
 use Rattle.index.specs.declared.walk.Left.{Left}
-use Rattle.std.proofs.Math.Option.{Option, some, none}
-use Rattle.refusals.specs.Refusals.{Answer, refused, answer}
+use Rattle.refusals.specs.Refusals.{Answer}
 use Rattle.quantities.specs.Addresses.{Address}
 use Rattle.index.specs.declared.read.Header.{Header}
-use Rattle.index.specs.declared.read.Read.TheVariants.{Found, Refused}
 
 -- how many rows the files among some elements have
 abbrev pub row_count : List IndexElement → ℕ
@@ -52,7 +50,7 @@ abbrev pub location_from : ℕ → BlockNumber → Address
 location_from l b = record { letter = l; block = b.0 }
 
 abbrev pub back_of : Header → Option Address
-back_of h = cond h.back (some (location_from h.back_letter h.back_block)) none
+back_of h = cond h.back (Some (location_from h.back_letter h.back_block)) None
 
 -- what a reader's header means of a text
 abbrev pub summary_in : List ℕ → Header → Summary
@@ -73,9 +71,9 @@ summary_in s h =
       rows = h.rows;
     }
 
-abbrev pub means : List ℕ → Read → Answer Summary
-means s (Found h) = answer (summary_in s h)
-means s (Refused r) = refused r
+abbrev pub means : List ℕ → Result Header Refusal → Answer Summary
+means s (Ok h) = Ok (summary_in s h)
+means s (Err r) = Err r
 
 -- what that leaves open: the update time stands at w, which lies in the text, and without a back pointer its letter and its block are 0
 pub record Definite (s : List ℕ) (w : Span) (h : Header) : Type 0 where
@@ -83,16 +81,16 @@ pub record Definite (s : List ℕ) (w : Span) (h : Header) : Type 0 where
   pub inside : Inside s h.time.from h.time.len
   pub no_back : h.back ≡ false → location_from h.back_letter h.back_block ≡ record { letter = 0; block = 0 }
 
-abbrev pub IsDefinite : List ℕ → Span → Read → Type 0
-IsDefinite s w (Found h) = Definite s w h
-IsDefinite s w (Refused r) = Unit {0}
+abbrev pub IsDefinite : List ℕ → Span → Result Header Refusal → Type 0
+IsDefinite s w (Ok h) = Definite s w h
+IsDefinite s w (Err r) = Unit {0}
 
 -- what is read of a text s that is that index, its update time at w, or is refused
-pub record ReadsAs (s : List ℕ) (w : Span) (a : Answer Index) (r : Read) : Type 0 where
+pub record ReadsAs (s : List ℕ) (w : Span) (a : Answer Index) (r : Result Header Refusal) : Type 0 where
   pub answers : means s r ≡ summary_of a
   pub header : IsDefinite s w r
 
-abbrev pub ReadsIndex : List ℕ → Answer Index → Read → Type 0
+abbrev pub ReadsIndex : List ℕ → Answer Index → Result Header Refusal → Type 0
 ReadsIndex s = ReadsAs s (update_time_place s)
 
 -- the header of any index whose children stand at places t of the text s, with so many entries, so many of them files, and so many rows
@@ -146,7 +144,7 @@ Closes x t s p v b a r =
 
 -- of one that has no children
 abbrev pub ClosesEmpty : List ℕ → ℕ → ℕ → Partitions → Sums → All → All → Type 0
-ClosesEmpty x s p v b a r = (u : List ℕ) → r ≡ after_element x (given u v) s none p b (after_row s none_seen a)
+ClosesEmpty x s p v b a r = (u : List ℕ) → r ≡ after_element x (given u v) s None p b (after_row s none_seen a)
 
 -- the walk over the row at a place of the text s, in an element of that kind in directory p: what is gathered behind a, with the tables after it; where
 -- reading goes on; and the places of the row's elements
@@ -179,27 +177,27 @@ pub record Surveys (g : Given) (s : List ℕ) (at : ℕ) (e e' o o' : List ℕ) 
   pub tables : r.sums.few ≡ true → Listed (entries_in s index 0 0 (tags_at s at)) e e' o o'
 
 -- where an index is answered, its entries and rows are in their tables
-abbrev pub IsListed : List Entry → List ℕ → List ℕ → List ℕ → List ℕ → Read → Type 0
-IsListed es e e' o o' (Found h) = Listed es e e' o o'
-IsListed es e e' o o' (Refused r) = Unit {0}
+abbrev pub IsListed : List Entry → List ℕ → List ℕ → List ℕ → List ℕ → Result Header Refusal → Type 0
+IsListed es e e' o o' (Ok h) = Listed es e e' o o'
+IsListed es e e' o o' (Err r) = Unit {0}
 
 -- what is read of a text s whose root's children are t, and is that index or is refused, with its tables before and after
-pub record ReadsInto (s : List ℕ) (t : Tags) (a : Answer Index) (e e' o o' : List ℕ) (r : Read) : Type 0 where
+pub record ReadsInto (s : List ℕ) (t : Tags) (a : Answer Index) (e e' o o' : List ℕ) (r : Result Header Refusal) : Type 0 where
   pub reads : ReadsAs s (update_time_in s t) a r
   pub tables : IsListed (entries_in s index 0 0 t) e e' o o' r
 
-abbrev pub ReadsAll : List ℕ → Answer Index → List ℕ → List ℕ → List ℕ → List ℕ → Read → Type 0
+abbrev pub ReadsAll : List ℕ → Answer Index → List ℕ → List ℕ → List ℕ → List ℕ → Result Header Refusal → Type 0
 ReadsAll s = ReadsInto s (children_of_first (tags_at s 38))
 
 module _ (s : List ℕ) (g : Given) (letter : ℕ) (block : BlockNumber) where
   -- what is read of an index at that partition letter and block: by its release and the row of its children
-  abbrev pub ReadsChildren : ℕ → ℕ → List ℕ → List ℕ → List ℕ → List ℕ → Read → Type 0
+  abbrev pub ReadsChildren : ℕ → ℕ → List ℕ → List ℕ → List ℕ → List ℕ → Result Header Refusal → Type 0
   ReadsChildren release at = ReadsInto s (tags_at s at) (children_read g letter block.0 release (forest_at s at))
 
   -- by its root's tag
-  abbrev pub ReadsTag : ℕ → List ℕ → List ℕ → List ℕ → List ℕ → Read → Type 0
+  abbrev pub ReadsTag : ℕ → List ℕ → List ℕ → List ℕ → List ℕ → Result Header Refusal → Type 0
   ReadsTag n = ReadsInto s (tags_in (drop n s)) (tag_read g letter block.0 (head_at s n) (children_at s n))
 
   -- by its text in the XML form
-  abbrev pub ReadsRoot : List ℕ → List ℕ → List ℕ → List ℕ → Read → Type 0
+  abbrev pub ReadsRoot : List ℕ → List ℕ → List ℕ → List ℕ → Result Header Refusal → Type 0
   ReadsRoot = ReadsAll s (root_read g letter block.0 (forest_at s 38))

@@ -13,7 +13,6 @@ use elements::{Span, Tag};
 use index_values::Partitions;
 use quantities::{BlockNumber, Generation};
 use refusals::{Place, Refusal};
-use values::{Boolean, Version};
 use xml::FormChecked;
 
 // What an index says besides its files: the R of its version 2.0.R; its generation; where the update time stands in its text; its location;
@@ -33,12 +32,6 @@ pub struct Header {
     pub directories: u64,
     pub files: u64,
     pub rows: u64,
-}
-
-#[derive(Clone, Copy)]
-pub enum Read {
-    Found(Header),
-    Refused(Refusal),
 }
 
 // Whether the caller's letters, block size, UUID and place are in their rules.
@@ -95,8 +88,8 @@ fn is_true(raw: &[u8]) -> bool
     ensures { result ≡ is_true (values.boolean raw.now) }
 {
     match values::read_boolean(raw) {
-        Boolean::Value(b) => b,
-        Boolean::Nothing => false,
+        Some(b) => b,
+        None => false,
     }
 }
 
@@ -154,7 +147,7 @@ fn read_children(
     release: u64,
     letter: u8,
     block: BlockNumber,
-) -> Read
+) -> Result<Header, Refusal>
     requires { (at ≤ length text.now) × (height (forest_at text.now at) ≤ 64) }
     ensures { ReadsChildren text.now (given uuid.now volume) letter block release at
         entry_table.old entry_table.new row_table.old row_table.new result }
@@ -163,24 +156,24 @@ fn read_children(
     let s = found.sums;
     let places = found.places;
     if !s.structure {
-        return Read::Refused(Refusal::Structure);
+        return Err(Refusal::Structure);
     }
     if !s.few {
-        return Read::Refused(Refusal::TooMany);
+        return Err(Refusal::TooMany);
     }
     if !s.values {
-        return Read::Refused(Refusal::Value);
+        return Err(Refusal::Value);
     }
     if !s.own {
-        return Read::Refused(Refusal::Foreign);
+        return Err(Refusal::Foreign);
     }
     if !s.lawful {
-        return Read::Refused(Refusal::Extents);
+        return Err(Refusal::Extents);
     }
     if !is_place(text, index_rows::row_at(text, places[4]), letter, block) {
-        return Read::Refused(Refusal::Location);
+        return Err(Refusal::Location);
     }
-    Read::Found(head_from(text, &places, release, s.entries, s.files, s.rows))
+    Ok(head_from(text, &places, release, s.entries, s.files, s.rows))
 }
 
 // The index whose root's tag is at n.
@@ -193,20 +186,20 @@ fn read_tag(
     volume: Partitions,
     letter: u8,
     block: BlockNumber,
-) -> Read
+) -> Result<Header, Refusal>
     requires { height (children_at text.now n) ≤ 64 }
     ensures { ReadsTag text.now (given uuid.now volume) letter block n
         entry_table.old entry_table.new row_table.old row_table.new result }
 {
     if !elements::name_is(text, n, b"ltfsindex") {
-        return Read::Refused(Refusal::Structure);
+        return Err(Refusal::Structure);
     }
     if !slices::same(elements::key_of(text, n), b"version") {
-        return Read::Refused(Refusal::Structure);
+        return Err(Refusal::Structure);
     }
     match values::read_version(elements::value_of(text, n)) {
-        Version::Nothing => Read::Refused(Refusal::Version),
-        Version::Release(release) => {
+        None => Err(Refusal::Version),
+        Some(release) => {
             let at = elements::first_child(text, n);
             read_children(
                 text,
@@ -232,14 +225,14 @@ fn read_root(
     volume: Partitions,
     letter: u8,
     block: BlockNumber,
-) -> Read
+) -> Result<Header, Refusal>
     requires { form text.now ≡ good }
     ensures { ReadsRoot text.now (given uuid.now volume) letter block
         entry_table.old entry_table.new row_table.old row_table.new result }
 {
     match elements::next_tag(text, 38) {
-        Tag::End => Read::Refused(Refusal::Structure),
-        Tag::Close(_) => Read::Refused(Refusal::Structure),
+        Tag::End => Err(Refusal::Structure),
+        Tag::Close(_) => Err(Refusal::Structure),
         Tag::Empty(n) => read_tag(text, uuid, entry_table, row_table, n, volume, letter, block),
         Tag::Open(n) => read_tag(text, uuid, entry_table, row_table, n, volume, letter, block),
     }
@@ -255,18 +248,18 @@ pub fn read_into(
     block: BlockNumber,
     entry_table: &mut [u64],
     row_table: &mut [u64],
-) -> Read
+) -> Result<Header, Refusal>
     ensures { ReadsAll text.now (index_of (given uuid.now volume) letter block.0 text.now)
         entry_table.old entry_table.new row_table.old row_table.new result }
 {
     if !is_caller_right(uuid, volume, letter) {
-        return Read::Refused(Refusal::Caller);
+        return Err(Refusal::Caller);
     }
     if 1048576 < text.len() {
-        return Read::Refused(Refusal::TooMany);
+        return Err(Refusal::TooMany);
     }
     match xml::check(text) {
-        FormChecked::Broken(front) => Read::Refused(Refusal::Form(Place {
+        FormChecked::Broken(front) => Err(Refusal::Form(Place {
             front,
             on_data: false,
         })),
@@ -283,7 +276,7 @@ pub fn read_index(
     volume: Partitions,
     letter: u8,
     block: BlockNumber,
-) -> Read
+) -> Result<Header, Refusal>
     ensures { ReadsIndex text.now (index_of (given uuid.now volume) letter block.0 text.now) result }
 {
     let mut no_entries = [0u64; 1];

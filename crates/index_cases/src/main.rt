@@ -4,13 +4,12 @@
 ghost use Rattle.std.specs.Prelude.{◌≡◌, ◌≤◌, length};
 ghost use Rattle.case_files.specs.Counts.{IsPrefixLen};
 
+use refusals::Refusal;
 use constructs::Bounds;
 use elements::Span;
-use index::{Header, Read};
-use index_files::{FileRead, Filled};
+use index::Header;
 use index_values::Partitions;
 use quantities::BlockNumber;
-use slices::Written;
 use std::fs::File;
 use std::io;
 use volume::Chosen;
@@ -94,10 +93,10 @@ fn header_as(file: &mut File, text: &[u8], h: Header) -> bool {
     slices::same(elements::part(text, time), &expected[..n])
 }
 
-fn read_as(file: &mut File, text: &[u8], read: Read, refusal: u64) -> bool {
+fn read_as(file: &mut File, text: &[u8], read: Result<Header, Refusal>, refusal: u64) -> bool {
     match read {
-        Read::Refused(r) => refusals::number(r) == refusal,
-        Read::Found(h) => {
+        Err(r) => refusals::number(r) == refusal,
+        Ok(h) => {
             if refusal != 0 {
                 return false;
             }
@@ -156,10 +155,10 @@ fn rows_as(
     )
 }
 
-fn count_as(read: Filled, refusal: u64, count: u64) -> bool {
+fn count_as(read: Result<u64, Refusal>, refusal: u64, count: u64) -> bool {
     match read {
-        Filled::Refused(r) => refusals::number(r) == refusal,
-        Filled::Count(n) => {
+        Err(r) => refusals::number(r) == refusal,
+        Ok(n) => {
             if refusal != 0 {
                 return false;
             }
@@ -179,8 +178,8 @@ fn name_as(text: &[u8], from: usize, len: usize, expected: &[u8]) -> bool {
     let end = from + len;
     let mut name = [0u8; 2048];
     match texts::decode(&text[from..end], &mut name, 0) {
-        Written::Refused(_) => false,
-        Written::To(n) => front_as(&name, n, expected),
+        Err(_) => false,
+        Ok(n) => front_as(&name, n, expected),
     }
 }
 
@@ -208,12 +207,12 @@ fn file_as(
     let n = case_files::bytes(file, &mut name);
     let count = case_files::number(file);
     match index_files::file(text, uuid, volume, letter, BlockNumber(block), k) {
-        FileRead::Refused(r) => {
+        Err(r) => {
             if refusals::number(r) != refusal {
                 return false;
             }
         }
-        FileRead::Found(h) => {
+        Ok(h) => {
             if refusal != 0 {
                 return false;
             }
@@ -254,15 +253,15 @@ fn files_as(
 }
 
 // The length of a file, where one is expected.
-fn length_as(read: FileRead, refusal: u64, bytes: u64) -> bool {
+fn length_as(read: Result<FileHead, Refusal>, refusal: u64, bytes: u64) -> bool {
     match read {
-        FileRead::Found(h) => {
+        Ok(h) => {
             if refusal == 10 {
                 return true;
             }
             h.length.0 == bytes
         }
-        FileRead::Refused(r) => refusals::number(r) == refusal,
+        Err(r) => refusals::number(r) == refusal,
     }
 }
 
@@ -400,8 +399,8 @@ fn run(rt: &HostRuntime, path: &str, kind: u64) -> io::Result<()> {
 // Writes w from at on, if there is room, and answers the place behind it.
 fn add(out: &mut [u8], at: usize, w: &[u8]) -> usize {
     match slices::put(out, at, w) {
-        Written::To(n) => n,
-        Written::Refused(_) => at,
+        Ok(n) => n,
+        Err(_) => at,
     }
 }
 
@@ -454,8 +453,8 @@ fn refused_as(text: &[u8], refusal: u64) -> bool {
     };
     let uuid = b"30a91a08-daae-48d1-ae75-69804e61d2ea";
     match index::read_index(text, uuid, volume, 97, BlockNumber(6)) {
-        Read::Found(_) => false,
-        Read::Refused(r) => refusals::number(r) == refusal,
+        Ok(_) => false,
+        Err(r) => refusals::number(r) == refusal,
     }
 }
 

@@ -1,5 +1,6 @@
 -- What holds of a text that is read as an index without refusal: it is in the XML form, its root, its structure and its values are right,
 -- its extents are lawful, and what it says is what its children say.
+use Rattle.std.specs.Prelude.{Ok}
 use mathlib.Core.Path.{◌≡◌, ap, sym, ◌∙◌}
 use mathlib.Core.Bool.{true, ◌&&◌}
 use mathlib.Core.List.{List}
@@ -7,7 +8,7 @@ use Prim.Native.Nat.{ℕ}
 use lib.Dec.{leb}
 use lib.ListN.{length}
 use Rattle.refusals.proofs.Refusing.{passed}
-use Rattle.refusals.specs.Refusals.{Answer, answer, require, left_at}
+use Rattle.refusals.specs.Refusals.{Answer, require, left_at}
 use Rattle.refusals.specs.declared.Refusal.TheVariants.{Caller, TooMany, Form, Structure, Version, Value, Foreign, Extents, Location}
 use Rattle.slices.specs.Slices.{every, same}
 use Rattle.slices.specs.Words.{bytes}
@@ -39,11 +40,11 @@ pub record Accepted (g : Given) (letter : ℕ) (text : List ℕ) (x : Index) : T
   pub says : x ≡ index_with release kids
 
 module _ (g : Given) (letter block : ℕ) (x : Index) where
-  children_accepted : (release : ℕ) (k : Forest) → children_read g letter block release k ≡ answer x → (structured k ≡ true) × (all_valued (elements index k) ≡ true) × (all_lawful g (elements index k) ≡ true) × (x ≡ index_with release k)
+  children_accepted : (release : ℕ) (k : Forest) → children_read g letter block release k ≡ Ok x → (structured k ≡ true) × (all_valued (elements index k) ≡ true) × (all_lawful g (elements index k) ≡ true) × (x ≡ index_with release k)
   unfolding children_read
   children_accepted release k e =
       let l = elements index k in
-      let a6 : Answer Index = answer (index_with release k) in
+      let a6 : Answer Index = Ok (index_with release k) in
       let a5 = require (stands_at letter block (location_in k)) Location a6 in
       let a4 = require (all_lawful g l) Extents a5 in
       let a3 = require (all_own g l) Foreign a4 in
@@ -55,13 +56,13 @@ module _ (g : Given) (letter block : ℕ) (x : Index) where
       let p3 = passed Foreign a4 x (all_own g l) p2.1 in
       let p4 = passed Extents a5 x (all_lawful g l) p3.1 in
       let p5 = passed Location a6 x (stands_at letter block (location_in k)) p4.1 in
-      let z : answer (index_with release k) ≡ answer x = p5.1 in
+      let z : Ok (index_with release k) ≡ Ok x = p5.1 in
       (p0.0, p2.0, p4.0, same_answer z)
     where
-      same_answer : {y : Index} → answer y ≡ answer x → x ≡ y
+      same_answer : {y : Index} → Ok y ≡ Ok x → x ≡ y
       same_answer e = cc
 
-  root_accepted : (text : List ℕ) (h : Head) (k : Forest) → caller_right g letter ≡ true → Reads text h k → root_read g letter block (node h k none) ≡ answer x → Accepted g letter text x
+  root_accepted : (text : List ℕ) (h : Head) (k : Forest) → caller_right g letter ≡ true → Reads text h k → root_read g letter block (node h k none) ≡ Ok x → Accepted g letter text x
   unfolding root_read tag_read structured
   root_accepted text h k right form e =
       let n = or_zero (values.version h.value) in
@@ -81,7 +82,7 @@ module _ (g : Given) (letter block : ℕ) (x : Index) where
         says = p2.3;
       }
 
-pub accepted : (g : Given) (letter block : ℕ) (text : List ℕ) (x : Index) → index_of g letter block text ≡ answer x → Accepted g letter text x
+pub accepted : (g : Given) (letter block : ℕ) (text : List ℕ) (x : Index) → index_of g letter block text ≡ Ok x → Accepted g letter text x
 unfolding index_of
 accepted g letter block text x e =
     let a2 = root_read g letter block (forest_at text 38) in

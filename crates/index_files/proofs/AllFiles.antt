@@ -1,4 +1,5 @@
 -- The files that are read along an index's text are those that the index says, where it is read without refusal.
+use Rattle.std.specs.Prelude.{Ok}
 use mathlib.Core.Path.{◌≡◌, refl, ap, sym, ◌∙◌}
 use mathlib.Core.Bool.{Bool, true, false, cond, not, ◌&&◌, ◌||◌, false≢true}
 use mathlib.Core.List.{List, [], ◌∷◌, ◌++◌, map, append-nil}
@@ -7,7 +8,6 @@ use native.Mathlib.Omega.{arith}
 use borrow.Author.Tests.{eqb-true}
 use lib.Dec.{eqb}
 use lib.ListN.{length}
-use Rattle.refusals.specs.Refusals.{answer}
 use Rattle.slices.specs.Slices.{every, same}
 use Rattle.slices.specs.Words.{bytes}
 use Rattle.slices.proofs.Booleans.{and_left, and_right}
@@ -190,7 +190,7 @@ row_tags [] f e = let z : ◌≡◌ {A = ℕ} 0 1 = cc in absurd (omega arith)
 row_tags (t ∷ []) f e = append-nil (file_tags t)
 row_tags (t ∷ u ∷ fs) f e = let z : ◌≡◌ {A = ℕ} 0 1 = cc in absurd (omega arith)
 
-module _ (g : Given) (letter block : ℕ) (text : List ℕ) (x : Index) (e : index_of g letter block text ≡ answer x) where
+module _ (g : Given) (letter block : ℕ) (text : List ℕ) (x : Index) (e : index_of g letter block text ≡ Ok x) where
   pub tags_left_lem : file_tags_from text 38 ≡ all_file_tags text
   tags_left_lem =
       let a = accepted g letter block text x e in

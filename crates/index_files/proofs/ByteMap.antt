@@ -1,5 +1,6 @@
 -- A file's rows, written to a lent buffer and read again by the byte map: what it asks for, an index that is read without refusal has passed. So
 -- each byte of the file has a place, and only positions from its length on are refused, with 2.
+use Rattle.std.specs.Prelude.{Ok, Err}
 use mathlib.Core.Path.{◌≡◌, refl, ap, sym, ◌∙◌, subst}
 use mathlib.Core.Bool.{Bool, true, false, ◌&&◌}
 use mathlib.Core.List.{List, [], ◌∷◌}
@@ -8,7 +9,7 @@ use native.Mathlib.Omega.{arith}
 use borrow.Author.Tests.{leb-true, lt-ltb, le-ltb}
 use lib.Dec.{leb, ltb}
 use lib.ListN.{length, take}
-use Rattle.refusals.specs.Refusals.{Answer, refused, answer, require, and_then}
+use Rattle.refusals.specs.Refusals.{Answer, require, and_then}
 use Rattle.refusals.specs.declared.Refusal.TheVariants.{Short, Missing}
 use Rattle.slices.specs.Slices.{every}
 use Rattle.slices.proofs.Booleans.{and_left, and_right, and_parts}
@@ -31,16 +32,15 @@ use Rattle.index.proofs.EachFile.{files_lettered, files_lawful}
 use Rattle.index_files.specs.Asked.{nth, file_in}
 use Rattle.index_files.specs.Filling.{with_room, rows_for, HoldsRows, Stored}
 use Rattle.index_files.specs.FillingSteps.{FillsBuffer}
-use Rattle.index_files.specs.declared.filling.Filled.TheVariants.{Count}
 use Rattle.index_files.proofs.Accepted.{accepted}
 
 -- an answer that follows from another one's
-answered : {A B : Type 0} (a : Answer A) (next : A → Answer B) (b : B) → and_then a next ≡ answer b → (x : A) × (a ≡ answer x) × (next x ≡ answer b)
-answered (refused r) next b e = let z : ◌≡◌ {A = ℕ} 0 1 = cc in absurd (omega arith)
-answered (answer x) next b e = (x, refl, e)
+answered : {A B : Type 0} (a : Answer A) (next : A → Answer B) (b : B) → and_then a next ≡ Ok b → (x : A) × (a ≡ Ok x) × (next x ≡ Ok b)
+answered (Err r) next b e = let z : ◌≡◌ {A = ℕ} 0 1 = cc in absurd (omega arith)
+answered (Ok x) next b e = (x, refl, e)
 
 -- what each passes, that of number k passes
-nth_passes : {A : Type 0} (test : A → Bool) (k : ℕ) (l : List A) (x : A) → every test l ≡ true → nth k l ≡ answer x → test x ≡ true
+nth_passes : {A : Type 0} (test : A → Bool) (k : ℕ) (l : List A) (x : A) → every test l ≡ true → nth k l ≡ Ok x → test x ≡ true
 unfolding nth every
 nth_passes test k [] x e n = let z : ◌≡◌ {A = ℕ} 0 1 = cc in absurd (omega arith)
 nth_passes test zero (y ∷ l) x e n = let z : y ≡ x = cc in sym (ap test z) ∙ and_left (test y) (every test l) e
@@ -56,45 +56,45 @@ unfolding all_valued
 each_valued k e = and_left _ (different (uids_of k)) e
 
 -- a file of an index
-module _ (g : Given) (letter block : ℕ) (text : List ℕ) (k : ℕ) (f : File) (e : file_in k (index_of g letter block text) ≡ answer f) where
+module _ (g : Given) (letter block : ℕ) (text : List ℕ) (k : ℕ) (f : File) (e : file_in k (index_of g letter block text) ≡ Ok f) where
   passed : (is_block_size g.block_size ≡ true) × (lettered f.rows ≡ true) × ((leb (length f.rows) 1024 && lawful f.length g.block_size f.rows) ≡ true)
   passed =
       let (x, i, n) = answered (index_of g letter block text) (λ x. nth k x.files) f e in
       let a = accepted g letter block text x i in
-      let m : nth k (files_of (elements index a.kids)) ≡ answer f = sym (ap (λ (y : Index). nth k y.files) a.says) ∙ n in (
+      let m : nth k (files_of (elements index a.kids)) ≡ Ok f = sym (ap (λ (y : Index). nth k y.files) a.says) ∙ n in (
         size_right g letter a.caller,
         nth_passes (λ h. lettered h.rows) k _ f (files_lettered index a.kids a.right (each_valued (elements index a.kids) a.valued)) m,
         nth_passes (λ h. leb (length h.rows) 1024 && lawful h.length g.block_size h.rows) k _ f (files_lawful g (elements index a.kids) a.lawful) m,
       )
 
   module _ (p : ℕ) where
-    mapped : byte_map (numbers_of f.rows) f.length g.block_size p ≡ require (ltb p f.length) Missing (answer (byte_at g.block_size p f.rows))
+    mapped : byte_map (numbers_of f.rows) f.length g.block_size p ≡ require (ltb p f.length) Missing (Ok (byte_at g.block_size p f.rows))
     mapped =
         let (size, letters, both) = passed in
         let (few, law) = and_parts (leb (length f.rows) 1024) (lawful f.length g.block_size f.rows) both in
         numbers_mapped f.rows f.length g.block_size p size letters (leb-true (length f.rows) 1024 few) law
 
     -- a byte of the file has its place
-    pub byte_placed : p < f.length → byte_map (numbers_of f.rows) f.length g.block_size p ≡ answer (byte_at g.block_size p f.rows)
+    pub byte_placed : p < f.length → byte_map (numbers_of f.rows) f.length g.block_size p ≡ Ok (byte_at g.block_size p f.rows)
     byte_placed h = mapped ∙ rw (lt-ltb p f.length h)
 
     -- from its length on there is none
-    pub byte_missing : f.length ≤ p → byte_map (numbers_of f.rows) f.length g.block_size p ≡ refused Missing
+    pub byte_missing : f.length ≤ p → byte_map (numbers_of f.rows) f.length g.block_size p ≡ Err Missing
     byte_missing h = mapped ∙ rw (le-ltb p f.length h)
 
 -- numbers that are the rows of the file that was asked for, and from which the byte map places each of its bytes
 pub record ReadAgain (g : Given) (asked : Answer File) (numbers : List ℕ) : Type 0 where
   pub file : File
-  pub found : asked ≡ answer file
+  pub found : asked ≡ Ok file
   pub rows : rows_of numbers ≡ file.rows
-  pub placed : (p : ℕ) → p < file.length → byte_map numbers file.length g.block_size p ≡ answer (byte_at g.block_size p file.rows)
-  pub missing : (p : ℕ) → file.length ≤ p → byte_map numbers file.length g.block_size p ≡ refused Missing
+  pub placed : (p : ℕ) → p < file.length → byte_map numbers file.length g.block_size p ≡ Ok (byte_at g.block_size p file.rows)
+  pub missing : (p : ℕ) → file.length ≤ p → byte_map numbers file.length g.block_size p ≡ Err Missing
 
 -- what is written is all there is
-fits_all : (room : ℕ) (l m : List Row) → with_room 5 room l ≡ answer m → l ≡ m
+fits_all : (room : ℕ) (l m : List Row) → with_room 5 room l ≡ Ok m → l ≡ m
 fits_all room l m = go (leb (length l * 5) room)
   where
-    go : (b : Bool) → require b Short (answer l) ≡ answer m → l ≡ m
+    go : (b : Bool) → require b Short (Ok l) ≡ Ok m → l ≡ m
     go true e = cc
     go false e = let z : ◌≡◌ {A = ℕ} 0 1 = cc in absurd (omega arith)
 
@@ -109,9 +109,9 @@ module _ (g : Given) (letter block : ℕ) (text : List ℕ) (k room : ℕ) (befo
   asked = file_in k (index_of g letter block text)
 
   -- where n rows were written, as `index_files::rows` promises it, the first n fives are read again
-  pub read_again : (n : ℕ) → FillsBuffer HoldsRows (rows_for room asked) before after (Count n) → ReadAgain g asked (take (n * 5) after)
+  pub read_again : (n : ℕ) → FillsBuffer HoldsRows (rows_for room asked) before after (Ok n) → ReadAgain g asked (take (n * 5) after)
   read_again n w =
-      let (l, r, c) = answered (rows_for room asked) (λ l. answer (length l)) n (sym w.says) in
+      let (l, r, c) = answered (rows_for room asked) (λ l. Ok (length l)) n (sym w.says) in
       let (f, i, q) = answered asked (λ f. with_room 5 room f.rows) l r in
       let z : f.rows ≡ l = fits_all room f.rows l q in
       let h : HoldsRows l before after = stored r in
@@ -125,5 +125,5 @@ module _ (g : Given) (letter block : ℕ) (text : List ℕ) (k room : ℕ) (befo
         missing = λ p a. ap (λ (o : List ℕ). byte_map o f.length g.block_size p) s ∙ byte_missing g letter block text k f i p a;
       }
     where
-      stored : {l : List Row} → rows_for room asked ≡ answer l → HoldsRows l before after
+      stored : {l : List Row} → rows_for room asked ≡ Ok l → HoldsRows l before after
       stored r = subst (λ (a : Answer (List Row)). Stored HoldsRows a before after) r w.stored

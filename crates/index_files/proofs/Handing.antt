@@ -1,4 +1,5 @@
 -- All of an index, by its tables: what its header counts is what its entries and rows are.
+use Rattle.std.specs.Prelude.{Err, Ok, Result}
 use mathlib.Core.Path.{◌≡◌, refl, ap, sym, ◌∙◌, subst}
 use mathlib.Core.Bool.{Bool, true, false, cond, ◌&&◌}
 use mathlib.Core.List.{List}
@@ -9,7 +10,7 @@ use borrow.Author.Tests.{le-leb, lt-leb, leb-true, leb-false}
 use lib.Dec.{leb}
 use lib.ListN.{length, take, drop}
 use lib.Seq.{sets, sets-eq, length-sets, take-append_seam}
-use Rattle.refusals.specs.Refusals.{Answer, refused, answer, require}
+use Rattle.refusals.specs.Refusals.{Answer, require}
 use Rattle.refusals.specs.declared.Refusal.{Refusal}
 use Rattle.refusals.specs.declared.Refusal.TheVariants.{Short}
 use Rattle.slices.specs.Slices.{written}
@@ -30,8 +31,6 @@ use Rattle.index.specs.Index.{Index, Summary, summary, summary_of, files_of, fil
 use Rattle.index.specs.Entries.{index_entries, entry_rows, nines}
 use Rattle.index.specs.Steps.{Listed, IsListed, ReadsIndex, means, summary_in}
 use Rattle.index.specs.declared.read.Header.{Header}
-use Rattle.index.specs.declared.read.Read.{Read}
-use Rattle.index.specs.declared.read.Read.TheVariants.{Found, Refused}
 use Rattle.index.proofs.Listing.{uids_length, nines_length}
 use Rattle.index.proofs.Agreeing.{uids_agree, rows_agree}
 use Rattle.index.proofs.Surveying.{uids_many, files_few}
@@ -63,7 +62,7 @@ unfolding children_of_first told
 first_heads none = refl
 first_heads (node r k f) = refl
 
-module _ (g : Given) (letter block : ℕ) (s : List ℕ) (x : Index) (w : index_of g letter block s ≡ answer x) where
+module _ (g : Given) (letter block : ℕ) (s : List ℕ) (x : Index) (w : index_of g letter block s ≡ Ok x) where
   abbrev t : Tags
   t = children_of_first (tags_at s 38)
 
@@ -101,26 +100,26 @@ module _ (g : Given) (letter block : ℕ) (s : List ℕ) (x : Index) (w : index_
     room_as = rw (counted, rows_counted)
 
 -- the same index
-pub whole_as : {s e e' o o' : List ℕ} {a b : Answer Index} {r : Read} → a ≡ b → ReadsWhole s a e e' o o' r → ReadsWhole s b e e' o o' r
+pub whole_as : {s e e' o o' : List ℕ} {a b : Answer Index} {r : (Result Header Refusal)} → a ≡ b → ReadsWhole s a e e' o o' r → ReadsWhole s b e e' o o' r
 whole_as {s} {e} {e'} {o} {o'} {r = r} q w = subst (λ (a : Answer Index). ReadsWhole s a e e' o o' r) q w
 
 module _ (s : List ℕ) (e e' o o' : List ℕ) where
-  pub whole_refused : {a : Answer Index} (r : Refusal) → refused r ≡ summary_of a → ReadsWhole s a e e o o (Refused r)
+  pub whole_refused : {a : Answer Index} (r : Refusal) → Err r ≡ summary_of a → ReadsWhole s a e e o o (Err r)
   whole_refused {a} r q =
-      subst (λ (a : Answer Index). ReadsWhole s a e e o o (Refused r)) (mapped_refused summary a r q) (record { reads = record { answers = refl; header = tt }; holds = (refl, refl) })
+      subst (λ (a : Answer Index). ReadsWhole s a e e o o (Err r)) (mapped_refused summary a r q) (record { reads = record { answers = refl; header = tt }; holds = (refl, refl) })
 
   module _ (x : Index) where
-    pub whole_short : has_room s (length e) (length o) x ≡ false → ReadsWhole s (answer x) e e o o (Refused Short)
+    pub whole_short : has_room s (length e) (length o) x ≡ false → ReadsWhole s (Ok x) e e o o (Err Short)
     whole_short q =
-        let z : whole_for s (length e) (length o) (answer x) ≡ refused Short = ap (λ (b : Bool). require b Short (answer x)) q in
+        let z : whole_for s (length e) (length o) (Ok x) ≡ Err Short = ap (λ (b : Bool). require b Short (Ok x)) q in
         record {
-          reads = subst (λ (a : Answer Index). ReadsIndex s a (Refused Short)) (sym z) (record { answers = refl; header = tt });
+          reads = subst (λ (a : Answer Index). ReadsIndex s a (Err Short)) (sym z) (record { answers = refl; header = tt });
           holds = subst (HoldsWhole s e e o o) (sym z) (refl, refl);
         }
 
-    pub whole_held : {r : Read} → has_room s (length e) (length o) x ≡ true → ReadsIndex s (answer x) r → Held s x e e' o o' → ReadsWhole s (answer x) e e' o o' r
+    pub whole_held : {r : (Result Header Refusal)} → has_room s (length e) (length o) x ≡ true → ReadsIndex s (Ok x) r → Held s x e e' o o' → ReadsWhole s (Ok x) e e' o o' r
     whole_held {r} q w h =
-        let z : whole_for s (length e) (length o) (answer x) ≡ answer x = ap (λ (b : Bool). require b Short (answer x)) q in
+        let z : whole_for s (length e) (length o) (Ok x) ≡ Ok x = ap (λ (b : Bool). require b Short (Ok x)) q in
         record { reads = subst (λ (a : Answer Index). ReadsIndex s a r) (sym z) w; holds = subst (HoldsWhole s e e' o o') (sym z) h }
 
 -- tables with room for all, and buffers
@@ -161,9 +160,9 @@ module _ (s : List ℕ) (x : Index) (same : entry_rows (index_entries s) ≡ all
         }
 
   -- where an index is read again, it is found again
-  pub found_again : {e e' o o' : List ℕ} (r : Read) → means s r ≡ summary_of (answer x) → IsListed (index_entries s) e e' o o' r → Listed (index_entries s) e e' o o'
-  found_again (Found h) q l = l
-  found_again (Refused r) q l = let z : ◌≡◌ {A = ℕ} 0 1 = cc in absurd (omega arith)
+  pub found_again : {e e' o o' : List ℕ} (r : Result Header Refusal) → means s r ≡ summary_of (Ok x) → IsListed (index_entries s) e e' o o' r → Listed (index_entries s) e e' o o'
+  found_again (Ok h) q l = l
+  found_again (Err r) q l = let z : ◌≡◌ {A = ℕ} 0 1 = cc in absurd (omega arith)
 
 -- how many there is room for
 module _ (h : Header) (entries rows : ℕ) where

@@ -1,7 +1,8 @@
 -- What finding a file by its number owes.
-use Rattle.std.specs.Prelude.{◌≡◌, List, [], ℕ}
+use Rattle.refusals.specs.declared.Refusal.{Refusal}
+use Rattle.std.specs.Prelude.{◌≡◌, List, [], ℕ, Result, Err, Ok}
 use lib.ListN.{length, take, drop, get_or}
-use Rattle.refusals.specs.Refusals.{Answer, refused, answer, and_then}
+use Rattle.refusals.specs.Refusals.{Answer, and_then}
 use Rattle.slices.specs.Words.{bytes}
 use Rattle.xml.specs.Tree.{Forest}
 use Rattle.elements.specs.declared.heads.Span.{Span}
@@ -12,32 +13,30 @@ use Rattle.index.specs.Index.{File, file_of}
 use Rattle.index_files.specs.Names.{name_place}
 use Rattle.index_files.specs.FileSteps.{files_left, file_tags_from}
 use Rattle.index_files.specs.Asked.{nth}
-use Rattle.index_files.specs.declared.asked.FileTag.{FileTag}
-use Rattle.index_files.specs.declared.asked.FileTag.TheVariants as located
+use Rattle.core.specs.declared.result.Result.TheVariants as located
 use Rattle.index_files.specs.declared.asked.FileHead.{FileHead}
-use Rattle.index_files.specs.declared.asked.FileRead.{FileRead}
-use Rattle.index_files.specs.declared.asked.FileRead.TheVariants as file
+use Rattle.core.specs.declared.result.Result.TheVariants as file
 
 -- the children of the file whose tag was found, and the file
-abbrev pub children_found : List ℕ → FileTag → Answer Forest
-children_found s (located.At n) = answer (children_at s n)
-children_found s (located.Refused r) = refused r
+abbrev pub children_found : List ℕ → Result ℕ Refusal → Answer Forest
+children_found s (located.Ok n) = Ok (children_at s n)
+children_found s (located.Err r) = Err r
 
-abbrev pub file_found : List ℕ → FileTag → Answer File
-file_found s l = and_then (children_found s l) (λ c. answer (file_of c))
+abbrev pub file_found : List ℕ → Result ℕ Refusal → Answer File
+file_found s l = and_then (children_found s l) (λ c. Ok (file_of c))
 
 -- it is the tag t
-abbrev pub TagFound : List ℕ → List ℕ → FileTag → Type 0
-TagFound s t (located.At n) = drop n s ≡ t
-TagFound s t (located.Refused r) = Unit {0}
+abbrev pub TagFound : List ℕ → List ℕ → Result ℕ Refusal → Type 0
+TagFound s t (located.Ok n) = drop n s ≡ t
+TagFound s t (located.Err r) = Unit {0}
 
 -- the file of number k that is read along the text
-pub record FindsFile (s : List ℕ) (k : ℕ) (l : FileTag) : Type 0 where
+pub record FindsFile (s : List ℕ) (k : ℕ) (l : Result ℕ Refusal) : Type 0 where
   pub children : children_found s l ≡ nth k (files_left (left_at s 38))
   pub tag : TagFound s (get_or (file_tags_from s 38) k []) l
 
 -- the file a, whose tag is t
-pub record Locates (s t : List ℕ) (a : Answer File) (l : FileTag) : Type 0 where
+pub record Locates (s t : List ℕ) (a : Answer File) (l : Result ℕ Refusal) : Type 0 where
   pub file : file_found s l ≡ a
   pub tag : TagFound s t l
 
@@ -58,22 +57,22 @@ pub record HeadOf (s : List ℕ) (n : ℕ) (h : FileHead) : Type 0 where
   pub rows : h.rows ≡ lib.ListN.length (extent_rows (children_at s n))
 
 -- what reading a file says
-abbrev pub file_answered : List ℕ → FileRead → Answer FileShown
-file_answered s (file.Found h) = answer (record { length = h.length.0; name = take h.name.len (drop h.name.from s); rows = h.rows })
-file_answered s (file.Refused r) = refused r
+abbrev pub file_answered : List ℕ → Result FileHead Refusal → Answer FileShown
+file_answered s (file.Ok h) = Ok (record { length = h.length.0; name = take h.name.len (drop h.name.from s); rows = h.rows })
+file_answered s (file.Err r) = Err r
 
 -- the name lies in the text
-abbrev pub NameInside : List ℕ → FileRead → Type 0
-NameInside s (file.Found h) = Inside s h.name.from h.name.len
-NameInside s (file.Refused r) = Unit {0}
+abbrev pub NameInside : List ℕ → Result FileHead Refusal → Type 0
+NameInside s (file.Ok h) = Inside s h.name.from h.name.len
+NameInside s (file.Err r) = Unit {0}
 
 -- it stands at w
-abbrev pub NameStands : Span → FileRead → Type 0
-NameStands w (file.Found h) = h.name ≡ w
-NameStands w (file.Refused r) = Unit {0}
+abbrev pub NameStands : Span → Result FileHead Refusal → Type 0
+NameStands w (file.Ok h) = h.name ≡ w
+NameStands w (file.Err r) = Unit {0}
 
 -- the file a, whose tag is t
-pub record ReadsFile (s t : List ℕ) (a : Answer File) (r : FileRead) : Type 0 where
-  pub says : file_answered s r ≡ and_then a (λ f. answer (shown f))
+pub record ReadsFile (s t : List ℕ) (a : Answer File) (r : Result FileHead Refusal) : Type 0 where
+  pub says : file_answered s r ≡ and_then a (λ f. Ok (shown f))
   pub inside : NameInside s r
   pub stands : NameStands (name_place s t) r

@@ -1,8 +1,8 @@
 -- A file's four numbers, and rows in a lent buffer (01, Index and Extents), five numbers each, from the front on. Refusals: those of what is asked for,
 -- then 10 for a buffer too short, which is left as it was.
-use Rattle.std.specs.Prelude.{◌≡◌, List, ℕ, ◌+◌, ◌*◌, leb}
+use Rattle.std.specs.Prelude.{◌≡◌, List, ℕ, ◌+◌, ◌*◌, leb, Err, Ok}
 use lib.ListN.{length, take, drop, get_or}
-use Rattle.refusals.specs.Refusals.{Answer, refused, answer, require, and_then}
+use Rattle.refusals.specs.Refusals.{Answer, require, and_then}
 use Rattle.refusals.specs.declared.Refusal.TheVariants.{Short}
 use Rattle.slices.specs.Slices.{written}
 use Rattle.elements.specs.declared.heads.Span.{Span}
@@ -14,12 +14,12 @@ use Rattle.index_files.specs.Names.{name_place}
 module _ {A : Type 0} where
   -- 10: a buffer of that length is too short for so many numbers of each
   abbrev pub with_room : ℕ → ℕ → List A → Answer (List A)
-  with_room each room l = require (leb (length l * each) room) Short (answer l)
+  with_room each room l = require (leb (length l * each) room) Short (Ok l)
 
   -- the buffer after: as it was, where refused
   abbrev pub Stored : (List A → List ℕ → List ℕ → Type 0) → Answer (List A) → List ℕ → List ℕ → Type 0
-  Stored holds (refused r) before after = after ≡ before
-  Stored holds (answer l) before after = holds l before after
+  Stored holds (Err r) before after = after ≡ before
+  Stored holds (Ok l) before after = holds l before after
 
 -- the buffer after: rows at its front, and the rest as it was
 abbrev pub HoldsRows : List Row → List ℕ → List ℕ → Type 0

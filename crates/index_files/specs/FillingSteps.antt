@@ -1,24 +1,18 @@
 -- What filling a lent buffer with rows owes.
-use Rattle.std.specs.Prelude.{◌≡◌, List, ℕ, ◌+◌, ◌*◌, length}
-use Rattle.refusals.specs.Refusals.{Answer, refused, answer, and_then}
+use Rattle.refusals.specs.declared.Refusal.{Refusal}
+use Rattle.std.specs.Prelude.{◌≡◌, List, ℕ, ◌+◌, ◌*◌, length, Err, Ok, Result}
+use Rattle.refusals.specs.Refusals.{Answer, and_then}
 use Rattle.slices.specs.Slices.{written}
 use Rattle.extents.specs.Rows.{Row, numbers_of}
-use Rattle.index_files.specs.declared.filling.Filled.{Filled}
-use Rattle.index_files.specs.declared.filling.Filled.TheVariants.{Count, Refused}
 use Rattle.index_files.specs.Filling.{Stored}
-
--- what filling a buffer says: how many were written
-abbrev pub count_answered : Filled → Answer ℕ
-count_answered (Count n) = answer n
-count_answered (Refused r) = refused r
 
 module _ {A : Type 0} where
   -- how many there are
   abbrev pub count_of : Answer (List A) → Answer ℕ
-  count_of a = and_then a (λ l. answer (length l))
+  count_of a = and_then a (λ l. Ok (length l))
 
-  pub record FillsBuffer (holds : List A → List ℕ → List ℕ → Type 0) (a : Answer (List A)) (before after : List ℕ) (r : Filled) : Type 0 where
-    pub says : count_answered r ≡ count_of a
+  pub record FillsBuffer (holds : List A → List ℕ → List ℕ → Type 0) (a : Answer (List A)) (before after : List ℕ) (r : Result ℕ Refusal) : Type 0 where
+    pub says : r ≡ count_of a
     pub stored : Stored holds a before after
 
 -- rows written from k on, up to end

@@ -1,7 +1,7 @@
 -- All of an index in two lent buffers (01, Index and Extents): nine numbers of each entry, five of each row, from the front on. Refusals: those of reading
 -- it, then 10 for a buffer too short; both are left as they were then.
-use Rattle.std.specs.Prelude.{◌≡◌, Bool, ◌&&◌, List, ℕ, ◌*◌, leb, length}
-use Rattle.refusals.specs.Refusals.{Answer, refused, answer, require, and_then}
+use Rattle.std.specs.Prelude.{◌≡◌, Bool, ◌&&◌, List, ℕ, ◌*◌, leb, length, Err, Ok}
+use Rattle.refusals.specs.Refusals.{Answer, require, and_then}
 use Rattle.refusals.specs.declared.Refusal.TheVariants.{Short}
 use Rattle.slices.specs.Slices.{written}
 use Rattle.extents.specs.Rows.{numbers_of}
@@ -13,7 +13,7 @@ abbrev pub has_room : List ℕ → ℕ → ℕ → Index → Bool
 has_room s entries rows x = leb (length (index_entries s) * 9) entries && leb (length (all_rows x.files) * 5) rows
 
 abbrev pub whole_for : List ℕ → ℕ → ℕ → Answer Index → Answer Index
-whole_for s entries rows a = and_then a (λ x. require (has_room s entries rows x) Short (answer x))
+whole_for s entries rows a = and_then a (λ x. require (has_room s entries rows x) Short (Ok x))
 
 -- the buffers after: entries and rows at their fronts, and the rest as it was
 pub record Held (s : List ℕ) (x : Index) (e e' o o' : List ℕ) : Type 0 where
@@ -22,5 +22,5 @@ pub record Held (s : List ℕ) (x : Index) (e e' o o' : List ℕ) : Type 0 where
 
 -- as they were, where refused
 abbrev pub HoldsWhole : List ℕ → List ℕ → List ℕ → List ℕ → List ℕ → Answer Index → Type 0
-HoldsWhole s e e' o o' (refused r) = (e' ≡ e) × (o' ≡ o)
-HoldsWhole s e e' o o' (answer x) = Held s x e e' o o'
+HoldsWhole s e e' o o' (Err r) = (e' ≡ e) × (o' ≡ o)
+HoldsWhole s e e' o o' (Ok x) = Held s x e e' o o'

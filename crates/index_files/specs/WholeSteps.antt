@@ -1,11 +1,11 @@
 -- What reading all of an index owes.
-use Rattle.std.specs.Prelude.{◌≡◌, Bool, ◌&&◌, List, ℕ, ◌+◌, ◌*◌, leb, length}
+use Rattle.refusals.specs.declared.Refusal.{Refusal}
+use Rattle.std.specs.Prelude.{◌≡◌, Bool, ◌&&◌, List, ℕ, ◌+◌, ◌*◌, leb, length, Result}
 use Rattle.refusals.specs.Refusals.{Answer}
 use Rattle.tables.specs.Copying.{copied}
 use Rattle.index.specs.Index.{Index}
 use Rattle.index.specs.Steps.{ReadsIndex}
 use Rattle.index.specs.declared.read.Header.{Header}
-use Rattle.index.specs.declared.read.Read.{Read}
 use Rattle.index_files.specs.Whole.{whole_for, HoldsWhole}
 
 -- so many numbers are enough for what a header counts
@@ -18,6 +18,6 @@ pub record HandsOver (h : Header) (entry_table row_table e e' o o' : List ℕ) :
   pub rows : o' ≡ copied row_table (h.rows * 5) o 0
 
 -- the index a, with the buffers before and after
-pub record ReadsWhole (s : List ℕ) (a : Answer Index) (e e' o o' : List ℕ) (r : Read) : Type 0 where
+pub record ReadsWhole (s : List ℕ) (a : Answer Index) (e e' o o' : List ℕ) (r : Result Header Refusal) : Type 0 where
   pub reads : ReadsIndex s (whole_for s (length e) (length o) a) r
   pub holds : HoldsWhole s e e' o o' (whole_for s (length e) (length o) a)

@@ -7,20 +7,11 @@ ghost use Rattle.index_files.specs.AskedSteps.{FindsFile, HeadOf};
 ghost use Rattle.index_files.specs.Steps.{LocatesFile, ReadsNumbered, PutsRows, PutsFileRows};
 
 use crate::files::NextFile;
-use crate::filling::Filled;
 use crate::{extent_rows, files, filling};
 use elements::{Child, Span};
-use index::Read;
 use index_values::Partitions;
 use quantities::{BlockNumber, ByteCount};
 use refusals::Refusal;
-
-// The place of a file's tag.
-#[derive(Clone, Copy)]
-enum FileTag {
-    At(usize),
-    Refused(Refusal),
-}
 
 // What a file says: its length, where its name stands in the text, as spelled, and how many rows it has.
 #[derive(Clone, Copy)]
@@ -30,14 +21,8 @@ pub struct FileHead {
     pub rows: u64,
 }
 
-#[derive(Clone, Copy)]
-pub enum FileRead {
-    Found(FileHead),
-    Refused(Refusal),
-}
-
 // The k-th file of a text.
-fn find(text: &[u8], k: u64) -> FileTag
+fn find(text: &[u8], k: u64) -> Result<usize, Refusal>
     ensures { FindsFile text.now k result }
 {
     let mut i: usize = 38;
@@ -45,11 +30,11 @@ fn find(text: &[u8], k: u64) -> FileTag
     loop {
         match files::next_file(text, i) {
             NextFile::Done => {
-                return FileTag::Refused(Refusal::Missing);
+                return Err(Refusal::Missing);
             }
             NextFile::File(n, next) => {
                 if left == 0 {
-                    return FileTag::At(n);
+                    return Ok(n);
                 }
                 left -= 1;
                 i = next;
@@ -66,12 +51,12 @@ fn locate(
     letter: u8,
     block: BlockNumber,
     k: u64,
-) -> FileTag
+) -> Result<usize, Refusal>
     ensures { LocatesFile text.now (given uuid.now volume) letter block k result }
 {
     match index::read_index(text, uuid, volume, letter, block) {
-        Read::Refused(r) => FileTag::Refused(r),
-        Read::Found(_) => find(text, k),
+        Err(r) => Err(r),
+        Ok(_) => find(text, k),
     }
 }
 
@@ -114,25 +99,25 @@ pub fn file(
     letter: u8,
     block: BlockNumber,
     k: u64,
-) -> FileRead
+) -> Result<FileHead, Refusal>
     ensures { ReadsNumbered text.now (given uuid.now volume) letter block k result }
 {
     match locate(text, uuid, volume, letter, block, k) {
-        FileTag::Refused(r) => FileRead::Refused(r),
-        FileTag::At(n) => FileRead::Found(head_at(text, n)),
+        Err(r) => Err(r),
+        Ok(n) => Ok(head_at(text, n)),
     }
 }
 
 // The rows from at on, into the front of out if it has room for all of them.
-fn put_rows(text: &[u8], at: usize, out: &mut [u64]) -> Filled
+fn put_rows(text: &[u8], at: usize, out: &mut [u64]) -> Result<u64, Refusal>
     ensures { PutsRows (rows_in (forest_at text.now at)) out.old out.new result }
 {
     let n = count_rows(text, at);
     if ((out.len() / 5) as u64) < n {
-        return Filled::Refused(Refusal::Short);
+        return Err(Refusal::Short);
     }
     filling::write_rows(text, at, 0, out);
-    Filled::Count(n)
+    Ok(n)
 }
 
 // The rows of the k-th file of an index's text, five numbers each, into the front of out; the other parameters are those of reading it.
@@ -144,11 +129,11 @@ pub fn rows(
     block: BlockNumber,
     k: u64,
     out: &mut [u64],
-) -> Filled
+) -> Result<u64, Refusal>
     ensures { PutsFileRows text.now (given uuid.now volume) letter block out.old out.new k result }
 {
     match locate(text, uuid, volume, letter, block, k) {
-        FileTag::Refused(r) => Filled::Refused(r),
-        FileTag::At(n) => put_rows(text, extent_rows::first_row(text, n), out),
+        Err(r) => Err(r),
+        Ok(n) => put_rows(text, extent_rows::first_row(text, n), out),
     }
 }

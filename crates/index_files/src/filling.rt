@@ -11,13 +11,6 @@ use crate::extent_rows;
 use crate::extent_rows::{NextRow, Row};
 use refusals::Refusal;
 
-// How many rows were written.
-#[derive(Clone, Copy)]
-pub enum Filled {
-    Count(u64),
-    Refused(Refusal),
-}
-
 pub(crate) fn store(out: &mut [u64], at: usize, v: u64)
     requires { at < length out.old }
     ensures { out.new ≡ set out.old at v }

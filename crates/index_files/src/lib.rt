@@ -7,8 +7,7 @@ mod files;
 mod filling;
 mod whole;
 
-pub use asked::{FileHead, FileRead, file, rows};
+pub use asked::{FileHead, file, rows};
 pub use extent_rows::{NextRow, Row, first_row, next_row};
 pub use files::{NextFile, next_file};
-pub use filling::Filled;
 pub use whole::read_whole;

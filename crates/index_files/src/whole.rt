@@ -4,7 +4,7 @@ ghost use Rattle.index.specs.Index.{index_of};
 ghost use Rattle.index_values.specs.Steps.{given};
 ghost use Rattle.index_files.specs.WholeSteps.{enough, HandsOver, ReadsWhole};
 
-use index::{Header, Read};
+use index::Header;
 use index_values::Partitions;
 use quantities::BlockNumber;
 use refusals::Refusal;
@@ -52,21 +52,21 @@ fn read_by_tables(
     row_table: &mut [u64],
     entries: &mut [u64],
     rows: &mut [u64],
-) -> Read
+) -> Result<Header, Refusal>
     ensures { ReadsWhole text.now (index_of (given uuid.now volume) letter block.0 text.now)
         entries.old entries.new rows.old rows.new result }
 {
     match index::read_into(text, uuid, volume, letter, block, entry_table, row_table) {
-        Read::Refused(r) => Read::Refused(r),
-        Read::Found(h) => {
+        Err(r) => Err(r),
+        Ok(h) => {
             if !is_enough(h, entries.len(), rows.len()) {
-                return Read::Refused(Refusal::Short);
+                return Err(Refusal::Short);
             }
             if !is_enough(h, entry_table.len(), row_table.len()) {
                 return index::read_into(text, uuid, volume, letter, block, entries, rows);
             }
             hand_over(h, entry_table, row_table, entries, rows);
-            Read::Found(h)
+            Ok(h)
         }
     }
 }
@@ -81,7 +81,7 @@ pub fn read_whole(
     block: BlockNumber,
     entries: &mut [u64],
     rows: &mut [u64],
-) -> Read
+) -> Result<Header, Refusal>
     ensures { ReadsWhole text.now (index_of (given uuid.now volume) letter block.0 text.now)
         entries.old entries.new rows.old rows.new result }
 {

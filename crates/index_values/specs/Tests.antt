@@ -1,7 +1,6 @@
 -- What each element of an index is tested for by itself (01, Index, Values, Extents and Refusal numbers): its value (6), that it is of this
 -- volume (8), the number of a file's extents (15), and that they are lawful (11).
-use Rattle.std.specs.Prelude.{Bool, true, false, cond, not, ◌&&◌, ◌||◌, List, [], ◌∷◌, ℕ, eqb, leb, length}
-use Rattle.std.proofs.Math.Option.{Option, some, none}
+use Rattle.std.specs.Prelude.{Bool, true, false, cond, not, ◌&&◌, ◌||◌, List, [], ◌∷◌, ℕ, eqb, leb, length, None, Option, Some}
 use Rattle.slices.specs.Words.{bytes}
 use Rattle.xml.specs.Tree.{Forest, none as no_element, node}
 use Rattle.texts.specs.Decoded.{decoded}
@@ -21,8 +20,8 @@ pub record Given : Type 0 where
   pub block_size : ℕ
 
 abbrev pub is_some : {A : Type 0} → Option A → Bool
-is_some none = false
-is_some (some x) = true
+is_some None = false
+is_some (Some x) = true
 
 -- 6: the value of an element of sort s with that text. A fileuid is 1 in the root directory, else at least 2
 unfoldable pub valued : ℕ → List ℕ → Bool

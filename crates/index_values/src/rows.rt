@@ -6,7 +6,6 @@ ghost use Rattle.index_values.specs.Elements.{text_in, children_in};
 ghost use Rattle.index_values.specs.Entries.{number_or_zero};
 ghost use Rattle.index_values.specs.Steps.{TextFound};
 
-use digits::Number;
 use elements::{Item, Span, Start};
 
 // Where the text of the first element of a name in the row at at stands.
@@ -72,7 +71,7 @@ pub fn number_said(raw: &[u8]) -> u64
     ensures { result ≡ number_or_zero raw.now }
 {
     match values::read_number(raw) {
-        Number::Value(n) => n,
-        Number::Nothing => 0,
+        Some(n) => n,
+        None => 0,
     }
 }

@@ -15,14 +15,12 @@ ghost use Rattle.index_values.specs.Tests.{is_some, valued, own, letter_or_zero,
 ghost use Rattle.index_values.specs.Steps.{RowsRead, TestsExtents, given};
 
 use crate::rows;
-use digits::Number;
 use elements::Next;
 use index_names::{
     BOOLEAN, CREATOR, EXTENT, FILE, GENERATION, LETTER, NAME, NUMBER, ROOT_NAME, ROOT_UID, TIME,
     UID, UUID,
 };
 use quantities::ByteCount;
-use values::{Boolean, Letter};
 
 // The label's letters, and the block size.
 #[derive(Clone, Copy)]
@@ -36,8 +34,8 @@ fn says_number(raw: &[u8]) -> bool
     ensures { result ≡ is_some (values.number raw.now) }
 {
     match values::read_number(raw) {
-        Number::Value(_) => true,
-        Number::Nothing => false,
+        Some(_) => true,
+        None => false,
     }
 }
 
@@ -45,8 +43,8 @@ fn says_boolean(raw: &[u8]) -> bool
     ensures { result ≡ is_some (values.boolean raw.now) }
 {
     match values::read_boolean(raw) {
-        Boolean::Value(_) => true,
-        Boolean::Nothing => false,
+        Some(_) => true,
+        None => false,
     }
 }
 
@@ -54,8 +52,8 @@ fn says_letter(raw: &[u8]) -> bool
     ensures { result ≡ is_some (values.letter raw.now) }
 {
     match values::read_letter(raw) {
-        Letter::Value(_) => true,
-        Letter::Nothing => false,
+        Some(_) => true,
+        None => false,
     }
 }
 
@@ -64,8 +62,8 @@ pub fn letter_said(raw: &[u8]) -> u8
     ensures { result ≡ letter_or_zero raw.now }
 {
     match values::read_letter(raw) {
-        Letter::Value(b) => b,
-        Letter::Nothing => 0,
+        Some(b) => b,
+        None => 0,
     }
 }
 

@@ -1,4 +1,5 @@
 -- A label is refused 4 with the front of its text, and for nothing else (02, Item 6); one that is read is in the form.
+use Rattle.std.specs.Prelude.{Ok}
 use Prim.Native.Nat.{ℕ}
 use mathlib.Core.Path.{◌≡◌, refl}
 use mathlib.Core.Bool.{true, ◌&&◌}
@@ -6,7 +7,7 @@ use mathlib.Core.List.{List}
 use lib.Dec.{leb}
 use lib.ListN.{length}
 use Rattle.refusals.specs.declared.Refusal.TheVariants.{Form, Structure, Value, Version, TooMany}
-use Rattle.refusals.specs.Refusals.{answer, left_at}
+use Rattle.refusals.specs.Refusals.{left_at}
 use Rattle.refusals.proofs.Refusing.{passed, Refuses, refuses_answer, refuses_require, refuses_without}
 use Rattle.xml.specs.Tree.{Head, Forest, none, node}
 use Rattle.xml.specs.CheckSteps.{in_form, front, require_form}
@@ -49,7 +50,7 @@ module _ (s : List ℕ) where
   unfolding label_of
   label_front = refuses_require (OfText s) (leb (length s) 4096) TooMany _ (another s TooMany refl) (of_form s _ (first_of_lem (forest_at s 38)))
 
-  pub label_formed : (x : Label) → label_of s ≡ answer x → in_form s ≡ true
+  pub label_formed : (x : Label) → label_of s ≡ Ok x → in_form s ≡ true
   unfolding label_of
   label_formed x e =
       let first = first_of (forest_at s 38) in

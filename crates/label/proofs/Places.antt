@@ -1,28 +1,27 @@
 -- A reader's answer: where it refuses it tells no places, and where it says fields their places lie in the text.
+use Rattle.std.specs.Prelude.{Err, Ok, Result}
 use mathlib.Core.Path.{◌≡◌, subst, ◌∙◌}
 use mathlib.Core.List.{List}
 use Prim.Native.Nat.{ℕ}
-use Rattle.refusals.specs.Refusals.{Answer, refused}
+use Rattle.refusals.specs.Refusals.{Answer}
 use Rattle.refusals.specs.declared.Refusal.{Refusal}
 use Rattle.elements.specs.declared.heads.Span.{Span}
 use Rattle.label.specs.Label.{Label}
 use Rattle.label.specs.TextPlaces.{TextPlaces}
 use Rattle.label.specs.Steps.{LieIn, PlacesInside, places_of, Stands, ReadsLabel}
 use Rattle.label.specs.declared.reader.LabelFields.{LabelFields}
-use Rattle.label.specs.declared.reader.Label.{Label as Answered}
-use Rattle.label.specs.declared.reader.Label.TheVariants.{Says, Refused}
 
 module _ {s : List ℕ} {a : Answer Label} {w : TextPlaces} where
-  pub refuses : {r : Refusal} → refused r ≡ a → ReadsLabel s a w (Refused r)
+  pub refuses : {r : Refusal} → Err r ≡ a → ReadsLabel s a w (Err r)
   refuses e = record { says = e; inside = tt; stands = tt }
 
-  pub said_inside : {r : Answered} {f : LabelFields} → r ≡ Says f → ReadsLabel s a w r → LieIn s f
+  pub said_inside : {r : (Result LabelFields Refusal)} {f : LabelFields} → r ≡ Ok f → ReadsLabel s a w r → LieIn s f
   said_inside e p = subst (PlacesInside s) e p.inside
 
-  pub said_places : {r : Answered} {f : LabelFields} → r ≡ Says f → ReadsLabel s a w r → places_of f ≡ w
+  pub said_places : {r : (Result LabelFields Refusal)} {f : LabelFields} → r ≡ Ok f → ReadsLabel s a w r → places_of f ≡ w
   said_places e p = subst (Stands w) e p.stands
 
-  pub reads_as : {b : Answer Label} {v : TextPlaces} {r : Answered} → a ≡ b → w ≡ v → ReadsLabel s a w r → ReadsLabel s b v r
+  pub reads_as : {b : Answer Label} {v : TextPlaces} {r : (Result LabelFields Refusal)} → a ≡ b → w ≡ v → ReadsLabel s a w r → ReadsLabel s b v r
   reads_as {r = r} e q p = record { says = p.says ∙ e; inside = p.inside; stands = subst (λ (x : TextPlaces). Stands x r) q p.stands }
 
 pub same_places : {c c' t t' u u' : Span} → c ≡ c' → t ≡ t' → u ≡ u'

@@ -1,10 +1,11 @@
 -- A label from its texts, value by value: each that is missing is refused 6, and where none is, the label.
+use Rattle.std.specs.Prelude.{Err, Ok}
 use mathlib.Core.Path.{◌≡◌, refl, ◌∙◌}
 use mathlib.Core.Bool.{Bool, true, false, cond, ◌&&◌}
 use mathlib.Core.List.{List}
 use mathlib.Core.Option.{Option, some, none as nothing}
 use Prim.Native.Nat.{ℕ, ◌<◌, ◌≤◌}
-use Rattle.refusals.specs.Refusals.{Answer, refused, answer, require, or_refuse, left_at}
+use Rattle.refusals.specs.Refusals.{Answer, require, or_refuse, left_at}
 use Rattle.refusals.specs.declared.Refusal.TheVariants.{Form, Structure, Value, Version, TooMany}
 use Rattle.quantities.specs.Sizes.{is_block_size}
 use borrow.Author.Tests.{le-leb, lt-leb}
@@ -54,7 +55,7 @@ module _ (release : ℕ) (t : Texts) where
   unfolding label_from
   label_by_value b e = rw e
 
-  pub no_texts : (is_creator (decoded t.creator) && is_time t.time && is_uuid t.uuid) ≡ false → refused Value ≡ label_from release t
+  pub no_texts : (is_creator (decoded t.creator) && is_time t.time && is_uuid t.uuid) ≡ false → Err Value ≡ label_from release t
   unfolding label_from
   no_texts e = rw e
 
@@ -63,7 +64,7 @@ module _ (release : ℕ) (t : Texts) where
   behind size l i d =
       or_refuse size Value (λ b.
       or_refuse (boolean t.compression) Value (λ c.
-      answer (record { release = release; creator = decoded t.creator; time = t.time; uuid = t.uuid; location = l; index_letter = i; data_letter = d; block_size = b; compression = c })))
+      Ok (record { release = release; creator = decoded t.creator; time = t.time; uuid = t.uuid; location = l; index_letter = i; data_letter = d; block_size = b; compression = c })))
 
   abbrev letters : Option Three
   letters = three_letters (letter t.location) (letter t.index_letter) (letter t.data_letter)
@@ -80,7 +81,7 @@ module _ (release : ℕ) (t : Texts) where
         or_refuse (number t.block_size) Value (λ b.
         require (is_block_size b) Value
         (or_refuse (boolean t.compression) Value (λ c.
-        answer (record { release = release; creator = decoded t.creator; time = t.time; uuid = t.uuid; location = l; index_letter = i; data_letter = d; block_size = b; compression = c }))))) ∙ go letters)
+        Ok (record { release = release; creator = decoded t.creator; time = t.time; uuid = t.uuid; location = l; index_letter = i; data_letter = d; block_size = b; compression = c }))))) ∙ go letters)
       where
         go : (x : Option Three)
             → or_refuse x Value (λ (y : Three). or_refuse (number t.block_size) Value (λ b. require (is_block_size b) Value (behind (some b) y.location y.index_letter y.data_letter)))
@@ -88,34 +89,34 @@ module _ (release : ℕ) (t : Texts) where
         go nothing = refl
         go (some y) = size_together (number t.block_size) (λ b. behind (some b) y.location y.index_letter y.data_letter)
 
-    pub no_letters : letters ≡ nothing → refused Value ≡ label_from release t
+    pub no_letters : letters ≡ nothing → Err Value ≡ label_from release t
     no_letters e = rw (in_parts, e)
 
     module _ {l i d : ℕ} (e₁ : letters ≡ some (record { location = l; index_letter = i; data_letter = d })) where
-      pub no_size : size ≡ nothing → refused Value ≡ label_from release t
+      pub no_size : size ≡ nothing → Err Value ≡ label_from release t
       no_size e = rw (in_parts, e₁, e)
 
       module _ {b : ℕ} (e₂ : size ≡ some b) where
-        pub no_compression : boolean t.compression ≡ nothing → refused Value ≡ label_from release t
+        pub no_compression : boolean t.compression ≡ nothing → Err Value ≡ label_from release t
         no_compression e = rw (in_parts, e₁, e₂, e)
 
         pub the_label : {c : Bool} → boolean t.compression ≡ some c → (x y z : List ℕ) → x ≡ t.creator → y ≡ t.time → z ≡ t.uuid
-            → answer (record { release = release; creator = decoded x; time = y; uuid = z; location = l; index_letter = i; data_letter = d; block_size = b; compression = c })
+            → Ok (record { release = release; creator = decoded x; time = y; uuid = z; location = l; index_letter = i; data_letter = d; block_size = b; compression = c })
             ≡ label_from release t
         the_label e x y z p q r = rw (p, q, r, in_parts, e₁, e₂, e)
 
 module _ (h : Head) (f : Forest) where
-  pub no_root : is_root h ≡ false → refused Structure ≡ root_of h f
+  pub no_root : is_root h ≡ false → Err Structure ≡ root_of h f
   unfolding root_of
   no_root e = rw e
 
   module _ (e₀ : is_root h ≡ true) where
-    pub no_version : version h.value ≡ nothing → refused Version ≡ root_of h f
+    pub no_version : version h.value ≡ nothing → Err Version ≡ root_of h f
     unfolding root_of
     no_version e = rw (e₀, e)
 
     module _ {r : ℕ} (e₁ : version h.value ≡ some r) where
-      pub no_shape : is_shaped f ≡ false → refused Structure ≡ root_of h f
+      pub no_shape : is_shaped f ≡ false → Err Structure ≡ root_of h f
       unfolding root_of
       no_shape e = rw (e₀, e₁, e)
 
@@ -124,17 +125,17 @@ module _ (h : Head) (f : Forest) where
       the_root e = rw (e₀, e₁, e)
 
 module _ (s : List ℕ) where
-  pub too_long : 4096 < length s → refused TooMany ≡ label_of s
+  pub too_long : 4096 < length s → Err TooMany ≡ label_of s
   unfolding label_of
   too_long h = rw (lt-leb _ _ h)
 
   module _ (h : length s ≤ 4096) where
-    pub unformed : (n : ℕ) → in_form s ≡ false → n ≡ front s → refused (Form (left_at n)) ≡ label_of s
+    pub unformed : (n : ℕ) → in_form s ≡ false → n ≡ front s → Err (Form (left_at n)) ≡ label_of s
     unfolding label_of
     unformed n e z = rw (le-leb _ _ h, e, z)
 
     module _ (e : in_form s ≡ true) where
-      pub no_first : forest_at s 38 ≡ none → refused Structure ≡ label_of s
+      pub no_first : forest_at s 38 ≡ none → Err Structure ≡ label_of s
       unfolding label_of first_of
       no_first z = rw (le-leb _ _ h, e, z)
 

@@ -1,8 +1,8 @@
 -- The LTFS label (01, LTFS label; 002, 6.1.2): what a label says, and the label that a text is. Each class of refusals is a test of the whole
 -- text, in document 01's order.
-use Rattle.std.specs.Prelude.{Bool, ◌&&◌, List, [], ◌∷◌, ℕ, leb, length}
+use Rattle.std.specs.Prelude.{Bool, ◌&&◌, List, [], ◌∷◌, ℕ, leb, length, Err, Ok}
 use Prim.Native.String.{String}
-use Rattle.refusals.specs.Refusals.{Answer, refused, answer, require, or_refuse}
+use Rattle.refusals.specs.Refusals.{Answer, require, or_refuse}
 use Rattle.refusals.specs.declared.Refusal.TheVariants.{Structure, Value, Version, TooMany}
 use Rattle.slices.specs.Slices.{same}
 use Rattle.slices.specs.Words.{bytes}
@@ -89,7 +89,7 @@ label_from release t =
     (or_refuse (number t.block_size) Value (λ b.
     require (is_block_size b) Value
     (or_refuse (boolean t.compression) Value (λ c.
-    answer (record { release = release; creator = decoded t.creator; time = t.time; uuid = t.uuid; location = l; index_letter = i; data_letter = d; block_size = b; compression = c })))))))))
+    Ok (record { release = release; creator = decoded t.creator; time = t.time; uuid = t.uuid; location = l; index_letter = i; data_letter = d; block_size = b; compression = c })))))))))
 
 abbrev pub is_root : Head → Bool
 is_root h = same h.name (bytes "ltfslabel") && same h.key (bytes "version")
@@ -101,7 +101,7 @@ root_of h f =
     (or_refuse (version h.value) Version (λ r. require (is_shaped f) Structure (label_from r (texts_in f))))
 
 unfoldable pub first_of : Forest → Answer Label
-first_of none = refused Structure
+first_of none = Err Structure
 first_of (node h k f) = root_of h k
 
 -- the label that a text is: 15, 4, then the root

@@ -1,6 +1,7 @@
 -- What the answers of the label's readers mean.
-use Rattle.std.specs.Prelude.{◌≡◌, true, cond, List, ℕ, drop}
-use Rattle.refusals.specs.Refusals.{Answer, refused, answer}
+use Rattle.refusals.specs.declared.Refusal.{Refusal}
+use Rattle.std.specs.Prelude.{◌≡◌, true, cond, List, ℕ, drop, Err, None, Ok, Option, Result, Some}
+use Rattle.refusals.specs.Refusals.{Answer}
 use Rattle.elements.specs.Tags.{Tags, tags_in, text_place}
 use Rattle.elements.specs.Reading.{head_at, children_at, part_at, Inside}
 use Rattle.texts.specs.Decoded.{decoded}
@@ -9,9 +10,6 @@ use Rattle.label.specs.Label.{Label, Texts, is_shaped, texts_in, root_of, letter
 use Rattle.label.specs.TextPlaces.{TextPlaces, places_in}
 use Rattle.label.specs.declared.reader.Places.{Places}
 use Rattle.label.specs.declared.reader.LabelFields.{LabelFields}
-use Rattle.label.specs.declared.reader.Label.{Label as Answered}
-use Rattle.label.specs.declared.reader.Label.TheVariants.{Says, Refused}
-use Rattle.std.proofs.Math.Option.{Option, some, none}
 use Rattle.quantities.specs.Sizes.{is_block_size}
 use Rattle.label.specs.declared.reader.Letters.{Letters}
 use Rattle.label.specs.declared.reader.Letters.TheVariants.{Fit, Nothing}
@@ -61,9 +59,9 @@ fields_in s f =
     }
 
 -- what an answer of the reader says of the text
-abbrev pub means : List ℕ → Answered → Answer Label
-means s (Refused r) = refused r
-means s (Says f) = answer (fields_in s f)
+abbrev pub means : List ℕ → Result LabelFields Refusal → Answer Label
+means s (Err r) = Err r
+means s (Ok f) = Ok (fields_in s f)
 
 -- the places in the fields lie in the text
 pub record LieIn (s : List ℕ) (f : LabelFields) : Type 0 where
@@ -71,27 +69,27 @@ pub record LieIn (s : List ℕ) (f : LabelFields) : Type 0 where
   pub time : Inside s f.time.from f.time.len
   pub uuid : Inside s f.uuid.from f.uuid.len
 
-abbrev pub PlacesInside : List ℕ → Answered → Type 0
-PlacesInside s (Refused r) = Unit {0}
-PlacesInside s (Says f) = LieIn s f
+abbrev pub PlacesInside : List ℕ → Result LabelFields Refusal → Type 0
+PlacesInside s (Err r) = Unit {0}
+PlacesInside s (Ok f) = LieIn s f
 
 -- the places in the fields
 abbrev pub places_of : LabelFields → TextPlaces
 places_of f = record { creator = f.creator; time = f.time; uuid = f.uuid }
 
 -- they are the places w
-abbrev pub Stands : TextPlaces → Answered → Type 0
-Stands w (Refused r) = Unit {0}
-Stands w (Says f) = places_of f ≡ w
+abbrev pub Stands : TextPlaces → Result LabelFields Refusal → Type 0
+Stands w (Err r) = Unit {0}
+Stands w (Ok f) = places_of f ≡ w
 
 -- the answer says what a says, of the texts at the places w
-pub record ReadsLabel (s : List ℕ) (a : Answer Label) (w : TextPlaces) (r : Answered) : Type 0 where
+pub record ReadsLabel (s : List ℕ) (a : Answer Label) (w : TextPlaces) (r : Result LabelFields Refusal) : Type 0 where
   pub says : means s r ≡ a
   pub inside : PlacesInside s r
   pub stands : Stands w r
 
 -- the label whose root has its tag at n
-abbrev pub ReadsLabelRoot : List ℕ → ℕ → Answered → Type 0
+abbrev pub ReadsLabelRoot : List ℕ → ℕ → Result LabelFields Refusal → Type 0
 ReadsLabelRoot s n = ReadsLabel s (root_of (head_at s n) (children_at s n)) (places_in s (tags_in (drop n s)))
 
 -- the letters of a location, of an index and of a data partition
@@ -102,17 +100,17 @@ pub record Three : Type 0 where
 
 -- three letters that fit
 abbrev pub three_letters : Option ℕ → Option ℕ → Option ℕ → Option Three
-three_letters none i d = none
-three_letters (some l) none d = none
-three_letters (some l) (some i) none = none
-three_letters (some l) (some i) (some d) = cond (letters_fit l i d) (some (record { location = l; index_letter = i; data_letter = d })) none
+three_letters None i d = None
+three_letters (Some l) None d = None
+three_letters (Some l) (Some i) None = None
+three_letters (Some l) (Some i) (Some d) = cond (letters_fit l i d) (Some (record { location = l; index_letter = i; data_letter = d })) None
 
 -- a number that is a block size
 abbrev pub sized : Option ℕ → Option ℕ
-sized none = none
-sized (some b) = cond (is_block_size b) (some b) none
+sized None = None
+sized (Some b) = cond (is_block_size b) (Some b) None
 
 -- what an answer says
 abbrev pub letters_of : Letters → Option Three
-letters_of Nothing = none
-letters_of (Fit l i d) = some (record { location = l; index_letter = i; data_letter = d })
+letters_of Nothing = None
+letters_of (Fit l i d) = Some (record { location = l; index_letter = i; data_letter = d })

@@ -5,4 +5,4 @@ mod agreement;
 mod reader;
 
 pub use agreement::labels_agree;
-pub use reader::{Label, LabelFields, letters_fit, read};
+pub use reader::{LabelFields, letters_fit, read};

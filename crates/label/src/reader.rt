@@ -3,16 +3,13 @@ ghost use Rattle.std.specs.Prelude.{◌≡◌, ◌&&◌, drop};
 ghost use Rattle.elements.specs.Tags.{tags_in};
 ghost use Rattle.elements.specs.Reading.{head_at, children_at};
 ghost use Rattle.texts.specs.Decoded.{decoded};
-ghost use Rattle.digits.specs.Steps.{value_of};
 ghost use Rattle.values.specs.Values.{number, letter, is_creator, is_time, is_uuid};
 ghost use Rattle.label.specs.Label.{letters_fit, label_from, is_root, label_of};
 ghost use Rattle.label.specs.TextPlaces.{text_places};
 ghost use Rattle.label.specs.Steps.{places_at, sized, three_letters, letters_of, texts_at, FindsTexts, ReadsLabel, ReadsLabelRoot};
 
-use digits::Number;
 use elements::{Child, Span};
 use refusals::{Place, Refusal};
-use values::{Boolean, Letter, Version};
 use xml::FormChecked;
 
 // Whether the children of the root are lawful, and the places of the elements that hold the values.
@@ -41,12 +38,6 @@ pub struct LabelFields {
     pub data_letter: u8,
     pub block_size: u64,
     pub compression: bool,
-}
-
-#[derive(Clone, Copy)]
-pub enum Label {
-    Says(LabelFields),
-    Refused(Refusal),
 }
 
 // The letters of a location, of an index and of a data partition.
@@ -126,13 +117,13 @@ fn texts_lawful(creator: &[u8], time: &[u8], uuid: &[u8]) -> bool
 fn read_letters(location: &[u8], index: &[u8], other: &[u8]) -> Letters
     ensures { letters_of result ≡ three_letters (letter location.now) (letter index.now) (letter other.now) }
 {
-    let Letter::Value(l) = values::read_letter(location) else {
+    let Some(l) = values::read_letter(location) else {
         return Letters::Nothing;
     };
-    let Letter::Value(i) = values::read_letter(index) else {
+    let Some(i) = values::read_letter(index) else {
         return Letters::Nothing;
     };
-    let Letter::Value(d) = values::read_letter(other) else {
+    let Some(d) = values::read_letter(other) else {
         return Letters::Nothing;
     };
     if !letters_fit(l, i, d) {
@@ -142,20 +133,20 @@ fn read_letters(location: &[u8], index: &[u8], other: &[u8]) -> Letters
 }
 
 // The block size that a text says, if it is one.
-fn read_size(raw: &[u8]) -> Number
-    ensures { value_of result ≡ sized (number raw.now) }
+fn read_size(raw: &[u8]) -> Option<u64>
+    ensures { result ≡ sized (number raw.now) }
 {
-    let Number::Value(n) = values::read_number(raw) else {
-        return Number::Nothing;
+    let Some(n) = values::read_number(raw) else {
+        return None;
     };
     if !quantities::is_block_size(n) {
-        return Number::Nothing;
+        return None;
     }
-    Number::Value(n)
+    Some(n)
 }
 
 // The values at the places.
-fn read_values(text: &[u8], p: Places, release: u64) -> Label
+fn read_values(text: &[u8], p: Places, release: u64) -> Result<LabelFields, Refusal>
     ensures { ReadsLabel text.now (label_from release (texts_at text.now p)) (places_at text.now p) result }
 {
     if !texts_lawful(
@@ -163,23 +154,23 @@ fn read_values(text: &[u8], p: Places, release: u64) -> Label
         elements::text_of(text, p.time),
         elements::text_of(text, p.uuid),
     ) {
-        return Label::Refused(Refusal::Value);
+        return Err(Refusal::Value);
     }
     let Letters::Fit(location, index, other) = read_letters(
         elements::text_of(text, p.location),
         elements::text_of(text, p.index_letter),
         elements::text_of(text, p.data_letter),
     ) else {
-        return Label::Refused(Refusal::Value);
+        return Err(Refusal::Value);
     };
-    let Number::Value(block_size) = read_size(elements::text_of(text, p.block_size)) else {
-        return Label::Refused(Refusal::Value);
+    let Some(block_size) = read_size(elements::text_of(text, p.block_size)) else {
+        return Err(Refusal::Value);
     };
-    let Boolean::Value(compression) = values::read_boolean(elements::text_of(text, p.compression))
+    let Some(compression) = values::read_boolean(elements::text_of(text, p.compression))
     else {
-        return Label::Refused(Refusal::Value);
+        return Err(Refusal::Value);
     };
-    Label::Says(LabelFields {
+    Ok(LabelFields {
         release,
         creator: elements::text_at(text, p.creator),
         time: elements::text_at(text, p.time),
@@ -203,36 +194,36 @@ fn is_root(text: &[u8], n: usize) -> bool
 }
 
 // The root at n.
-fn read_root(text: &[u8], n: usize) -> Label
+fn read_root(text: &[u8], n: usize) -> Result<LabelFields, Refusal>
     ensures { ReadsLabelRoot text.now n result }
 {
     if !is_root(text, n) {
-        return Label::Refused(Refusal::Structure);
+        return Err(Refusal::Structure);
     }
-    let Version::Release(release) = values::read_version(elements::value_of(text, n)) else {
-        return Label::Refused(Refusal::Version);
+    let Some(release) = values::read_version(elements::value_of(text, n)) else {
+        return Err(Refusal::Version);
     };
     let p = find_places(text, n);
     if !p.ok {
-        return Label::Refused(Refusal::Structure);
+        return Err(Refusal::Structure);
     }
     read_values(text, p, release)
 }
 
 // Reads an LTFS label.
-pub fn read(text: &[u8]) -> Label
+pub fn read(text: &[u8]) -> Result<LabelFields, Refusal>
     ensures { ReadsLabel text.now (label_of text.now) (text_places text.now) result }
 {
     if 4096 < text.len() {
-        return Label::Refused(Refusal::TooMany);
+        return Err(Refusal::TooMany);
     }
     match xml::check(text) {
-        FormChecked::Broken(front) => Label::Refused(Refusal::Form(Place {
+        FormChecked::Broken(front) => Err(Refusal::Form(Place {
             front,
             on_data: false,
         })),
         FormChecked::Good => match elements::next_child(text, 38) {
-            Child::Done => Label::Refused(Refusal::Structure),
+            Child::Done => Err(Refusal::Structure),
             Child::At(n, _) => read_root(text, n),
         },
     }

@@ -1,8 +1,7 @@
 // Cases of the LTFS label.
 use elements::Span;
-use label::{Label, LabelFields};
+use label::LabelFields;
 use label_writer::Given;
-use slices::Written;
 use std::fs::File;
 use std::io;
 
@@ -24,8 +23,8 @@ fn part(text: &[u8], w: Span) -> &[u8] {
 fn means(raw: &[u8], expected: &[u8]) -> bool {
     let mut out = [0u8; 4096];
     match texts::decode(raw, &mut out, 0) {
-        Written::To(n) => front_is(&out, n, expected),
-        Written::Refused(_) => false,
+        Ok(n) => front_is(&out, n, expected),
+        Err(_) => false,
     }
 }
 
@@ -63,7 +62,7 @@ fn numbers_as(f: LabelFields, release: u64, g: Given) -> bool {
 // Whether a text reads as the values expected.
 fn says(text: &[u8], release: u64, creator: &[u8], time: &[u8], uuid: &[u8], g: Given) -> bool {
     match label::read(text) {
-        Label::Says(f) => {
+        Ok(f) => {
             if !means(part(text, f.creator), creator) {
                 return false;
             }
@@ -75,14 +74,14 @@ fn says(text: &[u8], release: u64, creator: &[u8], time: &[u8], uuid: &[u8], g: 
             }
             numbers_as(f, release, g)
         }
-        Label::Refused(_) => false,
+        Err(_) => false,
     }
 }
 
 fn is_refused(text: &[u8], refusal: u64) -> bool {
     match label::read(text) {
-        Label::Says(_) => false,
-        Label::Refused(r) => refusals::number(r) == refusal,
+        Ok(_) => false,
+        Err(r) => refusals::number(r) == refusal,
     }
 }
 
@@ -152,7 +151,7 @@ fn written_as(
     after: &[u8],
 ) -> bool {
     match label_writer::write(out, creator, time, uuid, g) {
-        Written::To(n) => {
+        Ok(n) => {
             if refusal != 0 {
                 return false;
             }
@@ -160,7 +159,7 @@ fn written_as(
                 return false;
             }
         }
-        Written::Refused(r) => {
+        Err(r) => {
             if refusals::number(r) != refusal {
                 return false;
             }
@@ -196,10 +195,10 @@ pub fn write_case(file: &mut File) -> bool {
 
 // Whether the labels agree; no where one of the texts is no label.
 fn agree(v: &[u8], s: &[u8], w: &[u8], t: &[u8]) -> bool {
-    let Label::Says(f) = label::read(s) else {
+    let Ok(f) = label::read(s) else {
         return false;
     };
-    let Label::Says(g) = label::read(t) else {
+    let Ok(g) = label::read(t) else {
         return false;
     };
     label::labels_agree(v, s, f, w, t, g)

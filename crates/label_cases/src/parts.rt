@@ -1,5 +1,4 @@
 // Cases of what a label does not reach: names and numbers as values, and rows by tables with optional children.
-use digits::Number;
 use std::fs::File;
 use std::io;
 
@@ -29,13 +28,13 @@ pub fn number_case(file: &mut File) -> bool {
     let said = case_files::number(file);
     let value = case_files::number(file);
     match values::read_number(&raw[..n]) {
-        Number::Value(m) => {
+        Some(m) => {
             if said != 1 {
                 return false;
             }
             m == value
         }
-        Number::Nothing => said == 0,
+        None => said == 0,
     }
 }
 

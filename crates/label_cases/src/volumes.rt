@@ -1,8 +1,6 @@
 // Cases of VOL1.
-use slices::Written;
 use std::fs::File;
 use std::io;
-use vol1::Vol1Read;
 
 // A block; the refusal expected.
 pub fn read_case(file: &mut File) -> bool {
@@ -10,15 +8,15 @@ pub fn read_case(file: &mut File) -> bool {
     let n = case_files::bytes(file, &mut block);
     let refusal = case_files::number(file);
     match vol1::read_vol1(&block[..n]) {
-        Vol1Read::Good => refusal == 0,
-        Vol1Read::Refused(r) => refusals::number(r) == refusal,
+        Ok(()) => refusal == 0,
+        Err(r) => refusals::number(r) == refusal,
     }
 }
 
 // Whether the label is written to out as expected; out is compared whole.
 fn written_as(out: &mut [u8], identifier: &[u8], owner: &[u8], refusal: u64, after: &[u8]) -> bool {
     match vol1::write_vol1(out, identifier, owner) {
-        Written::To(n) => {
+        Ok(n) => {
             if refusal != 0 {
                 return false;
             }
@@ -26,7 +24,7 @@ fn written_as(out: &mut [u8], identifier: &[u8], owner: &[u8], refusal: u64, aft
                 return false;
             }
         }
-        Written::Refused(r) => {
+        Err(r) => {
             if refusals::number(r) != refusal {
                 return false;
             }

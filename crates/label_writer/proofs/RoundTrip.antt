@@ -1,17 +1,15 @@
 -- The round trip of the writer and the reader, by what the functions promise: what `write` stored, in whatever buffer, `read` reads as the fields that
 -- were given.
+use Rattle.std.specs.Prelude.{Ok, Some}
 use mathlib.Core.Path.{◌≡◌, refl, ap, ◌∙◌, sym}
 use mathlib.Core.Bool.{Bool, true, false, ◌&&◌}
 use mathlib.Core.List.{List, [], ◌∷◌}
-use mathlib.Core.Option.{some}
 use Prim.Native.Nat.{ℕ, ◌≤◌}
 use native.Mathlib.Omega.{arith}
 use borrow.Author.Tests.{leb-true}
 use lib.Dec.{leb}
-use Rattle.refusals.specs.Refusals.{answer}
 use Rattle.slices.specs.Slices.{every, same}
 use Rattle.slices.specs.Words.{bytes}
-use Rattle.slices.specs.declared.Written.TheVariants.{To}
 use Rattle.slices.proofs.Booleans.{and_left, and_right}
 use Rattle.quantities.specs.Letters.{is_letter}
 use Rattle.digits.specs.Runs as runs
@@ -39,16 +37,16 @@ use Rattle.label_writer.proofs.Elements.{root_head, children, text_row}
 
 -- ---- the definitions: the label that a label's text is
 
-letter_alone : (b : ℕ) → is_letter b ≡ true → letter (b ∷ []) ≡ some b
+letter_alone : (b : ℕ) → is_letter b ≡ true → letter (b ∷ []) ≡ Some b
 unfolding letter
 letter_alone b e = rw e
 
-word_says : (c : Bool) → boolean (boolean_word c) ≡ some c
+word_says : (c : Bool) → boolean (boolean_word c) ≡ Some c
 unfolding boolean_word boolean same bytes
 word_says true = refl
 word_says false = refl
 
-version_says : version (bytes "2.0.1") ≡ some 1
+version_says : version (bytes "2.0.1") ≡ Some 1
 unfolding version same bytes decimal.plain_number decimal.plain decimal.run decimal.is_run runs.value every
 version_says = refl
 
@@ -89,35 +87,35 @@ released n f =
       compression = f.compression;
     }
 
-values_read : (f : Label) → Rules f → label_from 1 (shown f) ≡ answer (released 1 f)
+values_read : (f : Label) → Rules f → label_from 1 (shown f) ≡ Ok (released 1 f)
 values_read f ok =
     let h : f.block_size ≤ 1048576 = leb-true f.block_size 1048576 (and_right (leb 4096 f.block_size) (leb f.block_size 1048576) ok.block_size) in
     let d = decoded_escaped f.creator in
     let e : (is_creator (decoded (escaped f.creator)) && is_time f.time && is_uuid f.uuid) ≡ true = rw (d, ok.creator, ok.time, ok.uuid) in
     let letters : three_letters (letter (f.location ∷ [])) (letter (f.index_letter ∷ [])) (letter (f.data_letter ∷ []))
-    ≡ some (record { location = f.location; index_letter = f.index_letter; data_letter = f.data_letter })
+    ≡ Some (record { location = f.location; index_letter = f.index_letter; data_letter = f.data_letter })
     = rw (letter_alone f.location ok.location, letter_alone f.index_letter ok.index_letter, letter_alone f.data_letter ok.data_letter, ok.fit) in
-    let size : sized (number (decimal.short f.block_size)) ≡ some f.block_size = rw (number_short f.block_size (omega arith)) (rw ok.block_size) in
+    let size : sized (number (decimal.short f.block_size)) ≡ Some f.block_size = rw (number_short f.block_size (omega arith)) (rw ok.block_size) in
     sym (the_label 1 (shown f) e letters size (word_says f.compression) _ _ _ refl refl refl)
     ∙ rw d
 
 -- the text of a label of version 2.0.1 that may be written is that label
-pub text_reads : (f : Label) → is_given f ≡ true → f.release ≡ 1 → label_of (label_text f) ≡ answer f
+pub text_reads : (f : Label) → is_given f ≡ true → f.release ≡ 1 → label_of (label_text f) ≡ Ok f
 unfolding is_given same bytes
 text_reads f given e =
     let l : is_lawful_label f ≡ true = and_left (is_lawful_label f) (is_characters f.creator) given in
     let ok = in_rules f l in
-    sym (the_first (label_text f) (text_length f l) (sym (given_formed f l) ∙ given) root_head (children f) none (text_row f ok))
+    sym (the_first (label_text f) (text_length f l) (sym (given_formed f l) ∙ given) root_head (children f) None (text_row f ok))
     ∙ sym (the_root root_head (children f) refl version_says (children_shaped f))
     ∙ ap (label_from 1) (children_texts f)
     ∙ values_read f ok
-    ∙ ap (λ (n : ℕ). answer (released n f)) (sym e)
+    ∙ ap (λ (n : ℕ). Ok (released n f)) (sym e)
 
 -- ---- the functions
 
 -- what `write` stored, `read` reads as the fields that were given, version 2.0.1
 pub label_rereads : (creator time uuid : List ℕ) (g : Given) (before after : List ℕ) (n : ℕ)
-    → Writes (is_given (label_of_given creator time uuid g)) (label_text (label_of_given creator time uuid g)) before after (To n)
+    → Writes (is_given (label_of_given creator time uuid g)) (label_text (label_of_given creator time uuid g)) before after (Ok n)
     → Rereads means label_of (label_text (label_of_given creator time uuid g)) (label_of_given creator time uuid g) after n
 label_rereads creator time uuid g before after n =
     rereads means label_of (is_given (label_of_given creator time uuid g)) (label_text (label_of_given creator time uuid g)) (label_of_given creator time uuid g)

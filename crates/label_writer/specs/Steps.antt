@@ -1,6 +1,6 @@
 -- What putting a label's text together owes.
-use Rattle.std.specs.Prelude.{List, ℕ}
-use Rattle.slices.specs.declared.Written.{Written}
+use Rattle.refusals.specs.declared.Refusal.{Refusal}
+use Rattle.std.specs.Prelude.{List, ℕ, Result}
 use Rattle.writing.specs.Writing.{Writes}
 use Rattle.writing.specs.Steps.{Composes}
 use Rattle.label.specs.Label.{Label}
@@ -10,5 +10,5 @@ use Rattle.label_writer.specs.Text.{is_given, label_text}
 abbrev pub ComposesText : Label → List ℕ → List ℕ → ℕ → Type 0
 ComposesText f = Composes (label_text f)
 
-abbrev pub WritesText : Label → List ℕ → List ℕ → Written → Type 0
+abbrev pub WritesText : Label → List ℕ → List ℕ → Result ℕ Refusal → Type 0
 WritesText f = Writes (is_given f) (label_text f)

@@ -12,7 +12,6 @@ ghost use Rattle.label_writer.specs.Steps.{ComposesText, WritesText};
 
 use label::letters_fit;
 use refusals::Refusal;
-use slices::Written;
 use writing::{add, add_number};
 use xml::FormChecked;
 
@@ -185,26 +184,26 @@ fn are_numbers(g: Given) -> bool
 }
 
 // Writes the first n bytes of a text that is in the XML form to the front of out.
-fn deliver(out: &mut [u8], text: &[u8], n: usize) -> Written
+fn deliver(out: &mut [u8], text: &[u8], n: usize) -> Result<usize, Refusal>
     requires { n ≤ length text.now }
     ensures { Writes (in_form (take n text.now)) (take n text.now) out.old out.new result }
 {
     let part = &text[0..n];
     let FormChecked::Good = xml::check(part) else {
-        return Written::Refused(Refusal::Caller);
+        return Err(Refusal::Caller);
     };
     slices::put(out, 0, part)
 }
 
 // Writes an LTFS label of version 2.0.1 to the front of out.
-pub fn write(out: &mut [u8], creator: &[u8], time: &[u8], uuid: &[u8], g: Given) -> Written
+pub fn write(out: &mut [u8], creator: &[u8], time: &[u8], uuid: &[u8], g: Given) -> Result<usize, Refusal>
     ensures { WritesText (label_of_given creator.now time.now uuid.now g) out.old out.new result }
 {
     if !are_texts(creator, time, uuid) {
-        return Written::Refused(Refusal::Caller);
+        return Err(Refusal::Caller);
     }
     if !are_numbers(g) {
-        return Written::Refused(Refusal::Caller);
+        return Err(Refusal::Caller);
     }
     let mut text = [0u8; 4096];
     let n = compose(&mut text, creator, time, uuid, g);

@@ -1,4 +1,5 @@
 -- The labels stand in elements 0 to 3: no other element has a say in them.
+use Rattle.std.specs.Prelude.{Ok}
 use mathlib.Core.Path.{◌≡◌, refl, sym, subst₂, ◌∙◌}
 use mathlib.Core.Bool.{Bool, true, false, ◌&&◌}
 use mathlib.Core.List.{[], ◌∷◌, ◌++◌}
@@ -8,7 +9,7 @@ use lib.ListN.{length, take, drop, take-append-drop, get_elem?}
 use lib.Seq.{take-append-le}
 use Rattle.slices.proofs.Booleans.{and_right}
 use Rattle.refusals.specs.declared.Refusal.TheVariants.{Layout}
-use Rattle.refusals.specs.Refusals.{answer, require}
+use Rattle.refusals.specs.Refusals.{require}
 use Rattle.tape.specs.Tape.{Tape}
 use Rattle.label.specs.Label.{Label}
 use Rattle.labels.specs.Labels.{is_mark, is_block, is_laid, bytes_at, labels_from, labels_of}
@@ -46,13 +47,13 @@ laid_four : (t : Tape) → is_laid t ≡ true → 4 ≤ length t
 laid_four t h = fourth t (and_right (is_block (get_elem? t 0) && is_mark (get_elem? t 1) && is_block (get_elem? t 2)) (is_mark (get_elem? t 3)) h)
 
 -- labels that agree do so however the tapes go on
-pub labels_on : (i d x y : Tape) (f : Label) → labels_of i d ≡ answer f → labels_of (i ++ x) (d ++ y) ≡ answer f
+pub labels_on : (i d x y : Tape) (f : Label) → labels_of i d ≡ Ok f → labels_of (i ++ x) (d ++ y) ≡ Ok f
 unfolding labels_of
 labels_on i d x y f e = go (is_laid i) refl (is_laid d) refl e
   where
     go : (p : Bool) → is_laid i ≡ p → (q : Bool) → is_laid d ≡ q
-        → require p Layout (require q Layout (labels_from (bytes_at i 0) (bytes_at i 2) (bytes_at d 0) (bytes_at d 2))) ≡ answer f
-        → labels_of (i ++ x) (d ++ y) ≡ answer f
+        → require p Layout (require q Layout (labels_from (bytes_at i 0) (bytes_at i 2) (bytes_at d 0) (bytes_at d 2))) ≡ Ok f
+        → labels_of (i ++ x) (d ++ y) ≡ Ok f
     go false h q k r = let z : ◌≡◌ {A = ℕ} 0 1 = cc in absurd (omega arith)
     go true h false k r = let z : ◌≡◌ {A = ℕ} 0 1 = cc in absurd (omega arith)
     go true h true k r =
@@ -60,7 +61,7 @@ labels_on i d x y f e = go (is_laid i) refl (is_laid d) refl e
         ∙ rw (take-append-le 4 i x (laid_four i h), take-append-le 4 d y (laid_four d k)) (labels_front i d) ∙ e
 
 -- and so does a tape whose front has them
-pub labels_within : (n m : ℕ) (i d : Tape) (f : Label) → labels_of (take n i) (take m d) ≡ answer f → labels_of i d ≡ answer f
+pub labels_within : (n m : ℕ) (i d : Tape) (f : Label) → labels_of (take n i) (take m d) ≡ Ok f → labels_of i d ≡ Ok f
 labels_within n m i d f e =
-    subst₂ (λ (x y : Tape). labels_of x y ≡ answer f) (take-append-drop n i) (take-append-drop m d)
+    subst₂ (λ (x y : Tape). labels_of x y ≡ Ok f) (take-append-drop n i) (take-append-drop m d)
     (labels_on (take n i) (take m d) (drop n i) (drop m d) f e)

@@ -1,4 +1,6 @@
 -- A part of a part of a store is a part of the store: what the label of a text says, as what it says of the store that the text lies in.
+use Rattle.refusals.specs.declared.Refusal.{Refusal}
+use Rattle.std.specs.Prelude.{Err, Ok, Result}
 use mathlib.Core.Path.{◌≡◌, sym, ◌∙◌, ap}
 use mathlib.Core.List.{List}
 use Prim.Native.Nat.{ℕ, ◌+◌, ◌-◌, ◌≤◌}
@@ -11,8 +13,6 @@ use Rattle.elements.specs.Reading.{Inside}
 use Rattle.label.specs.Label.{Label as Values}
 use Rattle.label.specs.TextPlaces.{TextPlaces}
 use Rattle.label.specs.Steps.{ReadsLabel}
-use Rattle.label.specs.declared.reader.Label.{Label}
-use Rattle.label.specs.declared.reader.Label.TheVariants.{Says, Refused}
 use Rattle.labels.specs.Steps.{label_moved, BeginWithin}
 use Rattle.labels.specs.Places.{places_moved}
 
@@ -32,9 +32,9 @@ module _ (s : List ℕ) (n by : ℕ) (k : Inside s by n) where
   within : (from len : ℕ) → Inside (take n (drop by s)) from len → from + len ≤ n
   within from len h = omega (arith, part_long)
 
-  pub reads_moved : {a : Answer Values} {w : TextPlaces} (r : Label) → ReadsLabel (take n (drop by s)) a w r → ReadsLabel s a (places_moved by w) (label_moved by r)
-  reads_moved (Refused r) p = record { says = p.says; inside = tt; stands = tt }
-  reads_moved (Says f) p =
+  pub reads_moved : {a : Answer Values} {w : TextPlaces} (r : Result LabelFields Refusal) → ReadsLabel (take n (drop by s)) a w r → ReadsLabel s a (places_moved by w) (label_moved by r)
+  reads_moved (Err r) p = record { says = p.says; inside = tt; stands = tt }
+  reads_moved (Ok f) p =
       let i = p.inside in
       record {
         says = rw (
@@ -47,9 +47,9 @@ module _ (s : List ℕ) (n by : ℕ) (k : Inside s by n) where
         stands = ap (places_moved by) p.stands;
       }
 
-  pub begins : {a : Answer Values} {w : TextPlaces} (r : Label) → ReadsLabel (take n (drop by s)) a w r → BeginWithin n r
-  begins (Refused r) p = tt
-  begins (Says f) p =
+  pub begins : {a : Answer Values} {w : TextPlaces} (r : Result LabelFields Refusal) → ReadsLabel (take n (drop by s)) a w r → BeginWithin n r
+  begins (Err r) p = tt
+  begins (Ok f) p =
       let i = p.inside in
       let c = within _ _ i.creator in
       let t = within _ _ i.time in

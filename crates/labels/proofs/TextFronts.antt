@@ -1,8 +1,8 @@
 -- The labels of a volume are refused 4 with the front of the text that is refused, and its side; and for nothing else (02, Item 6).
+use Rattle.std.specs.Prelude.{None, Option, Some, Err, Ok}
 use mathlib.Core.Path.{◌≡◌, refl, sym, ap, ◌∙◌, subst}
 use mathlib.Core.Bool.{true, false, false≢true}
 use mathlib.Core.List.{List, []}
-use mathlib.Core.Option.{Option, none, some}
 use mathlib.Core.Logic.{◌⊎◌, inl, inr}
 use Prim.Native.Nat.{ℕ}
 use lib.Dec.{eqb}
@@ -10,7 +10,7 @@ use borrow.Author.Tests.{eq-eqb}
 use Rattle.refusals.specs.declared.Refusal.{Refusal}
 use Rattle.refusals.specs.declared.Refusal.TheVariants as refusal
 use Rattle.refusals.specs.declared.Place.{Place}
-use Rattle.refusals.specs.Refusals.{Answer, refused, answer, and_then, require, number_of, place_of, on_data_side, left_at}
+use Rattle.refusals.specs.Refusals.{Answer, and_then, require, number_of, place_of, on_data_side, left_at}
 use Rattle.refusals.proofs.Places.{Another, form_or_another, stays}
 use Rattle.refusals.proofs.Refusing.{Refuses, refuses_answer, refuses_require, refuses_then}
 use Rattle.xml.specs.CheckSteps.{in_form, front}
@@ -43,8 +43,8 @@ module _ (s t : List ℕ) where
   vol1_of_lem v = go (vol1_of v) refl
     where
       go : (a : Answer Vol1Fields) → vol1_of v ≡ a → Refuses OfLabels a
-      go (refused r) e = subst (λ (a : Answer Vol1Fields). Refuses OfLabels a) (sym (vol1_refused v r (sym e)) ∙ e) record { only = another refusal.Vol1 refl }
-      go (answer x) e = refuses_answer OfLabels x
+      go (Err r) e = subst (λ (a : Answer Vol1Fields). Refuses OfLabels a) (sym (vol1_refused v r (sym e)) ∙ e) record { only = another refusal.Vol1 refl }
+      go (Ok x) e = refuses_answer OfLabels x
 
   -- the data side's label, where the index side's is in the form
   module _ (formed : in_form s ≡ true) where
@@ -62,14 +62,14 @@ module _ (s t : List ℕ) where
     data_of = go (label_of t) (label_front t)
       where
         go : (a : Answer Label) → Refuses (OfText t) a → Refuses OfLabels (on_data a)
-        go (refused r) q = record { only = data_refused r q.only }
-        go (answer f) q = refuses_answer OfLabels f
+        go (Err r) q = record { only = data_refused r q.only }
+        go (Ok f) q = refuses_answer OfLabels f
 
   module _ (v w : List ℕ) where
     index_of : (a : Answer Label) → label_of s ≡ a → Refuses (OfText s) a
-        → Refuses OfLabels (and_then a (λ f. and_then (on_data (label_of t)) (λ g. require (agree v f w g) refusal.Foreign (answer f))))
-    index_of (refused r) e q = record { only = λ h. Whose.index_side (q.only h).0 (q.only h).1 }
-    index_of (answer f) e q =
+        → Refuses OfLabels (and_then a (λ f. and_then (on_data (label_of t)) (λ g. require (agree v f w g) refusal.Foreign (Ok f))))
+    index_of (Err r) e q = record { only = λ h. Whose.index_side (q.only h).0 (q.only h).1 }
+    index_of (Ok f) e q =
         refuses_then OfLabels (on_data (label_of t)) _ (data_of (label_formed s f e))
         (λ g. refuses_require OfLabels (agree v f w g) refusal.Foreign _ (another refusal.Foreign refl) (refuses_answer OfLabels f))
 
@@ -92,9 +92,9 @@ pub on_tapes : {A : Type 0} (next : Tape → Tape → Answer A) → ((i d : Tape
 on_tapes {A} next q il is dl ds = go (tape_of il is) (tape_of dl ds)
   where
     go : (x y : Option Tape) → Refuses (OfLabels (text_on (or_refused x)) (text_on (or_refused y))) (and_then (or_refused x) (λ i. and_then (or_refused y) (λ d. next i d)))
-    go none y = record { only = another [] (text_on (or_refused y)) refusal.List refl }
-    go (some i) none = record { only = another (bytes_at i 2) [] refusal.List refl }
-    go (some i) (some d) = q i d
+    go None y = record { only = another [] (text_on (or_refused y)) refusal.List refl }
+    go (Some i) None = record { only = another (bytes_at i 2) [] refusal.List refl }
+    go (Some i) (Some d) = q i d
 
 pub labels_front : (il is dl ds : List ℕ) → Refuses (OfLabels (text_on (tape_in il is)) (text_on (tape_in dl ds))) (labels_in il is dl ds)
 unfolding labels_in

@@ -1,9 +1,8 @@
 -- The labels of two partitions, in document 01's volume order (01, Refusal numbers): 1; 9; 3; label text; then 8 for agreement, the index side
 -- first at each.
-use Rattle.std.specs.Prelude.{Bool, true, false, ◌&&◌, List, [], ℕ}
-use Rattle.std.proofs.Math.Option.{Option, none, some}
+use Rattle.std.specs.Prelude.{Bool, true, false, ◌&&◌, List, [], ℕ, None, Option, Some, Err, Ok}
 use Rattle.std.proofs.Math.ListN.{get_elem?}
-use Rattle.refusals.specs.Refusals.{Answer, refused, answer, require, and_then, on_data_side}
+use Rattle.refusals.specs.Refusals.{Answer, require, and_then, on_data_side}
 use Rattle.refusals.specs.declared.Refusal.TheVariants.{Layout, Foreign}
 use Rattle.tape.specs.Tape.{Element, mark, block, unreadable, content, Tape}
 use Rattle.tape.specs.Answers.{tape_in}
@@ -12,24 +11,24 @@ use Rattle.vol1.specs.Vol1.{vol1_of}
 use Rattle.label.specs.Agreement.{agree}
 
 abbrev pub is_mark : Option Element → Bool
-is_mark none = false
-is_mark (some mark) = true
-is_mark (some (block x)) = false
-is_mark (some unreadable) = false
+is_mark None = false
+is_mark (Some mark) = true
+is_mark (Some (block x)) = false
+is_mark (Some unreadable) = false
 
 abbrev pub is_block : Option Element → Bool
-is_block none = false
-is_block (some mark) = false
-is_block (some (block x)) = true
-is_block (some unreadable) = false
+is_block None = false
+is_block (Some mark) = false
+is_block (Some (block x)) = true
+is_block (Some unreadable) = false
 
 -- 9: elements 0 to 3 are block, mark, block, mark, no block of them unreadable (02, Item 7)
 abbrev pub is_laid : Tape → Bool
 is_laid t = is_block (get_elem? t 0) && is_mark (get_elem? t 1) && is_block (get_elem? t 2) && is_mark (get_elem? t 3)
 
 abbrev pub bytes_in : Option Element → List ℕ
-bytes_in none = []
-bytes_in (some e) = content e
+bytes_in None = []
+bytes_in (Some e) = content e
 
 -- the bytes of block n
 abbrev pub bytes_at : Tape → ℕ → List ℕ
@@ -37,8 +36,8 @@ bytes_at t n = bytes_in (get_elem? t n)
 
 -- what is read on the data side: a text outside the form is that side's (02, Item 6)
 abbrev pub on_data : {A : Type 0} → Answer A → Answer A
-on_data (refused r) = refused (on_data_side r)
-on_data (answer a) = answer a
+on_data (Err r) = Err (on_data_side r)
+on_data (Ok a) = Ok a
 
 -- VOL1 v and label text s of the index side, w and t of the data side: 3, the label text, 8; what the index side's label says
 unfoldable pub labels_from : List ℕ → List ℕ → List ℕ → List ℕ → Answer Label
@@ -47,7 +46,7 @@ labels_from v s w t =
     and_then (vol1_of w) (λ y.
     and_then (label_of s) (λ f.
     and_then (on_data (label_of t)) (λ g.
-    require (agree v f w g) Foreign (answer f)))))
+    require (agree v f w g) Foreign (Ok f)))))
 
 -- the labels of the index partition i and the data partition d
 unfoldable pub labels_of : Tape → Tape → Answer Label

@@ -1,13 +1,12 @@
 -- What the steps of the check answer.
-use Rattle.std.specs.Prelude.{◌≡◌, cond, List, ℕ, ◌≤◌, length}
+use Rattle.refusals.specs.declared.Refusal.{Refusal}
+use Rattle.std.specs.Prelude.{◌≡◌, cond, List, ℕ, ◌≤◌, length, Err, Ok, Result}
 use Rattle.tape.specs.Tape.{Tape, Encodes}
 use Rattle.tape.specs.Answers.{tape_in}
 use Rattle.tape.specs.declared.Entry.{Entry}
 use Rattle.tape.specs.declared.Entry.TheVariants as entry
 use Rattle.label.specs.TextPlaces.{text_places}
 use Rattle.label.specs.Steps.{ReadsLabel}
-use Rattle.label.specs.declared.reader.Label.{Label}
-use Rattle.label.specs.declared.reader.Label.TheVariants.{Says, Refused}
 use Rattle.labels.specs.declared.Step.{Step}
 use Rattle.labels.specs.declared.Step.TheVariants.{Past, Other}
 use Rattle.labels.specs.declared.Laid.{Laid}
@@ -39,10 +38,10 @@ abbrev pub LaysOut : List ℕ → Laid → Type 0
 LaysOut l r = (s : List ℕ) (t : Tape) → Encodes l s t → r ≡ layout_of t
 
 -- what a label says, with its spans moved
-abbrev pub label_moved : ℕ → Label → Label
-label_moved by (Refused r) = Refused r
-label_moved by (Says f) =
-    Says (record {
+abbrev pub label_moved : ℕ → Result LabelFields Refusal → Result LabelFields Refusal
+label_moved by (Err r) = Err r
+label_moved by (Ok f) =
+    Ok (record {
       release = f.release;
       creator = span_moved by f.creator;
       time = span_moved by f.time;
@@ -55,14 +54,14 @@ label_moved by (Says f) =
     })
 
 -- its spans begin at most n bytes into the text
-abbrev pub BeginWithin : ℕ → Label → Type 0
-BeginWithin n (Refused r) = Unit {0}
-BeginWithin n (Says f) = (f.creator.from ≤ n) × (f.time.from ≤ n) × (f.uuid.from ≤ n)
+abbrev pub BeginWithin : ℕ → Result LabelFields Refusal → Type 0
+BeginWithin n (Err r) = Unit {0}
+BeginWithin n (Ok f) = (f.creator.from ≤ n) × (f.time.from ≤ n) × (f.uuid.from ≤ n)
 
 -- what the labels of two sides say, the places being in the index store
-abbrev pub ChecksLabels : List ℕ → List ℕ → List ℕ → List ℕ → Label → Type 0
+abbrev pub ChecksLabels : List ℕ → List ℕ → List ℕ → List ℕ → Result LabelFields Refusal → Type 0
 ChecksLabels il is dl ds = ReadsLabel is (labels_in il is dl ds) (places_on (tape_in il is))
 
 -- the same of the VOL1 labels v and w and the label texts s and t, the places being in s
-abbrev pub ReadsSides : List ℕ → List ℕ → List ℕ → List ℕ → Label → Type 0
+abbrev pub ReadsSides : List ℕ → List ℕ → List ℕ → List ℕ → Result LabelFields Refusal → Type 0
 ReadsSides v s w t = ReadsLabel s (labels_from v s w t) (text_places s)

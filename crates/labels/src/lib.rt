@@ -7,10 +7,9 @@ ghost use Rattle.labels.specs.Steps.{past_block, past_mark, LaysOut, label_moved
 ghost use Rattle.labels.specs.Places.{span_moved};
 
 use elements::Span;
-use label::{Label, LabelFields};
+use label::LabelFields;
 use refusals::Refusal;
-use tape::{Entry, ListChecked};
-use vol1::Vol1Read;
+use tape::Entry;
 
 // The element asked for: its bytes, and the place of the next entry; or another one.
 #[derive(Clone, Copy)]
@@ -80,13 +79,13 @@ fn moved(w: Span, by: usize) -> Span
 }
 
 // What the label of a text of n bytes says, with its spans moved.
-fn in_store(said: Label, n: usize, by: usize) -> Label
+fn in_store(said: Result<LabelFields, Refusal>, n: usize, by: usize) -> Result<LabelFields, Refusal>
     requires { BeginWithin n said × (by + n ≤ 18446744073709551615) }
     ensures { result ≡ label_moved by said }
 {
     match said {
-        Label::Refused(r) => Label::Refused(r),
-        Label::Says(f) => Label::Says(LabelFields {
+        Err(r) => Err(r),
+        Ok(f) => Ok(LabelFields {
             release: f.release,
             creator: moved(f.creator, by),
             time: moved(f.time, by),
@@ -101,24 +100,24 @@ fn in_store(said: Label, n: usize, by: usize) -> Label
 }
 
 // The VOL1 label v and the label text s of the index side, w and t of the data side.
-fn read_sides(v: &[u8], s: &[u8], w: &[u8], t: &[u8]) -> Label
+fn read_sides(v: &[u8], s: &[u8], w: &[u8], t: &[u8]) -> Result<LabelFields, Refusal>
     ensures { ReadsSides v.now s.now w.now t.now result }
 {
-    let Vol1Read::Good = vol1::read_vol1(v) else {
-        return Label::Refused(Refusal::Vol1);
+    let Ok(()) = vol1::read_vol1(v) else {
+        return Err(Refusal::Vol1);
     };
-    let Vol1Read::Good = vol1::read_vol1(w) else {
-        return Label::Refused(Refusal::Vol1);
+    let Ok(()) = vol1::read_vol1(w) else {
+        return Err(Refusal::Vol1);
     };
     match label::read(s) {
-        Label::Refused(r) => Label::Refused(r),
-        Label::Says(f) => match label::read(t) {
-            Label::Refused(r) => Label::Refused(refusals::on_data_side(r)),
-            Label::Says(g) => {
+        Err(r) => Err(r),
+        Ok(f) => match label::read(t) {
+            Err(r) => Err(refusals::on_data_side(r)),
+            Ok(g) => {
                 if label::labels_agree(v, s, f, w, t, g) {
-                    Label::Says(f)
+                    Ok(f)
                 } else {
-                    Label::Refused(Refusal::Foreign)
+                    Err(Refusal::Foreign)
                 }
             }
         },
@@ -126,20 +125,20 @@ fn read_sides(v: &[u8], s: &[u8], w: &[u8], t: &[u8]) -> Label
 }
 
 // The labels of a volume: what the index side's label says, its spans being places in the index store.
-pub fn check(index_list: &[u8], index_store: &[u8], data_list: &[u8], data_store: &[u8]) -> Label
+pub fn check(index_list: &[u8], index_store: &[u8], data_list: &[u8], data_store: &[u8]) -> Result<LabelFields, Refusal>
     ensures { ChecksLabels index_list.now index_store.now data_list.now data_store.now result }
 {
-    let ListChecked::Elements(_) = tape::check(index_list, index_store) else {
-        return Label::Refused(Refusal::List);
+    let Ok(_) = tape::check(index_list, index_store) else {
+        return Err(Refusal::List);
     };
-    let ListChecked::Elements(_) = tape::check(data_list, data_store) else {
-        return Label::Refused(Refusal::List);
+    let Ok(_) = tape::check(data_list, data_store) else {
+        return Err(Refusal::List);
     };
     let Laid::Blocks(vol1, text) = lay_out(index_list) else {
-        return Label::Refused(Refusal::Layout);
+        return Err(Refusal::Layout);
     };
     let Laid::Blocks(data_vol1, data_text) = lay_out(data_list) else {
-        return Label::Refused(Refusal::Layout);
+        return Err(Refusal::Layout);
     };
     let end = vol1 + text;
     let data_end = data_vol1 + data_text;

@@ -1,4 +1,6 @@
 -- What an entry adds to the path of its parent: below the root its name, elsewhere `/` and its name; how long that is, and how it is written in front.
+use Rattle.refusals.specs.declared.Refusal.{Refusal}
+use Rattle.std.specs.Prelude.{None, Result, Some}
 use mathlib.Core.Path.{◌≡◌, refl, ap, sym, ◌∙◌}
 use mathlib.Core.List.{List, [], ◌∷◌, ◌++◌, append_assoc}
 use Prim.Native.Nat.{ℕ, zero, suc, ◌+◌, ◌-◌, ◌<◌, ◌≤◌}
@@ -12,12 +14,10 @@ use Rattle.slices.specs.Slices.{written}
 use Rattle.slices.specs.Words.{bytes}
 use Rattle.slices.proofs.Writing.{from_written, length_written, written_cons, written_nil}
 use Rattle.slices.specs.Writers.{Puts}
-use Rattle.slices.specs.declared.Written.{Written}
 use Rattle.slices.proofs.Writers.{stored_whole}
 use Rattle.texts.proofs.Entities.{decoded_shorter}
 use Rattle.paths.specs.Paths.{parent_of, name_at, name_length, name_of}
 use Rattle.paths.specs.Steps.{path_bytes, WritesLast, size_for}
-use Rattle.paths.specs.declared.Size.TheVariants.{Bytes, TooLong}
 use Rattle.paths.proofs.Walks.{below, down_root, Up}
 
 -- a run written in front of another
@@ -58,7 +58,7 @@ module _ (text entries : List ℕ) where
       pub top_length : length (path_bytes text entries n) ≡ length (path_bytes text entries (parent_of entries n)) + length (name_of text entries n)
       top_length = ap length top_bytes ∙ rw (top_parent, zero-add)
 
-      pub top_put : {at : ℕ} {w before after : List ℕ} {r : Written} → w ≡ name_of text entries n → length (path_bytes text entries n) ≤ length before
+      pub top_put : {at : ℕ} {w before after : List ℕ} {r : (Result ℕ Refusal)} → w ≡ name_of text entries n → length (path_bytes text entries n) ≤ length before
           → length (path_bytes text entries n) ≡ at + length w → Puts at w before after r → WritesLast text entries n before after at
       top_put {at} {w} {before} {after} {r} named h e p =
           let l = top_length in
@@ -90,7 +90,7 @@ module _ (text entries : List ℕ) where
       pub under_length : length (path_bytes text entries n) ≡ length (path_bytes text entries (parent_of entries n)) + (length (name_of text entries n) + 1)
       under_length = ap length under_bytes ∙ rw length-append (omega arith)
 
-      pub under_put : {from : ℕ} {w before after : List ℕ} {r : Written} → w ≡ name_of text entries n → length (path_bytes text entries n) ≤ length before
+      pub under_put : {from : ℕ} {w before after : List ℕ} {r : (Result ℕ Refusal)} → w ≡ name_of text entries n → length (path_bytes text entries n) ≤ length before
           → length (path_bytes text entries n) ≡ from + length w → Puts from w before after r → WritesLast text entries n before (set after (from - 1) 47) (from - 1)
       under_put {from} {w} {before} {after} {r} named h e p =
           let l = under_length in
@@ -119,8 +119,8 @@ module _ (text entries : List ℕ) where
 
 -- the size of a path, by the room that there is
 module _ (room : ℕ) (w : List ℕ) where
-  pub too_long : room < length w → TooLong ≡ size_for room w
+  pub too_long : room < length w → None ≡ size_for room w
   too_long h = rw (lt-leb _ _ h)
 
-  pub fits : (n : ℕ) → n ≡ length w → n ≤ room → Bytes n ≡ size_for room w
-  fits n e h = let k : length w ≤ room = omega arith in rw (le-leb _ _ k) (ap Bytes e)
+  pub fits : (n : ℕ) → n ≡ length w → n ≤ room → Some n ≡ size_for room w
+  fits n e h = let k : length w ≤ room = omega arith in rw (le-leb _ _ k) (ap Some e)

@@ -1,4 +1,5 @@
 -- The path of an entry from that of its parent: a refusal, the parent's path with `/` and the name, or the name alone below the root.
+use Rattle.std.specs.Prelude.{Err, Ok}
 use mathlib.Core.Path.{◌≡◌, refl, ap, sym, ◌∙◌}
 use mathlib.Core.Bool.{Bool, true, false, false≢true, and-false}
 use mathlib.Core.List.{List, [], ◌∷◌, ◌++◌, append_assoc}
@@ -7,7 +8,7 @@ use native.Mathlib.Omega.{arith}
 use borrow.Author.Tests.{ltb-true, lt-ltb, le-ltb, lt-leb, ne_eqb, eq-eqb}
 use lib.Dec.{ltb, leb, eqb}
 use lib.ListN.{length}
-use Rattle.refusals.specs.Refusals.{Answer, refused, answer, require, and_then, shown_bytes}
+use Rattle.refusals.specs.Refusals.{Answer, require, and_then, shown_bytes}
 use Rattle.refusals.specs.declared.Refusal.TheVariants.{Caller}
 use Rattle.slices.specs.Words.{bytes}
 use Rattle.slices.proofs.Booleans.{and_left, same_leb}
@@ -29,10 +30,10 @@ joined_snoc (z ∷ names) y x = joined_more z (names ++ (y ∷ [])) x
 
 -- names with one more, and names joined
 abbrev pub with_name : List ℕ → Answer (List (List ℕ)) → Answer (List (List ℕ))
-with_name x a = and_then a (λ above. answer (above ++ (x ∷ [])))
+with_name x a = and_then a (λ above. Ok (above ++ (x ∷ [])))
 
 abbrev pub joining : Answer (List (List ℕ)) → Answer (List ℕ)
-joining a = and_then a (λ names. answer (joined names))
+joining a = and_then a (λ names. Ok (joined names))
 
 -- what an entry with that name adds to the path of its parent p
 abbrev pub below : ℕ → List ℕ → List ℕ → List ℕ
@@ -81,14 +82,14 @@ module _ (text entries : List ℕ) where
       go false e next = rw e
 
   -- the path of the root
-  pub down_root : path_down text entries 0 ≡ answer []
+  pub down_root : path_down text entries 0 ≡ Ok []
   unfolding path_down names_down joined
   down_root = refl
 
   pub root_answered : (n : ℕ) → n ≡ 0 → is_answer (path_down text entries n) ≡ true
   root_answered n z = ap (λ (k : ℕ). is_answer (path_down text entries k)) z ∙ ap is_answer down_root
 
-  names_unplaced : (n : ℕ) → 0 < n → is_placed text entries n ≡ false → names_down text entries n n ≡ refused Caller
+  names_unplaced : (n : ℕ) → 0 < n → is_placed text entries n ≡ false → names_down text entries n n ≡ Err Caller
   unfolding names_down
   names_unplaced zero h e = absurd (omega arith)
   names_unplaced (suc n) h e = rw (not_root n, e)
@@ -104,32 +105,32 @@ module _ (text entries : List ℕ) where
 
   -- a name below entry n is joined by `/` to the path of n
   joined_below : (n : ℕ) (x : List ℕ) → 0 < n
-      → joining (with_name x (names_down text entries n n)) ≡ and_then (path_down text entries n) (λ above. answer (above ++ bytes "/" ++ x))
+      → joining (with_name x (names_down text entries n n)) ≡ and_then (path_down text entries n) (λ above. Ok (above ++ bytes "/" ++ x))
   unfolding path_down names_down
   joined_below zero x h = absurd (omega arith)
   joined_below (suc n) x h = rw (not_root n) (go (is_placed text entries (suc n)) (names_down text entries n (parent_of entries (suc n))))
     where
       go : (t : Bool) (a : Answer (List (List ℕ)))
           → joining (with_name x (require t Caller (with_name (name_of text entries (suc n)) a)))
-          ≡ and_then (joining (require t Caller (with_name (name_of text entries (suc n)) a))) (λ above. answer (above ++ bytes "/" ++ x))
+          ≡ and_then (joining (require t Caller (with_name (name_of text entries (suc n)) a))) (λ above. Ok (above ++ bytes "/" ++ x))
       go false a = refl
-      go true (refused r) = refl
-      go true (answer names) = ap answer (joined_snoc names (name_of text entries (suc n)) x)
+      go true (Err r) = refl
+      go true (Ok names) = ap Ok (joined_snoc names (name_of text entries (suc n)) x)
 
   joined_under : (p : ℕ) (x : List ℕ)
-      → joining (with_name x (names_down text entries p p)) ≡ and_then (path_down text entries p) (λ above. answer (below p above x))
+      → joining (with_name x (names_down text entries p p)) ≡ and_then (path_down text entries p) (λ above. Ok (below p above x))
   unfolding path_down names_down joined
   joined_under zero x = refl
   joined_under (suc p) x = joined_below (suc p) x (omega arith)
 
   -- the path of an entry below the root, where it is placed and where it is not
   pub down_placed : (n : ℕ) → 0 < n → is_placed text entries n ≡ true
-      → path_down text entries n ≡ and_then (path_down text entries (parent_of entries n)) (λ above. answer (below (parent_of entries n) above (name_of text entries n)))
+      → path_down text entries n ≡ and_then (path_down text entries (parent_of entries n)) (λ above. Ok (below (parent_of entries n) above (name_of text entries n)))
   unfolding path_down
   down_placed n h e =
       ap joining (names_placed n h e) ∙ joined_under (parent_of entries n) (name_of text entries n)
 
-  pub down_unplaced : (n : ℕ) → 0 < n → is_placed text entries n ≡ false → path_down text entries n ≡ refused Caller
+  pub down_unplaced : (n : ℕ) → 0 < n → is_placed text entries n ≡ false → path_down text entries n ≡ Err Caller
   unfolding path_down
   down_unplaced n h e = rw (names_unplaced n h e)
 
@@ -146,18 +147,18 @@ module _ (text entries : List ℕ) where
     pub answered_on : is_placed text entries n ≡ true → is_answer (path_down text entries n) ≡ is_answer (path_down text entries (parent_of entries n))
     answered_on e = ap is_answer (down_placed n h e) ∙ go (path_down text entries (parent_of entries n))
       where
-        go : (a : Answer (List ℕ)) → is_answer (and_then a (λ above. answer (below (parent_of entries n) above (name_of text entries n)))) ≡ is_answer a
-        go (refused r) = refl
-        go (answer above) = refl
+        go : (a : Answer (List ℕ)) → is_answer (and_then a (λ above. Ok (below (parent_of entries n) above (name_of text entries n)))) ≡ is_answer a
+        go (Err r) = refl
+        go (Ok above) = refl
 
     pub up : is_answer (path_down text entries n) ≡ true → Up n
     unfolding path_bytes
     up z = go (is_placed text entries n) refl
       where
         bytes_up : (a : Answer (List ℕ)) → is_answer a ≡ true
-            → shown_bytes (and_then a (λ above. answer (below (parent_of entries n) above (name_of text entries n)))) ≡ below (parent_of entries n) (shown_bytes a) (name_of text entries n)
-        bytes_up (refused r) e = absurd (false≢true e)
-        bytes_up (answer above) e = refl
+            → shown_bytes (and_then a (λ above. Ok (below (parent_of entries n) above (name_of text entries n)))) ≡ below (parent_of entries n) (shown_bytes a) (name_of text entries n)
+        bytes_up (Err r) e = absurd (false≢true e)
+        bytes_up (Ok above) e = refl
 
         go : (t : Bool) → is_placed text entries n ≡ t → Up n
         go true e =

@@ -1,7 +1,7 @@
 -- The path of an entry by a table of entries, nine numbers each. Of the nine, 1 is the entry's parent, the number of the directory that holds it;
 -- 4 and 5 are the place of its name in the index's text, as spelled, and its length there. Entry 0 is the root.
-use Rattle.std.specs.Prelude.{Bool, cond, ◌&&◌, List, [], ◌∷◌, ◌++◌, ℕ, zero, suc, ◌+◌, ◌*◌, ◌/◌, ◌%◌, leb, ltb, eqb, length, take, drop, get_or}
-use Rattle.refusals.specs.Refusals.{Answer, answer, require, and_then}
+use Rattle.std.specs.Prelude.{Bool, cond, ◌&&◌, List, [], ◌∷◌, ◌++◌, ℕ, zero, suc, ◌+◌, ◌*◌, ◌/◌, ◌%◌, leb, ltb, eqb, length, take, drop, get_or, Ok}
+use Rattle.refusals.specs.Refusals.{Answer, require, and_then}
 use Rattle.refusals.specs.declared.Refusal.TheVariants.{Missing, Short, Caller}
 use Rattle.slices.specs.Words.{bytes}
 use Rattle.texts.specs.Decoded.{decoded}
@@ -36,15 +36,15 @@ module _ (text entries : List ℕ) where
 
   -- the names from below the root down to entry n, by so many steps from an entry to its parent; the root adds none
   unfoldable pub names_down : ℕ → ℕ → Answer (List (List ℕ))
-  names_down zero n = answer []
+  names_down zero n = Ok []
   names_down (suc steps) n =
-      cond (eqb n 0) (answer [])
+      cond (eqb n 0) (Ok [])
       (require (is_placed n) Caller
-      (and_then (names_down steps (parent_of entries n)) (λ above. answer (above ++ (name_of n ∷ [])))))
+      (and_then (names_down steps (parent_of entries n)) (λ above. Ok (above ++ (name_of n ∷ [])))))
 
   -- the same joined; n steps are enough for entry n, since each goes to an entry before
   unfoldable pub path_down : ℕ → Answer (List ℕ)
-  path_down n = and_then (names_down n n) (λ names. answer (joined names))
+  path_down n = and_then (names_down n n) (λ names. Ok (joined names))
 
   -- 14 for numbers that are not in nines, 2 for no such entry, then 14 for an entry on the way up
   unfoldable pub path_of : ℕ → Answer (List ℕ)
@@ -55,7 +55,7 @@ module _ (text entries : List ℕ) where
 
 -- 10: a buffer of that length has no room for the text
 abbrev pub fitting : ℕ → List ℕ → Answer (List ℕ)
-fitting room w = require (leb (length w) room) Short (answer w)
+fitting room w = require (leb (length w) room) Short (Ok w)
 
 -- the path of entry n where a buffer of that length has room for it
 abbrev pub path_for : ℕ → List ℕ → List ℕ → ℕ → Answer (List ℕ)

@@ -1,21 +1,18 @@
 -- What the walks up a table of entries owe.
-use Rattle.std.specs.Prelude.{◌≡◌, Bool, true, false, cond, List, ℕ, ◌≤◌, ◌<◌, leb, length}
-use Rattle.refusals.specs.Refusals.{Answer, refused, answer, shown_bytes}
+use Rattle.refusals.specs.declared.Refusal.{Refusal}
+use Rattle.std.specs.Prelude.{◌≡◌, Bool, true, false, cond, List, ℕ, ◌≤◌, ◌<◌, leb, length, Err, None, Ok, Option, Result, Some}
+use Rattle.refusals.specs.Refusals.{Answer, shown_bytes}
 use Rattle.slices.specs.Slices.{written}
-use Rattle.slices.specs.declared.Written.{Written}
-use Rattle.slices.specs.declared.Written.TheVariants.{To, Refused}
 use Rattle.paths.specs.Paths.{entry_count, parent_of, path_down}
-use Rattle.paths.specs.declared.Size.{Size}
-use Rattle.paths.specs.declared.Size.TheVariants.{Bytes, TooLong}
 
 -- whether it is no refusal
 abbrev pub is_answer : {A : Type 0} → Answer A → Bool
-is_answer (refused r) = false
-is_answer (answer a) = true
+is_answer (Err r) = false
+is_answer (Ok a) = true
 
 -- how long a text is, where there is room for it
-abbrev pub size_for : ℕ → List ℕ → Size
-size_for room w = cond (leb (length w) room) (Bytes (length w)) TooLong
+abbrev pub size_for : ℕ → List ℕ → Option ℕ
+size_for room w = cond (leb (length w) room) (Some (length w)) None
 
 module _ (text entries : List ℕ) where
   -- the bytes of a path
@@ -40,16 +37,16 @@ module _ (text entries : List ℕ) where
     pub left : written 0 (path_bytes (parent_of entries n)) after ≡ written 0 (path_bytes n) before
 
 -- what a writer answers
-abbrev pub written_of : Answer (List ℕ) → Written
-written_of (refused r) = Refused r
-written_of (answer w) = To (length w)
+abbrev pub written_of : Answer (List ℕ) → Result ℕ Refusal
+written_of (Err r) = Err r
+written_of (Ok w) = Ok (length w)
 
 -- what the buffer holds after
 abbrev pub held_with : Answer (List ℕ) → List ℕ → List ℕ
-held_with (refused r) before = before
-held_with (answer w) before = written 0 w before
+held_with (Err r) before = before
+held_with (Ok w) before = written 0 w before
 
 -- a writer of what was asked for
-pub record Delivers (a : Answer (List ℕ)) (before after : List ℕ) (r : Written) : Type 0 where
+pub record Delivers (a : Answer (List ℕ)) (before after : List ℕ) (r : Result ℕ Refusal) : Type 0 where
   pub answers : r ≡ written_of a
   pub holds : after ≡ held_with a before

@@ -8,15 +8,6 @@ ghost use Rattle.paths.specs.Paths.{entry_count, parent_of, name_of, is_placed, 
 ghost use Rattle.paths.specs.Steps.{is_answer, size_for, path_bytes, HasPath, EndsAt, WritesLast, Delivers};
 
 use refusals::Refusal;
-use slices::Written;
-
-// How long a path is.
-#[derive(Clone, Copy)]
-enum Size {
-    Bytes(usize),
-    // Longer than there is room for.
-    TooLong,
-}
 
 // One of the nine numbers of an entry.
 fn number_of(entries: &[u64], n: usize, k: usize) -> usize
@@ -87,7 +78,7 @@ fn added_len(text: &[u8], entries: &[u64], n: usize) -> usize
 }
 
 // How long the path of an entry is, as far as there is room for it.
-fn path_len(text: &[u8], entries: &[u64], entry: usize, room: usize) -> Size
+fn path_len(text: &[u8], entries: &[u64], entry: usize, room: usize) -> Option<usize>
     requires { HasPath text.now entries.now entry }
     ensures { result ≡ size_for room (path_bytes text.now entries.now entry) }
 {
@@ -96,12 +87,12 @@ fn path_len(text: &[u8], entries: &[u64], entry: usize, room: usize) -> Size
     while n != 0 {
         let len = added_len(text, entries, n);
         if left < len {
-            return Size::TooLong;
+            return None;
         }
         left -= len;
         n = parent_of(entries, n);
     }
-    Size::Bytes(room - left)
+    Some(room - left)
 }
 
 // Writes the last name of a path that is to end at a place, with the `/` before it, and answers where it begins.
@@ -133,22 +124,22 @@ fn put_path(text: &[u8], entries: &[u64], entry: usize, out: &mut [u8], len: usi
 }
 
 // Writes the path of an entry to the front of out.
-pub fn path(text: &[u8], entries: &[u64], entry: u64, out: &mut [u8]) -> Written
+pub fn path(text: &[u8], entries: &[u64], entry: u64, out: &mut [u8]) -> Result<usize, Refusal>
     ensures { Delivers (path_for (length out.old) text.now entries.now entry) out.old out.new result }
 {
     if entries.len() % 9 != 0 {
-        return Written::Refused(Refusal::Caller);
+        return Err(Refusal::Caller);
     }
     let n = entry as usize;
     if entries.len() / 9 <= n {
-        return Written::Refused(Refusal::Missing);
+        return Err(Refusal::Missing);
     }
     if !is_path(text, entries, n) {
-        return Written::Refused(Refusal::Caller);
+        return Err(Refusal::Caller);
     }
-    let Size::Bytes(len) = path_len(text, entries, n, out.len()) else {
-        return Written::Refused(Refusal::Short);
+    let Some(len) = path_len(text, entries, n, out.len()) else {
+        return Err(Refusal::Short);
     };
     put_path(text, entries, n, out, len);
-    Written::To(len)
+    Ok(len)
 }

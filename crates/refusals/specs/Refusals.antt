@@ -1,6 +1,5 @@
 -- Refusals and answers (01, Refusal numbers): the number of each refusal, what a function answers, and the order of checks.
-use Rattle.std.specs.Prelude.{◌≡◌, Bool, true, false, cond, List, [], ℕ, eqb}
-use Rattle.std.proofs.Math.Option.{Option, some, none}
+use Rattle.std.specs.Prelude.{◌≡◌, Bool, true, false, cond, List, [], ℕ, eqb, None, Option, Some, Result, Ok, Err}
 use Rattle.refusals.specs.declared.Place.{Place}
 use Rattle.refusals.specs.declared.Refusal.{Refusal}
 use Rattle.refusals.specs.declared.Refusal.TheVariants as refusal
@@ -61,41 +60,40 @@ abbrev pub on_data_side : Refusal → Refusal
 on_data_side r = cond (eqb (number_of r) 4) (refusal.Form (record { front = (place_of r).front; on_data = true })) r
 
 -- a refusal, or what was asked for
-pub data Answer (A : Type 0) : Type 0 where
-  refused : Refusal → Answer A
-  answer : A → Answer A
+abbrev pub Answer : Type 0 → Type 0
+Answer A = Result A Refusal
 
 module _ {A : Type 0} where
   -- refused with r unless the test passes; else what follows
   abbrev pub require : Bool → Refusal → Answer A → Answer A
   require true r next = next
-  require false r next = refused r
+  require false r next = Err r
 
 module _ {A B : Type 0} where
   -- the refusal of the first, or what follows from its value
   abbrev pub and_then : Answer A → (A → Answer B) → Answer B
-  and_then (refused r) next = refused r
-  and_then (answer a) next = next a
+  and_then (Err r) next = Err r
+  and_then (Ok a) next = next a
 
   -- refused with r where there is no value; else what follows from it
   abbrev pub or_refuse : Option A → Refusal → (A → Answer B) → Answer B
-  or_refuse (some a) r next = next a
-  or_refuse none r next = refused r
+  or_refuse (Some a) r next = next a
+  or_refuse None r next = Err r
 
 -- the number that an answer shows: a refusal's, or 0
 abbrev pub shown_number : {A : Type 0} → Answer A → ℕ
-shown_number (refused r) = number_of r
-shown_number (answer a) = 0
+shown_number (Err r) = number_of r
+shown_number (Ok a) = 0
 
 -- and where a text left the form, zeros but with 4
 abbrev pub shown_place : {A : Type 0} → Answer A → Place
-shown_place (refused r) = place_of r
-shown_place (answer a) = nowhere
+shown_place (Err r) = place_of r
+shown_place (Ok a) = nowhere
 
 -- the bytes that it hands out: none where it is refused
 abbrev pub shown_bytes : Answer (List ℕ) → List ℕ
-shown_bytes (refused r) = []
-shown_bytes (answer x) = x
+shown_bytes (Err r) = []
+shown_bytes (Ok x) = x
 
 -- a returned part and the refusal number beside it show the answer
 pub record Shows (a : Answer (List ℕ)) (bytes : List ℕ) (number : ℕ) : Type 0 where

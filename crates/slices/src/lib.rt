@@ -39,29 +39,20 @@ pub fn part(s: &[u8], from: usize, len: usize) -> &[u8]
     &s[from..to]
 }
 
-// What a writer answers.
-#[derive(Clone, Copy)]
-pub enum Written {
-    // The place after what was written.
-    To(usize),
-    // Nothing was written.
-    Refused(Refusal),
-}
-
 // Writes src into out from its place at, if there is room for all of it.
-pub fn put(out: &mut [u8], at: usize, src: &[u8]) -> Written
+pub fn put(out: &mut [u8], at: usize, src: &[u8]) -> Result<usize, Refusal>
     ensures { Puts at src.now out.old out.new result }
 {
     if out.len() < at {
-        return Written::Refused(Refusal::Short);
+        return Err(Refusal::Short);
     }
     if out.len() - at < src.len() {
-        return Written::Refused(Refusal::Short);
+        return Err(Refusal::Short);
     }
     let mut i: usize = 0;
     while i < src.len() {
         out[at + i] = src[i];
         i += 1;
     }
-    Written::To(at + i)
+    Ok(at + i)
 }

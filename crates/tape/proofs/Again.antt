@@ -1,8 +1,8 @@
 -- Keeping m elements and then n is keeping the smaller of the two, of the list and of the store alike (02, Item 11); and what keeping
 -- answers and hands out, with that.
+use Rattle.std.specs.Prelude.{None, Option, Some, Err, Ok}
 use mathlib.Core.Path.{◌≡◌, refl, sym, ◌∙◌, ap, subst}
 use mathlib.Core.Bool.{true}
-use mathlib.Core.Option.{Option, none, some}
 use mathlib.Core.List.{List, [], ◌∷◌}
 use Prim.Native.Nat.{ℕ, zero, suc, ◌≤◌, min}
 use native.Mathlib.Nat.{zero-min, min-zero, suc-min-suc}
@@ -10,7 +10,7 @@ use native.Mathlib.Omega.{arith}
 use lib.ListN.{length, take, length-take}
 use Rattle.slices.proofs.Booleans.{and_parts, and_both}
 use Rattle.refusals.specs.declared.Refusal.{Refusal}
-use Rattle.refusals.specs.Refusals.{Answer, refused, answer, and_then, Shows}
+use Rattle.refusals.specs.Refusals.{Answer, and_then, Shows}
 use Rattle.refusals.proofs.Numbers.{not_zero}
 use Rattle.tape.specs.Tape.{Tape, cell_of, is_lawful_cell, lawful_tape, Encodes}
 use Rattle.tape.specs.ReadingSteps.{tape_of}
@@ -54,51 +54,51 @@ unfolding keeping
 keep_twice m n l s w = go (tape_of l s) refl
   where
     go : (o : Option Tape) → tape_of l s ≡ o
-        → and_then (and_then (or_refused o) (λ t. answer (kept m t)))
-        (λ f. and_then (or_refused (tape_of f.list f.store)) (λ t. answer (kept n t)))
-        ≡ and_then (or_refused o) (λ t. answer (kept (min m n) t))
-    go none q = refl
-    go (some t) q = rw (read_encoded (encodes_kept m (encodes_read l s t w q)), take_min m n t)
+        → and_then (and_then (or_refused o) (λ t. Ok (kept m t)))
+        (λ f. and_then (or_refused (tape_of f.list f.store)) (λ t. Ok (kept n t)))
+        ≡ and_then (or_refused o) (λ t. Ok (kept (min m n) t))
+    go None q = refl
+    go (Some t) q = rw (read_encoded (encodes_kept m (encodes_read l s t w q)), take_min m n t)
 
 module _ (m : ℕ) (l s : List ℕ) (w : Bytes l) where
-  kept_again : (f : Fronts) → keeping m l s ≡ answer f → KeepsAgain m l s f
+  kept_again : (f : Fronts) → keeping m l s ≡ Ok f → KeepsAgain m l s f
   kept_again f q n = sym (ap (λ (a : Answer Fronts). and_then a (λ g. keeping n g.list g.store)) q) ∙ keep_twice m n l s w
 
   -- what `kept_list` and `kept_store` hand out
   pub parts_again : (x y : List ℕ) → ShowsList m l s x 0 → ShowsStore m l s y 0 → KeepsAgain m l s (record { list = x; store = y })
   parts_again x y p q = go (keeping m l s) refl p q
     where
-      go : (a : Answer Fronts) → keeping m l s ≡ a → Shows (and_then a (λ f. answer f.list)) x 0 → Shows (and_then a (λ f. answer f.store)) y 0
+      go : (a : Answer Fronts) → keeping m l s ≡ a → Shows (and_then a (λ f. Ok f.list)) x 0 → Shows (and_then a (λ f. Ok f.store)) y 0
           → KeepsAgain m l s (record { list = x; store = y })
-      go (refused r) e p q = absurd (not_zero r (sym p.refusal))
-      go (answer f) e p q = rw (p.part, q.part) (kept_again f e)
+      go (Err r) e p q = absurd (not_zero r (sym p.refusal))
+      go (Ok f) e p q = rw (p.part, q.part) (kept_again f e)
 
   -- of these parts they hand out what they hand out of the whole for the smaller number
   pub list_twice : (n : ℕ) (x y z : List ℕ) (k : ℕ) → ShowsList m l s x 0 → ShowsStore m l s y 0 → ShowsList n x y z k → ShowsList (min m n) l s z k
-  list_twice n x y z k p q = subst (λ (a : Answer Fronts). Shows (and_then a (λ f. answer f.list)) z k) (parts_again x y p q n)
+  list_twice n x y z k p q = subst (λ (a : Answer Fronts). Shows (and_then a (λ f. Ok f.list)) z k) (parts_again x y p q n)
 
   pub store_twice : (n : ℕ) (x y z : List ℕ) (k : ℕ) → ShowsList m l s x 0 → ShowsStore m l s y 0 → ShowsStore n x y z k → ShowsStore (min m n) l s z k
-  store_twice n x y z k p q = subst (λ (a : Answer Fronts). Shows (and_then a (λ f. answer f.store)) z k) (parts_again x y p q n)
+  store_twice n x y z k p q = subst (λ (a : Answer Fronts). Shows (and_then a (λ f. Ok f.store)) z k) (parts_again x y p q n)
 
-  keeps : (a : Answer Lengths) → a ≡ kept_of m l s → keeping m l s ≡ and_then a (λ k. answer (fronts_of k l s)) → Keeps m l s a
+  keeps : (a : Answer Lengths) → a ≡ kept_of m l s → keeping m l s ≡ and_then a (λ k. Ok (fronts_of k l s)) → Keeps m l s a
   keeps a h q =
       record {
         answers = h;
         bytes = q;
-        again = λ k e. kept_again (fronts_of k l s) (q ∙ ap (λ (b : Answer Lengths). and_then b (λ j. answer (fronts_of j l s))) e);
+        again = λ k e. kept_again (fronts_of k l s) (q ∙ ap (λ (b : Answer Lengths). and_then b (λ j. Ok (fronts_of j l s))) e);
       }
 
   -- keeping of a list and a store that were checked
-  pub keeps_present : (count : ℕ) (p : Present l s count) → Keeps m l s (answer (lengths (kept m p.tape)))
+  pub keeps_present : (count : ℕ) (p : Present l s count) → Keeps m l s (Ok (lengths (kept m p.tape)))
   keeps_present count p =
       let t = p.tape in
       let is = keeping_present m count l s p in
-      keeps (answer (lengths (kept m t))) (rw is) (is ∙ rw (p.encodes.lists, p.encodes.stores, list_front m t, store_front m t))
+      keeps (Ok (lengths (kept m t))) (rw is) (is ∙ rw (p.encodes.lists, p.encodes.stores, list_front m t, store_front m t))
 
-  pub keeps_absent : (r : Refusal) → refused r ≡ element_count l s → Keeps m l s (refused r)
+  pub keeps_absent : (r : Refusal) → Err r ≡ element_count l s → Keeps m l s (Err r)
   keeps_absent r e =
       let is = keeping_absent m l s r e in
-      keeps (refused r) (rw is) is
+      keeps (Err r) (rw is) is
 
 -- what is owed of an answer is owed of what it is found to be
 pub keeps_as : {m : ℕ} {l s : List ℕ} {x y : Kept} → Keeps m l s (kept_lengths x) → x ≡ y → Keeps m l s (kept_lengths y)
@@ -111,7 +111,7 @@ pub record Parts (m : ℕ) (l s : List ℕ) (a b : ℕ) : Type 0 where
   pub in_list : a ≤ length l
   pub in_store : b ≤ length s
 
-pub parts : {m a b : ℕ} {l s : List ℕ} → Keeps m l s (answer (record { list = a; store = b })) → Parts m l s a b
+pub parts : {m a b : ℕ} {l s : List ℕ} → Keeps m l s (Ok (record { list = a; store = b })) → Parts m l s a b
 parts {m} {a} {b} {l} {s} k =
     let q = k.bytes in
     let e : record { list = a; store = b } ≡ lengths (record { list = take a l; store = take b s }) = cc (k.answers, q) in

@@ -1,7 +1,7 @@
 -- A block by its number: the walk ends where it stands, and its bytes are a part of the store.
+use Rattle.std.specs.Prelude.{None, Option, Some, Err, Ok}
 use mathlib.Core.Path.{◌≡◌, refl, sym, ◌∙◌, ap, subst}
 use mathlib.Core.Bool.{Bool, true, false, cond}
-use mathlib.Core.Option.{Option, none, some}
 use mathlib.Core.List.{List, [], ◌∷◌, ◌++◌}
 use Prim.Native.Nat.{ℕ, zero, suc, ◌+◌, ◌-◌, ◌≤◌}
 use native.Mathlib.Nat.{add-zero, zero-add}
@@ -12,7 +12,7 @@ use borrow.Author.Tests.{leb-true}
 use lib.Dec.{leb, eqb}
 use Rattle.refusals.specs.declared.Refusal.{Refusal}
 use Rattle.refusals.specs.declared.Refusal.TheVariants as refusal
-use Rattle.refusals.specs.Refusals.{Answer, refused, answer, require, and_then, Shows}
+use Rattle.refusals.specs.Refusals.{Answer, require, and_then, Shows}
 use Rattle.quantities.specs.Letters.{are_letters}
 use Rattle.tape.specs.declared.Entry.{Entry}
 use Rattle.tape.specs.declared.Front.{Front}
@@ -36,12 +36,12 @@ spot_as l n {f} {e} {a} w q g = rw (← g, q, w)
 
 -- an element as a spot
 abbrev pub spot_for : ℕ → Option Element → Spot
-spot_for v none = spot.Nothing
-spot_for v (some mark) = spot.Nothing
-spot_for v (some (block x)) = spot.Block v (length x)
-spot_for v (some unreadable) = spot.Unreadable
+spot_for v None = spot.Nothing
+spot_for v (Some mark) = spot.Nothing
+spot_for v (Some (block x)) = spot.Block v (length x)
+spot_for v (Some unreadable) = spot.Unreadable
 
-spot_element : (v at : ℕ) (e : Element) → spot_of v (entry_for (cell_of e) at) ≡ spot_for v (some e)
+spot_element : (v at : ℕ) (e : Element) → spot_of v (entry_for (cell_of e) at) ≡ spot_for v (Some e)
 spot_element v at mark = refl
 spot_element v at (block x) = refl
 spot_element v at unreadable = refl
@@ -54,7 +54,7 @@ spot_from zero l at v [] h d = rw (reach_done l at v zero (omega arith), entry_n
 spot_from zero l at v (e ∷ t) h d =
     let (ok, rest) = and_parts (is_lawful_cell (cell_of e)) (lawful_tape t) h in
     rw (reach_done l at v zero (omega arith), entry_here l at (cell_of e) (list t) ok d)
-    (spot_element v at e ∙ ap (λ x. spot_for x (some e)) (sym (add-zero v)))
+    (spot_element v at e ∙ ap (λ x. spot_for x (Some e)) (sym (add-zero v)))
 spot_from (suc n) l at v [] h d = rw (reach_step l at v (suc n) (omega arith) (entry_none l at d), entry_none l at d)
 spot_from (suc n) l at v (e ∷ t) h d =
     let (ok, rest) = and_parts (is_lawful_cell (cell_of e)) (lawful_tape t) h in
@@ -67,7 +67,7 @@ pub spot_of_lem : (n count : ℕ) (l s : List ℕ) (p : Present l s count) → s
 unfolding spot_at
 spot_of_lem n count l s p = rw (zero-add (length (store (take n p.tape)))) at (spot_from n l 0 0 p.tape p.encodes.blocks p.encodes.lists)
 
-past_end : (t : Tape) (n : ℕ) → length t ≤ n → get_elem? t n ≡ none
+past_end : (t : Tape) (n : ℕ) → length t ≤ n → get_elem? t n ≡ None
 past_end [] n h = refl
 past_end (e ∷ t) zero h = absurd (omega arith)
 past_end (e ∷ t) (suc n) h = past_end t n (omega arith)
@@ -80,28 +80,28 @@ below_of n count l s p =
 
 -- what a spot on one side answers
 abbrev pub place_from : Bool → Spot → Answer StorePart
-place_from side (spot.Block v k) = answer (record { on_index = side; from = v; size = k })
-place_from side spot.Unreadable = refused refusal.Unreadable
-place_from side spot.Nothing = refused refusal.Missing
+place_from side (spot.Block v k) = Ok (record { on_index = side; from = v; size = k })
+place_from side spot.Unreadable = Err refusal.Unreadable
+place_from side spot.Nothing = Err refusal.Missing
 
-placed : (side : Bool) (v : ℕ) (o : Option Element) → and_then (as_block o) (λ x. answer (record { on_index = side; from = v; size = length x })) ≡ place_from side (spot_for v o)
-placed side v none = refl
-placed side v (some mark) = refl
-placed side v (some (block x)) = refl
-placed side v (some unreadable) = refl
+placed : (side : Bool) (v : ℕ) (o : Option Element) → and_then (as_block o) (λ x. Ok (record { on_index = side; from = v; size = length x })) ≡ place_from side (spot_for v o)
+placed side v None = refl
+placed side v (Some mark) = refl
+placed side v (Some (block x)) = refl
+placed side v (Some unreadable) = refl
 
 module _ (i d c n : ℕ) (l s l' s' : List ℕ) where
-  pub place_letters : are_letters i d c ≡ false → place_of i d c n l s l' s' ≡ refused refusal.Caller
+  pub place_letters : are_letters i d c ≡ false → place_of i d c n l s l' s' ≡ Err refusal.Caller
   unfolding place_of
   place_letters h = rw h
 
   module _ (h : are_letters i d c ≡ true) where
-    pub place_index : (r : Refusal) → refused r ≡ element_count l s → place_of i d c n l s l' s' ≡ refused refusal.List
+    pub place_index : (r : Refusal) → Err r ≡ element_count l s → place_of i d c n l s l' s' ≡ Err refusal.List
     unfolding place_of
     place_index r e = rw (h, absent_list l s r e)
 
     module _ (count : ℕ) (p : Present l s count) where
-      pub place_data : (r : Refusal) → refused r ≡ element_count l' s' → place_of i d c n l s l' s' ≡ refused refusal.List
+      pub place_data : (r : Refusal) → Err r ≡ element_count l' s' → place_of i d c n l s l' s' ≡ Err refusal.List
       unfolding place_of
       place_data r e = rw (h, p.read, absent_list l' s' r e)
 
@@ -115,7 +115,7 @@ module _ (i d c n : ℕ) (l s l' s' : List ℕ) where
           rw (h, p.read, q.read, e) (placed false _ (get_elem? q.tape n) ∙ ap (place_from false) (sym (f ∙ below_of n count' l' s' q)))
 
 -- block n is a part of the store
-pub block_bytes : (t : Tape) (n : ℕ) (x : List ℕ) → get_elem? t n ≡ some (block x)
+pub block_bytes : (t : Tape) (n : ℕ) (x : List ℕ) → get_elem? t n ≡ Some (block x)
     → (take (length x) (drop (length (store (take n t))) (store t)) ≡ x) × (length (store (take n t)) + length x ≤ length (store t))
 unfolding store content
 block_bytes [] n x e = let z : ◌≡◌ {A = ℕ} 0 1 = cc in absurd (omega arith)
@@ -131,21 +131,21 @@ block_bytes (d ∷ t) (suc n) x e =
     (ih.0, let b = ih.1 in omega (arith, length-append (content d) (store t)))
 
 -- a refusal of the place is the block's
-refused_holds : (s s' : List ℕ) (r : Refusal) → Holds s s' (refused r) (refused r)
+refused_holds : (s s' : List ℕ) (r : Refusal) → Holds s s' (Err r) (Err r)
 refused_holds s s' r = record { bytes = refl; inside = λ p e. let z : ◌≡◌ {A = ℕ} 0 1 = cc in absurd (omega arith) }
 
 -- the place of a block of a tape holds it
 holds_on : (side : Bool) (t : Tape) (n : ℕ) (s s' : List ℕ) (o : Option Element) → get_elem? t n ≡ o → cond side s s' ≡ store t
-    → Holds s s' (and_then (as_block o) (λ x. answer (record { on_index = side; from = length (store (take n t)); size = length x }))) (as_block o)
-holds_on side t n s s' none e q = refused_holds s s' refusal.Missing
-holds_on side t n s s' (some mark) e q = refused_holds s s' refusal.Missing
-holds_on side t n s s' (some unreadable) e q = refused_holds s s' refusal.Unreadable
-holds_on side t n s s' (some (block x)) e q =
+    → Holds s s' (and_then (as_block o) (λ x. Ok (record { on_index = side; from = length (store (take n t)); size = length x }))) (as_block o)
+holds_on side t n s s' None e q = refused_holds s s' refusal.Missing
+holds_on side t n s s' (Some mark) e q = refused_holds s s' refusal.Missing
+holds_on side t n s s' (Some unreadable) e q = refused_holds s s' refusal.Unreadable
+holds_on side t n s s' (Some (block x)) e q =
     let b = block_bytes t n x e in
     let here : StorePart = record { on_index = side; from = length (store (take n t)); size = length x } in
     let fits : length (store (take n t)) + length x ≤ length (cond side s s') = rw q b.1 in
     record {
-      bytes = rw q (ap answer (sym b.0));
+      bytes = rw q (ap Ok (sym b.0));
       inside = λ p g. let z : here ≡ p = cc in subst (λ (p : StorePart). p.from + p.size ≤ length (store_of s s' p)) z fits;
     }
 
@@ -154,9 +154,9 @@ module _ (i d c n : ℕ) (l s l' s' : List ℕ) (w : Bytes l) (w' : Bytes l') wh
       → Holds s s' (require a refusal.Caller (and_then (or_refused o) (λ ti. and_then (or_refused o') (λ td. place_on n (eqb c i) (cond (eqb c i) ti td)))))
       (require a refusal.Caller (and_then (or_refused o) (λ ti. and_then (or_refused o') (λ td. block_on (cond (eqb c i) ti td) n))))
   holds_of false o o' e e' = refused_holds s s' refusal.Caller
-  holds_of true none o' e e' = refused_holds s s' refusal.List
-  holds_of true (some t) none e e' = refused_holds s s' refusal.List
-  holds_of true (some t) (some u) e e' =
+  holds_of true None o' e e' = refused_holds s s' refusal.List
+  holds_of true (Some t) None e e' = refused_holds s s' refusal.List
+  holds_of true (Some t) (Some u) e e' =
       split (λ b. Holds s s' (place_on n b (cond b t u)) (block_on (cond b t u) n)) (eqb c i)
       (λ y. holds_on true t n s s' (get_elem? t n) refl (encodes_read l s t w e).stores)
       (λ y. holds_on false u n s s' (get_elem? u n) refl (encodes_read l' s' u w' e').stores)
@@ -168,5 +168,5 @@ module _ (i d c n : ℕ) (l s l' s' : List ℕ) (w : Bytes l) (w' : Bytes l') wh
       subst (FindsBlock i d c n l s l' s') (sym e) record { place = refl; holds = holds_of (are_letters i d c) (tape_of l s) (tape_of l' s') refl refl }
 
 -- a part of a store, cut out between two places, and the refusal beside it
-pub shows_part : (s : List ℕ) (from n : ℕ) {b : Answer (List ℕ)} → b ≡ answer (take n (drop from s)) → Shows b (take ((from + n) - from) (drop from s)) 0
+pub shows_part : (s : List ℕ) (from n : ℕ) {b : Answer (List ℕ)} → b ≡ Ok (take n (drop from s)) → Shows b (take ((from + n) - from) (drop from s)) 0
 shows_part s from n e = let w : (from + n) - from ≡ n = omega arith in rw (w, e) record { part = refl; refusal = refl }

@@ -1,14 +1,14 @@
 -- A list and a store are continued (02, Item 14) exactly where the longer ones encode the elements that they encoded, and others behind
 -- these; and what n elements keep of them, as long as they have so many, is kept of the longer ones.
+use Rattle.std.specs.Prelude.{None, Option, Some, Ok}
 use mathlib.Core.Path.{◌≡◌, refl, sym, ◌∙◌, ap, subst}
-use mathlib.Core.Option.{Option, none, some}
 use mathlib.Core.List.{List, [], ◌∷◌, ◌++◌, append_assoc}
 use Prim.Native.Nat.{ℕ, zero, suc, ◌+◌, ◌≤◌, ◌<◌}
 use native.Mathlib.Omega.{arith}
 use lib.ListN.{length, take, drop, length-append, length-drop, get_or-append}
 use lib.Seq.{take-append-le, drop-append-le}
 use borrow.Author.Tests.{lt-ltb, le-leb}
-use Rattle.refusals.specs.Refusals.{answer, and_then}
+use Rattle.refusals.specs.Refusals.{and_then}
 use Rattle.big_endian.specs.BigEndian.{bytes_say}
 use Rattle.tape.specs.declared.Entry.{Entry}
 use Rattle.tape.specs.declared.Entry.TheVariants.{Mark, Block, Unreadable, End, Bad}
@@ -55,11 +55,11 @@ module _ (l x : List ℕ) where
 
   -- the elements that two readings find, the second of the longer list: those of the first are the first of the second's
   abbrev ReadOn : (ℕ → Option (List Cell)) → (ℕ → Option (List Cell)) → ℕ → Type 0
-  ReadOn old new at = (cs ds : List Cell) → old at ≡ some cs → new at ≡ some ds → InFront cs ds
+  ReadOn old new at = (cs ds : List Cell) → old at ≡ Some cs → new at ≡ Some ds → InFront cs ds
 
   -- one element, and those behind it
-  one_on : (c : Cell) (o p : Option (List Cell)) (cs ds : List Cell) → ((es fs : List Cell) → o ≡ some es → p ≡ some fs → InFront es fs)
-      → added c o ≡ some cs → added c p ≡ some ds → InFront cs ds
+  one_on : (c : Cell) (o p : Option (List Cell)) (cs ds : List Cell) → ((es fs : List Cell) → o ≡ Some es → p ≡ Some fs → InFront es fs)
+      → added c o ≡ Some cs → added c p ≡ Some ds → InFront cs ds
   one_on c o p cs ds behind x y =
       let a = added_some c o cs x in
       let b = added_some c p ds y in
@@ -67,7 +67,7 @@ module _ (l x : List ℕ) where
       (r.0, b.is ∙ ap (λ (es : List Cell). c ∷ es) r.1 ∙ ap (λ (es : List Cell). es ++ r.0) (sym a.is))
 
   entry_on : (old new : ℕ → Option (List Cell)) → ((next : ℕ) → ReadOn old new next) → (at : ℕ) (e : Entry) → StandsOn at e
-      → (cs ds : List Cell) → and_behind old e ≡ some cs → and_behind new (entry_at (l ++ x) at) ≡ some ds → InFront cs ds
+      → (cs ds : List Cell) → and_behind old e ≡ Some cs → and_behind new (entry_at (l ++ x) at) ≡ Some ds → InFront cs ds
   entry_on old new behind at (Mark next) s cs ds p q = one_on mark_cell (old next) (new next) cs ds (behind next) p (rw s at q)
   entry_on old new behind at (Block n next) s cs ds p q = one_on (block_cell n) (old next) (new next) cs ds (behind next) p (rw s at q)
   entry_on old new behind at (Unreadable next) s cs ds p q = one_on unreadable_cell (old next) (new next) cs ds (behind next) p (rw s at q)
@@ -94,7 +94,7 @@ filled_on (c ∷ cs) more s y h =
     )
 
 -- a list and a store that begin with those of a tape are those of a tape that begins with it
-tape_on : (l s x y : List ℕ) (t t' : Tape) → tape_of l s ≡ some t → tape_of (l ++ x) (s ++ y) ≡ some t' → (u : Tape) × (t' ≡ t ++ u)
+tape_on : (l s x y : List ℕ) (t t' : Tape) → tape_of l s ≡ Some t → tape_of (l ++ x) (s ++ y) ≡ Some t' → (u : Tape) × (t' ≡ t ++ u)
 unfolding tape_of
 tape_on l s x y t t' p q =
     let a = filled_with_lem s (cells l) t p in
@@ -107,12 +107,12 @@ tape_on l s x y t t' p q =
           ∙ ap (λ (u : Tape). u ++ filled r.0 y) a.is,
     )
 
-module _ {l s l' s' : List ℕ} (c : Continued l s l' s') (t : Tape) (h : tape_in l s ≡ answer t) where
-  pub tape_continued : (u : Tape) × (tape_in l' s' ≡ answer (t ++ u))
+module _ {l s l' s' : List ℕ} (c : Continued l s l' s') (t : Tape) (h : tape_in l s ≡ Ok t) where
+  pub tape_continued : (u : Tape) × (tape_in l' s' ≡ Ok (t ++ u))
   tape_continued =
-      let e : tape_of (l ++ c.in_list.0) (s ++ c.in_store.0) ≡ some c.tape = rw (← c.in_list.1, ← c.in_store.1) (tape_read l' s' c.tape c.well_formed) in
+      let e : tape_of (l ++ c.in_list.0) (s ++ c.in_store.0) ≡ Some c.tape = rw (← c.in_list.1, ← c.in_store.1) (tape_read l' s' c.tape c.well_formed) in
       let r = tape_on l s c.in_list.0 c.in_store.0 t c.tape (tape_read l s t h) e in
-      (r.0, c.well_formed ∙ ap answer r.1)
+      (r.0, c.well_formed ∙ ap Ok r.1)
 
   -- what n elements keep of the old list and store they keep of the new ones
   pub kept_continued : (n : ℕ) → n ≤ length t → keeping n l' s' ≡ keeping n l s
@@ -140,15 +140,15 @@ continued_by t u e f =
     }
 
 -- where n elements keep the same bytes of two lists and stores, they are the same elements
-pub elements_alike : (l s l' s' : List ℕ) (n : ℕ) (t : Tape) → tape_in l s ≡ answer t → keeping n l' s' ≡ keeping n l s
-    → (t' : Tape) × (tape_in l' s' ≡ answer t') × (take n t' ≡ take n t)
+pub elements_alike : (l s l' s' : List ℕ) (n : ℕ) (t : Tape) → tape_in l s ≡ Ok t → keeping n l' s' ≡ keeping n l s
+    → (t' : Tape) × (tape_in l' s' ≡ Ok t') × (take n t' ≡ take n t)
 unfolding keeping
 elements_alike l s l' s' n t h e = go (tape_of l' s') refl (rw h at e)
   where
-    go : (o : Option Tape) → tape_of l' s' ≡ o → and_then (or_refused o) (λ u. answer (kept n u)) ≡ answer (kept n t)
-        → (t' : Tape) × (or_refused o ≡ answer t') × (take n t' ≡ take n t)
-    go none q e = let z : ◌≡◌ {A = ℕ} 0 1 = cc in absurd (omega arith)
-    go (some t') q e =
+    go : (o : Option Tape) → tape_of l' s' ≡ o → and_then (or_refused o) (λ u. Ok (kept n u)) ≡ Ok (kept n t)
+        → (t' : Tape) × (or_refused o ≡ Ok t') × (take n t' ≡ take n t)
+    go None q e = let z : ◌≡◌ {A = ℕ} 0 1 = cc in absurd (omega arith)
+    go (Some t') q e =
         let same : kept n t' ≡ kept n t = cc in
         let a = encodes_kept n (encodes_own l' s' t' q) in
         let b = encodes_kept n (encodes_own l s t (tape_read l s t h)) in

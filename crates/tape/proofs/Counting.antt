@@ -1,7 +1,7 @@
 -- The totals of a list, element by element.
+use Rattle.std.specs.Prelude.{None, Option, Some, Err, Ok}
 use mathlib.Core.Path.{◌≡◌, refl, sym, ◌∙◌, ap}
 use mathlib.Core.Bool.{Bool, true, false, cond, ◌&&◌}
-use mathlib.Core.Option.{Option, none, some}
 use mathlib.Core.List.{List, [], ◌∷◌}
 use Prim.Native.Nat.{ℕ, suc, ◌+◌, ◌-◌, ◌≤◌, ◌<◌}
 use native.Mathlib.Nat.{add-zero, zero-add}
@@ -11,7 +11,7 @@ use lib.ListN.{length, drop}
 use borrow.Author.Tests.{le-leb, lt-leb, le-ltb}
 use Rattle.slices.proofs.Booleans.{split}
 use Rattle.refusals.specs.declared.Refusal.TheVariants as refusal
-use Rattle.refusals.specs.Refusals.{Answer, refused, answer, and_then}
+use Rattle.refusals.specs.Refusals.{Answer, and_then}
 use Rattle.tape.specs.declared.Entry.{Entry}
 use Rattle.tape.specs.declared.Entry.TheVariants as entry
 use Rattle.tape.specs.declared.Totals.{Totals}
@@ -25,21 +25,21 @@ use Rattle.tape.proofs.Entries.{Lies, entry_lies}
 -- one element counted
 pub totals_more : (n v : ℕ) (c : Cell) (o : Option (List Cell)) → totals_from n v (added c o) ≡ totals_from (n + 1) (v + size c) o
 unfolding totals_from added total
-totals_more n v c none = refl
-totals_more n v c (some cs) =
+totals_more n v c None = refl
+totals_more n v c (Some cs) =
     let e : n + suc (length cs) ≡ (n + 1) + length cs = omega arith in
     let f : v + (size c + total cs) ≡ (v + size c) + total cs = omega arith in
     rw (e, f)
 
-pub totals_end : (n v : ℕ) → n ≤ 65536 → totals_from n v (some []) ≡ Of n v
+pub totals_end : (n v : ℕ) → n ≤ 65536 → totals_from n v (Some []) ≡ Of n v
 unfolding totals_from total
 totals_end n v h = simp (add-zero, le-leb n 65536 h)
 
 -- no element fits any more
 over : (v : ℕ) (c : Cell) (o : Option (List Cell)) → totals_from 65536 v (added c o) ≡ Bad
 unfolding totals_from added
-over v c none = refl
-over v c (some cs) = simp (lt-leb (65536 + suc (length cs)) 65536 (omega arith))
+over v c None = refl
+over v c (Some cs) = simp (lt-leb (65536 + suc (length cs)) 65536 (omega arith))
 
 full_at : (l : List ℕ) (at v : ℕ) (behind : ℕ → Option (List Cell)) (e : Entry) → at < length l → Lies l at e → totals_from 65536 v (and_behind behind e) ≡ Bad
 unfolding totals_from
@@ -65,7 +65,7 @@ pub left_on : (l : List ℕ) (n at : ℕ) {e : Entry} → n < length l → entry
 unfolding cells_from
 left_on l n at h q = let k : length l - n ≡ suc (length l - (n + 1)) = omega arith in rw (q, k)
 
-pub left_none : (l : List ℕ) (n at : ℕ) → length l ≤ at → left l n at ≡ some []
+pub left_none : (l : List ℕ) (n at : ℕ) → length l ≤ at → left l n at ≡ Some []
 unfolding cells_from entry_at
 left_none l n at h = simp (le-ltb at (length l) h)
 
@@ -76,23 +76,23 @@ length_filled (c ∷ cs) s = ap suc (length_filled cs (drop (size c) s))
 
 -- what the check answers, from the totals
 abbrev pub count_by : List ℕ → Totals → Answer ℕ
-count_by s (Of n v) = cond (eqb v (length s) && leb (length s) max_store) (answer n) (refused refusal.List)
-count_by s Bad = refused refusal.List
+count_by s (Of n v) = cond (eqb v (length s) && leb (length s) max_store) (Ok n) (Err refusal.List)
+count_by s Bad = Err refusal.List
 
 by_tests : (n : ℕ) (t : Tape) (a b d : Bool) → length t ≡ n
-    → and_then (or_refused (cond (a && b && d) (some t) none)) (λ u. answer (length u))
-    ≡ cond (a && b && d) (answer n) (refused refusal.List)
-by_tests n t a b d e = split (λ x. and_then (or_refused (cond x (some t) none)) (λ u. answer (length u)) ≡ cond x (answer n) (refused refusal.List)) (a && b && d) (λ x. ap answer e) (λ x. refl)
+    → and_then (or_refused (cond (a && b && d) (Some t) None)) (λ u. Ok (length u))
+    ≡ cond (a && b && d) (Ok n) (Err refusal.List)
+by_tests n t a b d e = split (λ x. and_then (or_refused (cond x (Some t) None)) (λ u. Ok (length u)) ≡ cond x (Ok n) (Err refusal.List)) (a && b && d) (λ x. ap Ok e) (λ x. refl)
 
 either : (a b d : Bool) (n v : ℕ) (s : List ℕ) → b ≡ eqb v (length s) → d ≡ leb (length s) max_store
-    → cond (a && b && d) (answer n) (refused refusal.List) ≡ count_by s (cond a (Of n v) Bad)
+    → cond (a && b && d) (Ok n) (Err refusal.List) ≡ count_by s (cond a (Of n v) Bad)
 either true b d n v s e f = rw (e, f)
 either false b d n v s e f = refl
 
-pub count_of : (s : List ℕ) (o : Option (List Cell)) → and_then (or_refused (filled_with s o)) (λ t. answer (length t)) ≡ count_by s (totals_from 0 0 o)
+pub count_of : (s : List ℕ) (o : Option (List Cell)) → and_then (or_refused (filled_with s o)) (λ t. Ok (length t)) ≡ count_by s (totals_from 0 0 o)
 unfolding filled_with totals_from
-count_of s none = refl
-count_of s (some cs) =
+count_of s None = refl
+count_of s (Some cs) =
     rw (zero-add (length cs), zero-add (total cs))
     (by_tests (length cs) (filled cs s) (leb (length cs) 65536) (eqb (total cs) (length s)) (leb (length s) max_store) (length_filled cs s)
     ∙ either (leb (length cs) 65536) _ _ (length cs) (total cs) s refl refl)

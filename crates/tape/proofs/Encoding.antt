@@ -1,8 +1,8 @@
 -- The tape that is read is the tape that is encoded: `tape_of` answers t exactly where the list and the store encode t. So a list and a
 -- store have at most one tape.
+use Rattle.std.specs.Prelude.{None, Option, Some, Ok}
 use mathlib.Core.Path.{◌≡◌, refl, sym, ◌∙◌, ap, subst}
 use mathlib.Core.Bool.{Bool, true, cond, ◌&&◌}
-use mathlib.Core.Option.{Option, none, some}
 use mathlib.Core.List.{List, [], ◌∷◌, ◌++◌, map}
 use Prim.Native.Nat.{ℕ, zero, suc, ◌+◌, ◌≤◌, ◌<◌}
 use native.Mathlib.Omega.{arith}
@@ -15,7 +15,6 @@ use Rattle.tape.specs.declared.Entry.{Entry}
 use Rattle.tape.specs.declared.Entry.TheVariants.{Mark, Block, Unreadable, End, Bad}
 use Rattle.tape.specs.Tape.{Element, mark, block, unreadable, Tape, Cell, mark_cell, block_cell, unreadable_cell, cell_of, entry, content, list, store, is_block_length, is_lawful_cell, lawful_tape, max_elements, max_store, Encodes}
 use Rattle.tape.specs.ReadingSteps.{entry_at, and_behind, cells_from, cells, added, size, total, element_of, filled, within_bounds, filled_with, tape_of}
-use Rattle.refusals.specs.Refusals.{answer}
 use Rattle.tape.specs.Answers.{or_refused, tape_in}
 pub use Rattle.tape.proofs.Entries.{Bytes}
 use Rattle.tape.proofs.Entries.{entry_by, spells_as}
@@ -40,7 +39,7 @@ behind_cell behind (block_cell n) at = refl
 behind_cell behind unreadable_cell at = refl
 
 -- a list is read back, element by element
-pub cells_list : (n : ℕ) (l : List ℕ) (at : ℕ) (t : Tape) → lawful_tape t ≡ true → drop at l ≡ list t → length t < n → cells_from n l at ≡ some (map cell_of t)
+pub cells_list : (n : ℕ) (l : List ℕ) (at : ℕ) (t : Tape) → lawful_tape t ≡ true → drop at l ≡ list t → length t < n → cells_from n l at ≡ Some (map cell_of t)
 unfolding cells_from list lawful_tape added
 cells_list zero l at t h d few = absurd (omega arith)
 cells_list (suc n) l at [] h d few = rw (entry_none l at d)
@@ -67,12 +66,12 @@ total_store [] = refl
 total_store (e ∷ t) = rw (length-append (content e) (store t), total_store t, size_content e)
 
 -- an encoded tape is read
-pub read_encoded : {l s : List ℕ} {t : Tape} → Encodes l s t → tape_of l s ≡ some t
+pub read_encoded : {l s : List ℕ} {t : Tape} → Encodes l s t → tape_of l s ≡ Some t
 unfolding tape_of filled_with
 read_encoded {l} {s} {t} e =
     let few : length (map cell_of t) ≤ max_elements = rw (length-map t cell_of) e.elements in
     let bytes : length (store t) ≤ max_store = rw e.stores at e.bytes in
-    let read : cells l ≡ some (map cell_of t) = cells_list (suc (length l)) l 0 t e.blocks e.lists (omega (arith, elements_few t, ap length e.lists)) in
+    let read : cells l ≡ Some (map cell_of t) = cells_list (suc (length l)) l 0 t e.blocks e.lists (omega (arith, elements_few t, ap length e.lists)) in
     rw (
       read,
       e.stores,
@@ -90,16 +89,16 @@ record Spelt (l s : List ℕ) (t : Tape) : Type 0 where
 
 pub record Added (c : Cell) (o : Option (List Cell)) (cs : List Cell) : Type 0 where
   pub rest : List Cell
-  pub gives : o ≡ some rest
+  pub gives : o ≡ Some rest
   pub is : cs ≡ c ∷ rest
 
-pub added_some : (c : Cell) (o : Option (List Cell)) (cs : List Cell) → added c o ≡ some cs → Added c o cs
+pub added_some : (c : Cell) (o : Option (List Cell)) (cs : List Cell) → added c o ≡ Some cs → Added c o cs
 unfolding added
-added_some c none cs e = let z : ◌≡◌ {A = ℕ} 0 1 = cc in absurd (omega arith)
-added_some c (some ds) cs e = record { rest = ds; gives = refl; is = cc }
+added_some c None cs e = let z : ◌≡◌ {A = ℕ} 0 1 = cc in absurd (omega arith)
+added_some c (Some ds) cs e = record { rest = ds; gives = refl; is = cc }
 
 Back : Option (List Cell) → List ℕ → Type 0
-Back o l = (s : List ℕ) (cs : List Cell) → o ≡ some cs → total cs ≡ length s → Spelt l s (filled cs s)
+Back o l = (s : List ℕ) (cs : List Cell) → o ≡ Some cs → total cs ≡ length s → Spelt l s (filled cs s)
 
 -- the element of a cell with as many bytes as it says: it has these bytes, and the list says that cell of it
 content_of : (c : Cell) (x : List ℕ) → length x ≡ size c → content (element_of c x) ≡ x
@@ -142,7 +141,7 @@ unfolding filled list store lawful_tape
 nothing_back [] k = record { lists = refl; stores = refl; blocks = refl }
 nothing_back (b ∷ s) k = absurd (omega arith)
 
-none_back : Back (some []) []
+none_back : Back (Some []) []
 unfolding Back total
 none_back s cs e k = let q : [] ≡ cs = cc in subst (λ (ds : List Cell). total ds ≡ length s → Spelt [] s (filled ds s)) q (nothing_back s) k
 
@@ -158,7 +157,7 @@ module _ (l : List ℕ) (w : Bytes l) where
       subst (Back (added (block_cell n) (behind next))) (sym d) (more_back (block_cell n) (behind next) (drop next l) (back next) h)
   entry_back at behind back (Unreadable next) q =
       subst (Back (added unreadable_cell (behind next))) (sym (spells_as l at w q)) (more_back unreadable_cell (behind next) (drop next l) (back next) refl)
-  entry_back at behind back End q = subst (Back (some [])) (sym (spells_as l at w q)) none_back
+  entry_back at behind back End q = subst (Back (Some [])) (sym (spells_as l at w q)) none_back
   entry_back at behind back Bad q = λ s cs e k. let z : ◌≡◌ {A = ℕ} 0 1 = cc in absurd (omega arith)
 
   back_from : (n at : ℕ) → Back (cells_from n l at) (drop at l)
@@ -169,17 +168,17 @@ module _ (l : List ℕ) (w : Bytes l) where
 -- the cells of a tape that is read: as many elements and bytes as the bounds allow
 pub record Filled (s : List ℕ) (o : Option (List Cell)) (t : Tape) : Type 0 where
   pub read : List Cell
-  pub gives : o ≡ some read
+  pub gives : o ≡ Some read
   pub few : length read ≤ max_elements
   pub all : total read ≡ length s
   pub small : length s ≤ max_store
   pub is : filled read s ≡ t
 
-pub filled_with_lem : (s : List ℕ) (o : Option (List Cell)) (t : Tape) → filled_with s o ≡ some t → Filled s o t
+pub filled_with_lem : (s : List ℕ) (o : Option (List Cell)) (t : Tape) → filled_with s o ≡ Some t → Filled s o t
 unfolding filled_with
-filled_with_lem s none t f = let z : ◌≡◌ {A = ℕ} 0 1 = cc in absurd (omega arith)
-filled_with_lem s (some cs) t f =
-    split (λ x. cond x (some (filled cs s)) none ≡ some t → Filled s (some cs) t) (within_bounds cs s)
+filled_with_lem s None t f = let z : ◌≡◌ {A = ℕ} 0 1 = cc in absurd (omega arith)
+filled_with_lem s (Some cs) t f =
+    split (λ x. cond x (Some (filled cs s)) None ≡ Some t → Filled s (Some cs) t) (within_bounds cs s)
     (λ x g.
     let (both, small) = and_parts (leb (length cs) max_elements && eqb (total cs) (length s)) (leb (length s) max_store) x in
     let (few, all) = and_parts (leb (length cs) max_elements) (eqb (total cs) (length s)) both in
@@ -195,7 +194,7 @@ filled_with_lem s (some cs) t f =
     f
 
 -- a tape that is read is encoded
-pub encodes_read : (l s : List ℕ) (t : Tape) → Bytes l → tape_of l s ≡ some t → Encodes l s t
+pub encodes_read : (l s : List ℕ) (t : Tape) → Bytes l → tape_of l s ≡ Some t → Encodes l s t
 unfolding tape_of Back
 encodes_read l s t w e =
     let f = filled_with_lem s (cells l) t e in
@@ -205,7 +204,7 @@ encodes_read l s t w e =
 
 -- whatever numbers stand in a list, its elements have a list of their own
 Own : Option (List Cell) → Type 0
-Own o = (s : List ℕ) (cs : List Cell) → o ≡ some cs → total cs ≡ length s → (l : List ℕ) × Spelt l s (filled cs s)
+Own o = (s : List ℕ) (cs : List Cell) → o ≡ Some cs → total cs ≡ length s → (l : List ℕ) × Spelt l s (filled cs s)
 
 more_own : (c : Cell) (o : Option (List Cell)) → Own o → is_lawful_cell c ≡ true → Own (added c o)
 unfolding Own total
@@ -240,7 +239,7 @@ own_from l zero at = λ s cs e k. let z : ◌≡◌ {A = ℕ} 0 1 = cc in absurd
 own_from l (suc n) at = entry_own (cells_from n l) (own_from l n) (entry_at l at) (lawful_entry l at)
 
 -- a tape that is read is encoded by its own list
-pub encodes_own : (l s : List ℕ) (t : Tape) → tape_of l s ≡ some t → Encodes (list t) s t
+pub encodes_own : (l s : List ℕ) (t : Tape) → tape_of l s ≡ Some t → Encodes (list t) s t
 unfolding tape_of Own
 encodes_own l s t e =
     let f = filled_with_lem s (cells l) t e in
@@ -249,12 +248,12 @@ encodes_own l s t e =
     record { lists = refl; stores = b.stores; blocks = b.blocks; elements = rw (length_filled f.read s) f.few; bytes = f.small }
 
 -- a tape that is answered is read
-pub tape_read : (l s : List ℕ) (t : Tape) → tape_in l s ≡ answer t → tape_of l s ≡ some t
+pub tape_read : (l s : List ℕ) (t : Tape) → tape_in l s ≡ Ok t → tape_of l s ≡ Some t
 tape_read l s t h = go (tape_of l s) h
   where
-    go : (o : Option Tape) → or_refused o ≡ answer t → o ≡ some t
-    go none e = let z : ◌≡◌ {A = ℕ} 0 1 = cc in absurd (omega arith)
-    go (some u) e = let z : u ≡ t = cc in ap some z
+    go : (o : Option Tape) → or_refused o ≡ Ok t → o ≡ Some t
+    go None e = let z : ◌≡◌ {A = ℕ} 0 1 = cc in absurd (omega arith)
+    go (Some u) e = let z : u ≡ t = cc in ap Some z
 
 -- a list and a store have at most one tape
 pub one_tape : {l s : List ℕ} {t u : Tape} → Encodes l s t → Encodes l s u → t ≡ u

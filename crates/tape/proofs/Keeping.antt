@@ -1,6 +1,6 @@
 -- What is known once a list and a store are checked, and what keeping n elements then keeps.
+use Rattle.std.specs.Prelude.{None, Option, Some, Err, Ok}
 use mathlib.Core.Path.{◌≡◌, refl, sym, ◌∙◌, ap}
-use mathlib.Core.Option.{Option, none, some}
 use mathlib.Core.List.{List, [], ◌∷◌}
 use Prim.Native.Nat.{ℕ, zero, suc, ◌≤◌, min}
 use native.Mathlib.Nat.{zero-add, zero-min, suc-min-suc}
@@ -9,7 +9,7 @@ use lib.ListN.{length, take, length-append, length-take}
 use lib.Seq.{take-nil, take-append-add}
 use Rattle.refusals.specs.declared.Refusal.{Refusal}
 use Rattle.refusals.specs.declared.Refusal.TheVariants as refusal
-use Rattle.refusals.specs.Refusals.{refused, answer, and_then}
+use Rattle.refusals.specs.Refusals.{and_then}
 use Rattle.tape.specs.Tape.{Tape, list, store, entry, content, cell_of, Encodes}
 use Rattle.tape.specs.ReadingSteps.{tape_of}
 use Rattle.tape.specs.WalkSteps.{reach}
@@ -21,31 +21,31 @@ use Rattle.tape.proofs.Walking.{reach_tape}
 -- a list and a store that were found to have n elements
 pub record Present (l s : List ℕ) (n : ℕ) : Type 0 where
   pub tape : Tape
-  pub read : tape_of l s ≡ some tape
+  pub read : tape_of l s ≡ Some tape
   pub encodes : Encodes l s tape
   pub count : length tape ≡ n
 
-pub present : (l s : List ℕ) (n : ℕ) → Bytes l → answer n ≡ element_count l s → Present l s n
+pub present : (l s : List ℕ) (n : ℕ) → Bytes l → Ok n ≡ element_count l s → Present l s n
 present l s n w e = go (tape_of l s) refl e
   where
-    go : (o : Option Tape) → tape_of l s ≡ o → answer n ≡ and_then (or_refused o) (λ t. answer (length t)) → Present l s n
-    go none q f = let z : ◌≡◌ {A = ℕ} 0 1 = cc in absurd (omega arith)
-    go (some t) q f = record { tape = t; read = q; encodes = encodes_read l s t w q; count = cc }
+    go : (o : Option Tape) → tape_of l s ≡ o → Ok n ≡ and_then (or_refused o) (λ t. Ok (length t)) → Present l s n
+    go None q f = let z : ◌≡◌ {A = ℕ} 0 1 = cc in absurd (omega arith)
+    go (Some t) q f = record { tape = t; read = q; encodes = encodes_read l s t w q; count = cc }
 
-pub absent : (l s : List ℕ) (r : Refusal) → refused r ≡ element_count l s → tape_in l s ≡ refused r
+pub absent : (l s : List ℕ) (r : Refusal) → Err r ≡ element_count l s → tape_in l s ≡ Err r
 absent l s r e = go (tape_of l s) e
   where
-    go : (o : Option Tape) → refused r ≡ and_then (or_refused o) (λ t. answer (length t)) → or_refused o ≡ refused r
-    go none f = cc
-    go (some t) f = let z : ◌≡◌ {A = ℕ} 0 1 = cc in absurd (omega arith)
+    go : (o : Option Tape) → Err r ≡ and_then (or_refused o) (λ t. Ok (length t)) → or_refused o ≡ Err r
+    go None f = cc
+    go (Some t) f = let z : ◌≡◌ {A = ℕ} 0 1 = cc in absurd (omega arith)
 
 -- the refusal is 1
-pub absent_list : (l s : List ℕ) (r : Refusal) → refused r ≡ element_count l s → tape_in l s ≡ refused refusal.List
+pub absent_list : (l s : List ℕ) (r : Refusal) → Err r ≡ element_count l s → tape_in l s ≡ Err refusal.List
 absent_list l s r e = go (tape_of l s) e
   where
-    go : (o : Option Tape) → refused r ≡ and_then (or_refused o) (λ t. answer (length t)) → or_refused o ≡ refused refusal.List
-    go none f = refl
-    go (some t) f = let z : ◌≡◌ {A = ℕ} 0 1 = cc in absurd (omega arith)
+    go : (o : Option Tape) → Err r ≡ and_then (or_refused o) (λ t. Ok (length t)) → or_refused o ≡ Err refusal.List
+    go None f = refl
+    go (Some t) f = let z : ◌≡◌ {A = ℕ} 0 1 = cc in absurd (omega arith)
 
 take_least : (n : ℕ) (t : Tape) → take (min n (length t)) t ≡ take n t
 take_least n [] = rw (take-nil (min n 0), take-nil n)
@@ -75,11 +75,11 @@ reach_kept n count l s p =
     ∙ rw (zero-add (length (list (take (min n count) t))), zero-add (length (store (take (min n count) t))), ← p.count, take_least n t)
 
 -- keeping n elements, of a tape that is there
-pub keeping_present : (n count : ℕ) (l s : List ℕ) (p : Present l s count) → keeping n l s ≡ answer (kept n p.tape)
+pub keeping_present : (n count : ℕ) (l s : List ℕ) (p : Present l s count) → keeping n l s ≡ Ok (kept n p.tape)
 unfolding keeping
 keeping_present n count l s p = rw p.read
 
-pub keeping_absent : (n : ℕ) (l s : List ℕ) (r : Refusal) → refused r ≡ element_count l s → keeping n l s ≡ refused r
+pub keeping_absent : (n : ℕ) (l s : List ℕ) (r : Refusal) → Err r ≡ element_count l s → keeping n l s ≡ Err r
 unfolding keeping
 keeping_absent n l s r e = rw (absent l s r e)
 

@@ -1,16 +1,15 @@
 -- What this crate's functions answer: the check, keeping n elements, a block by letter and number (01, The block list).
-use Rattle.std.specs.Prelude.{◌≡◌, Bool, cond, List, ℕ, ◌+◌, ◌≤◌, length, take, drop, eqb}
-use Rattle.std.proofs.Math.Option.{Option, none, some}
+use Rattle.std.specs.Prelude.{◌≡◌, Bool, cond, List, ℕ, ◌+◌, ◌≤◌, length, take, drop, eqb, None, Option, Some, Err, Ok}
 use Rattle.std.proofs.Math.ListN.{get_elem?}
 use Rattle.refusals.specs.declared.Refusal.TheVariants as refusal
-use Rattle.refusals.specs.Refusals.{Answer, refused, answer, require, and_then}
+use Rattle.refusals.specs.Refusals.{Answer, require, and_then}
 use Rattle.quantities.specs.Letters.{are_letters}
 use Rattle.tape.specs.Tape.{Tape, Element, mark, block, unreadable, list, store}
 use Rattle.tape.specs.ReadingSteps.{tape_of}
 
 abbrev pub or_refused : Option Tape → Answer Tape
-or_refused none = refused refusal.List
-or_refused (some t) = answer t
+or_refused None = Err refusal.List
+or_refused (Some t) = Ok t
 
 -- the tape of a list and a store, or refusal 1
 abbrev pub tape_in : List ℕ → List ℕ → Answer Tape
@@ -22,7 +21,7 @@ bytes_before t n = length (store (take n t))
 
 -- the number of elements
 abbrev pub element_count : List ℕ → List ℕ → Answer ℕ
-element_count l s = and_then (tape_in l s) (λ t. answer (length t))
+element_count l s = and_then (tape_in l s) (λ t. Ok (length t))
 
 -- what is kept of a list and of a store
 pub record Fronts : Type 0 where
@@ -34,7 +33,7 @@ abbrev pub kept : ℕ → Tape → Fronts
 kept n t = record { list = list (take n t); store = store (take n t) }
 
 unfoldable pub keeping : ℕ → List ℕ → List ℕ → Answer Fronts
-keeping n l s = and_then (tape_in l s) (λ t. answer (kept n t))
+keeping n l s = and_then (tape_in l s) (λ t. Ok (kept n t))
 
 -- the lengths of what is kept
 pub record Lengths : Type 0 where
@@ -45,13 +44,13 @@ abbrev pub lengths : Fronts → Lengths
 lengths f = record { list = length f.list; store = length f.store }
 
 abbrev pub kept_of : ℕ → List ℕ → List ℕ → Answer Lengths
-kept_of n l s = and_then (keeping n l s) (λ f. answer (lengths f))
+kept_of n l s = and_then (keeping n l s) (λ f. Ok (lengths f))
 
 abbrev pub as_block : Option Element → Answer (List ℕ)
-as_block none = refused refusal.Missing
-as_block (some mark) = refused refusal.Missing
-as_block (some (block x)) = answer x
-as_block (some unreadable) = refused refusal.Unreadable
+as_block None = Err refusal.Missing
+as_block (Some mark) = Err refusal.Missing
+as_block (Some (block x)) = Ok x
+as_block (Some unreadable) = Err refusal.Unreadable
 
 -- the bytes of block n
 abbrev pub block_on : Tape → ℕ → Answer (List ℕ)
@@ -76,7 +75,7 @@ pub record StorePart : Type 0 where
   pub size : ℕ
 
 abbrev pub place_on : ℕ → Bool → Tape → Answer StorePart
-place_on n side t = and_then (block_on t n) (λ x. answer (record { on_index = side; from = bytes_before t n; size = length x }))
+place_on n side t = and_then (block_on t n) (λ x. Ok (record { on_index = side; from = bytes_before t n; size = length x }))
 
 unfoldable pub place_of : ℕ → ℕ → ℕ → ℕ → List ℕ → List ℕ → List ℕ → List ℕ → Answer StorePart
 place_of i d letter n l s l' s' = on_partition i d letter l s l' s' (place_on n)
@@ -87,5 +86,5 @@ store_of s s' p = cond p.on_index s s'
 
 -- the place lies in its store, and the bytes there are the block's
 pub record Holds (s s' : List ℕ) (place : Answer StorePart) (asked : Answer (List ℕ)) : Type 0 where
-  pub bytes : asked ≡ and_then place (λ p. answer (take p.size (drop p.from (store_of s s' p))))
-  pub inside : (p : StorePart) → place ≡ answer p → p.from + p.size ≤ length (store_of s s' p)
+  pub bytes : asked ≡ and_then place (λ p. Ok (take p.size (drop p.from (store_of s s' p))))
+  pub inside : (p : StorePart) → place ≡ Ok p → p.from + p.size ≤ length (store_of s s' p)

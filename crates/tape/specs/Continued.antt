@@ -1,6 +1,5 @@
 -- A list and a store continued (02, Item 14): a second read of a tape that goes on where the first one ended.
-use Rattle.std.specs.Prelude.{◌≡◌, List, ◌++◌, ℕ}
-use Rattle.refusals.specs.Refusals.{answer}
+use Rattle.std.specs.Prelude.{◌≡◌, List, ◌++◌, ℕ, Ok}
 use Rattle.tape.specs.Tape.{Tape}
 use Rattle.tape.specs.Answers.{tape_in}
 
@@ -13,4 +12,4 @@ pub record Continued (l s l' s' : List ℕ) : Type 0 where
   pub in_list : BeginsWith l' l
   pub in_store : BeginsWith s' s
   pub tape : Tape
-  pub well_formed : tape_in l' s' ≡ answer tape
+  pub well_formed : tape_in l' s' ≡ Ok tape

@@ -1,7 +1,6 @@
 -- A list and a store read from left to right: what stands at a place of the list, and the tape that they encode, if there is one.
 -- `proofs/Encoding.antt` shows that this is the tape of `Encodes`.
-use Rattle.std.specs.Prelude.{Bool, cond, ◌&&◌, List, [], ◌∷◌, ℕ, zero, suc, ◌+◌, length, get_or, take, drop, leb, ltb, eqb}
-use Rattle.std.proofs.Math.Option.{Option, none, some}
+use Rattle.std.specs.Prelude.{Bool, cond, ◌&&◌, List, [], ◌∷◌, ℕ, zero, suc, ◌+◌, length, get_or, take, drop, leb, ltb, eqb, None, Option, Some}
 use Rattle.big_endian.specs.BigEndian.{bytes_say}
 use Rattle.tape.specs.declared.Entry.{Entry}
 use Rattle.tape.specs.declared.Entry.TheVariants.{Mark, Block, Unreadable, End, Bad}
@@ -23,20 +22,20 @@ entry_at l at =
     End
 
 unfoldable pub added : Cell → Option (List Cell) → Option (List Cell)
-added c none = none
-added c (some cs) = some (c ∷ cs)
+added c None = None
+added c (Some cs) = Some (c ∷ cs)
 
 -- an entry's element and those behind it; none where no entry of a list stands
 abbrev pub and_behind : (ℕ → Option (List Cell)) → Entry → Option (List Cell)
 and_behind behind (Mark next) = added mark_cell (behind next)
 and_behind behind (Block n next) = added (block_cell n) (behind next)
 and_behind behind (Unreadable next) = added unreadable_cell (behind next)
-and_behind behind End = some []
-and_behind behind Bad = none
+and_behind behind End = Some []
+and_behind behind Bad = None
 
 -- what a list says of its elements from a place on; none past so many entries
 unfoldable pub cells_from : ℕ → List ℕ → ℕ → Option (List Cell)
-cells_from zero l at = none
+cells_from zero l at = None
 cells_from (suc n) l at = and_behind (cells_from n l) (entry_at l at)
 
 -- what a list says of its elements; an entry has at least a byte
@@ -68,8 +67,8 @@ abbrev pub within_bounds : List Cell → List ℕ → Bool
 within_bounds cs s = leb (length cs) max_elements && eqb (total cs) (length s) && leb (length s) max_store
 
 unfoldable pub filled_with : List ℕ → Option (List Cell) → Option Tape
-filled_with s none = none
-filled_with s (some cs) = cond (within_bounds cs s) (some (filled cs s)) none
+filled_with s None = None
+filled_with s (Some cs) = cond (within_bounds cs s) (Some (filled cs s)) None
 
 -- the tape that a list and a store encode
 unfoldable pub tape_of : List ℕ → List ℕ → Option Tape

@@ -1,6 +1,5 @@
 -- What the walks over a list answer: its totals, how far its first n entries reach, and the block that stands behind them.
-use Rattle.std.specs.Prelude.{cond, List, ℕ, zero, suc, ◌+◌, length, leb}
-use Rattle.std.proofs.Math.Option.{Option, none, some}
+use Rattle.std.specs.Prelude.{cond, List, ℕ, zero, suc, ◌+◌, length, leb, None, Option, Some}
 use Rattle.tape.specs.declared.Entry.{Entry}
 use Rattle.tape.specs.declared.Entry.TheVariants.{Mark, Block, Unreadable, End, Bad as Broken}
 use Rattle.tape.specs.declared.Front.{Front}
@@ -13,8 +12,8 @@ use Rattle.tape.specs.ReadingSteps.{total, entry_at}
 
 -- the number of elements and the bytes of their blocks, with n elements and v bytes already counted; none past the bound
 unfoldable pub totals_from : ℕ → ℕ → Option (List Cell) → Totals
-totals_from n v none = Bad
-totals_from n v (some cs) = cond (leb (n + length cs) max_elements) (Of (n + length cs) (v + total cs)) Bad
+totals_from n v None = Bad
+totals_from n v (Some cs) = cond (leb (n + length cs) max_elements) (Of (n + length cs) (v + total cs)) Bad
 
 -- what follows an entry: the walk from the next place with the entry's bytes, or where it stops
 abbrev pub past_entry : (ℕ → ℕ → Front) → Front → Entry → Front

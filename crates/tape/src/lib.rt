@@ -8,7 +8,7 @@ ghost use Rattle.tape.specs.Tape.{max_elements};
 ghost use Rattle.tape.specs.ReadingSteps.{number_at, entry_at, cells};
 ghost use Rattle.tape.specs.WalkSteps.{totals_from, reach, spot_at, spot_below};
 ghost use Rattle.tape.specs.Answers.{element_count, block_of};
-ghost use Rattle.tape.specs.Steps.{counted, kept_lengths, Keeps, ShowsList, ShowsStore, located, FindsBlock};
+ghost use Rattle.tape.specs.Steps.{kept_lengths, Keeps, ShowsList, ShowsStore, located, FindsBlock};
 
 use quantities::BlockNumber;
 use refusals::Refusal;
@@ -113,28 +113,21 @@ fn sum_up(list: &[u8]) -> Totals
     Totals::Of(elements, bytes)
 }
 
-// What the check of a list and its store answers.
-#[derive(Clone, Copy)]
-pub enum ListChecked {
-    Elements(usize),
-    Refused(Refusal),
-}
-
 // Whether a list and a store are well formed, and how many elements they have.
-pub fn check(list: &[u8], store: &[u8]) -> ListChecked
-    ensures { counted result ≡ element_count list.now store.now }
+pub fn check(list: &[u8], store: &[u8]) -> Result<usize, Refusal>
+    ensures { result ≡ element_count list.now store.now }
 {
     match sum_up(list) {
         Totals::Of(elements, bytes) => {
             if bytes != store.len() {
-                return ListChecked::Refused(Refusal::List);
+                return Err(Refusal::List);
             }
             if 16777216 < bytes {
-                return ListChecked::Refused(Refusal::List);
+                return Err(Refusal::List);
             }
-            ListChecked::Elements(elements)
+            Ok(elements)
         }
-        Totals::Bad => ListChecked::Refused(Refusal::List),
+        Totals::Bad => Err(Refusal::List),
     }
 }
 
@@ -205,11 +198,11 @@ pub fn keep(list: &[u8], store: &[u8], n: usize) -> Kept
     ensures { Keeps n list.now store.now (kept_lengths result) }
 {
     match check(list, store) {
-        ListChecked::Elements(count) => {
+        Ok(count) => {
             let f = walk(list, least(n, count));
             Kept::Lengths(f.list, f.store)
         }
-        ListChecked::Refused(r) => Kept::Refused(r),
+        Err(r) => Kept::Refused(r),
     }
 }
 
@@ -324,10 +317,10 @@ pub fn find_block(
     if !are_letters(index_letter, data_letter, letter) {
         return Located::Refused(Refusal::Caller);
     }
-    let ListChecked::Elements(index_count) = check(index_list, index_store) else {
+    let Ok(index_count) = check(index_list, index_store) else {
         return Located::Refused(Refusal::List);
     };
-    let ListChecked::Elements(data_count) = check(data_list, data_store) else {
+    let Ok(data_count) = check(data_list, data_store) else {
         return Located::Refused(Refusal::List);
     };
     if letter == index_letter {

@@ -14,13 +14,13 @@ fn check_case(file: &mut File) -> bool {
     let refusal = case_files::number(file);
     let elements = case_files::number(file) as usize;
     match tape::check(&list[..l], &store[..s]) {
-        tape::ListChecked::Elements(n) => {
+        Ok(n) => {
             if refusal != 0 {
                 return false;
             }
             n == elements
         }
-        tape::ListChecked::Refused(r) => refusals::number(r) == refusal,
+        Err(r) => refusals::number(r) == refusal,
     }
 }
 

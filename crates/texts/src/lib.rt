@@ -8,7 +8,6 @@ ghost use Rattle.texts.specs.Decoded.{begins, meant, reference_meant, decoded, c
 ghost use Rattle.texts.specs.Steps.{NextByte};
 
 use refusals::Refusal;
-use slices::Written;
 
 // A byte as it is meant, and the place behind what spells it; or the end of the text.
 #[derive(Clone, Copy)]
@@ -181,21 +180,21 @@ pub fn same_decoded(a: &[u8], b: &[u8]) -> bool
 }
 
 // Writes the bytes that are meant into out from its place at, if there is room for all of them.
-pub fn decode(raw: &[u8], out: &mut [u8], at: usize) -> Written
+pub fn decode(raw: &[u8], out: &mut [u8], at: usize) -> Result<usize, Refusal>
     ensures { Puts at (decoded raw.now) out.old out.new result }
 {
     if out.len() < at {
-        return Written::Refused(Refusal::Short);
+        return Err(Refusal::Short);
     }
     if out.len() - at < decoded_len(raw) {
-        return Written::Refused(Refusal::Short);
+        return Err(Refusal::Short);
     }
     let mut i: usize = 0;
     let mut k = at;
     loop {
         match next_byte(raw, i) {
             Spelled::End => {
-                return Written::To(k);
+                return Ok(k);
             }
             Spelled::Byte(b, next) => {
                 out[k] = b;

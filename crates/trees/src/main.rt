@@ -7,7 +7,6 @@
 ghost use Rattle.std.specs.Prelude.{◌≡◌, length};
 
 use elements::Tag;
-use slices::Written;
 use std::io;
 
 fn put(rt: &impl Print, s: &[u8]) -> io::Result<()> {
@@ -25,8 +24,8 @@ fn room() -> [u8; 1048576]
 fn put_spelled(rt: &impl Print, raw: &[u8]) -> io::Result<()> {
     let mut out = [0u8; 65536];
     match texts::decode(raw, &mut out, 0) {
-        Written::To(n) => put(rt, slices::part(&out, 0, n)),
-        Written::Refused(_) => put(rt, b"too long"),
+        Ok(n) => put(rt, slices::part(&out, 0, n)),
+        Err(_) => put(rt, b"too long"),
     }
 }
 

@@ -1,8 +1,8 @@
 -- A letter by its one byte, and a version by its first four bytes and the rest.
+use Rattle.std.specs.Prelude.{None, Option, Some}
 use mathlib.Core.Path.{◌≡◌, refl, ap, sym, ◌∙◌}
 use mathlib.Core.Bool.{Bool, true, false, cond, ◌&&◌}
 use mathlib.Core.List.{List, [], ◌∷◌}
-use mathlib.Core.Option.{Option, some, none}
 use Prim.Native.Nat.{ℕ, ◌-◌, ◌<◌}
 use native.Mathlib.Omega.{arith}
 use lib.ListN.{length, take, drop, get_or, length-drop}
@@ -14,24 +14,24 @@ use Rattle.texts.specs.Decoded.{begins}
 use Rattle.texts.proofs.Meanings.{begins_short}
 use Rattle.values.specs.Values.{letter, at_most, version}
 
-pub letter_one : (s : List ℕ) → length s ≡ 1 → letter s ≡ cond (is_letter (get_or s 0 0)) (some (get_or s 0 0)) none
+pub letter_one : (s : List ℕ) → length s ≡ 1 → letter s ≡ cond (is_letter (get_or s 0 0)) (Some (get_or s 0 0)) None
 unfolding letter
 letter_one [] h = absurd (omega arith)
 letter_one (b ∷ []) h = refl
 letter_one (b ∷ c ∷ s) h = absurd (omega arith)
 
-pub letter_none : (s : List ℕ) → (length s ≡ 1 → ⊥) → letter s ≡ none
+pub letter_none : (s : List ℕ) → (length s ≡ 1 → ⊥) → letter s ≡ None
 unfolding letter
 letter_none [] h = refl
 letter_none (b ∷ []) h = absurd (h refl)
 letter_none (b ∷ c ∷ s) h = refl
 
 module _ (s : List ℕ) where
-  pub version_short : length s < 4 → version s ≡ none
+  pub version_short : length s < 4 → version s ≡ None
   unfolding version bytes
   version_short h = rw (begins_short (bytes "2.0.") s h)
 
-  pub version_other : begins (bytes "2.0.") s ≡ false → version s ≡ none
+  pub version_other : begins (bytes "2.0.") s ≡ false → version s ≡ None
   unfolding version
   version_other e = rw e
 

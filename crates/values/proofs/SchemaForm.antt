@@ -1,8 +1,8 @@
 -- Numbers as XML Schema spells them: texts without the white space around them, and that a text says n exactly where it spells n.
+use Rattle.std.specs.Prelude.{None, Option, Some}
 use mathlib.Core.Path.{◌≡◌, refl, ap, sym, ◌∙◌, subst}
 use mathlib.Core.Bool.{Bool, true, false, cond, not, and-false, and-true}
 use mathlib.Core.List.{List, [], ◌∷◌, ◌++◌, append-nil, append_assoc}
-use mathlib.Core.Option.{Option, some, none}
 use Prim.Native.Nat.{ℕ, suc, ◌-◌, ◌<◌, ◌≤◌}
 use native.Mathlib.Omega.{arith}
 use borrow.Author.Tests.{eq-eqb, ne_eqb, eqb-true, le-leb, leb-true, not-true}
@@ -124,7 +124,7 @@ trimmed_part f s t d e h g =
 -- ---- a sign and digits
 
 -- by the first byte
-pub signed_none : (s : List ℕ) → length s ≡ 0 → signed s ≡ none
+pub signed_none : (s : List ℕ) → length s ≡ 0 → signed s ≡ None
 unfolding signed
 signed_none [] h = refl
 signed_none (b ∷ s) h = absurd (omega arith)
@@ -175,7 +175,7 @@ module _ (n : ℕ) where
   sign_no_space plus = refl
   sign_no_space (minus z) = refl
 
-  sign_says : {x : List ℕ} → Sign n x → (d : List ℕ) → run d ≡ some n → signed (x ++ d) ≡ some n
+  sign_says : {x : List ℕ} → Sign n x → (d : List ℕ) → run d ≡ Some n → signed (x ++ d) ≡ Some n
   unfolding signed
   sign_says unsigned d r = let (e, h, v, l) = run_parts d n r in digits_alone d e h ∙ r
   sign_says plus d r = r
@@ -187,22 +187,22 @@ module _ (n : ℕ) where
     digits : List ℕ
     whole : s ≡ sign ++ digits
     signs : Sign n sign
-    says : run digits ≡ some n
+    says : run digits ≡ Some n
 
-  at_most_zero : (o : Option ℕ) → at_most 0 o ≡ some n → (o ≡ some n) × (n ≡ 0)
-  at_most_zero none e = let y : ◌≡◌ {A = ℕ} 0 1 = cc in absurd (omega arith)
-  at_most_zero (some m) e = go (leb m 0) refl e
+  at_most_zero : (o : Option ℕ) → at_most 0 o ≡ Some n → (o ≡ Some n) × (n ≡ 0)
+  at_most_zero None e = let y : ◌≡◌ {A = ℕ} 0 1 = cc in absurd (omega arith)
+  at_most_zero (Some m) e = go (leb m 0) refl e
     where
-      go : (t : Bool) → leb m 0 ≡ t → cond t (some m) none ≡ some n → (some m ≡ some n) × (n ≡ 0)
+      go : (t : Bool) → leb m 0 ≡ t → cond t (Some m) None ≡ Some n → (Some m ≡ Some n) × (n ≡ 0)
       go true f z = let y : m ≡ n = cc in (z, omega (arith, leb-true m 0 f))
       go false f z = let y : ◌≡◌ {A = ℕ} 0 1 = cc in absurd (omega arith)
 
-  said_signed : (s : List ℕ) → signed s ≡ some n → Signed s
+  said_signed : (s : List ℕ) → signed s ≡ Some n → Signed s
   unfolding signed
   said_signed [] e = let y : ◌≡◌ {A = ℕ} 0 1 = cc in absurd (omega arith)
   said_signed (b ∷ s) e = go (eqb b 43) refl (eqb b 45) refl e
     where
-      go : (t : Bool) → eqb b 43 ≡ t → (u : Bool) → eqb b 45 ≡ u → cond t (run s) (cond u (at_most 0 (run s)) (run (b ∷ s))) ≡ some n → Signed (b ∷ s)
+      go : (t : Bool) → eqb b 43 ≡ t → (u : Bool) → eqb b 45 ≡ u → cond t (run s) (cond u (at_most 0 (run s)) (run (b ∷ s))) ≡ Some n → Signed (b ∷ s)
       go true f u g z = record { sign = 43 ∷ []; digits = s; whole = ap (λ (k : ℕ). k ∷ s) (eqb-true b 43 f); signs = plus; says = z }
       go false f true g z =
           let (r, o) = at_most_zero (run s) z in
@@ -214,7 +214,7 @@ module _ (n : ℕ) where
   joined : (f x d b : List ℕ) → f ++ x ++ d ++ b ≡ f ++ ((x ++ d) ++ b)
   joined f x d b = ap (λ (t : List ℕ). t ++ b) (append_assoc f x d) ∙ append_assoc f (x ++ d) b
 
-  spelled_says : {s : List ℕ} → Spells n s → number s ≡ some n
+  spelled_says : {s : List ℕ} → Spells n s → number s ≡ Some n
   unfolding number
   spelled_says (spells f x d b blank sign r blank') =
       let (e, h, v, l) = run_parts d n r in
@@ -223,7 +223,7 @@ module _ (n : ℕ) where
       ∙ ap signed (trimmed_part f (x ++ d) b blank bare (rw length-append (omega arith)) blank')
       ∙ sign_says sign d r
 
-  says_spelled : (s : List ℕ) → number s ≡ some n → Spells n s
+  says_spelled : (s : List ℕ) → number s ≡ Some n → Spells n s
   unfolding number
   says_spelled s e =
       let f = take (front is_space s) s in
@@ -236,19 +236,19 @@ module _ (n : ℕ) where
       subst (Spells n) whole (spells f g.sign g.digits w.back (every_front is_space s) g.signs g.says w.blank)
 
   -- a text says n exactly where it spells n: white space, a sign or none, digits, white space
-  pub schema_form : (s : List ℕ) → (number s ≡ some n → Spells n s) × (Spells n s → number s ≡ some n)
+  pub schema_form : (s : List ℕ) → (number s ≡ Some n → Spells n s) × (Spells n s → number s ≡ Some n)
   schema_form s = (says_spelled s, spelled_says)
 
   -- digits alone say what the run says
-  pub number_run : (s : List ℕ) → run s ≡ some n → number s ≡ some n
+  pub number_run : (s : List ℕ) → run s ≡ Some n → number s ≡ Some n
   unfolding every
   number_run s r = spelled_says (subst (Spells n) (append-nil s) (spells [] [] s [] refl unsigned r refl))
 
   -- the short form of a number says it
-  pub number_short : n ≤ largest → number (short n) ≡ some n
+  pub number_short : n ≤ largest → number (short n) ≡ Some n
   number_short h = number_run (short n) (run_short n h)
 
 -- an empty text says none
-pub number_empty : number [] ≡ none
+pub number_empty : number [] ≡ None
 unfolding number signed front behind end_trimmed
 number_empty = refl

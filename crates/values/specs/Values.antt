@@ -1,7 +1,6 @@
 -- Values (01, Values): what the text of an element says, or that it says nothing. Number, boolean, time, UUID and letter are told by the text
 -- as spelled, white space around a number aside; creator and name by the bytes that it means, decoded.
-use Rattle.std.specs.Prelude.{Bool, true, false, not, cond, ◌&&◌, ◌||◌, List, [], ◌∷◌, ℕ, ◌+◌, ◌*◌, leb, eqb, length, drop, get_or}
-use Rattle.std.proofs.Math.Option.{Option, some, none}
+use Rattle.std.specs.Prelude.{Bool, true, false, not, cond, ◌&&◌, ◌||◌, List, [], ◌∷◌, ℕ, ◌+◌, ◌*◌, leb, eqb, length, drop, get_or, None, Option, Some}
 use Prim.Native.Char.{code}
 use Rattle.slices.specs.Slices.{within, every, same}
 use Rattle.slices.specs.Words.{bytes}
@@ -14,8 +13,8 @@ use Rattle.texts.specs.Decoded.{begins, code_points}
 
 -- what is said, if it is at most the bound
 abbrev pub at_most : ℕ → Option ℕ → Option ℕ
-at_most bound (some n) = cond (leb n bound) (some n) none
-at_most bound none = none
+at_most bound (Some n) = cond (leb n bound) (Some n) None
+at_most bound None = None
 
 -- a text without the white space at its end
 unfoldable pub end_trimmed : List ℕ → List ℕ
@@ -28,7 +27,7 @@ trimmed s = end_trimmed (behind is_space s)
 
 -- what digits say behind `+`, behind `-` if they say zero, or alone
 unfoldable pub signed : List ℕ → Option ℕ
-signed [] = none
+signed [] = None
 signed (b ∷ s) = cond (eqb b (code "+")) (decimal.run s) (cond (eqb b (code "-")) (at_most 0 (decimal.run s)) (decimal.run (b ∷ s)))
 
 -- Number (02, Item 2; 002, Appendix A and B), as XML Schema spells a nonnegative integer: what it means to every reader is this value. Its form
@@ -39,8 +38,8 @@ number s = signed (trimmed s)
 -- Boolean: `true`, `1`, `false`, `0`
 unfoldable pub boolean : List ℕ → Option Bool
 boolean s =
-    cond (same s (bytes "true") || same s (bytes "1")) (some true)
-    (cond (same s (bytes "false") || same s (bytes "0")) (some false) none)
+    cond (same s (bytes "true") || same s (bytes "1")) (Some true)
+    (cond (same s (bytes "false") || same s (bytes "0")) (Some false) None)
 
 -- a byte by a pattern's: `#` stands for a decimal digit, `*` for a hex digit, any other byte for itself
 unfoldable pub by_pattern : ℕ → ℕ → Bool
@@ -76,9 +75,9 @@ same_uuid a b = is_uuid a && is_uuid b && same (uuid_bytes a) (uuid_bytes b)
 
 -- Letter: `a` to `z`
 unfoldable pub letter : List ℕ → Option ℕ
-letter [] = none
-letter (b ∷ []) = cond (is_letter b) (some b) none
-letter (b ∷ c ∷ s) = none
+letter [] = None
+letter (b ∷ []) = cond (is_letter b) (Some b) None
+letter (b ∷ c ∷ s) = None
 
 -- a byte not below 32, and no `/` where none may be
 abbrev pub is_plain : Bool → ℕ → Bool
@@ -98,4 +97,4 @@ is_root_name s = eqb (length s) 0 || is_name s
 
 -- a version (01, Refusal numbers: 7): the R of 2.0.R, in plain numbers up to 65,535
 unfoldable pub version : List ℕ → Option ℕ
-version s = cond (begins (bytes "2.0.") s) (at_most 65535 (decimal.plain_number (drop 4 s))) none
+version s = cond (begins (bytes "2.0.") s) (at_most 65535 (decimal.plain_number (drop 4 s))) None

@@ -8,32 +8,10 @@ ghost use Rattle.slices.specs.Slices.{within, every};
 ghost use Rattle.texts.specs.Decoded.{decoded};
 ghost use Rattle.slices.specs.Slices as slices;
 ghost use Rattle.values.specs.Values.{boolean, letter, version, by_pattern, in_pattern, two, in_ranges, is_plain, is_time, is_uuid, same_uuid, is_creator, is_name, is_root_name};
-ghost use Rattle.values.specs.Steps.{boolean_of, letter_of, version_of, between, is_common};
+ghost use Rattle.values.specs.Steps.{between, is_common};
 
-use digits::Number;
 pub use numbers::read_number;
 use texts::Spelled;
-
-// What a text says as a boolean.
-#[derive(Clone, Copy)]
-pub enum Boolean {
-    Value(bool),
-    Nothing,
-}
-
-// What a text says as a partition letter.
-#[derive(Clone, Copy)]
-pub enum Letter {
-    Value(u8),
-    Nothing,
-}
-
-// The R of a version 2.0.R.
-#[derive(Clone, Copy)]
-pub enum Version {
-    Release(u64),
-    Nothing,
-}
 
 // `true` or `1`; or `false` or `0` where that is the question.
 fn is_either(raw: &[u8], word: &[u8], digit: &[u8]) -> bool
@@ -46,16 +24,16 @@ fn is_either(raw: &[u8], word: &[u8], digit: &[u8]) -> bool
 }
 
 // The boolean that raw says.
-pub fn read_boolean(raw: &[u8]) -> Boolean
-    ensures { boolean_of result ≡ boolean raw.now }
+pub fn read_boolean(raw: &[u8]) -> Option<bool>
+    ensures { result ≡ boolean raw.now }
 {
     if is_either(raw, b"true", b"1") {
-        return Boolean::Value(true);
+        return Some(true);
     }
     if is_either(raw, b"false", b"0") {
-        return Boolean::Value(false);
+        return Some(false);
     }
-    Boolean::Nothing
+    None
 }
 
 // Whether a byte is as a pattern's byte says.
@@ -189,17 +167,17 @@ pub fn same_uuid(a: &[u8], b: &[u8]) -> bool
 }
 
 // The letter that raw says.
-pub fn read_letter(raw: &[u8]) -> Letter
-    ensures { letter_of result ≡ letter raw.now }
+pub fn read_letter(raw: &[u8]) -> Option<u8>
+    ensures { result ≡ letter raw.now }
 {
     if raw.len() != 1 {
-        return Letter::Nothing;
+        return None;
     }
     let b = raw[0];
     if quantities::is_letter(b as u64) {
-        return Letter::Value(b);
+        return Some(b);
     }
-    Letter::Nothing
+    None
 }
 
 // Whether b is not below 32, and no `/` where none may be.
@@ -309,23 +287,23 @@ pub fn is_root_name(raw: &[u8]) -> bool
 }
 
 // The R of the version 2.0.R that raw says.
-pub fn read_version(raw: &[u8]) -> Version
-    ensures { version_of result ≡ version raw.now }
+pub fn read_version(raw: &[u8]) -> Option<u64>
+    ensures { result ≡ version raw.now }
 {
     if raw.len() < 4 {
-        return Version::Nothing;
+        return None;
     }
     if !slices::same(&raw[0..4], b"2.0.") {
-        return Version::Nothing;
+        return None;
     }
     match digits::read_plain(&raw[4..]) {
-        Number::Value(n) => {
+        Some(n) => {
             if n <= 65535 {
-                Version::Release(n)
+                Some(n)
             } else {
-                Version::Nothing
+                None
             }
         }
-        Number::Nothing => Version::Nothing,
+        None => None,
     }
 }

@@ -3,10 +3,8 @@ ghost use Rattle.std.specs.Prelude.{◌≡◌};
 ghost use Rattle.xml.specs.Bytes.{is_space};
 ghost use Rattle.xml.specs.Tree.{behind};
 ghost use Rattle.digits.specs.Decimal.{run};
-ghost use Rattle.digits.specs.Steps.{value_of};
 ghost use Rattle.values.specs.Values.{at_most, end_trimmed, signed, number};
 
-use digits::Number;
 
 // The text without the white space in front.
 fn front_trimmed(raw: &[u8]) -> &[u8]
@@ -37,27 +35,27 @@ fn end_trimmed(raw: &[u8]) -> &[u8]
 }
 
 // Zero, if that is what digits say.
-fn read_zero(s: &[u8]) -> Number
-    ensures { value_of result ≡ at_most 0 (run s.now) }
+fn read_zero(s: &[u8]) -> Option<u64>
+    ensures { result ≡ at_most 0 (run s.now) }
 {
     match digits::read_run(s) {
-        Number::Value(n) => {
+        Some(n) => {
             if n == 0 {
-                Number::Value(n)
+                Some(n)
             } else {
-                Number::Nothing
+                None
             }
         }
-        Number::Nothing => Number::Nothing,
+        None => None,
     }
 }
 
 // What a sign, or none, and digits say.
-fn read_signed(s: &[u8]) -> Number
-    ensures { value_of result ≡ signed s.now }
+fn read_signed(s: &[u8]) -> Option<u64>
+    ensures { result ≡ signed s.now }
 {
     if s.len() == 0 {
-        return Number::Nothing;
+        return None;
     }
     if s[0] == b'+' {
         return digits::read_run(&s[1..]);
@@ -69,11 +67,11 @@ fn read_signed(s: &[u8]) -> Number
 }
 
 // The number that raw says. Mostly it is a few digits alone, which are tried first.
-pub fn read_number(raw: &[u8]) -> Number
-    ensures { value_of result ≡ number raw.now }
+pub fn read_number(raw: &[u8]) -> Option<u64>
+    ensures { result ≡ number raw.now }
 {
     match digits::read_few(raw) {
-        Number::Value(n) => Number::Value(n),
-        Number::Nothing => read_signed(end_trimmed(front_trimmed(raw))),
+        Some(n) => Some(n),
+        None => read_signed(end_trimmed(front_trimmed(raw))),
     }
 }

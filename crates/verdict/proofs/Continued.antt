@@ -1,8 +1,8 @@
 -- Reading on never hurts (02, Item 14): what keeps demand 3 on the tapes of two reads, of which the second has the elements that the first
 -- one's cut keeps, keeps of the second at least as many index constructs.
+use Rattle.std.specs.Prelude.{None, Option, Some}
 use mathlib.Core.Path.{◌≡◌, refl, sym, ap, subst, ◌∙◌}
 use mathlib.Core.Logic.{◌⊎◌, inl, inr}
-use mathlib.Core.Option.{Option, none, some}
 use mathlib.Core.List.{◌∷◌, ◌++◌}
 use Prim.Native.Nat.{ℕ, ◌≤◌, ◌<◌, min}
 use native.Mathlib.Omega.{arith}
@@ -40,11 +40,11 @@ module _ (labels : Tape → Tape → Option Volume) (v : Volume) (i d : Tape) wh
     one_generation n g g' h p q =
         let e : p.last ∷ p.before ≡ q.last ∷ q.before = sym p.stands ∙ ap (standing v.size) (sym h) ∙ q.stands in
         let same : p.last ≡ q.last = cc in
-        let r : some p.index ≡ some q.index = sym p.reads ∙ ap (read_index v) same ∙ q.reads in
+        let r : Some p.index ≡ Some q.index = sym p.reads ∙ ap (read_index v) same ∙ q.reads in
         let k : p.index ≡ q.index = cc in
         p.is ∙ ap (λ (z : IndexLinks). z.generation) k ∙ sym q.is
 
-    module _ {old new : Option Cut} (o : Demand3 labels v i d old) (w : Demand3 labels v i' d' new) (a : Cut) (h : old ≡ some a) (k : KeptAlike i d i' d' a) where
+    module _ {old new : Option Cut} (o : Demand3 labels v i d old) (w : Demand3 labels v i' d' new) (a : Cut) (h : old ≡ Some a) (k : KeptAlike i d i' d' a) where
       -- what the cut keeps of the first read is there in the second
       within : (n : ℕ) (t t' : Tape) → n ≤ length t → take n t' ≡ take n t → n ≤ length t'
       within n t t' few e =
@@ -63,7 +63,7 @@ module _ (labels : Tape → Tape → Option Volume) (v : Volume) (i d : Tape) wh
       alike : keeps labels v i' d' a.index_kept ≡ keeps labels v i d a.index_kept
       alike = ap (λ (t : Tape). length (standing v.size t)) k.in_index
 
-      module _ (b : Cut) (e : new ≡ some b) where
+      module _ (b : Cut) (e : new ≡ Some b) where
         -- where the places to stop are the same, all is
         all_same : a.index_kept ≡ b.index_kept → a.data_kept ≡ b.data_kept → b ≡ a
         all_same p q =
@@ -95,5 +95,5 @@ module _ (labels : Tape → Tape → Option Volume) (v : Volume) (i d : Tape) wh
       never_hurts_lem = go new refl
         where
           go : (n : Option Cut) → new ≡ n → NeverHurts labels v i d i' d' a new
-          go none e = absurd (w.complete e a.index_kept a.data_kept pair)
-          go (some b) e = found b e
+          go None e = absurd (w.complete e a.index_kept a.data_kept pair)
+          go (Some b) e = found b e

@@ -1,8 +1,8 @@
 -- Demand 3: the rescue against the verdict.
+use Rattle.std.specs.Prelude.{None, Option, Some}
 use mathlib.Core.Path.{◌≡◌, refl, sym, ap, subst, ◌∙◌}
 use mathlib.Core.Logic.{◌⊎◌}
 use mathlib.Core.Bool.{true}
-use mathlib.Core.Option.{Option, none, some}
 use mathlib.Core.List.{List, [], ◌∷◌}
 use Prim.Native.Nat.{ℕ, suc, ◌≤◌, ◌<◌}
 use native.Mathlib.Omega.{arith}
@@ -18,9 +18,9 @@ use Rattle.constructs.proofs.Suffixes.{suffix_trans}
 use Rattle.constructs.proofs.Fronts.{standing_front, standing_at, data_lengths_from_front, Below, standing_below, below_suffix}
 use Rattle.verdict.proofs.Chains.{or_else_none, unless_none, and-true, is_none_none, chain_suffix, chain_good, good_suffix, good_chain, search_sound, search_best}
 
-numbered_none : (w : ℕ) (o : Option ℕ) → numbered w o ≡ none → o ≡ none
-numbered_none w none e = refl
-numbered_none w (some n) e = let z : ◌≡◌ {A = ℕ} 0 1 = cc in absurd (omega arith)
+numbered_none : (w : ℕ) (o : Option ℕ) → numbered w o ≡ None → o ≡ None
+numbered_none w None e = refl
+numbered_none w (Some n) e = let z : ◌≡◌ {A = ℕ} 0 1 = cc in absurd (omega arith)
 
 -- a tape ends_with with a standing construct: which, and where
 ends_with_at : (t : List Element) (cs : List Construct) → ends_with t cs ≡ true → (c : Construct) × (cs' : List Construct) × (cs ≡ c ∷ cs') × (c.end ≡ length t)
@@ -38,16 +38,16 @@ module _ (v : Volume) where
     pub is_d : standing v.size d ≡ e ∷ es
     pub up_i : c.end ≡ length i
     pub up_d : e.end ≡ length d
-    pub good : chain_break v (e ∷ es) ≡ none
+    pub good : chain_break v (e ∷ es) ≡ None
     pub tie : follows v (read_index v c) e (read_data v e) ≡ true
-    pub files : bad_file_in v (read_index v c) (data_lengths i) (data_lengths d) ≡ none
+    pub files : bad_file_in v (read_index v c) (data_lengths i) (data_lengths d) ≡ None
 
   abbrev Last : List Element → Type 0
   Last t = (c : Construct) × (cs : List Construct) × (standing v.size t ≡ c ∷ cs) × (c.end ≡ length t)
 
-  from_parts : (i d : List Element) → Last i → Last d → chain_break v (standing v.size d) ≡ none
+  from_parts : (i d : List Element) → Last i → Last d → chain_break v (standing v.size d) ≡ None
       → tied v (standing v.size i) (standing v.size d) ≡ true
-      → bad_file v (standing v.size i) (data_lengths i) (data_lengths d) ≡ none
+      → bad_file v (standing v.size i) (data_lengths i) (data_lengths d) ≡ None
       → Sound i d
   from_parts i d x y g t f =
       record {
@@ -64,7 +64,7 @@ module _ (v : Volume) where
         files = rw x.2 at f;
       }
 
-  pub none_sound : (i d : List Element) → verdict v i d ≡ none → Sound i d
+  pub none_sound : (i d : List Element) → verdict v i d ≡ None → Sound i d
   unfolding verdict
   none_sound i d h =
       let h₁ = or_else_none _ _ h in
@@ -78,7 +78,7 @@ module _ (v : Volume) where
       (unless_none _ _ h₄.0)
       (numbered_none 5 _ h₄.1)
 
-  sound_none : (i d : List Element) → Sound i d → verdict v i d ≡ none
+  sound_none : (i d : List Element) → Sound i d → verdict v i d ≡ None
   unfolding verdict
   sound_none i d s = rw (s.is_i, s.is_d, eq-eqb _ _ s.up_i, eq-eqb _ _ s.up_d, s.good, s.tie, s.files)
 
@@ -93,13 +93,13 @@ module _ (v : Volume) where
       pub in_d : Suffix (e ∷ es) (standing v.size d)
       pub at_i : c.end ≡ n
       pub at_d : e.end ≡ m
-      pub good : chain_break v (e ∷ es) ≡ none
+      pub good : chain_break v (e ∷ es) ≡ None
       pub fit : fits_cut v (data_lengths i) (data_lengths d) c e ≡ true
 
     size_front : (t : List Element) (c : Construct) (n : ℕ) → c.end ≡ n → data_lengths (take n t) ≡ take c.end (data_lengths t)
     size_front t c n h = data_lengths_from_front n 4 true t ∙ ap (λ (k : ℕ). take k (data_lengths t)) (sym h)
 
-    pub kept : (n m : ℕ) → n ≤ length i → m ≤ length d → verdict v (take n i) (take m d) ≡ none → Kept n m
+    pub kept : (n m : ℕ) → n ≤ length i → m ≤ length d → verdict v (take n i) (take m d) ≡ None → Kept n m
     kept n m hn hm h =
         let s = none_sound (take n i) (take m d) h in
         let un : s.c.end ≡ n = s.up_i ∙ length-take-le n i hn in
@@ -117,7 +117,7 @@ module _ (v : Volume) where
           fit = rw s.tie (ap is_none (rw (size_front i s.c n un, size_front d s.e m um) at s.files));
         }
 
-    pub keep : (n m : ℕ) → Kept n m → verdict v (take n i) (take m d) ≡ none
+    pub keep : (n m : ℕ) → Kept n m → verdict v (take n i) (take m d) ≡ None
     keep n m k =
         let li = standing_at v.size i k.c k.cs k.in_i in
         let ld = standing_at v.size d k.e k.es k.in_d in
@@ -140,7 +140,7 @@ module _ (v : Volume) where
     below = below_suffix _ (chain_suffix v (standing v.size d)) (standing_below v.size d)
 
     -- the rescue's answer is a pair that can be kept
-    pub answer : (a : Cut) → rescue v i d ≡ some a
+    pub answer : (a : Cut) → rescue v i d ≡ Some a
         → (k : Kept a.index_kept a.data_kept) × (a ≡ cut_at v k.c k.cs k.e k.es)
     unfolding rescue
     answer a h =
@@ -168,7 +168,7 @@ module _ (v : Volume) where
       ap length (subst (λ (x : ℕ). standing v.size (take x d) ≡ k.e ∷ k.es) k.at_d (standing_at v.size d k.e k.es k.in_d).1),
     )
 
-    pub best : (n m : ℕ) (k : Kept n m) → (b : Cut) × (rescue v i d ≡ some b) × ((b ≡ cut_at v k.c k.cs k.e k.es) ⊎ (length k.cs < b.index_construct))
+    pub best : (n m : ℕ) (k : Kept n m) → (b : Cut) × (rescue v i d ≡ Some b) × ((b ≡ cut_at v k.c k.cs k.e k.es) ⊎ (length k.cs < b.index_construct))
     unfolding rescue
     best n m k =
         search_best v (data_lengths i) (data_lengths d) _ (chain v (standing v.size d)) below (standing v.size i)

@@ -1,8 +1,8 @@
 -- Demand 3 holds.
+use Rattle.std.specs.Prelude.{None, Option, Some}
 use mathlib.Core.Path.{◌≡◌, refl, sym, ap, subst, subst₂, ◌∙◌}
 use mathlib.Core.Logic.{◌⊎◌, inl, inr}
 use mathlib.Core.Bool.{true}
-use mathlib.Core.Option.{Option, none, some}
 use mathlib.Core.List.{List, [], ◌∷◌}
 use Prim.Native.Nat.{ℕ, suc, ◌≤◌, ◌<◌}
 use native.Mathlib.Omega.{arith}
@@ -19,7 +19,7 @@ use Rattle.constructs.proofs.Fronts.{standing_at, standing_front, standing_short
 use Rattle.verdict.proofs.Chains.{and-true}
 use Rattle.verdict.proofs.Cuts.{none_sound, Kept, kept, keep, kept_count, answer, best}
 
-module _ (labels : List Element → List Element → Option Volume) (v : Volume) (i d : List Element) (agree : labels (take 4 i) (take 4 d) ≡ some v) where
+module _ (labels : List Element → List Element → Option Volume) (v : Volume) (i d : List Element) (agree : labels (take 4 i) (take 4 d) ≡ Some v) where
   -- a tape that endsWith with a standing construct has its four label elements
   long : (b : ℕ) (t : List Element) (c : Construct) (cs : List Construct) → standing b t ≡ c ∷ cs → 4 ≤ length t
   long b t c cs h = go (dec_le 4 (length t))
@@ -29,7 +29,7 @@ module _ (labels : List Element → List Element → Option Volume) (v : Volume)
       go (no p) = let q : standing b t ≡ [] = standing_short b t (omega arith) in let z : ◌≡◌ {A = ℕ} 0 1 = cc in absurd (omega arith)
 
   -- the labels of such fronts are the labels of the whole
-  labels_front : (n m : ℕ) → 4 ≤ n → 4 ≤ m → labels (take 4 (take n i)) (take 4 (take m d)) ≡ some v
+  labels_front : (n m : ℕ) → 4 ≤ n → 4 ≤ m → labels (take 4 (take n i)) (take 4 (take m d)) ≡ Some v
   labels_front n m hn hm = rw (take-take 4 n i hn, take-take 4 m d hm) agree
 
   leaves_kept : (n m : ℕ) → Leaves labels v i d n m → Kept v i d n m
@@ -39,7 +39,7 @@ module _ (labels : List Element → List Element → Option Volume) (v : Volume)
       let hn : 4 ≤ n = omega (arith, long w.0.size (take n i) s.c s.cs s.is_i, length-take-le n i l.in_index) in
       let hm : 4 ≤ m = omega (arith, long w.0.size (take m d) s.e s.es s.is_d, length-take-le m d l.in_data) in
       let q : w.0 ≡ v = cc (labels_front n m hn hm, w.1) in
-      kept v i d n m l.in_index l.in_data (subst (λ (x : Volume). verdict x (take n i) (take m d) ≡ none) q w.2)
+      kept v i d n m l.in_index l.in_data (subst (λ (x : Volume). verdict x (take n i) (take m d) ≡ None) q w.2)
 
   kept_leaves : (n m : ℕ) → Kept v i d n m → Leaves labels v i d n m
   kept_leaves n m k =
@@ -53,7 +53,7 @@ module _ (labels : List Element → List Element → Option Volume) (v : Volume)
       let hm : 4 ≤ m = omega (arith, long v.size (take m d) s.e s.es s.is_d, length-take-le m d lm) in
       record { in_index = ln; in_data = lm; consistent = (v, labels_front n m hn hm, h) }
 
-  numbers : (a : Cut) → rescue v i d ≡ some a
+  numbers : (a : Cut) → rescue v i d ≡ Some a
       → (keeps labels v i d a.index_kept ≡ suc a.index_construct) × (length (standing v.size (take a.data_kept d)) ≡ suc a.data_construct)
   numbers a h =
       let r = answer v i d a h in
@@ -61,12 +61,12 @@ module _ (labels : List Element → List Element → Option Volume) (v : Volume)
       (omega (arith, k.0, ap (λ (x : Cut). x.index_construct) r.1), omega (arith, k.1, ap (λ (x : Cut). x.data_construct) r.1))
 
   -- what follows another is sound
-  sound_follows : (o : Option IndexLinks) (e : Construct) (y : Option IndexLinks) → follows v o e y ≡ true → (x : IndexLinks) × (o ≡ some x)
+  sound_follows : (o : Option IndexLinks) (e : Construct) (y : Option IndexLinks) → follows v o e y ≡ true → (x : IndexLinks) × (o ≡ Some x)
   unfolding follows
-  sound_follows none e y h = let z : ◌≡◌ {A = ℕ} 0 1 = cc in absurd (omega arith)
-  sound_follows (some x) e y h = (x, refl)
+  sound_follows None e y h = let z : ◌≡◌ {A = ℕ} 0 1 = cc in absurd (omega arith)
+  sound_follows (Some x) e y h = (x, refl)
 
-  generation : (a : Cut) → rescue v i d ≡ some a → LastGeneration labels v i d a.index_kept a.generation
+  generation : (a : Cut) → rescue v i d ≡ Some a → LastGeneration labels v i d a.index_kept a.generation
   generation a h =
       let r = answer v i d a h in
       let k = r.0 in
@@ -80,13 +80,13 @@ module _ (labels : List Element → List Element → Option Volume) (v : Volume)
         is = ap (λ (b : Cut). b.generation) r.1 ∙ ap generation_of x.1;
       }
 
-  complete : rescue v i d ≡ none → (n m : ℕ) → Leaves labels v i d n m → ⊥
+  complete : rescue v i d ≡ None → (n m : ℕ) → Leaves labels v i d n m → ⊥
   complete h n m l =
       let b = best v i d n m (leaves_kept n m l) in
       let z : ◌≡◌ {A = ℕ} 0 1 = cc (h, b.1) in
       omega arith
 
-  best_pair : (a : Cut) → rescue v i d ≡ some a → (n m : ℕ) → Leaves labels v i d n m
+  best_pair : (a : Cut) → rescue v i d ≡ Some a → (n m : ℕ) → Leaves labels v i d n m
       → ((n ≡ a.index_kept) × (m ≡ a.data_kept)) ⊎ (keeps labels v i d n < keeps labels v i d a.index_kept)
   best_pair a h n m l = go (leaves_kept n m l)
     where
@@ -105,7 +105,7 @@ module _ (labels : List Element → List Element → Option Volume) (v : Volume)
   whole : Consistent labels i d → Leaves labels v i d (length i) (length d)
   whole w = record { in_index = omega arith; in_data = omega arith; consistent = rw (take-length i, take-length d) w }
 
-  uncut_to : Consistent labels i d → (a : Cut) × (rescue v i d ≡ some a) × (a.index_kept ≡ length i) × (a.data_kept ≡ length d)
+  uncut_to : Consistent labels i d → (a : Cut) × (rescue v i d ≡ Some a) × (a.index_kept ≡ length i) × (a.data_kept ≡ length d)
   uncut_to w =
       let b = best v i d (length i) (length d) (leaves_kept _ _ (whole w)) in
       let p = pick b.0 (best_pair b.0 b.1 _ _ (whole w)) in
@@ -116,7 +116,7 @@ module _ (labels : List Element → List Element → Option Volume) (v : Volume)
       pick a (inl q) = (sym q.0, sym q.1)
       pick a (inr q) = absurd (omega (arith, suffix_length (standing_front v.size a.index_kept i), ap (λ (t : List Element). length (standing v.size t)) (take-length i)))
 
-  uncut_from : (a : Cut) × (rescue v i d ≡ some a) × (a.index_kept ≡ length i) × (a.data_kept ≡ length d) → Consistent labels i d
+  uncut_from : (a : Cut) × (rescue v i d ≡ Some a) × (a.index_kept ≡ length i) × (a.data_kept ≡ length d) → Consistent labels i d
   uncut_from (a, h, p, q) =
       subst₂ (λ (x y : List Element). Consistent labels x y)
       (ap (λ (n : ℕ). take n i) p ∙ take-length i)

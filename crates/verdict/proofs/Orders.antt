@@ -1,7 +1,7 @@
 -- The chain from its first construct on, and the search from the last construct back, one construct at a time.
+use Rattle.std.specs.Prelude.{None, Some}
 use mathlib.Core.Path.{◌≡◌, refl, ap, ◌∙◌}
 use mathlib.Core.Bool.{true, false}
-use mathlib.Core.Option.{none, some}
 use mathlib.Core.List.{List, [], ◌∷◌}
 use Prim.Native.Nat.{ℕ, zero, suc, ◌-◌, ◌<◌}
 use native.Mathlib.Omega.{arith}
@@ -35,40 +35,40 @@ module _ {A : Type 0} where
 
 module _ (v : Volume) where
   -- constructs without a break are their own chain
-  pub chain_whole : (ds : List Construct) → chain_break v ds ≡ none → chain v ds ≡ ds
+  pub chain_whole : (ds : List Construct) → chain_break v ds ≡ None → chain v ds ≡ ds
   unfolding chain
   chain_whole [] e = refl
   chain_whole (d ∷ ds) e = rw e
 
   -- the first construct that breaks the chain is the break
-  pub break_at : {c : Construct} {cs ds : List Construct} → Suffix (c ∷ cs) ds → chain_break v cs ≡ none → chained v c cs ≡ false
-      → chain_break v ds ≡ some (length cs)
+  pub break_at : {c : Construct} {cs ds : List Construct} → Suffix (c ∷ cs) ds → chain_break v cs ≡ None → chained v c cs ≡ false
+      → chain_break v ds ≡ Some (length cs)
   unfolding chain_break
   break_at {c} {cs} (here q) e f = rw (← q, e, f)
   break_at (there s) e f = rw (break_at s e f)
 
   -- and the chain ends before it
-  pub chain_stops : {c : Construct} {cs ds : List Construct} → Suffix (c ∷ cs) ds → chain_break v cs ≡ none → chained v c cs ≡ false → chain v ds ≡ cs
+  pub chain_stops : {c : Construct} {cs ds : List Construct} → Suffix (c ∷ cs) ds → chain_break v cs ≡ None → chained v c cs ≡ false → chain v ds ≡ cs
   unfolding chain
   chain_stops {c} {cs} (here q) e f =
-      let b : chain_break v (c ∷ cs) ≡ some (length cs) = break_at (here refl) e f in
+      let b : chain_break v (c ∷ cs) ≡ Some (length cs) = break_at (here refl) e f in
       rw (← q, b) (chain_whole cs e)
   chain_stops {c} {cs} (there {y} {ys} s) e f =
-      let b : chain_break v (y ∷ ys) ≡ some (length cs) = break_at (there s) e f in
+      let b : chain_break v (y ∷ ys) ≡ Some (length cs) = break_at (there s) e f in
       rw b (chain_stops s e f)
 
   -- a construct that is chained lengthens a chain with no break
-  pub chain_grows : (c : Construct) (cs : List Construct) → chain_break v cs ≡ none → chained v c cs ≡ true → chain_break v (c ∷ cs) ≡ none
+  pub chain_grows : (c : Construct) (cs : List Construct) → chain_break v cs ≡ None → chained v c cs ≡ true → chain_break v (c ∷ cs) ≡ None
   unfolding chain_break
   chain_grows c cs e f = rw (e, f)
 
   -- the search goes on where a construct is no cut, and ends where it is
   pub search_on : (li ld : List ℕ) (ds : List Construct) (c : Construct) (cs : List Construct)
-      → attempt v li ld c cs (through (target (read_index v c)) ds) ≡ none → cut_among v li ld ds (c ∷ cs) ≡ cut_among v li ld ds cs
+      → attempt v li ld c cs (through (target (read_index v c)) ds) ≡ None → cut_among v li ld ds (c ∷ cs) ≡ cut_among v li ld ds cs
   unfolding cut_among
   search_on li ld ds c cs e = rw e
 
   pub search_found : (li ld : List ℕ) (ds : List Construct) (c : Construct) (cs : List Construct) (a : Cut)
-      → attempt v li ld c cs (through (target (read_index v c)) ds) ≡ some a → cut_among v li ld ds (c ∷ cs) ≡ some a
+      → attempt v li ld c cs (through (target (read_index v c)) ds) ≡ Some a → cut_among v li ld ds (c ∷ cs) ≡ Some a
   unfolding cut_among
   search_found li ld ds c cs a e = rw e

@@ -1,6 +1,5 @@
 -- Reading on never hurts (02, Item 14), on tapes whose labels are sound and agree: i and d of a first read, i' and d' of a second.
-use Rattle.std.specs.Prelude.{◌≡◌, ◌⊎◌, ◌≤◌, ◌<◌, take}
-use Rattle.std.proofs.Math.Option.{Option, some}
+use Rattle.std.specs.Prelude.{◌≡◌, ◌⊎◌, ◌≤◌, ◌<◌, take, Option, Some}
 use Rattle.tape.specs.Tape.{Tape}
 use Rattle.verdict.specs.Verdict.{Volume, Cut}
 use Rattle.verdict.specs.Demand.{keeps, Leaves}
@@ -15,7 +14,7 @@ module _ (labels : Tape → Tape → Option Volume) (v : Volume) (i d i' d' : Ta
   pub record NeverHurts (a : Cut) (answered : Option Cut) : Type 0 where
     -- there is a cut
     pub cut : Cut
-    pub answers : answered ≡ some cut
+    pub answers : answered ≡ Some cut
     -- it keeps at least as many index constructs in the index partition
     pub as_many : keeps labels v i d a.index_kept ≤ keeps labels v i' d' cut.index_kept
     -- it is the same cut, or it keeps more of them

@@ -1,24 +1,23 @@
 -- The rescue: the cut after standing constructs that keeps most index constructs and leaves a consistent volume (01, Constructs, verdict
 -- and cut). `proofs/Demand.antt` shows that it is that cut.
-use Rattle.std.specs.Prelude.{Bool, cond, ◌&&◌, List, [], ◌∷◌, ℕ, length, take, eqb}
-use Rattle.std.proofs.Math.Option.{Option, none, some}
+use Rattle.std.specs.Prelude.{Bool, cond, ◌&&◌, List, [], ◌∷◌, ℕ, length, take, eqb, None, Option, Some}
 use Rattle.quantities.specs.Addresses.{Address}
 use Rattle.tape.specs.Tape.{Tape}
 use Rattle.constructs.specs.Constructs.{Construct, standing, data_lengths}
 use Rattle.verdict.specs.Verdict.{Cut, IndexLinks, Volume, or_else, is_none, read_index, read_data, follows, chain_break, bad_file_in}
 
 abbrev pub pointed_block : Option Address → ℕ
-pointed_block none = 0
-pointed_block (some p) = p.block
+pointed_block None = 0
+pointed_block (Some p) = p.block
 
 -- the element that an index's back pointer names
 abbrev pub target : Option IndexLinks → ℕ
-target none = 0
-target (some x) = pointed_block x.back
+target None = 0
+target (Some x) = pointed_block x.back
 
 abbrev pub generation_of : Option IndexLinks → ℕ
-generation_of none = 0
-generation_of (some x) = x.generation
+generation_of None = 0
+generation_of (Some x) = x.generation
 
 -- the constructs through the one whose first block has that number
 unfoldable pub through : ℕ → List Construct → List Construct
@@ -47,12 +46,12 @@ module _ (v : Volume) where
   fits_cut li ld c d = follows v (read_index v c) d (read_data v d) && is_none (bad_file_in v (read_index v c) (take c.end li) (take d.end ld))
 
   abbrev pub attempt : List ℕ → List ℕ → Construct → List Construct → List Construct → Option Cut
-  attempt li ld c cs [] = none
-  attempt li ld c cs (d ∷ ds) = cond (fits_cut li ld c d) (some (cut_at c cs d ds)) none
+  attempt li ld c cs [] = None
+  attempt li ld c cs (d ∷ ds) = cond (fits_cut li ld c d) (Some (cut_at c cs d ds)) None
 
   -- from the last index construct back: the first that fits the construct of the chain that it points at
   unfoldable pub cut_among : List ℕ → List ℕ → List Construct → List Construct → Option Cut
-  cut_among li ld ds [] = none
+  cut_among li ld ds [] = None
   cut_among li ld ds (c ∷ cs) = or_else (attempt li ld c cs (through (target (read_index v c)) ds)) (cut_among li ld ds cs)
 
   unfoldable pub rescue : Tape → Tape → Option Cut

@@ -1,7 +1,6 @@
 -- The verdict on two partitions (01, Constructs, verdict and cut; 002, 2.1.4). What the labels give and the reading of one index are
 -- parameters here.
-use Rattle.std.specs.Prelude.{◌≡◌, Bool, true, false, cond, ◌&&◌, List, [], ◌∷◌, ℕ, suc, ◌-◌, length, take, leb, eqb}
-use Rattle.std.proofs.Math.Option.{Option, none, some}
+use Rattle.std.specs.Prelude.{◌≡◌, Bool, true, false, cond, ◌&&◌, List, [], ◌∷◌, ℕ, suc, ◌-◌, length, take, leb, eqb, None, Option, Some}
 use Rattle.slices.specs.Slices.{every}
 use Rattle.quantities.specs.Addresses.{Address}
 use Rattle.tape.specs.Tape.{Tape}
@@ -26,20 +25,20 @@ pub record Volume : Type 0 where
 module _ {A : Type 0} where
   -- the first that is given
   abbrev pub or_else : Option A → Option A → Option A
-  or_else none y = y
-  or_else (some x) y = some x
+  or_else None y = y
+  or_else (Some x) y = Some x
 
   abbrev pub unless : Bool → A → Option A
-  unless true x = none
-  unless false x = some x
+  unless true x = None
+  unless false x = Some x
 
   abbrev pub is_none : Option A → Bool
-  is_none none = true
-  is_none (some x) = false
+  is_none None = true
+  is_none (Some x) = false
 
 -- the number of the first that fails the test, counted from k
 unfoldable pub first_failing : {A : Type 0} → (A → Bool) → ℕ → List A → Option ℕ
-first_failing test k [] = none
+first_failing test k [] = None
 first_failing test k (x ∷ xs) = or_else (unless (test x) k) (first_failing test (suc k) xs)
 
 -- a break: which of the five, and its number
@@ -48,12 +47,12 @@ pub record Break : Type 0 where
   pub number : ℕ
 
 abbrev pub numbered : ℕ → Option ℕ → Option Break
-numbered w none = none
-numbered w (some n) = some (record { which = w; number = n })
+numbered w None = None
+numbered w (Some n) = Some (record { which = w; number = n })
 
 abbrev pub is_at : Option Address → ℕ → ℕ → Bool
-is_at none letter block = false
-is_at (some p) letter block = eqb p.letter letter && eqb p.block block
+is_at None letter block = false
+is_at (Some p) letter block = eqb p.letter letter && eqb p.block block
 
 -- a tape ends with the last of its standing constructs
 abbrev pub ends_with : Tape → List Construct → Bool
@@ -63,8 +62,8 @@ ends_with t (c ∷ cs) = eqb c.end (length t)
 module _ (v : Volume) where
   -- the index of a partition that begins at a block; without a text, with an unreadable block in its run, it is not sound (02, Item 7)
   abbrev pub read_text : ℕ → ℕ → Option (List ℕ) → Option IndexLinks
-  read_text letter first none = none
-  read_text letter first (some x) = v.read letter first x
+  read_text letter first None = None
+  read_text letter first (Some x) = v.read letter first x
 
   abbrev pub read_index : Construct → Option IndexLinks
   read_index c = read_text v.index_letter c.first c.text
@@ -80,14 +79,14 @@ module _ (v : Volume) where
 
   -- a sound index points at the data partition's construct d, whose index is sound, and has no lower generation
   unfoldable pub follows : Option IndexLinks → Construct → Option IndexLinks → Bool
-  follows none d y = false
-  follows (some x) d none = false
-  follows (some x) d (some y) = is_at x.back v.data_letter d.first && leb y.generation x.generation
+  follows None d y = false
+  follows (Some x) d None = false
+  follows (Some x) d (Some y) = is_at x.back v.data_letter d.first && leb y.generation x.generation
 
   -- a sound index with no back pointer
   abbrev pub begins_chain : Option IndexLinks → Bool
-  begins_chain none = false
-  begins_chain (some x) = is_none x.back
+  begins_chain None = false
+  begins_chain (Some x) = is_none x.back
 
   -- a data partition's construct is sound and follows the one before it, or begins the chain
   abbrev pub chained : Construct → List Construct → Bool
@@ -96,7 +95,7 @@ module _ (v : Volume) where
 
   -- the lowest construct that breaks the chain
   unfoldable pub chain_break : List Construct → Option ℕ
-  chain_break [] = none
+  chain_break [] = None
   chain_break (c ∷ cs) = or_else (chain_break cs) (unless (chained c cs) (length cs))
 
   -- the index partition's last index follows the data partition's last
@@ -106,12 +105,12 @@ module _ (v : Volume) where
   tied (c ∷ cs) (d ∷ ds) = follows (read_index c) d (read_data d)
 
   abbrev pub bad_file_in : Option IndexLinks → List ℕ → List ℕ → Option ℕ
-  bad_file_in none li ld = none
-  bad_file_in (some x) li ld = first_failing (every (lies li ld)) 0 x.files
+  bad_file_in None li ld = None
+  bad_file_in (Some x) li ld = first_failing (every (lies li ld)) 0 x.files
 
   -- the lowest file of that index with an extent that does not lie on the tape
   abbrev pub bad_file : List Construct → List ℕ → List ℕ → Option ℕ
-  bad_file [] li ld = none
+  bad_file [] li ld = None
   bad_file (c ∷ cs) li ld = bad_file_in (read_index c) li ld
 
   -- the first of the five breaks, or none
@@ -128,7 +127,7 @@ module _ (v : Volume) where
 -- consistent: the labels, in elements 0 to 3 of each partition, are sound and agree, and there is no break
 module _ (labels : Tape → Tape → Option Volume) where
   abbrev pub Consistent : Tape → Tape → Type 0
-  Consistent i d = (v : Volume) × (labels (take 4 i) (take 4 d) ≡ some v) × (verdict v i d ≡ none)
+  Consistent i d = (v : Volume) × (labels (take 4 i) (take 4 d) ≡ Some v) × (verdict v i d ≡ None)
 
 -- both construct numbers, both counts of kept elements, and the generation of the last index kept in the index partition
 pub record Cut : Type 0 where

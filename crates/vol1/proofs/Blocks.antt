@@ -1,4 +1,5 @@
 -- The VOL1 block of fields in their lengths: its length, its fields again at their places; and that a block that was written is read as the fields given.
+use Rattle.std.specs.Prelude.{Ok, Err}
 use mathlib.Core.Path.{◌≡◌, refl, ap, ap₂, ◌∙◌, sym}
 use mathlib.Core.Bool.{Bool, true, false, ◌&&◌}
 use mathlib.Core.List.{List, ◌++◌, append_assoc}
@@ -8,12 +9,10 @@ use borrow.Author.Tests.{eq-eqb, ne_eqb, eqb-true, le-leb}
 use lib.Dec.{eqb}
 use lib.ListN.{length, take, drop, replicate, length-append, length-take, length-drop, length-replicate}
 use lib.Seq.{take_at, drop_at}
-use Rattle.refusals.specs.Refusals.{refused, answer}
 use Rattle.refusals.specs.declared.Refusal.TheVariants as refusal
 use Rattle.slices.specs.Slices.{same}
 use Rattle.slices.specs.Words.{bytes}
 use Rattle.slices.specs.Writers.{held_after}
-use Rattle.slices.specs.declared.Written.TheVariants.{To}
 use Rattle.slices.proofs.Booleans.{and_left, and_right}
 use Rattle.slices.proofs.Equal.{same_refl}
 use Rattle.vol1.specs.Vol1.{identifier_at, identifier_length, owner_at, owner_length, vol1, identifier_in, owner_in, is_printed, vol1_of, are_fields}
@@ -73,25 +72,25 @@ module _ (s : List ℕ) (h : length s ≡ 80) where
       made ∙ ap₂ vol1 (in_array_lem identifier_length i (ap length p ∙ identifier_length_lem) ∙ p) (in_array_lem owner_length o (ap length q ∙ owner_length_lem) ∙ q)
 
 module _ (s : List ℕ) where
-  pub other_length : (length s ≡ 80 → ⊥) → refused refusal.Vol1 ≡ vol1_of s
+  pub other_length : (length s ≡ 80 → ⊥) → Err refusal.Vol1 ≡ vol1_of s
   unfolding vol1_of
   other_length e = rw (ne_eqb _ _ e)
 
   module _ (e₀ : length s ≡ 80) where
-    pub other_constants : same s (vol1 (identifier_in s) (owner_in s)) ≡ false → refused refusal.Vol1 ≡ vol1_of s
+    pub other_constants : same s (vol1 (identifier_in s) (owner_in s)) ≡ false → Err refusal.Vol1 ≡ vol1_of s
     unfolding vol1_of
     other_constants e = rw (eq-eqb _ _ e₀, e)
 
     module _ (e₁ : same s (vol1 (identifier_in s) (owner_in s)) ≡ true) where
-      pub identifier_unprinted : is_printed (identifier_in s) ≡ false → refused refusal.Vol1 ≡ vol1_of s
+      pub identifier_unprinted : is_printed (identifier_in s) ≡ false → Err refusal.Vol1 ≡ vol1_of s
       unfolding vol1_of
       identifier_unprinted e = rw (eq-eqb _ _ e₀, e₁, e)
 
-      pub owner_unprinted : is_printed (identifier_in s) ≡ true → is_printed (owner_in s) ≡ false → refused refusal.Vol1 ≡ vol1_of s
+      pub owner_unprinted : is_printed (identifier_in s) ≡ true → is_printed (owner_in s) ≡ false → Err refusal.Vol1 ≡ vol1_of s
       unfolding vol1_of
       owner_unprinted f e = rw (eq-eqb _ _ e₀, e₁, f, e)
 
-      pub the_vol1 : is_printed (identifier_in s) ≡ true → is_printed (owner_in s) ≡ true → answer (record { identifier = identifier_in s; owner = owner_in s }) ≡ vol1_of s
+      pub the_vol1 : is_printed (identifier_in s) ≡ true → is_printed (owner_in s) ≡ true → Ok (record { identifier = identifier_in s; owner = owner_in s }) ≡ vol1_of s
       unfolding vol1_of
       the_vol1 f e = rw (eq-eqb _ _ e₀, e₁, f, e)
 
@@ -111,7 +110,7 @@ module _ (i o : List ℕ) (ok : are_fields i o ≡ true) where
   given_block made = made ∙ ap₂ vol1 (in_array_lem identifier_length i given_identifier) (in_array_lem owner_length o given_owner)
 
   -- a block of given fields reads as them
-  pub vol1_reads : vol1_of (vol1 i o) ≡ answer (record { identifier = i; owner = o })
+  pub vol1_reads : vol1_of (vol1 i o) ≡ Ok (record { identifier = i; owner = o })
   unfolding are_fields
   vol1_reads =
       let a : identifier_in (vol1 i o) ≡ i = identifier_vol1 i o given_identifier given_owner in
@@ -119,10 +118,10 @@ module _ (i o : List ℕ) (ok : are_fields i o ≡ true) where
       sym (the_vol1 (vol1 i o) (length_vol1 i o given_identifier given_owner) (rw (a, b) (same_refl (vol1 i o)))
       (ap is_printed a ∙ and_right lengths (is_printed i) (and_left (lengths && is_printed i) (is_printed o) ok))
       (ap is_printed b ∙ and_right (lengths && is_printed i) (is_printed o) ok))
-      ∙ ap₂ (λ (x y : List ℕ). answer (record { identifier = x; owner = y })) a b
+      ∙ ap₂ (λ (x y : List ℕ). Ok (record { identifier = x; owner = y })) a b
 
 -- what `write_vol1` stored, `read_vol1` reads as the fields that were given
-pub vol1_rereads : (identifier owner before after : List ℕ) (n : ℕ) → Writes (are_fields identifier owner) (vol1 identifier owner) before after (To n)
+pub vol1_rereads : (identifier owner before after : List ℕ) (n : ℕ) → Writes (are_fields identifier owner) (vol1 identifier owner) before after (Ok n)
     → Rereads means_vol1 vol1_of (vol1 identifier owner) (record { identifier = identifier; owner = owner }) after n
 vol1_rereads identifier owner before after n =
     rereads means_vol1 vol1_of (are_fields identifier owner) (vol1 identifier owner) (record { identifier = identifier; owner = owner })

@@ -1,6 +1,6 @@
 -- The VOL1 label (01, VOL1; 002, 6.1.1).
-use Rattle.std.specs.Prelude.{Bool, ◌&&◌, List, ◌++◌, ℕ, eqb, length, take, drop}
-use Rattle.refusals.specs.Refusals.{Answer, answer, require}
+use Rattle.std.specs.Prelude.{Bool, ◌&&◌, List, ◌++◌, ℕ, eqb, length, take, drop, Ok}
+use Rattle.refusals.specs.Refusals.{Answer, require}
 use Rattle.refusals.specs.declared.Refusal.TheVariants as refusal
 use Rattle.slices.specs.Slices.{within, every, same}
 use Rattle.slices.specs.Words.{bytes}
@@ -43,7 +43,7 @@ is_printed s = every (within 32 126) s
 unfoldable pub vol1_of : List ℕ → Answer Vol1Fields
 vol1_of s =
     require (eqb (length s) 80 && same s (vol1 (identifier_in s) (owner_in s)) && is_printed (identifier_in s) && is_printed (owner_in s)) refusal.Vol1
-    (answer (record { identifier = identifier_in s; owner = owner_in s }))
+    (Ok (record { identifier = identifier_in s; owner = owner_in s }))
 
 -- fields that a caller gives: in their lengths, and ASCII
 unfoldable pub are_fields : List ℕ → List ℕ → Bool

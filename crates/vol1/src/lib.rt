@@ -6,20 +6,12 @@ ghost use Rattle.vol1.specs.Vol1.{identifier_length, owner_length, vol1, is_prin
 ghost use Rattle.vol1.specs.Steps.{in_array, WritesBlock, means_vol1};
 
 use refusals::Refusal;
-use slices::Written;
 use writing::add;
 
 // A VOL1 label, as the block that it is.
 #[derive(Clone, Copy)]
 pub struct Vol1 {
     pub block: [u8; Vol1::LENGTH],
-}
-
-// Whether a block is a VOL1 label. Its fields stand at Vol1's places.
-#[derive(Clone, Copy)]
-pub enum Vol1Read {
-    Good,
-    Refused(Refusal),
 }
 
 impl Vol1 {
@@ -110,26 +102,26 @@ fn is_printed(s: &[u8]) -> bool
 }
 
 // Reads a VOL1 label.
-pub fn read_vol1(block: &[u8]) -> Vol1Read
+pub fn read_vol1(block: &[u8]) -> Result<(), Refusal>
     ensures { means_vol1 block.now result ≡ vol1_of block.now }
 {
     if block.len() != Vol1::LENGTH {
-        return Vol1Read::Refused(Refusal::Vol1);
+        return Err(Refusal::Vol1);
     }
     let identifier = slices::part(block, Vol1::IDENTIFIER_AT, Vol1::IDENTIFIER_LENGTH);
     let owner = slices::part(block, Vol1::OWNER_AT, Vol1::OWNER_LENGTH);
     let own = label_of(identifier, owner);
     let bytes = own.block;
     if !slices::same(block, &bytes) {
-        return Vol1Read::Refused(Refusal::Vol1);
+        return Err(Refusal::Vol1);
     }
     if !is_printed(identifier) {
-        return Vol1Read::Refused(Refusal::Vol1);
+        return Err(Refusal::Vol1);
     }
     if !is_printed(owner) {
-        return Vol1Read::Refused(Refusal::Vol1);
+        return Err(Refusal::Vol1);
     }
-    Vol1Read::Good
+    Ok(())
 }
 
 // Whether a caller's fields are those of a VOL1 label.
@@ -149,11 +141,11 @@ fn are_fields(identifier: &[u8], owner: &[u8]) -> bool
 }
 
 // Writes the VOL1 label of an identifier and an owner to the front of out.
-pub fn write_vol1(out: &mut [u8], identifier: &[u8], owner: &[u8]) -> Written
+pub fn write_vol1(out: &mut [u8], identifier: &[u8], owner: &[u8]) -> Result<usize, Refusal>
     ensures { WritesBlock identifier.now owner.now out.old out.new result }
 {
     if !are_fields(identifier, owner) {
-        return Written::Refused(Refusal::Caller);
+        return Err(Refusal::Caller);
     }
     let label = label_of(identifier, owner);
     let block = label.block;

@@ -1,14 +1,14 @@
 -- The rescue and the verdict, from what the tables hold, from the labels, and on the bytes handed in.
+use Rattle.std.specs.Prelude.{None, Option, Result, Err, Ok}
 use mathlib.Core.Path.{◌≡◌, refl, sym, ap, subst, ◌∙◌}
 use mathlib.Core.Bool.{true, false}
 use mathlib.Core.List.{List, ◌∷◌}
-use mathlib.Core.Option.{none}
 use Prim.Native.Nat.{ℕ, ◌-◌, ◌≤◌, ◌<◌}
 use native.Mathlib.Omega.{arith}
 use native.Mathlib.Decide.{dec_le}
 use lib.ListN.{length, get_or, replicate, length-replicate, get_or-eq_default}
 use Rattle.refusals.specs.declared.Refusal.{Refusal}
-use Rattle.refusals.specs.Refusals.{Answer, refused, answer, and_then}
+use Rattle.refusals.specs.Refusals.{Answer, and_then}
 use Rattle.tape.specs.Tape.{Tape, Encodes}
 use Rattle.tape.specs.Answers.{tape_in}
 use Rattle.tape.proofs.Encoding.{Bytes, encodes_read, tape_read}
@@ -34,8 +34,6 @@ use Rattle.volume.specs.Steps.{Located, Listed, PartitionTables, FillsOf, Judges
 use Rattle.volume.specs.Answers.{rescued, cut_of, Rescues}
 use Rattle.volume.specs.AnswerSteps.{judged, Judges}
 use Rattle.volume.specs.declared.filling.TablesFilled.{TablesFilled}
-use Rattle.volume.specs.declared.search.Tried.{Tried}
-use Rattle.volume.specs.declared.answers.Rescue.{Rescue}
 use Rattle.volume.specs.declared.judge.Judgement.{Judgement}
 use Rattle.volume.specs.declared.judge.Judgement.TheVariants.{Broken}
 use Rattle.volume.specs.declared.answers.Verdict.{Verdict}
@@ -100,17 +98,17 @@ module _ (g : Given) (is dl ds : List ℕ) (i d : Tape) (ed : Encodes dl ds d) (
         }
 
     -- the search over those tables finds the rescue's cut
-    found : (r : Tried) → tried_cut r ≡ cut_among v (data_lengths i) (data_lengths d) (firsts k (standing g.block_size d)) (standing g.block_size i) → tried_cut r ≡ rescue v i d
+    found : (r : Option FoundCut) → tried_cut r ≡ cut_among v (data_lengths i) (data_lengths d) (firsts k (standing g.block_size d)) (standing g.block_size i) → tried_cut r ≡ rescue v i d
     unfolding rescue
     found r e = e ∙ ap (λ (x : List Construct). cut_among (volume_with g) (data_lengths i) (data_lengths d) x (standing g.block_size i)) (sym hc.longest)
 
-    cuts : (w : Partitions) (r : Tried) → Searches g w is ti n td gens begins ri rd r → tried_cut r ≡ rescue v i d
+    cuts : (w : Partitions) (r : Option FoundCut) → Searches g w is ti n td gens begins ri rd r → tried_cut r ≡ rescue v i d
     cuts w r e = found r (e (standing g.block_size i) (firsts k (standing g.block_size d)) (data_lengths i) (data_lengths d) ready (sym hi.number))
 
 -- the cut and the breaks from 3 on, by the tables of both partitions
 module _ (g : Given) (is ds ti : List ℕ) (n : ℕ) (ri td : List ℕ) (m : ℕ) (rd gens : List ℕ) (k : ℕ)
     (lc : ChainsOf (volume_with g) ds td m (length {A = ℕ} (replicate 21845 0)) gens k) where
-  pub cuts_by : (w : Partitions) (begins : List ℕ) (r : Tried) → BeginsOf td k (replicate 65536 0) begins → Searches g w is ti n td gens begins ri rd r
+  pub cuts_by : (w : Partitions) (begins : List ℕ) (r : Option FoundCut) → BeginsOf td k (replicate 65536 0) begins → Searches g w is ti n td gens begins ri rd r
       → CutsBy g is ds ti n ri td m rd r
   cuts_by w begins r lb ls dl i d ed hi hd =
       let c = chain_of g is dl ds i d ed ti n ri td m rd hi hd gens k lc in
@@ -130,7 +128,7 @@ module _ (g : Given) (is ds ti : List ℕ) (n : ℕ) (ri td : List ℕ) (m : ℕ
       let two = ends_some v i d d (standing g.block_size d) ee in
       let k_all : k ≡ length (standing g.block_size d) = omega (arith, ch.few, hd.number) in
       let all : firsts k (standing g.block_size d) ≡ standing g.block_size d = ap (λ (z : ℕ). firsts z (standing g.block_size d)) k_all ∙ firsts_all (standing g.block_size d) in
-      let whole : chain_break v (standing g.block_size d) ≡ none = ap (chain_break v) (sym all) ∙ ch.whole in
+      let whole : chain_break v (standing g.block_size d) ≡ None = ap (chain_break v) (sym all) ∙ ch.whole in
       let y = last_sound v two.0 two.1 (ap (chain_break v) (sym two.2) ∙ whole) in
       let bs_p : length one.1 ≡ p = omega (arith, hi.number, ap length one.2, hp) in
       let es_q : length two.1 ≡ q = omega (arith, hd.number, ap length two.2, hq) in
@@ -161,7 +159,7 @@ module _ (g : Given) (il is dl ds ti ri : List ℕ) (a : TablesFilled) (fi : Fil
   pub judges_on : a.ends ≡ true → (r : Judgement) → JudgesData g is dl ds ti a.count ri r → Breaks g il is dl ds r
   judges_on at r w i d ei ed = w i d ed (held g il is ti ri a fi i ei) (sym (ends_told g il is ti ri a fi i ei) ∙ at)
 
-  pub cuts_on : (r : Tried) → CutsData g is dl ds ti a.count ri r → Cuts g il is dl ds r
+  pub cuts_on : (r : Option FoundCut) → CutsData g is dl ds ti a.count ri r → Cuts g il is dl ds r
   cuts_on r w i d ei ed = w i d ed (held g il is ti ri a fi i ei)
 
 module _ (g : Given) (is ti : List ℕ) (n : ℕ) (ri dl ds td rd : List ℕ) (b : TablesFilled) (fd : Fills g dl ds td rd b) where
@@ -171,56 +169,56 @@ module _ (g : Given) (is ti : List ℕ) (n : ℕ) (ri dl ds td rd : List ℕ) (b
   pub judges_by : b.ends ≡ true → (r : Judgement) → JudgesIndexes g is ds ti n ri td b.count rd r → JudgesData g is dl ds ti n ri r
   judges_by bt r w i d ed hi at = w dl i d ed hi (held g dl ds td rd b fd d ed) at (sym (ends_told g dl ds td rd b fd d ed) ∙ bt)
 
-  pub cuts_with : (r : Tried) → CutsBy g is ds ti n ri td b.count rd r → CutsData g is dl ds ti n ri r
+  pub cuts_with : (r : Option FoundCut) → CutsBy g is ds ti n ri td b.count rd r → CutsData g is dl ds ti n ri r
   cuts_with r w i d ed hi = w dl i d ed hi (held g dl ds td rd b fd d ed)
 
 module _ {A : Type 0} (ask : Volume → Tape → Tape → Answer A) (il is dl ds : List ℕ) where
   -- where the labels are refused, so is the question
-  pub ask_refused : (r : Refusal) → refused r ≡ labels_in il is dl ds → refused r ≡ on_volume ask il is dl ds
+  pub ask_refused : (r : Refusal) → Err r ≡ labels_in il is dl ds → Err r ≡ on_volume ask il is dl ds
   unfolding labels_in
   ask_refused r = go (tape_in il is) (tape_in dl ds)
     where
-      last : (i d : Tape) (a : Answer Label) → refused r ≡ a → refused r ≡ and_then a (λ f. ask (volume_with (given_by f)) i d)
-      last i d (refused q) e = let z : r ≡ q = cc in rw z
-      last i d (answer f) e = let z : ◌≡◌ {A = ℕ} 0 1 = cc in absurd (omega arith)
+      last : (i d : Tape) (a : Answer Label) → Err r ≡ a → Err r ≡ and_then a (λ f. ask (volume_with (given_by f)) i d)
+      last i d (Err q) e = let z : r ≡ q = cc in rw z
+      last i d (Ok f) e = let z : ◌≡◌ {A = ℕ} 0 1 = cc in absurd (omega arith)
 
-      go : (a b : Answer Tape) → refused r ≡ and_then a (λ i. and_then b (λ d. labels_of i d))
-          → refused r ≡ and_then a (λ i. and_then b (λ d. and_then (labels_of i d) (λ f. ask (volume_with (given_by f)) i d)))
-      go (refused q) b e = let z : r ≡ q = cc in rw z
-      go (answer i) (refused q) e = let z : r ≡ q = cc in rw z
-      go (answer i) (answer d) e = last i d (labels_of i d) e
+      go : (a b : Answer Tape) → Err r ≡ and_then a (λ i. and_then b (λ d. labels_of i d))
+          → Err r ≡ and_then a (λ i. and_then b (λ d. and_then (labels_of i d) (λ f. ask (volume_with (given_by f)) i d)))
+      go (Err q) b e = let z : r ≡ q = cc in rw z
+      go (Ok i) (Err q) e = let z : r ≡ q = cc in rw z
+      go (Ok i) (Ok d) e = last i d (labels_of i d) e
 
   -- where they are read, both lists are well formed
   pub record Labelled (f : Label) : Type 0 where
     pub index : Tape
     pub other : Tape
-    pub index_read : tape_in il is ≡ answer index
-    pub other_read : tape_in dl ds ≡ answer other
-    pub says : labels_of index other ≡ answer f
+    pub index_read : tape_in il is ≡ Ok index
+    pub other_read : tape_in dl ds ≡ Ok other
+    pub says : labels_of index other ≡ Ok f
 
-  pub labelled : (f : Label) → answer f ≡ labels_in il is dl ds → Labelled f
+  pub labelled : (f : Label) → Ok f ≡ labels_in il is dl ds → Labelled f
   unfolding labels_in
   labelled f = go (tape_in il is) (tape_in dl ds) refl refl
     where
-      go : (a b : Answer Tape) → tape_in il is ≡ a → tape_in dl ds ≡ b → answer f ≡ and_then a (λ i. and_then b (λ d. labels_of i d)) → Labelled f
-      go (refused q) b x y e = let z : ◌≡◌ {A = ℕ} 0 1 = cc in absurd (omega arith)
-      go (answer i) (refused q) x y e = let z : ◌≡◌ {A = ℕ} 0 1 = cc in absurd (omega arith)
-      go (answer i) (answer d) x y e = record { index = i; other = d; index_read = x; other_read = y; says = sym e }
+      go : (a b : Answer Tape) → tape_in il is ≡ a → tape_in dl ds ≡ b → Ok f ≡ and_then a (λ i. and_then b (λ d. labels_of i d)) → Labelled f
+      go (Err q) b x y e = let z : ◌≡◌ {A = ℕ} 0 1 = cc in absurd (omega arith)
+      go (Ok i) (Err q) x y e = let z : ◌≡◌ {A = ℕ} 0 1 = cc in absurd (omega arith)
+      go (Ok i) (Ok d) x y e = record { index = i; other = d; index_read = x; other_read = y; says = sym e }
 
   -- where the question is answered, the labels are read
-  pub asked_labelled : (a : A) → on_volume ask il is dl ds ≡ answer a → (f : Label) × Labelled f
+  pub asked_labelled : (a : A) → on_volume ask il is dl ds ≡ Ok a → (f : Label) × Labelled f
   asked_labelled a e = go (labels_in il is dl ds) refl
     where
       go : (x : Answer Label) → labels_in il is dl ds ≡ x → (f : Label) × Labelled f
-      go (refused r) q = let y = ask_refused r (sym q) in let z : ◌≡◌ {A = ℕ} 0 1 = cc in absurd (omega arith)
-      go (answer f) q = (f, labelled f (sym q))
+      go (Err r) q = let y = ask_refused r (sym q) in let z : ◌≡◌ {A = ℕ} 0 1 = cc in absurd (omega arith)
+      go (Ok f) q = (f, labelled f (sym q))
 
   pub ask_labelled : (f : Label) (l : Labelled f) → on_volume ask il is dl ds ≡ ask (volume_with (given_by f)) l.index l.other
   ask_labelled f l = rw (l.index_read, l.other_read, l.says)
 
 -- an answer that is the definition's keeps demand 3
 module _ (il is dl ds : List ℕ) where
-  pub rescues : (r : Rescue) → rescued r ≡ rescue_in il is dl ds → Rescues il is dl ds r
+  pub rescues : (r : Result FoundCut Refusal) → rescued r ≡ rescue_in il is dl ds → Rescues il is dl ds r
   rescues r e =
       record {
         answers = e;
@@ -231,11 +229,11 @@ module _ (il is dl ds : List ℕ) where
   judges r e = record { answers = e; demand = λ i d v p. verdict_owes il is dl ds i d v p (no_break r (verdict_in il is dl ds) e) }
 
 -- lists whose labels are read are well formed
-pub read_tape : (l s : List ℕ) (t : Tape) → Bytes l → tape_in l s ≡ answer t → Encodes l s t
+pub read_tape : (l s : List ℕ) (t : Tape) → Bytes l → tape_in l s ≡ Ok t → Encodes l s t
 read_tape l s t bs e = encodes_read l s t bs (tape_read l s t e)
 
-module _ (il is dl ds : List ℕ) (bi : Bytes il) (bd : Bytes dl) (f : Label) (e : answer f ≡ labels_in il is dl ds) (g : Given) (same : g ≡ given_by f) where
-  pub cut_found : (r : Tried) → Cuts g il is dl ds r → (a : Rescue) → rescued a ≡ or_no_cut (tried_cut r) → Rescues il is dl ds a
+module _ (il is dl ds : List ℕ) (bi : Bytes il) (bd : Bytes dl) (f : Label) (e : Ok f ≡ labels_in il is dl ds) (g : Given) (same : g ≡ given_by f) where
+  pub cut_found : (r : Option FoundCut) → Cuts g il is dl ds r → (a : Result FoundCut Refusal) → rescued a ≡ or_no_cut (tried_cut r) → Rescues il is dl ds a
   cut_found r c a h =
       let l = labelled (λ v i d. or_no_cut (rescue v i d)) il is dl ds f e in
       rescues il is dl ds a
@@ -243,10 +241,10 @@ module _ (il is dl ds : List ℕ) (bi : Bytes il) (bd : Bytes dl) (f : Label) (e
       ∙ ap (λ (x : Given). or_no_cut (rescue (volume_with x) l.index l.other)) same
       ∙ sym (ask_labelled (λ v i d. or_no_cut (rescue v i d)) il is dl ds f l))
 
-  pub verdict_found : (r : Judgement) → Breaks g il is dl ds r → (a : Verdict) → judged a ≡ answer (break_of r) → Judges il is dl ds a
+  pub verdict_found : (r : Judgement) → Breaks g il is dl ds r → (a : Verdict) → judged a ≡ Ok (break_of r) → Judges il is dl ds a
   verdict_found r c a h =
-      let l = labelled (λ v i d. answer (verdict v i d)) il is dl ds f e in
+      let l = labelled (λ v i d. Ok (verdict v i d)) il is dl ds f e in
       judges il is dl ds a
-      (h ∙ ap answer (c l.index l.other (read_tape il is l.index bi l.index_read) (read_tape dl ds l.other bd l.other_read))
-      ∙ ap (λ (x : Given). answer (verdict (volume_with x) l.index l.other)) same
-      ∙ sym (ask_labelled (λ v i d. answer (verdict v i d)) il is dl ds f l))
+      (h ∙ ap Ok (c l.index l.other (read_tape il is l.index bi l.index_read) (read_tape dl ds l.other bd l.other_read))
+      ∙ ap (λ (x : Given). Ok (verdict (volume_with x) l.index l.other)) same
+      ∙ sym (ask_labelled (λ v i d. Ok (verdict v i d)) il is dl ds f l))

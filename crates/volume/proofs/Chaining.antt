@@ -1,8 +1,8 @@
 -- The chain of the data partition, one construct more at a time.
+use Rattle.std.specs.Prelude.{None, Option, Some}
 use mathlib.Core.Path.{◌≡◌, refl, sym, ap, subst, ◌∙◌}
 use mathlib.Core.Bool.{Bool, true, false, cond, not}
 use mathlib.Core.List.{List, [], ◌∷◌}
-use mathlib.Core.Option.{Option, none, some}
 use Prim.Native.Nat.{ℕ, suc, ◌+◌, ◌-◌, ◌≤◌, ◌<◌}
 use native.Mathlib.Omega.{arith}
 use lib.ListN.{length, set, length-drop}
@@ -29,23 +29,23 @@ use Rattle.volume.specs.declared.chains.Linked.{Linked}
 use Rattle.volume.proofs.Briefs.{read_bytes, joined_follows}
 
 abbrev link_generation : Option Link → ℕ
-link_generation none = 0
-link_generation (some t) = t.generation
+link_generation None = 0
+link_generation (Some t) = t.generation
 
 abbrev link_begins : Option Link → Bool
-link_begins none = false
-link_begins (some t) = is_none t.back
+link_begins None = false
+link_begins (Some t) = is_none t.back
 
 generation_linked : (o : Option IndexLinks) → link_generation (link_of o) ≡ generation_of o
-generation_linked none = refl
-generation_linked (some x) = refl
+generation_linked None = refl
+generation_linked (Some x) = refl
 
 begins_linked : (v : Volume) (o : Option IndexLinks) → link_begins (link_of o) ≡ begins_chain v o
-begins_linked v none = refl
-begins_linked v (some x) = refl
+begins_linked v None = refl
+begins_linked v (Some x) = refl
 
 begins_by : (b : Brief) → b.sound ≡ true → link_begins (brief_link b) ≡ not b.back
-begins_by b e = rw e (split (λ k. is_none {A = Address} (cond k (some (record { letter = b.letter; block = b.block.0 })) none) ≡ not k) b.back (λ u. refl) (λ u. refl))
+begins_by b e = rw e (split (λ k. is_none {A = Address} (cond k (Some (record { letter = b.letter; block = b.block.0 })) None) ≡ not k) b.back (λ u. refl) (λ u. refl))
 
 -- the generation of a sound index
 pub link_generation_lem : (o : Option IndexLinks) (b : Brief) → brief_link b ≡ link_of o → b.sound ≡ true → b.generation.0 ≡ generation_of o
@@ -61,21 +61,21 @@ joined_sound b letter first generation =
     (λ u e h. let z : ◌≡◌ {A = Bool} false true = rw e at h in let y : ◌≡◌ {A = ℕ} 0 1 = cc in absurd (omega arith)) refl
 
 module _ (v : Volume) where
-  follows_sound : (o : Option IndexLinks) (d : Construct) (p : Option IndexLinks) → follows v o d p ≡ true → (x : IndexLinks) × (o ≡ some x)
+  follows_sound : (o : Option IndexLinks) (d : Construct) (p : Option IndexLinks) → follows v o d p ≡ true → (x : IndexLinks) × (o ≡ Some x)
   unfolding follows
-  follows_sound none d p h = let z : ◌≡◌ {A = ℕ} 0 1 = cc in absurd (omega arith)
-  follows_sound (some x) d p h = (x, refl)
+  follows_sound None d p h = let z : ◌≡◌ {A = ℕ} 0 1 = cc in absurd (omega arith)
+  follows_sound (Some x) d p h = (x, refl)
 
-  begins_sound : (o : Option IndexLinks) → begins_chain v o ≡ true → (x : IndexLinks) × (o ≡ some x)
-  begins_sound none h = let z : ◌≡◌ {A = ℕ} 0 1 = cc in absurd (omega arith)
-  begins_sound (some x) h = (x, refl)
+  begins_sound : (o : Option IndexLinks) → begins_chain v o ≡ true → (x : IndexLinks) × (o ≡ Some x)
+  begins_sound None h = let z : ◌≡◌ {A = ℕ} 0 1 = cc in absurd (omega arith)
+  begins_sound (Some x) h = (x, refl)
 
-  chained_sound : (c : Construct) (cs : List Construct) → chained v c cs ≡ true → (x : IndexLinks) × (read_data v c ≡ some x)
+  chained_sound : (c : Construct) (cs : List Construct) → chained v c cs ≡ true → (x : IndexLinks) × (read_data v c ≡ Some x)
   chained_sound c [] h = begins_sound (read_data v c) h
   chained_sound c (p ∷ ps) h = follows_sound (read_data v c) p (read_data v p) h
 
   -- the last index of a chain without a break is sound
-  pub last_sound : (c : Construct) (cs : List Construct) → chain_break v (c ∷ cs) ≡ none → (x : IndexLinks) × (read_data v c ≡ some x)
+  pub last_sound : (c : Construct) (cs : List Construct) → chain_break v (c ∷ cs) ≡ None → (x : IndexLinks) × (read_data v c ≡ Some x)
   unfolding chain_break
   last_sound c cs h = chained_sound c cs (unless_none (chained v c cs) (length cs) (or_else_none (chain_break v cs) _ h).1)
 
@@ -93,7 +93,7 @@ module _ (v : Volume) where
         record { chained = sym (begins_by b f) ∙ ap link_begins e ∙ begins_linked v (read_data v c); generation = λ h. link_generation_lem (read_data v c) b e f }
 
     -- one behind others
-    pub links_behind : (p : Construct) (ps : List Construct) (first before : ℕ) (ok : Bool) → chain_break v (p ∷ ps) ≡ none → first ≡ p.first
+    pub links_behind : (p : Construct) (ps : List Construct) (first before : ℕ) (ok : Bool) → chain_break v (p ∷ ps) ≡ None → first ≡ p.first
         → last_generation v (p ∷ ps) ≡ before → ok ≡ joined (brief_link b) v.data_letter first before → Links v c (p ∷ ps) (record { ok = ok; generation = b.generation })
     links_behind p ps first before ok whole at gen j =
         let y = last_sound p ps whole in
@@ -140,7 +140,7 @@ module _ (v : Volume) (s table : List ℕ) (k before : ℕ) (b : Brief)
 
 -- the chain so far: the first k constructs have no break, the table has their generations, and the last one's is at hand
 pub record ChainAt (v : Volume) (ds : List Construct) (table : List ℕ) (k before : ℕ) : Type 0 where
-  pub whole : chain_break v (firsts k ds) ≡ none
+  pub whole : chain_break v (firsts k ds) ≡ None
   pub last : last_generation v (firsts k ds) ≡ before
   pub generations : Generations v table (firsts k ds)
 
@@ -202,14 +202,14 @@ module _ (v : Volume) (ds : List Construct) where
           few = omega arith;
           whole = w.whole;
           longest = chain_stops v x.2 w.whole f;
-          stops = λ u. break_at v x.2 w.whole f ∙ ap some n;
+          stops = λ u. break_at v x.2 w.whole f ∙ ap Some n;
           generations = w.generations;
         }
 
   chain_all : (gens : List ℕ) (k before : ℕ) → ChainAt v ds gens k before → k ≡ length ds → Chains v ds gens k
   chain_all gens k before w e =
       let a : firsts k ds ≡ ds = ap (λ (n : ℕ). firsts n ds) e ∙ firsts_all ds in
-      let b : chain_break v ds ≡ none = rw a at w.whole in
+      let b : chain_break v ds ≡ None = rw a at w.whole in
       record {
         few = omega arith;
         whole = w.whole;

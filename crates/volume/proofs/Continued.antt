@@ -1,11 +1,11 @@
 -- Reading on never hurts (02, Item 14): of two answers of the rescue that keep its promise, where the cut of the first keeps the same bytes of
 -- the second read's lists and stores; and of these where they continue the first one's.
+use Rattle.refusals.specs.declared.Refusal.{Refusal}
+use Rattle.std.specs.Prelude.{Result, Some, Ok}
 use mathlib.Core.Path.{◌≡◌, sym, ap, ◌∙◌}
 use mathlib.Core.List.{List, ◌++◌}
-use mathlib.Core.Option.{some}
 use Prim.Native.Nat.{ℕ}
 use lib.ListN.{take}
-use Rattle.refusals.specs.Refusals.{answer}
 use Rattle.tape.specs.Tape.{Tape}
 use Rattle.tape.specs.Answers.{keeping}
 use Rattle.tape.specs.Continued.{Continued}
@@ -20,28 +20,27 @@ use Rattle.verdict.proofs.Continued.{never_hurts_lem, leaves_on}
 use Rattle.volume.specs.Volume.{volume_with, given_by, agreed, volume_of, or_no_cut}
 use Rattle.volume.specs.Answers.{rescued, cut_of, Premises, Rescues}
 use Rattle.volume.specs.Continued.{RescuesOn, LeavesOn}
-use Rattle.volume.specs.declared.answers.Rescue.{Rescue}
 use Rattle.volume.proofs.Demands.{agreed_label}
 use Rattle.volume.proofs.Answering.{asked_labelled}
 
 -- fronts that are consistent have their labels, and so have all tapes with these fronts
-labels_of_fronts : (i d i' d' : Tape) (f : Label) (n m : ℕ) → labels_of i d ≡ answer f → Consistent volume_of (take n i) (take m d)
-    → take n i' ≡ take n i → take m d' ≡ take m d → labels_of i' d' ≡ answer f
+labels_of_fronts : (i d i' d' : Tape) (f : Label) (n m : ℕ) → labels_of i d ≡ Ok f → Consistent volume_of (take n i) (take m d)
+    → take n i' ≡ take n i → take m d' ≡ take m d → labels_of i' d' ≡ Ok f
 labels_of_fronts i d i' d' f n m e (v, l, c) x y =
     let (g, q, r) = agreed_label (labels_of (take n i) (take m d)) v (ap agreed (sym (labels_front (take n i) (take m d))) ∙ l) in
     let same : g ≡ f = cc (labels_within n m i d g q, e) in
-    labels_within n m i' d' g (rw (x, y) q) ∙ ap answer same
+    labels_within n m i' d' g (rw (x, y) q) ∙ ap Ok same
 
 -- what is known of a read that has a cut
 record HasCut (il is dl ds : List ℕ) (a : Cut) : Type 0 where
   label : Label
   i : Tape
   d : Tape
-  says : labels_of i d ≡ answer label
+  says : labels_of i d ≡ Ok label
   premises : Premises il is dl ds i d (volume_with (given_by label))
   leaves : Leaves volume_of (volume_with (given_by label)) i d a.index_kept a.data_kept
 
-has_cut : {il is dl ds : List ℕ} {r : Rescue} → Rescues il is dl ds r → (a : Cut) → rescued r ≡ answer a → HasCut il is dl ds a
+has_cut : {il is dl ds : List ℕ} {r : (Result FoundCut Refusal)} → Rescues il is dl ds r → (a : Cut) → rescued r ≡ Ok a → HasCut il is dl ds a
 has_cut {il} {is} {dl} {ds} w a h =
     let (f, k) = asked_labelled (λ v i d. or_no_cut (rescue v i d)) il is dl ds a (sym w.answers ∙ h) in
     let p : Premises il is dl ds k.index k.other (volume_with (given_by f))
@@ -55,8 +54,8 @@ has_cut {il} {is} {dl} {ds} w a h =
       leaves = (w.demand k.index k.other (volume_with (given_by f)) p).sound a (ap cut_of h);
     }
 
-module _ {il is dl ds il' is' dl' ds' : List ℕ} {r : Rescue} (old : Rescues il is dl ds r) (a : Cut) (h : rescued r ≡ answer a) where
-  pub rescues_on : {r' : Rescue} → Rescues il' is' dl' ds' r' → keeping a.index_kept il' is' ≡ keeping a.index_kept il is
+module _ {il is dl ds il' is' dl' ds' : List ℕ} {r : (Result FoundCut Refusal)} (old : Rescues il is dl ds r) (a : Cut) (h : rescued r ≡ Ok a) where
+  pub rescues_on : {r' : (Result FoundCut Refusal)} → Rescues il' is' dl' ds' r' → keeping a.index_kept il' is' ≡ keeping a.index_kept il is
       → keeping a.data_kept dl' ds' ≡ keeping a.data_kept dl ds → RescuesOn il is dl ds il' is' dl' ds' a (cut_of (rescued r'))
   rescues_on new on_index on_data =
       let c = has_cut old a h in
@@ -90,7 +89,7 @@ module _ {il is dl ds il' is' dl' ds' : List ℕ} (on_index : Continued il is il
       let (x, xt) = tape_continued on_index i p.index_tape in
       let (y, yt) = tape_continued on_data d p.data_tape in
       let two : Premises il' is' dl' ds' (i ++ x) (d ++ y) v
-      = record { index_tape = xt; data_tape = yt; agree = ap agreed (labels_on i d x y f q) ∙ ap some e } in
+      = record { index_tape = xt; data_tape = yt; agree = ap agreed (labels_on i d x y f q) ∙ ap Some e } in
       record {
         reads = record { i = i; d = d; i' = i ++ x; d' = d ++ y; v = v; first = p; second = two };
         leaves = leaves_on volume_of v i d x y;

@@ -1,14 +1,14 @@
 -- The extents of an index that reads lie on what is kept where the tables say so.
+use Rattle.std.specs.Prelude.{None, Option, Some, Ok}
 use mathlib.Core.Path.{◌≡◌, refl, sym, ap, subst, ◌∙◌}
 use mathlib.Core.Bool.{Bool, true, false, ◌&&◌}
 use mathlib.Core.List.{List, [], ◌∷◌, map}
-use mathlib.Core.Option.{Option, none, some}
 use Prim.Native.Nat.{ℕ, suc, ◌+◌, ◌≤◌}
 use native.Mathlib.Omega.{arith}
 use borrow.Author.Tests.{leb-true, eq-eqb, ne_eqb}
 use lib.Dec.{leb, ltb}
 use lib.ListN.{length, take}
-use Rattle.refusals.specs.Refusals.{Answer, answer}
+use Rattle.refusals.specs.Refusals.{Answer}
 use Rattle.slices.specs.Slices.{every}
 use Rattle.slices.proofs.Booleans.{and_left, and_right}
 use Rattle.quantities.specs.Letters.{are_letters}
@@ -32,8 +32,7 @@ use Rattle.index.proofs.EachFile.{files_lawful}
 use Rattle.index_files.proofs.Accepted.{accepted}
 use Rattle.verdict.specs.Verdict.{first_failing, lies, bad_file_in}
 use Rattle.volume.specs.Volume.{rows_of_each, soundly, volume_with}
-use Rattle.volume.specs.Steps.{ReachTable, lies_in, lost_file, Loses}
-use Rattle.volume.specs.declared.lost.Lost.{Lost}
+use Rattle.volume.specs.Steps.{ReachTable, lies_in, Loses}
 
 -- a file's extents are few, and lawful for its length and blocks of size B
 abbrev file_lawful : ℕ → File → Bool
@@ -87,7 +86,7 @@ size_one g letter e =
 pub lost_same : (g : Given) (w : Partitions) (li ld ri rd : List ℕ) (ki kd letter block : ℕ) (t : List ℕ) (x : text.Index)
     → ReachTable g.block_size li ri → ReachTable g.block_size ld rd → ki ≤ length li → kd ≤ length ld
     → w.index_letter ≡ g.index_letter → w.data_letter ≡ g.data_letter → w.block_size ≡ g.block_size
-    → index_of g letter block t ≡ answer x
+    → index_of g letter block t ≡ Ok x
     → first_failing (every (lies_in w ri ki rd kd)) 0 (rows_of_each x.files) ≡ bad_file_in (volume_with g) (soundly (index_of g letter block t)) (take ki li) (take kd ld)
 lost_same g w li ld ri rd ki kd letter block t x i d hi hd a b c e =
     let r = accepted g letter block t x e in
@@ -124,11 +123,11 @@ module _ (P : Row → Bool) (all : Bool) (l : List Row) (h : all ≡ every P l) 
 
 -- files one after the other
 module _ (Q : List Row → Bool) (all : Option ℕ) (k : ℕ) (l : List Forest) (h : all ≡ first_failing Q k (map extent_rows l)) where
-  pub lost_end : l ≡ [] → none ≡ all
+  pub lost_end : l ≡ [] → None ≡ all
   unfolding first_failing
   lost_end e = sym (h ∙ ap (λ (x : List Forest). first_failing Q k (map extent_rows x)) e)
 
-  pub lost_stop : (c : Forest) (m : List Forest) → l ≡ c ∷ m → Q (extent_rows c) ≡ false → some k ≡ all
+  pub lost_stop : (c : Forest) (m : List Forest) → l ≡ c ∷ m → Q (extent_rows c) ≡ false → Some k ≡ all
   unfolding first_failing
   lost_stop c m e f = sym (h ∙ ap (λ (x : List Forest). first_failing Q k (map extent_rows x)) e ∙ rw f)
 
@@ -144,7 +143,7 @@ rows_of_files [] = refl
 rows_of_files (c ∷ l) = ap (λ (x : List (List Row)). extent_rows c ∷ x) (rows_of_files l)
 
 -- the files that are read along the text are those of the index
-pub loses : (t : List ℕ) (w : Partitions) (ri : List ℕ) (ki : ℕ) (rd : List ℕ) (kd : ℕ) (r : Lost)
-    → lost_file r ≡ first_failing (every (lies_in w ri ki rd kd)) 0 (map extent_rows (files_left (left_at t 38))) → Loses t w ri ki rd kd r
+pub loses : (t : List ℕ) (w : Partitions) (ri : List ℕ) (ki : ℕ) (rd : List ℕ) (kd : ℕ) (r : Option ℕ)
+    → r ≡ first_failing (every (lies_in w ri ki rd kd)) 0 (map extent_rows (files_left (left_at t 38))) → Loses t w ri ki rd kd r
 loses t w ri ki rd kd r h g letter block x e =
     h ∙ ap (first_failing (every (lies_in w ri ki rd kd)) 0) (sym (rows_of_files (files_left (left_at t 38))) ∙ ap rows_of_each (files_left_lem g letter block t x e))

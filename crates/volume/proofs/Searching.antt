@@ -1,9 +1,9 @@
 -- The table of beginnings, the construct that an index points at, and the search from the last index construct back.
+use Rattle.std.specs.Prelude.{None, Option, Some}
 use mathlib.Core.Path.{◌≡◌, refl, sym, ap, subst, ◌∙◌}
 use mathlib.Core.Logic.{◌⊎◌, inl, inr}
 use mathlib.Core.Bool.{Bool, true, false}
 use mathlib.Core.List.{List, [], ◌∷◌}
-use mathlib.Core.Option.{Option, none, some}
 use Prim.Native.Nat.{ℕ, suc, ◌+◌, ◌-◌, ◌≤◌, ◌<◌}
 use native.Mathlib.Omega.{arith}
 use lib.ListN.{length, get_or, set, take}
@@ -49,16 +49,16 @@ module _ (table : List ℕ) (n : ℕ) (before : List ℕ) where
   begins_end after k w a b s ds l h i = let q : k ≡ n = omega arith in w s ds l h i ∙ ap (λ (m : ℕ). beginnings (firsts m ds) before) q
 
 -- an index without a back pointer follows nothing
-alone_follows : (v : Volume) (x : IndexLinks) (d : Construct) (p : Option IndexLinks) → x.back ≡ none → follows v (some x) d p ≡ false
+alone_follows : (v : Volume) (x : IndexLinks) (d : Construct) (p : Option IndexLinks) → x.back ≡ None → follows v (Some x) d p ≡ false
 unfolding follows
-alone_follows v x d none e = refl
-alone_follows v x d (some y) e = rw e
+alone_follows v x d None e = refl
+alone_follows v x d (Some y) e = rw e
 
 abbrev back_in : Option Link → Option Address
-back_in none = none
-back_in (some t) = t.back
+back_in None = None
+back_in (Some t) = t.back
 
-link_back : (b : Brief) (x : IndexLinks) → brief_link b ≡ link_of (some x) → brief_back b ≡ x.back
+link_back : (b : Brief) (x : IndexLinks) → brief_link b ≡ link_of (Some x) → brief_back b ≡ x.back
 link_back b x e =
     split (λ k. b.sound ≡ k → brief_back b ≡ x.back) b.sound
     (λ u f. let z : back_in (brief_link b) ≡ brief_back b = rw f in sym z ∙ ap back_in e)
@@ -67,11 +67,11 @@ link_back b x e =
 -- an index follows nothing, or the block that it points at is that of the link
 link_block : (v : Volume) (o : Option IndexLinks) (b : Brief) → brief_link b ≡ link_of o → ((d : Construct) (p : Option IndexLinks) → follows v o d p ≡ false) ⊎ (target o ≡ b.block.0)
 unfolding follows
-link_block v none b e = inl (λ d p. refl)
-link_block v (some x) b e =
-    split (λ k. b.back ≡ k → ((d : Construct) (p : Option IndexLinks) → follows v (some x) d p ≡ false) ⊎ (target (some x) ≡ b.block.0)) b.back
+link_block v None b e = inl (λ d p. refl)
+link_block v (Some x) b e =
+    split (λ k. b.back ≡ k → ((d : Construct) (p : Option IndexLinks) → follows v (Some x) d p ≡ false) ⊎ (target (Some x) ≡ b.block.0)) b.back
     (λ u f. let z : pointed_block (brief_back b) ≡ b.block.0 = rw f in inr (ap pointed_block (sym (link_back b x e)) ∙ z))
-    (λ u f. let z : brief_back b ≡ none = rw f in inl (λ d p. alone_follows v x d p (sym (link_back b x e) ∙ z))) refl
+    (λ u f. let z : brief_back b ≡ None = rw f in inl (λ d p. alone_follows v x d p (sym (link_back b x e) ∙ z))) refl
 
 no_length : {A : Type 0} (l : List A) → length l ≡ 0 → l ≡ []
 no_length [] e = refl
@@ -86,10 +86,10 @@ pub record Partner (v : Volume) (ds : List Construct) (gens s td : List ℕ) (q 
   pub number : length before ≡ j - 1
   pub placed : Located s (bounds_in td (j - 1)) one
   pub index : IndexLinks
-  pub reads : read_data v one ≡ some index
+  pub reads : read_data v one ≡ Some index
   pub generation : get_or gens (j - 1) 0 ≡ index.generation
 
-pub partner : (v : Volume) (ds : List Construct) (gens s td : List ℕ) (q j : ℕ) → Listed s td ds → chain_break v ds ≡ none → Generations v gens ds
+pub partner : (v : Volume) (ds : List Construct) (gens s td : List ℕ) (q j : ℕ) → Listed s td ds → chain_break v ds ≡ None → Generations v gens ds
     → length (through q ds) ≡ j → (j ≡ 0 → ⊥) → Partner v ds gens s td q j
 partner v ds gens s td q j l whole g e z = go (through q ds) refl (through_suffix q ds)
   where
@@ -115,17 +115,17 @@ partner v ds gens s td q j l whole g e z = go (through q ds) refl (through_suffi
     go (d ∷ bs) is (inl h) = found d bs is (subst (λ (x : List Construct). Suffix x ds) is h)
 
 module _ (v : Volume) (li ld : List ℕ) (c : Construct) (bs : List Construct) where
-  attempt_not : (l : List Construct) → ((d : Construct) (p : Option IndexLinks) → follows v (read_index v c) d p ≡ false) → attempt v li ld c bs l ≡ none
+  attempt_not : (l : List Construct) → ((d : Construct) (p : Option IndexLinks) → follows v (read_index v c) d p ≡ false) → attempt v li ld c bs l ≡ None
   attempt_not [] h = refl
   attempt_not (d ∷ ds) h = rw (h d (read_data v d))
 
   module _ (ds : List Construct) (b : Brief) (e : brief_link b ≡ link_of (read_index v c)) where
     -- no construct of the chain begins where it points
-    pub try_nowhere : length (through b.block.0 ds) ≡ 0 → attempt v li ld c bs (through (target (read_index v c)) ds) ≡ none
+    pub try_nowhere : length (through b.block.0 ds) ≡ 0 → attempt v li ld c bs (through (target (read_index v c)) ds) ≡ None
     try_nowhere z = go (link_block v (read_index v c) b e)
       where
         go : ((d : Construct) (p : Option IndexLinks) → follows v (read_index v c) d p ≡ false) ⊎ (target (read_index v c) ≡ b.block.0)
-            → attempt v li ld c bs (through (target (read_index v c)) ds) ≡ none
+            → attempt v li ld c bs (through (target (read_index v c)) ds) ≡ None
         go (inl h) = attempt_not (through (target (read_index v c)) ds) h
         go (inr q) = ap (λ (k : ℕ). attempt v li ld c bs (through k ds)) q ∙ ap (attempt v li ld c bs) (no_length (through b.block.0 ds) z)
 
@@ -137,11 +137,11 @@ module _ (v : Volume) (li ld : List ℕ) (c : Construct) (bs : List Construct) w
       through_target q = ap (λ (k : ℕ). through k ds) q ∙ p.is
 
       -- it does not follow the one that does
-      pub try_apart : joined (brief_link b) v.data_letter at generation ≡ false → attempt v li ld c bs (through (target (read_index v c)) ds) ≡ none
+      pub try_apart : joined (brief_link b) v.data_letter at generation ≡ false → attempt v li ld c bs (through (target (read_index v c)) ds) ≡ None
       try_apart n = go (link_block v (read_index v c) b e)
         where
           go : ((d : Construct) (p : Option IndexLinks) → follows v (read_index v c) d p ≡ false) ⊎ (target (read_index v c) ≡ b.block.0)
-              → attempt v li ld c bs (through (target (read_index v c)) ds) ≡ none
+              → attempt v li ld c bs (through (target (read_index v c)) ds) ≡ None
           go (inl h) = attempt_not (through (target (read_index v c)) ds) h
           go (inr q) = ap (attempt v li ld c bs) (through_target q) ∙ rw (sym follows_by ∙ n)
 
@@ -155,13 +155,13 @@ module _ (v : Volume) (li ld : List ℕ) (c : Construct) (bs : List Construct) w
             go (inr q) = through_target q
 
         -- it does, and an extent lies past what is kept
-        pub try_lost : (k : ℕ) → bad_file_in v (read_index v c) (take c.end li) (take p.one.end ld) ≡ some k
-            → attempt v li ld c bs (through (target (read_index v c)) ds) ≡ none
+        pub try_lost : (k : ℕ) → bad_file_in v (read_index v c) (take c.end li) (take p.one.end ld) ≡ Some k
+            → attempt v li ld c bs (through (target (read_index v c)) ds) ≡ None
         try_lost k h = ap (attempt v li ld c bs) found_there ∙ rw (sym follows_by ∙ n, h)
 
         -- and all extents lie on it
-        pub try_fits : bad_file_in v (read_index v c) (take c.end li) (take p.one.end ld) ≡ none
-            → attempt v li ld c bs (through (target (read_index v c)) ds) ≡ some (cut_at v c bs p.one p.before)
+        pub try_fits : bad_file_in v (read_index v c) (take c.end li) (take p.one.end ld) ≡ None
+            → attempt v li ld c bs (through (target (read_index v c)) ds) ≡ Some (cut_at v c bs p.one p.before)
         try_fits h = ap (attempt v li ld c bs) found_there ∙ rw (sym follows_by ∙ n, h)
 
         pub try_cut : (k : FoundCut) → k.index_construct ≡ length bs → k.data_construct ≡ j - 1 → k.index_kept ≡ c.end → k.data_kept ≡ p.one.end

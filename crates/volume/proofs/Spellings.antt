@@ -1,11 +1,11 @@
 -- A volume whichever way its UUID is spelled (02, Item 3): an index by its construct's number reads the same, and so does every index of
 -- the volume, whichever of the two agreeing labels gives the UUID.
+use Rattle.std.specs.Prelude.{Option, Ok}
 use mathlib.Core.Path.{◌≡◌, ap, ◌∙◌, fun_ext}
 use mathlib.Core.Bool.{Bool, true}
 use mathlib.Core.List.{List}
-use mathlib.Core.Option.{Option}
 use Prim.Native.Nat.{ℕ}
-use Rattle.refusals.specs.Refusals.{Answer, answer, require, and_then, or_refuse}
+use Rattle.refusals.specs.Refusals.{Answer, require, and_then, or_refuse}
 use Rattle.refusals.specs.declared.Refusal.TheVariants.{Caller, Unreadable}
 use Rattle.tape.specs.Tape.{Tape}
 use Rattle.tape.specs.Answers.{tape_in, bytes_before}
@@ -36,7 +36,7 @@ module _ (u w : List ℕ) (e : same_uuid u w ≡ true) (index_letter data_letter
       ap
       (λ (read : List ℕ → Answer Summary).
       or_refuse c.text Unreadable (λ x.
-      and_then (read x) (λ y. answer (record { first = c.first; end = c.end; from = bytes_before t c.first; text = x; summary = y }))))
+      and_then (read x) (λ y. Ok (record { first = c.first; end = c.end; from = bytes_before t c.first; text = x; summary = y }))))
       (fun_ext (λ (x : List ℕ). ap summary_of (index_respelled u w e index_letter data_letter block_size letter c.first x))))
 
   pub chosen_respelled : (letter k : ℕ) (l s : List ℕ) → chosen_in (with_uuid u) letter k l s ≡ chosen_in (with_uuid w) letter k l s

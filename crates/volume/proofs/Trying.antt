@@ -1,12 +1,12 @@
 -- One index construct tried, and the search over them, by what the tables hold.
+use Rattle.std.specs.Prelude.{None, Option, Some, Err, Ok}
 use mathlib.Core.Path.{◌≡◌, refl, sym, ap, subst, ◌∙◌}
 use mathlib.Core.Bool.{Bool, true, false}
 use mathlib.Core.List.{List, ◌∷◌}
-use mathlib.Core.Option.{Option, none, some}
 use Prim.Native.Nat.{ℕ, ◌+◌, ◌-◌, ◌≤◌, ◌<◌}
 use native.Mathlib.Omega.{arith}
 use lib.ListN.{length, get_or, take}
-use Rattle.refusals.specs.Refusals.{Answer, refused, answer}
+use Rattle.refusals.specs.Refusals.{Answer}
 use Rattle.constructs.specs.Constructs.{Construct}
 use Rattle.constructs.specs.TableSteps.{bounds_in}
 use Rattle.constructs.specs.declared.Bounds.{Bounds}
@@ -21,28 +21,26 @@ use Rattle.verdict.specs.Rescue.{cut_among}
 use Rattle.verdict.specs.Steps.{firsts}
 use Rattle.verdict.proofs.Orders.{firsts_all, search_on, search_found}
 use Rattle.volume.specs.Volume.{soundly, volume_with}
-use Rattle.volume.specs.Steps.{link_of, brief_link, joined, bounds_text, Located, ReachTable, Ready, lost_file, Loses, FitsCut, apart, losing, fitting, Tries, Searches}
+use Rattle.volume.specs.Steps.{link_of, brief_link, joined, bounds_text, Located, ReachTable, Ready, Loses, FitsCut, apart, losing, fitting, Tries, Searches}
 use Rattle.volume.specs.Answers.{cut_is}
 use Rattle.volume.specs.declared.sound.Brief.{Brief}
-use Rattle.volume.specs.declared.lost.Lost.{Lost}
 use Rattle.volume.specs.declared.search.FoundCut.{FoundCut}
-use Rattle.volume.specs.declared.search.Tried.TheVariants.{Fits, Fails}
 use Rattle.volume.proofs.Briefs.{read_bytes}
 use Rattle.volume.proofs.Chaining.{link_placed, located_at, next_first, firsts_none, firsts_length, joined_sound}
 use Rattle.volume.proofs.Searching.{Partner, partner, try_nowhere, try_apart, try_lost, try_fits, try_cut}
 use Rattle.volume.proofs.Extents.{lost_same}
 
 -- an index that has a link reads
-sound_answer : (a : Answer text.Index) (b : Brief) → brief_link b ≡ link_of (soundly a) → b.sound ≡ true → (x : text.Index) × (a ≡ answer x)
-sound_answer (refused r) b e f = let z : ◌≡◌ {A = ℕ} 0 1 = cc (rw f at e) in absurd (omega arith)
-sound_answer (answer x) b e f = (x, refl)
+sound_answer : (a : Answer text.Index) (b : Brief) → brief_link b ≡ link_of (soundly a) → b.sound ≡ true → (x : text.Index) × (a ≡ Ok x)
+sound_answer (Err r) b e f = let z : ◌≡◌ {A = ℕ} 0 1 = cc (rw f at e) in absurd (omega arith)
+sound_answer (Ok x) b e f = (x, refl)
 
 -- of an index that reads: by the tables and by the definition the same file is lost
 pub lost_located : (u : List ℕ) (w : Partitions) (is ds : List ℕ) (li ld ri rd : List ℕ) (here there : Bounds) (t : List ℕ) (b : Brief) (c d : Construct)
     → t ≡ bounds_text is here → brief_link b ≡ link_of (soundly (index_of (given u w) w.index_letter here.first.0 t)) → Located is here c → Located ds there d
     → ReachTable w.block_size li ri → ReachTable w.block_size ld rd → c.end ≤ length li → d.end ≤ length ld
-    → (lost : Lost) → Loses t w ri here.end rd there.end lost → b.sound ≡ true
-    → bad_file_in (volume_with (given u w)) (read_index (volume_with (given u w)) c) (take c.end li) (take d.end ld) ≡ lost_file lost
+    → (lost : Option ℕ) → Loses t w ri here.end rd there.end lost → b.sound ≡ true
+    → bad_file_in (volume_with (given u w)) (read_index (volume_with (given u w)) c) (take c.end li) (take d.end ld) ≡ lost
 lost_located u w is ds li ld ri rd here there t b c d is_text reads p q hi hd fi fd lost l s =
     let x = sound_answer (index_of (given u w) w.index_letter here.first.0 t) b reads s in
     let o : soundly (index_of (given u w) w.index_letter here.first.0 t) ≡ read_index (volume_with (given u w)) c
@@ -77,29 +75,29 @@ module _ (u : List ℕ) (w : Partitions) (is ti : List ℕ) (k : ℕ) (td gens b
         located_there : Located r.ds_store there there_is.one
         located_there = subst (λ (x : Bounds). Located r.ds_store x there_is.one) (sym at_there) there_is.placed
 
-        lost_here : (lost : Lost) → Loses t w ri here.end rd there.end lost → b.sound ≡ true
-            → bad_file_in v (read_index v c) (take c.end li) (take there_is.one.end ld) ≡ lost_file lost
+        lost_here : (lost : Option ℕ) → Loses t w ri here.end rd there.end lost → b.sound ≡ true
+            → bad_file_in v (read_index v c) (take c.end li) (take there_is.one.end ld) ≡ lost
         unfolding v
         lost_here =
             lost_located u w is r.ds_store li ld ri rd here there t b c there_is.one is_text reads located_here located_there r.index_reach r.data_reach
             (r.index_fits c bs suf) (r.data_fits there_is.one there_is.before there_is.inside)
 
-  pub tries_nowhere : get_or begins b.block.0 0 ≡ 0 → Tries (given u w) w is ti k td gens begins ri rd Fails
+  pub tries_nowhere : get_or begins b.block.0 0 ≡ 0 → Tries (given u w) w is ti k td gens begins ri rd None
   unfolding v
   tries_nowhere z cs ds li ld r c bs suf n =
       sym (try_nowhere (volume_with (given u w)) li ld c bs ds b (link_here cs ds li ld r c bs suf n) (sym (r.partners b.block.0) ∙ z))
 
   module _ (j : ℕ) (at_begin : get_or begins b.block.0 0 ≡ j) (some_one : j ≡ 0 → ⊥) (there : Bounds) (at_there : there ≡ bounds_in td (j - 1))
       (generation : ℕ) (is_generation : generation ≡ get_or gens (j - 1) 0) where
-    tries_apart : joined (brief_link b) w.data_letter there.first.0 generation ≡ false → Tries (given u w) w is ti k td gens begins ri rd Fails
+    tries_apart : joined (brief_link b) w.data_letter there.first.0 generation ≡ false → Tries (given u w) w is ti k td gens begins ri rd None
     unfolding v
     tries_apart f cs ds li ld r c bs suf n =
         let p = there_is cs ds li ld r c bs suf n j at_begin some_one in
         sym (try_apart (volume_with (given u w)) li ld c bs ds b (link_here cs ds li ld r c bs suf n) gens r.ds_store td j p there.first.0 generation
         (located_there cs ds li ld r c bs suf n j at_begin some_one there at_there).first (is_generation ∙ p.generation) f)
 
-    module _ (f : joined (brief_link b) w.data_letter there.first.0 generation ≡ true) (lost : Lost) (l : Loses t w ri here.end rd there.end lost) where
-      tries_lost : (m : ℕ) → lost_file lost ≡ some m → Tries (given u w) w is ti k td gens begins ri rd Fails
+    module _ (f : joined (brief_link b) w.data_letter there.first.0 generation ≡ true) (lost : Option ℕ) (l : Loses t w ri here.end rd there.end lost) where
+      tries_lost : (m : ℕ) → lost ≡ Some m → Tries (given u w) w is ti k td gens begins ri rd None
       unfolding v
       tries_lost m e cs ds li ld r c bs suf n =
           let p = there_is cs ds li ld r c bs suf n j at_begin some_one in
@@ -108,29 +106,29 @@ module _ (u : List ℕ) (w : Partitions) (is ti : List ℕ) (k : ℕ) (td gens b
           (located_there cs ds li ld r c bs suf n j at_begin some_one there at_there).first (is_generation ∙ p.generation) f m
           (lost_here cs ds li ld r c bs suf n j at_begin some_one there at_there lost l s ∙ e))
 
-      tries_fits : lost_file lost ≡ none → (a : FoundCut) → a.index_construct ≡ k → a.data_construct ≡ j - 1 → a.index_kept ≡ here.end
-          → a.data_kept ≡ there.end → a.generation.0 ≡ b.generation.0 → Tries (given u w) w is ti k td gens begins ri rd (Fits a)
+      tries_fits : lost ≡ None → (a : FoundCut) → a.index_construct ≡ k → a.data_construct ≡ j - 1 → a.index_kept ≡ here.end
+          → a.data_kept ≡ there.end → a.generation.0 ≡ b.generation.0 → Tries (given u w) w is ti k td gens begins ri rd (Some a)
       unfolding v
       tries_fits e a a₁ a₂ a₃ a₄ a₅ cs ds li ld r c bs suf n =
           let p = there_is cs ds li ld r c bs suf n j at_begin some_one in
           let q = located_there cs ds li ld r c bs suf n j at_begin some_one there at_there in
           let h = located_here cs ds li ld r c bs suf n in
           let s = joined_sound b w.data_letter there.first.0 generation f in
-          ap some (try_cut (volume_with (given u w)) li ld c bs ds b (link_here cs ds li ld r c bs suf n) gens r.ds_store td j p there.first.0 generation
+          ap Some (try_cut (volume_with (given u w)) li ld c bs ds b (link_here cs ds li ld r c bs suf n) gens r.ds_store td j p there.first.0 generation
           q.first (is_generation ∙ p.generation) f a (a₁ ∙ sym n) a₂ (a₃ ∙ h.end) (a₄ ∙ q.end) a₅)
           ∙ sym (try_fits (volume_with (given u w)) li ld c bs ds b (link_here cs ds li ld r c bs suf n) gens r.ds_store td j p there.first.0 generation
           q.first (is_generation ∙ p.generation) f
           (lost_here cs ds li ld r c bs suf n j at_begin some_one there at_there lost l s ∙ e))
 
     -- by one test of both
-    pub tries_not : (r : Bool) → FitsCut t b w here.end there generation ri rd r → r ≡ false → Tries (given u w) w is ti k td gens begins ri rd Fails
+    pub tries_not : (r : Bool) → FitsCut t b w here.end there generation ri rd r → r ≡ false → Tries (given u w) w is ti k td gens begins ri rd None
     tries_not r (apart e f) z = tries_apart f
     tries_not r (losing l m e f h q) z = tries_lost f l h m q
     tries_not r (fitting l e f h q) z = let x : ◌≡◌ {A = Bool} true false = sym e ∙ z in let y : ◌≡◌ {A = ℕ} 0 1 = cc in absurd (omega arith)
 
     pub tries_so : (r : Bool) → FitsCut t b w here.end there generation ri rd r → r ≡ true → (a : FoundCut) → a.index_construct ≡ k
         → a.data_construct ≡ j - 1 → a.index_kept ≡ here.end → a.data_kept ≡ there.end → a.generation.0 ≡ b.generation.0
-        → Tries (given u w) w is ti k td gens begins ri rd (Fits a)
+        → Tries (given u w) w is ti k td gens begins ri rd (Some a)
     tries_so r (apart e f) z = let x : ◌≡◌ {A = Bool} false true = sym e ∙ z in let y : ◌≡◌ {A = ℕ} 0 1 = cc in absurd (omega arith)
     tries_so r (losing l m e f h q) z = let x : ◌≡◌ {A = Bool} false true = sym e ∙ z in let y : ◌≡◌ {A = ℕ} 0 1 = cc in absurd (omega arith)
     tries_so r (fitting l e f h q) z = tries_fits f l h q
@@ -147,21 +145,21 @@ module _ (g : Given) (w : Partitions) (is ti : List ℕ) (n : ℕ) (td gens begi
       ap (cut_among (volume_with g) li ld ds) (sym (ap (λ (m : ℕ). firsts m cs) (sym e) ∙ firsts_all cs))
 
   module _ (k : ℕ) (s : SearchesAt g is ti n td gens begins ri rd k) (pos : 0 < k) (le : k ≤ n) where
-    pub searches_on : Tries g w is ti (k - 1) td gens begins ri rd Fails → SearchesAt g is ti n td gens begins ri rd (k - 1)
+    pub searches_on : Tries g w is ti (k - 1) td gens begins ri rd None → SearchesAt g is ti n td gens begins ri rd (k - 1)
     searches_on t cs ds li ld r e =
         let x = next_first cs (k - 1) (omega arith) in
         let z : k - 1 + 1 ≡ k = omega arith in
         s cs ds li ld r e ∙ ap (λ (m : ℕ). cut_among (volume_with g) li ld ds (firsts m cs)) (sym z) ∙ ap (cut_among (volume_with g) li ld ds) x.1
         ∙ search_on (volume_with g) li ld ds x.0 (firsts (k - 1) cs) (sym (t cs ds li ld r x.0 (firsts (k - 1) cs) x.2 (firsts_length cs (k - 1) (omega arith))))
 
-    pub searches_found : (a : FoundCut) → Tries g w is ti (k - 1) td gens begins ri rd (Fits a) → Searches g w is ti n td gens begins ri rd (Fits a)
+    pub searches_found : (a : FoundCut) → Tries g w is ti (k - 1) td gens begins ri rd (Some a) → Searches g w is ti n td gens begins ri rd (Some a)
     searches_found a t cs ds li ld r e =
         let x = next_first cs (k - 1) (omega arith) in
         let z : k - 1 + 1 ≡ k = omega arith in
         sym (s cs ds li ld r e ∙ ap (λ (m : ℕ). cut_among (volume_with g) li ld ds (firsts m cs)) (sym z) ∙ ap (cut_among (volume_with g) li ld ds) x.1
         ∙ search_found (volume_with g) li ld ds x.0 (firsts (k - 1) cs) (cut_is a) (sym (t cs ds li ld r x.0 (firsts (k - 1) cs) x.2 (firsts_length cs (k - 1) (omega arith)))))
 
-  pub searches_end : (k : ℕ) → SearchesAt g is ti n td gens begins ri rd k → k ≤ 0 → Searches g w is ti n td gens begins ri rd Fails
+  pub searches_end : (k : ℕ) → SearchesAt g is ti n td gens begins ri rd k → k ≤ 0 → Searches g w is ti n td gens begins ri rd None
   unfolding cut_among
   searches_end k s z cs ds li ld r e =
       let q : k ≡ 0 = omega arith in

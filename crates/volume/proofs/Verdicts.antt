@@ -1,8 +1,8 @@
 -- The verdict, break by break.
+use Rattle.std.specs.Prelude.{None, Option, Some}
 use mathlib.Core.Path.{◌≡◌, refl, sym, ap, subst, ◌∙◌}
 use mathlib.Core.Bool.{true, false}
 use mathlib.Core.List.{List, [], ◌∷◌}
-use mathlib.Core.Option.{none, some}
 use Prim.Native.Nat.{ℕ, suc, ◌-◌}
 use native.Mathlib.Omega.{arith}
 use borrow.Author.Tests.{eqb-true}
@@ -17,9 +17,8 @@ use Rattle.index_values.specs.Steps.{given}
 use Rattle.index_values.specs.declared.tests.Partitions.{Partitions}
 use Rattle.verdict.specs.Verdict.{IndexLinks, Volume, numbered, ends_with, read_index, read_data, follows, chain_break, verdict}
 use Rattle.volume.specs.Volume.{soundly, volume_with}
-use Rattle.volume.specs.Steps.{link_of, brief_link, joined, bounds_text, Located, lost_file, Loses, break_of, last_break, JudgesLast}
+use Rattle.volume.specs.Steps.{link_of, brief_link, joined, bounds_text, Located, Loses, break_of, last_break, JudgesLast}
 use Rattle.volume.specs.declared.sound.Brief.{Brief}
-use Rattle.volume.specs.declared.lost.Lost.{Lost}
 use Rattle.volume.specs.declared.judge.Judgement.{Judgement}
 use Rattle.volume.specs.declared.judge.Judgement.TheVariants as judgement_is
 use Rattle.volume.proofs.Briefs.{joined_follows}
@@ -32,7 +31,7 @@ module _ (u : List ℕ) (w : Partitions) (is ti : List ℕ) (k : ℕ) (td : List
   abbrev v : Volume
   v = volume_with (given u w)
 
-  module _ (ds : List ℕ) (c d : Construct) (lc : Located is (bounds_in ti k) c) (ld : Located ds (bounds_in td j) d) (y : IndexLinks) (r : read_data v d ≡ some y)
+  module _ (ds : List ℕ) (c d : Construct) (lc : Located is (bounds_in ti k) c) (ld : Located ds (bounds_in td j) d) (y : IndexLinks) (r : read_data v d ≡ Some y)
       (g : generation ≡ y.generation) where
     located_here : Located is here c
     located_here = subst (λ (x : Bounds). Located is x c) (sym at_here) lc
@@ -50,8 +49,8 @@ module _ (u : List ℕ) (w : Partitions) (is ti : List ℕ) (k : ℕ) (td : List
   judges_apart f ds c d li ld lc lcd y r g hi hd ei ed = rw (sym (follows_by ds c d lc lcd y r g) ∙ f)
 
   -- it does; then the lowest file with an extent that is lost
-  module _ (f : joined (brief_link b) w.data_letter there.first.0 generation ≡ true) (lost : Lost) (l : Loses t w ri here.end rd there.end lost) where
-    pub judges_lost : (a : Judgement) → break_of a ≡ numbered 5 (lost_file lost) → JudgesLast (given u w) is ti k td j generation ri rd a
+  module _ (f : joined (brief_link b) w.data_letter there.first.0 generation ≡ true) (lost : Option ℕ) (l : Loses t w ri here.end rd there.end lost) where
+    pub judges_lost : (a : Judgement) → break_of a ≡ numbered 5 lost → JudgesLast (given u w) is ti k td j generation ri rd a
     judges_lost a e ds c d li ld lc lcd y r g hi hd ei ed =
         let s = joined_sound b w.data_letter there.first.0 generation f in
         let x = lost_located u w is ds li ld ri rd here there t b c d is_text reads (located_here ds c d lc lcd y r g) (located_there ds c d lc lcd y r g) hi hd
@@ -61,21 +60,21 @@ module _ (u : List ℕ) (w : Partitions) (is ti : List ℕ) (k : ℕ) (td : List
         e ∙ ap (numbered 5) (sym x) ∙ rw (p, q, sym (follows_by ds c d lc lcd y r g) ∙ f)
 
 module _ (v : Volume) (i d : Tape) where
-  pub verdict_1 : ends_with i (standing v.size i) ≡ false → some (record { which = 1; number = 0 }) ≡ verdict v i d
+  pub verdict_1 : ends_with i (standing v.size i) ≡ false → Some (record { which = 1; number = 0 }) ≡ verdict v i d
   unfolding verdict
   verdict_1 a = rw a
 
-  pub verdict_2 : ends_with i (standing v.size i) ≡ true → ends_with d (standing v.size d) ≡ false → some (record { which = 2; number = 0 }) ≡ verdict v i d
+  pub verdict_2 : ends_with i (standing v.size i) ≡ true → ends_with d (standing v.size d) ≡ false → Some (record { which = 2; number = 0 }) ≡ verdict v i d
   unfolding verdict
   verdict_2 a b = rw (a, b)
 
-  pub verdict_3 : (k : ℕ) → ends_with i (standing v.size i) ≡ true → ends_with d (standing v.size d) ≡ true → chain_break v (standing v.size d) ≡ some k
-      → some (record { which = 3; number = k }) ≡ verdict v i d
+  pub verdict_3 : (k : ℕ) → ends_with i (standing v.size i) ≡ true → ends_with d (standing v.size d) ≡ true → chain_break v (standing v.size d) ≡ Some k
+      → Some (record { which = 3; number = k }) ≡ verdict v i d
   unfolding verdict
   verdict_3 k a b e = rw (a, b, e)
 
   pub verdict_last : (c : Construct) (bs : List Construct) (e : Construct) (fs : List Construct) → ends_with i (standing v.size i) ≡ true → ends_with d (standing v.size d) ≡ true
-      → chain_break v (standing v.size d) ≡ none → standing v.size i ≡ c ∷ bs → standing v.size d ≡ e ∷ fs
+      → chain_break v (standing v.size d) ≡ None → standing v.size i ≡ c ∷ bs → standing v.size d ≡ e ∷ fs
       → last_break v (length bs) c e (data_lengths i) (data_lengths d) ≡ verdict v i d
   unfolding verdict
   verdict_last c bs e fs a b n p q =

@@ -1,7 +1,6 @@
 -- What an answer of the verdict says, and what it owes.
-use Rattle.std.specs.Prelude.{◌≡◌, List, ℕ}
-use Rattle.std.proofs.Math.Option.{Option, none, some}
-use Rattle.refusals.specs.Refusals.{Answer, refused, answer}
+use Rattle.std.specs.Prelude.{◌≡◌, List, ℕ, None, Option, Some, Err, Ok}
+use Rattle.refusals.specs.Refusals.{Answer}
 use Rattle.verdict.specs.Verdict.{Break}
 use Rattle.volume.specs.Volume.{verdict_in}
 use Rattle.volume.specs.declared.answers.Verdict.{Verdict}
@@ -9,9 +8,9 @@ use Rattle.volume.specs.declared.answers.Verdict.TheVariants as verdict_is
 use Rattle.volume.specs.Answers.{VerdictOwes}
 
 abbrev pub judged : Verdict → Answer (Option Break)
-judged verdict_is.Consistent = answer none
-judged (verdict_is.Break which number) = answer (some (record { which = which; number = number }))
-judged (verdict_is.Refused r) = refused r
+judged verdict_is.Consistent = Ok None
+judged (verdict_is.Break which number) = Ok (Some (record { which = which; number = number }))
+judged (verdict_is.Refused r) = Err r
 
 module _ (indexList indexStore dataList dataStore : List ℕ) where
   pub record Judges (r : Verdict) : Type 0 where

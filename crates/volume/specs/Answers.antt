@@ -1,14 +1,13 @@
 -- What the verdict and the rescue promise of the lists and stores handed in: their answers, and demand 3.
-use Rattle.std.specs.Prelude.{◌≡◌, List, ℕ}
-use Rattle.std.proofs.Math.Option.{Option, none, some}
-use Rattle.refusals.specs.Refusals.{Answer, refused, answer}
+use Rattle.refusals.specs.declared.Refusal.{Refusal}
+use Rattle.std.specs.Prelude.{◌≡◌, List, ℕ, None, Option, Result, Some, Err, Ok}
+use Rattle.refusals.specs.Refusals.{Answer}
 use Rattle.tape.specs.Tape.{Tape}
 use Rattle.tape.specs.Answers.{tape_in}
 use Rattle.verdict.specs.Verdict.{Volume, Cut}
 use Rattle.verdict.specs.Demand.{Demand3, Verdict3}
 use Rattle.volume.specs.Volume.{volume_of, rescue_in}
-use Rattle.volume.specs.declared.answers.Rescue.{Rescue}
-use Rattle.volume.specs.declared.answers.Rescue.TheVariants as rescue_is
+use Rattle.core.specs.declared.result.Result.TheVariants as rescue_is
 use Rattle.volume.specs.declared.search.FoundCut.{FoundCut}
 
 abbrev pub cut_is : FoundCut → Cut
@@ -21,21 +20,21 @@ cut_is k =
       generation = k.generation.0;
     }
 
-abbrev pub rescued : Rescue → Answer Cut
-rescued (rescue_is.Cut k) = answer (cut_is k)
-rescued (rescue_is.Refused r) = refused r
+abbrev pub rescued : Result FoundCut Refusal → Answer Cut
+rescued (rescue_is.Ok k) = Ok (cut_is k)
+rescued (rescue_is.Err r) = Err r
 
 -- the cut that is answered, if one is
 abbrev pub cut_of : Answer Cut → Option Cut
-cut_of (refused r) = none
-cut_of (answer a) = some a
+cut_of (Err r) = None
+cut_of (Ok a) = Some a
 
 module _ (indexList indexStore dataList dataStore : List ℕ) where
   -- the premises of demand 3: the lists are not refused 1, and the labels are sound and agree
   pub record Premises (i d : Tape) (v : Volume) : Type 0 where
-    pub index_tape : tape_in indexList indexStore ≡ answer i
-    pub data_tape : tape_in dataList dataStore ≡ answer d
-    pub agree : volume_of i d ≡ some v
+    pub index_tape : tape_in indexList indexStore ≡ Ok i
+    pub data_tape : tape_in dataList dataStore ≡ Ok d
+    pub agree : volume_of i d ≡ Some v
 
   -- what demand 3 asks of the cut that is answered, if one is
   abbrev pub RescueOwes : Option Cut → Type 0
@@ -45,6 +44,6 @@ module _ (indexList indexStore dataList dataStore : List ℕ) where
   abbrev pub VerdictOwes : Type 0 → Type 0
   VerdictOwes noBreak = (i d : Tape) (v : Volume) → Premises i d v → Verdict3 volume_of v i d noBreak (cut_of (rescue_in indexList indexStore dataList dataStore))
 
-  pub record Rescues (r : Rescue) : Type 0 where
+  pub record Rescues (r : Result FoundCut Refusal) : Type 0 where
     pub answers : rescued r ≡ rescue_in indexList indexStore dataList dataStore
     pub demand : RescueOwes (cut_of (rescued r))

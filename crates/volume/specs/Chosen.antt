@@ -1,8 +1,7 @@
 -- The index of a partition by its construct's number (01, Refusal numbers; 02, Item 7: 14, 1, 2, 19, then its text).
-use Rattle.std.specs.Prelude.{cond, List, [], ◌∷◌, ℕ, eqb, length}
-use Rattle.std.proofs.Math.Option.{Option, none, some}
+use Rattle.std.specs.Prelude.{cond, List, [], ◌∷◌, ℕ, eqb, length, None, Option, Some, Err, Ok}
 use Rattle.refusals.specs.declared.Refusal.TheVariants.{Caller, Missing, Unreadable}
-use Rattle.refusals.specs.Refusals.{Answer, refused, answer, require, and_then, or_refuse}
+use Rattle.refusals.specs.Refusals.{Answer, require, and_then, or_refuse}
 use Rattle.tape.specs.Tape.{Tape}
 use Rattle.tape.specs.Answers.{tape_in, bytes_before}
 use Rattle.constructs.specs.Constructs.{Construct, standing}
@@ -11,17 +10,17 @@ use Rattle.index_values.specs.Tests.{Given}
 
 -- the construct with a number: they are listed the last one first, the first of all has number 0
 unfoldable pub construct_at : ℕ → List Construct → Answer Construct
-construct_at k [] = refused Missing
-construct_at k (c ∷ cs) = cond (eqb (length cs) k) (answer c) (construct_at k cs)
+construct_at k [] = Err Missing
+construct_at k (c ∷ cs) = cond (eqb (length cs) k) (Ok c) (construct_at k cs)
 
 -- the bytes that are read as a construct's text
 abbrev pub text_bytes : Option (List ℕ) → List ℕ
-text_bytes none = []
-text_bytes (some x) = x
+text_bytes None = []
+text_bytes (Some x) = x
 
 abbrev pub text_found : Answer Construct → List ℕ
-text_found (refused r) = []
-text_found (answer c) = text_bytes c.text
+text_found (Err r) = []
+text_found (Ok c) = text_bytes c.text
 
 -- where the one with number k of a partition is asked for
 unfoldable pub text_asked : ℕ → ℕ → List ℕ → List ℕ → List ℕ
@@ -40,7 +39,7 @@ abbrev pub read_at : Given → ℕ → Tape → Construct → Answer Indexed
 read_at g letter t c =
     or_refuse c.text Unreadable (λ x.
     and_then (summary_of (index_of g letter c.first x)) (λ y.
-    answer (record { first = c.first; end = c.end; from = bytes_before t c.first; text = x; summary = y })))
+    Ok (record { first = c.first; end = c.end; from = bytes_before t c.first; text = x; summary = y })))
 
 unfoldable pub chosen_in : Given → ℕ → ℕ → List ℕ → List ℕ → Answer Indexed
 chosen_in g letter k l s =

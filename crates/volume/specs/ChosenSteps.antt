@@ -1,7 +1,6 @@
 -- What reading an index by its construct's number owes.
-use Rattle.std.specs.Prelude.{◌≡◌, List, ℕ, ◌-◌, ◌<◌}
-use Rattle.std.proofs.Math.Option.{Option, none, some}
-use Rattle.refusals.specs.Refusals.{Answer, refused, answer}
+use Rattle.std.specs.Prelude.{◌≡◌, List, ℕ, ◌-◌, ◌<◌, None, Option, Some, Err, Ok}
+use Rattle.refusals.specs.Refusals.{Answer}
 use Rattle.tape.specs.Tape.{Tape}
 use Rattle.elements.specs.Reading.{Inside, Spans}
 use Rattle.constructs.specs.Constructs.{Construct}
@@ -21,8 +20,8 @@ indexed_in s p h =
     record { first = p.first.0; end = p.end; from = p.from; text = bounds_text s p; summary = summary_in (bounds_text s p) h }
 
 abbrev pub chosen_by : List ℕ → Chosen → Answer Indexed
-chosen_by s (chosen_is.Found p h) = answer (indexed_in s p h)
-chosen_by s (chosen_is.Refused r) = refused r
+chosen_by s (chosen_is.Found p h) = Ok (indexed_in s p h)
+chosen_by s (chosen_is.Refused r) = Err r
 
 -- its text lies in the store, and its header leaves nothing open
 pub record LiesInStore (s : List ℕ) (p : Bounds) (h : Header) : Type 0 where
@@ -39,8 +38,8 @@ pub record Chooses (s : List ℕ) (a : Answer Indexed) (r : Chosen) : Type 0 whe
 
 -- a construct's text at its spot of a store, where it has one, and it is not empty; else the spot is
 abbrev pub TextAt : List ℕ → Bounds → Option (List ℕ) → Type 0
-TextAt s p none = p.from ≡ p.to
-TextAt s p (some x) = Spans s p.from (p.to - p.from) x × (p.from < p.to)
+TextAt s p None = p.from ≡ p.to
+TextAt s p (Some x) = Spans s p.from (p.to - p.from) x × (p.from < p.to)
 
 -- the index at the spot of a construct
 abbrev pub ReadsPlace : Given → ℕ → List ℕ → Bounds → Chosen → Type 0

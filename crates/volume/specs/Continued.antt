@@ -1,6 +1,5 @@
 -- Reading on never hurts (02, Item 14), of the lists and stores handed in: those of a first read, and those of a second, with a prime.
-use Rattle.std.specs.Prelude.{List, ℕ}
-use Rattle.std.proofs.Math.Option.{Option}
+use Rattle.std.specs.Prelude.{List, ℕ, Option}
 use Rattle.tape.specs.Tape.{Tape}
 use Rattle.verdict.specs.Verdict.{Volume, Cut}
 use Rattle.verdict.specs.Demand.{Leaves}

@@ -1,7 +1,5 @@
 -- What this crate's functions owe each other.
-use Rattle.std.specs.Prelude.{◌≡◌, Bool, true, false, cond, ◌&&◌, List, [], ◌∷◌, ◌++◌, ℕ, ◌-◌, ◌≤◌, ◌<◌, leb, eqb, length, get_or, take, drop}
-use Rattle.std.proofs.Math.Option.{Option, none, some}
-use Rattle.refusals.specs.Refusals.{answer}
+use Rattle.std.specs.Prelude.{◌≡◌, Bool, true, false, cond, ◌&&◌, List, [], ◌∷◌, ◌++◌, ℕ, ◌-◌, ◌≤◌, ◌<◌, leb, eqb, length, get_or, take, drop, None, Option, Some, Ok}
 use Rattle.slices.specs.Slices.{every}
 use Rattle.quantities.specs.Addresses.{Address}
 use Rattle.extents.specs.Rows.{Row}
@@ -26,11 +24,9 @@ use Rattle.volume.specs.declared.sound.Brief.{Brief}
 use Rattle.volume.specs.declared.filling.TablesFilled.{TablesFilled}
 use Rattle.volume.specs.declared.judge.Judgement.{Judgement}
 use Rattle.volume.specs.declared.judge.Judgement.TheVariants as judgement_is
-use Rattle.volume.specs.declared.lost.Lost.{Lost}
-use Rattle.volume.specs.declared.lost.Lost.TheVariants as lost_is
+use Rattle.core.specs.declared.option.Option.TheVariants as lost_is
 use Rattle.volume.specs.declared.search.FoundCut.{FoundCut}
-use Rattle.volume.specs.declared.search.Tried.{Tried}
-use Rattle.volume.specs.declared.search.Tried.TheVariants as tried_is
+use Rattle.core.specs.declared.option.Option.TheVariants as tried_is
 use Rattle.volume.specs.declared.chains.Linked.{Linked}
 use Rattle.volume.specs.Answers.{cut_is}
 
@@ -64,19 +60,19 @@ pub record Link : Type 0 where
   pub back : Option Address
 
 abbrev pub link_of : Option IndexLinks → Option Link
-link_of none = none
-link_of (some x) = some (record { generation = x.generation; back = x.back })
+link_of None = None
+link_of (Some x) = Some (record { generation = x.generation; back = x.back })
 
 abbrev pub brief_back : Brief → Option Address
-brief_back b = cond b.back (some (record { letter = b.letter; block = b.block.0 })) none
+brief_back b = cond b.back (Some (record { letter = b.letter; block = b.block.0 })) None
 
 abbrev pub brief_link : Brief → Option Link
-brief_link b = cond b.sound (some (record { generation = b.generation.0; back = brief_back b })) none
+brief_link b = cond b.sound (Some (record { generation = b.generation.0; back = brief_back b })) None
 
 -- a sound index points at a construct of that partition with that first block, and has no lower generation
 abbrev pub joined : Option Link → ℕ → ℕ → ℕ → Bool
-joined none letter first generation = false
-joined (some x) letter first generation = is_at x.back letter first && leb generation x.generation
+joined None letter first generation = false
+joined (Some x) letter first generation = is_at x.back letter first && leb generation x.generation
 
 -- the generation of the last of some constructs of the data partition
 abbrev pub last_generation : Volume → List Construct → ℕ
@@ -90,7 +86,7 @@ pub record Links (v : Volume) (c : Construct) (cs : List Construct) (r : Linked)
 
 abbrev pub LinksAt : Volume → List ℕ → List ℕ → ℕ → ℕ → Linked → Type 0
 LinksAt v s table k before r =
-    (ds : List Construct) → Listed s table ds → (c : Construct) (cs : List Construct) → Suffix (c ∷ cs) ds → length cs ≡ k → chain_break v cs ≡ none
+    (ds : List Construct) → Listed s table ds → (c : Construct) (cs : List Construct) → Suffix (c ∷ cs) ds → length cs ≡ k → chain_break v cs ≡ None
     → last_generation v cs ≡ before → Links v c cs r
 
 -- a table of generations: at each construct's number the generation of its index
@@ -100,9 +96,9 @@ Generations v table ds = (c : Construct) (cs : List Construct) → Suffix (c ∷
 -- the first k constructs are the longest chain without a break, and their generations are in the table
 pub record Chains (v : Volume) (ds : List Construct) (table : List ℕ) (k : ℕ) : Type 0 where
   pub few : k ≤ length ds
-  pub whole : chain_break v (firsts k ds) ≡ none
+  pub whole : chain_break v (firsts k ds) ≡ None
   pub longest : chain v ds ≡ firsts k ds
-  pub stops : k < length ds → chain_break v ds ≡ some k
+  pub stops : k < length ds → chain_break v ds ≡ Some k
   pub generations : Generations v table (firsts k ds)
 
 abbrev pub ChainsOf : Volume → List ℕ → List ℕ → ℕ → ℕ → List ℕ → ℕ → Type 0
@@ -119,24 +115,20 @@ lies_in w ri ki rd kd r =
     cond (eqb r.letter w.index_letter) (lies_by ri w.block_size ki r.startblock r.byteoffset r.bytecount)
     (cond (eqb r.letter w.data_letter) (lies_by rd w.block_size kd r.startblock r.byteoffset r.bytecount) false)
 
-abbrev pub lost_file : Lost → Option ℕ
-lost_file (lost_is.File k) = some k
-lost_file lost_is.Nothing = none
-
 -- the lowest file of an index that reads with an extent that does not lie there
-abbrev pub Loses : List ℕ → Partitions → List ℕ → ℕ → List ℕ → ℕ → Lost → Type 0
+abbrev pub Loses : List ℕ → Partitions → List ℕ → ℕ → List ℕ → ℕ → Option ℕ → Type 0
 Loses t w ri ki rd kd r =
-    (g : Given) (letter block : ℕ) (x : text.Index) → index_of g letter block t ≡ answer x
-    → lost_file r ≡ first_failing (every (lies_in w ri ki rd kd)) 0 (rows_of_each x.files)
+    (g : Given) (letter block : ℕ) (x : text.Index) → index_of g letter block t ≡ Ok x
+    → r ≡ first_failing (every (lies_in w ri ki rd kd)) 0 (rows_of_each x.files)
 
 -- whether an index that has the text t and says b follows the construct at there, and by the tables its extents all lie on the ki elements
 -- of its partition and on those of the other up to that construct's end
 pub data FitsCut (t : List ℕ) (b : Brief) (w : Partitions) (ki : ℕ) (there : Bounds) (generation : ℕ) (ri rd : List ℕ) (r : Bool) : Type 0 where
   apart : r ≡ false → joined (brief_link b) w.data_letter there.first.0 generation ≡ false → FitsCut t b w ki there generation ri rd r
-  losing : (l : Lost) (m : ℕ) → r ≡ false → joined (brief_link b) w.data_letter there.first.0 generation ≡ true → Loses t w ri ki rd there.end l
-      → lost_file l ≡ some m → FitsCut t b w ki there generation ri rd r
-  fitting : (l : Lost) → r ≡ true → joined (brief_link b) w.data_letter there.first.0 generation ≡ true → Loses t w ri ki rd there.end l
-      → lost_file l ≡ none → FitsCut t b w ki there generation ri rd r
+  losing : (l : Option ℕ) (m : ℕ) → r ≡ false → joined (brief_link b) w.data_letter there.first.0 generation ≡ true → Loses t w ri ki rd there.end l
+      → l ≡ Some m → FitsCut t b w ki there generation ri rd r
+  fitting : (l : Option ℕ) → r ≡ true → joined (brief_link b) w.data_letter there.first.0 generation ≡ true → Loses t w ri ki rd there.end l
+      → l ≡ None → FitsCut t b w ki there generation ri rd r
 
 -- a table of how far data blocks reach, by the lengths of a partition's data blocks
 pub record ReachTable (B : ℕ) (lengths table : List ℕ) : Type 0 where
@@ -149,7 +141,7 @@ pub record Ready (v : Volume) (is ti : List ℕ) (td gens begins ri rd : List �
   pub ds_store : List ℕ
   pub index : Listed is ti cs
   pub chain : Listed ds_store td ds
-  pub whole : chain_break v ds ≡ none
+  pub whole : chain_break v ds ≡ None
   pub generations : Generations v gens ds
   pub partners : (k : ℕ) → get_or begins k 0 ≡ length (through k ds)
   pub index_reach : ReachTable v.size li ri
@@ -166,17 +158,17 @@ pub record Keeps (k j : ℕ) (here there : Bounds) (b : Brief) (a : FoundCut) : 
   pub data_kept : a.data_kept ≡ there.end
   pub generation : a.generation.0 ≡ b.generation.0
 
-abbrev pub tried_cut : Tried → Option Cut
-tried_cut (tried_is.Fits k) = some (cut_is k)
-tried_cut tried_is.Fails = none
+abbrev pub tried_cut : Option FoundCut → Option Cut
+tried_cut (tried_is.Some k) = Some (cut_is k)
+tried_cut tried_is.None = None
 
-abbrev pub Tries : Given → Partitions → List ℕ → List ℕ → ℕ → List ℕ → List ℕ → List ℕ → List ℕ → List ℕ → Tried → Type 0
+abbrev pub Tries : Given → Partitions → List ℕ → List ℕ → ℕ → List ℕ → List ℕ → List ℕ → List ℕ → List ℕ → Option FoundCut → Type 0
 Tries g w is ti k td gens begins ri rd r =
     (cs ds : List Construct) (li ld : List ℕ) → Ready (volume_with g) is ti td gens begins ri rd cs ds li ld
     → (c : Construct) (bs : List Construct) → Suffix (c ∷ bs) cs → length bs ≡ k
     → tried_cut r ≡ attempt (volume_with g) li ld c bs (through (target (read_index (volume_with g) c)) ds)
 
-abbrev pub Searches : Given → Partitions → List ℕ → List ℕ → ℕ → List ℕ → List ℕ → List ℕ → List ℕ → List ℕ → Tried → Type 0
+abbrev pub Searches : Given → Partitions → List ℕ → List ℕ → ℕ → List ℕ → List ℕ → List ℕ → List ℕ → List ℕ → Option FoundCut → Type 0
 Searches g w is ti n td gens begins ri rd r =
     (cs ds : List Construct) (li ld : List ℕ) → Ready (volume_with g) is ti td gens begins ri rd cs ds li ld
     → length cs ≡ n → tried_cut r ≡ cut_among (volume_with g) li ld ds cs
@@ -208,22 +200,22 @@ FillsOf B l s before table empty reach r =
     → PartitionTables B s t table r.count reach × (r.ends ≡ ends_with t (standing B t))
 
 -- the cut by the tables of both partitions
-abbrev pub CutsBy : Given → List ℕ → List ℕ → List ℕ → ℕ → List ℕ → List ℕ → ℕ → List ℕ → Tried → Type 0
+abbrev pub CutsBy : Given → List ℕ → List ℕ → List ℕ → ℕ → List ℕ → List ℕ → ℕ → List ℕ → Option FoundCut → Type 0
 CutsBy g is ds ti n ri td m rd r =
     (dl : List ℕ) (i d : Tape) → Encodes dl ds d → PartitionTables g.block_size is i ti n ri → PartitionTables g.block_size ds d td m rd → tried_cut r ≡ rescue (volume_with g) i d
 
 -- the cut by the tables of the index partition, and the data partition's list
-abbrev pub CutsData : Given → List ℕ → List ℕ → List ℕ → List ℕ → ℕ → List ℕ → Tried → Type 0
+abbrev pub CutsData : Given → List ℕ → List ℕ → List ℕ → List ℕ → ℕ → List ℕ → Option FoundCut → Type 0
 CutsData g is dl ds ti n ri r = (i d : Tape) → Encodes dl ds d → PartitionTables g.block_size is i ti n ri → tried_cut r ≡ rescue (volume_with g) i d
 
 -- the cut of the volume with that UUID and those letters
-abbrev pub Cuts : Given → List ℕ → List ℕ → List ℕ → List ℕ → Tried → Type 0
+abbrev pub Cuts : Given → List ℕ → List ℕ → List ℕ → List ℕ → Option FoundCut → Type 0
 Cuts g il is dl ds r = (i d : Tape) → Encodes il is i → Encodes dl ds d → tried_cut r ≡ rescue (volume_with g) i d
 
 -- a break, or none
 abbrev pub break_of : Judgement → Option Break
-break_of judgement_is.Sound = none
-break_of (judgement_is.Broken which number) = some (record { which = which; number = number })
+break_of judgement_is.Sound = None
+break_of (judgement_is.Broken which number) = Some (record { which = which; number = number })
 
 -- the breaks 4 and 5 of the last constructs of both partitions
 abbrev pub last_break : Volume → ℕ → Construct → Construct → List ℕ → List ℕ → Option Break
@@ -234,7 +226,7 @@ last_break v k c d li ld =
 abbrev pub JudgesLast : Given → List ℕ → List ℕ → ℕ → List ℕ → ℕ → ℕ → List ℕ → List ℕ → Judgement → Type 0
 JudgesLast g is ti k td j generation ri rd r =
     (ds : List ℕ) (c d : Construct) (li ld : List ℕ) → Located is (bounds_in ti k) c → Located ds (bounds_in td j) d
-    → (y : IndexLinks) → read_data (volume_with g) d ≡ some y → generation ≡ y.generation
+    → (y : IndexLinks) → read_data (volume_with g) d ≡ Some y → generation ≡ y.generation
     → ReachTable g.block_size li ri → ReachTable g.block_size ld rd → c.end ≡ length li → d.end ≡ length ld
     → break_of r ≡ last_break (volume_with g) k c d li ld
 

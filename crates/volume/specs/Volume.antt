@@ -1,8 +1,7 @@
 -- A volume by what its labels give (01, Constructs, verdict and cut): how its indexes are read, which of them are sound; and the verdict and
 -- the rescue on the lists and stores handed in, in the volume order (01, Refusal numbers).
-use Rattle.std.specs.Prelude.{List, [], ◌∷◌, ℕ}
-use Rattle.std.proofs.Math.Option.{Option, none, some}
-use Rattle.refusals.specs.Refusals.{Answer, refused, answer, and_then}
+use Rattle.std.specs.Prelude.{List, [], ◌∷◌, ℕ, None, Option, Some, Err, Ok}
+use Rattle.refusals.specs.Refusals.{Answer, and_then}
 use Rattle.refusals.specs.declared.Refusal.TheVariants.{NoCut}
 use Rattle.tape.specs.Tape.{Tape}
 use Rattle.tape.specs.Answers.{tape_in}
@@ -25,8 +24,8 @@ asked x = record { generation = x.heading.generation; back = x.heading.back; fil
 
 -- sound: it reads without refusal
 abbrev pub soundly : Answer text.Index → Option IndexLinks
-soundly (refused r) = none
-soundly (answer x) = some (asked x)
+soundly (Err r) = None
+soundly (Ok x) = Some (asked x)
 
 -- the volume whose indexes are read with what the labels give: its index partition's letter is the first, its data partition's the other
 abbrev pub volume_with : Given → Volume
@@ -38,8 +37,8 @@ abbrev pub given_by : Label → Given
 given_by f = record { uuid = f.uuid; index_letter = f.index_letter; data_letter = f.data_letter; block_size = f.block_size }
 
 abbrev pub agreed : Answer Label → Option Volume
-agreed (refused r) = none
-agreed (answer f) = some (volume_with (given_by f))
+agreed (Err r) = None
+agreed (Ok f) = Some (volume_with (given_by f))
 
 -- the volume of two partitions whose labels are sound and agree
 abbrev pub volume_of : Tape → Tape → Option Volume
@@ -53,12 +52,12 @@ module _ {A : Type 0} where
 
 -- none: consistent; else the first break
 abbrev pub verdict_in : List ℕ → List ℕ → List ℕ → List ℕ → Answer (Option Break)
-verdict_in = on_volume (λ v i d. answer (verdict v i d))
+verdict_in = on_volume (λ v i d. Ok (verdict v i d))
 
 -- 13 where there is no consistent cut
 abbrev pub or_no_cut : Option Cut → Answer Cut
-or_no_cut none = refused NoCut
-or_no_cut (some a) = answer a
+or_no_cut None = Err NoCut
+or_no_cut (Some a) = Ok a
 
 abbrev pub rescue_in : List ℕ → List ℕ → List ℕ → List ℕ → Answer Cut
 rescue_in = on_volume (λ v i d. or_no_cut (rescue v i d))

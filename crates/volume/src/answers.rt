@@ -7,11 +7,11 @@ ghost use Rattle.volume.specs.AnswerSteps.{Judges};
 
 use crate::filling::ELEMENTS;
 use crate::judge::Judgement;
-use crate::search::{FoundCut, Tried};
+use crate::search::FoundCut;
 use crate::{chains, filling, judge, search};
 use constructs::{CONSTRUCTS, NUMBERS};
 use index_values::Partitions;
-use label::{Label, LabelFields};
+use label::LabelFields;
 use refusals::Refusal;
 
 #[derive(Clone, Copy)]
@@ -19,12 +19,6 @@ pub enum Verdict {
     Consistent,
     // Which of the five breaks, and its number.
     Break(u64, u64),
-    Refused(Refusal),
-}
-
-#[derive(Clone, Copy)]
-pub enum Rescue {
-    Cut(FoundCut),
     Refused(Refusal),
 }
 
@@ -40,7 +34,7 @@ fn cut_by(
     data_table: &[u32; NUMBERS],
     m: usize,
     data_reach: &[u32],
-) -> Tried
+) -> Option<FoundCut>
     ensures { CutsBy (given uuid.now volume) index_store.now data_store.now index_table.now n
         index_reach.now data_table.now m data_reach.now result }
 {
@@ -72,7 +66,7 @@ fn cut_data(
     index_table: &[u32; NUMBERS],
     n: usize,
     index_reach: &[u32],
-) -> Tried
+) -> Option<FoundCut>
     ensures { CutsData (given uuid.now volume) index_store.now data_list.now data_store.now
         index_table.now n index_reach.now result }
 {
@@ -107,7 +101,7 @@ fn rescue_with(
     data_store: &[u8],
     uuid: &[u8],
     volume: Partitions,
-) -> Tried
+) -> Option<FoundCut>
     ensures { Cuts (given uuid.now volume) index_list.now index_store.now
         data_list.now data_store.now result }
 {
@@ -148,12 +142,12 @@ pub fn find_cut(
     index_store: &[u8],
     data_list: &[u8],
     data_store: &[u8],
-) -> Rescue
+) -> Result<FoundCut, Refusal>
     ensures { Rescues index_list.now index_store.now data_list.now data_store.now result }
 {
     match labels::check(index_list, index_store, data_list, data_store) {
-        Label::Refused(r) => Rescue::Refused(r),
-        Label::Says(f) => {
+        Err(r) => Err(r),
+        Ok(f) => {
             let uuid = slices::part(index_store, f.uuid.from, f.uuid.len);
             match rescue_with(
                 index_list,
@@ -163,8 +157,8 @@ pub fn find_cut(
                 uuid,
                 letters_of(f),
             ) {
-                Tried::Fits(cut) => Rescue::Cut(cut),
-                Tried::Fails => Rescue::Refused(Refusal::NoCut),
+                Some(cut) => Ok(cut),
+                None => Err(Refusal::NoCut),
             }
         }
     }
@@ -180,8 +174,8 @@ pub fn find_break(
     ensures { Judges index_list.now index_store.now data_list.now data_store.now result }
 {
     match labels::check(index_list, index_store, data_list, data_store) {
-        Label::Refused(r) => Verdict::Refused(r),
-        Label::Says(f) => {
+        Err(r) => Verdict::Refused(r),
+        Ok(f) => {
             let uuid = slices::part(index_store, f.uuid.from, f.uuid.len);
             match judge::judge(
                 index_list,

@@ -4,8 +4,8 @@ ghost use Rattle.volume.specs.Chosen.{chosen_in};
 ghost use Rattle.volume.specs.ChosenSteps.{Chooses, ReadsPlace};
 
 use crate::sound;
-use constructs::{Bounds, NUMBERS, Scanned};
-use index::{Header, Read};
+use constructs::{Bounds, NUMBERS};
+use index::Header;
 use index_values::Partitions;
 use refusals::Refusal;
 
@@ -25,8 +25,8 @@ fn read_place(store: &[u8], uuid: &[u8], volume: Partitions, letter: u8, place: 
     }
     let text = sound::text_at(store, place);
     match index::read_index(text, uuid, volume, letter, place.first) {
-        Read::Found(h) => Chosen::Found(place, h),
-        Read::Refused(r) => Chosen::Refused(r),
+        Ok(h) => Chosen::Found(place, h),
+        Err(r) => Chosen::Refused(r),
     }
 }
 
@@ -46,8 +46,8 @@ pub fn read_construct(
     }
     let mut table = [0u32; NUMBERS];
     match constructs::scan(list, store, volume.block_size as usize, &mut table) {
-        Scanned::Refused(r) => Chosen::Refused(r),
-        Scanned::Constructs(n) => {
+        Err(r) => Chosen::Refused(r),
+        Ok(n) => {
             if n as u64 <= k {
                 return Chosen::Refused(Refusal::Missing);
             }

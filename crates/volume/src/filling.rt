@@ -1,8 +1,7 @@
 // The tables of a partition: its standing constructs, and how far data blocks reach.
 ghost use Rattle.volume.specs.Steps.{ListsOf, ReachesOf, EndsAt, FillsOf};
 
-use constructs::{NUMBERS, Scanned};
-use tape::ListChecked;
+use constructs::NUMBERS;
 
 // How many constructs stand in a partition, and whether it ends with the last of them.
 #[derive(Clone, Copy)]
@@ -19,8 +18,8 @@ fn list_constructs(list: &[u8], store: &[u8], size: u64, table: &mut [u32; NUMBE
     ensures { ListsOf size list.now store.now table.old table.new result }
 {
     match constructs::scan(list, store, size as usize, table) {
-        Scanned::Constructs(n) => n,
-        Scanned::Refused(_) => 0,
+        Ok(n) => n,
+        Err(_) => 0,
     }
 }
 
@@ -29,8 +28,8 @@ fn fill_reach(list: &[u8], store: &[u8], size: u64, table: &mut [u32]) -> usize
     ensures { ReachesOf size list.now store.now table.old table.new result }
 {
     match constructs::reach::reach(list, store, size as usize, table) {
-        ListChecked::Elements(n) => n,
-        ListChecked::Refused(_) => 0,
+        Ok(n) => n,
+        Err(_) => 0,
     }
 }
 

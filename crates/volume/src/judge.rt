@@ -3,7 +3,6 @@ ghost use Rattle.index_values.specs.Steps.{given};
 ghost use Rattle.volume.specs.Steps.{JudgesLast, JudgesIndexes, JudgesData, Breaks};
 
 use crate::filling::ELEMENTS;
-use crate::lost::Lost;
 use crate::{chains, filling, lost, sound};
 use constructs::{CONSTRUCTS, NUMBERS};
 use index_values::Partitions;
@@ -47,8 +46,8 @@ fn judge_last(
         data_reach,
         there.end as u64,
     ) {
-        Lost::File(f) => Judgement::Broken(5, f),
-        Lost::Nothing => Judgement::Sound,
+        Some(f) => Judgement::Broken(5, f),
+        None => Judgement::Sound,
     }
 }
 

@@ -10,7 +10,7 @@ mod lost;
 mod search;
 mod sound;
 
-pub use answers::{Rescue, Verdict, find_break, find_cut};
+pub use answers::{Verdict, find_break, find_cut};
 pub use chosen::{Chosen, read_construct};
 pub use search::FoundCut;
 pub use sound::between;

@@ -9,13 +9,6 @@ ghost use Rattle.volume.specs.Steps.{lies_in, Loses};
 use index_files::{NextFile, NextRow, Row};
 use index_values::Partitions;
 
-// The lowest file with an extent that does not lie there, if there is one.
-#[derive(Clone, Copy)]
-pub enum Lost {
-    File(u64),
-    Nothing,
-}
-
 // An extent, on so many elements of each partition, by tables of how far data blocks reach.
 fn row_lies(
     row: Row,
@@ -87,7 +80,7 @@ pub fn first_lost(
     index_kept: u64,
     data_reach: &[u32],
     data_kept: u64,
-) -> Lost
+) -> Option<u64>
     ensures { Loses text.now volume index_reach.now index_kept data_reach.now data_kept result }
 {
     let mut at: usize = 38;
@@ -95,7 +88,7 @@ pub fn first_lost(
     loop {
         match index_files::next_file(text, at) {
             NextFile::Done => {
-                return Lost::Nothing;
+                return None;
             }
             NextFile::File(n, next) => {
                 if !file_lies(
@@ -107,7 +100,7 @@ pub fn first_lost(
                     data_reach,
                     data_kept,
                 ) {
-                    return Lost::File(k);
+                    return Some(k);
                 }
                 k += 1;
                 at = next;

@@ -3,7 +3,6 @@ ghost use Rattle.std.specs.Prelude.{◌≡◌, ◌<◌};
 ghost use Rattle.index_values.specs.Steps.{given};
 ghost use Rattle.volume.specs.Steps.{BeginsOf, bounds_text, FitsCut, Keeps, Tries, Searches};
 
-use crate::lost::Lost;
 use crate::sound::Brief;
 use crate::{lost, sound};
 use constructs::{Bounds, NUMBERS};
@@ -18,12 +17,6 @@ pub struct FoundCut {
     pub index_kept: u64,
     pub data_kept: u64,
     pub generation: Generation,
-}
-
-#[derive(Clone, Copy)]
-pub enum Tried {
-    Fits(FoundCut),
-    Fails,
 }
 
 fn narrow(n: usize) -> u32
@@ -73,8 +66,8 @@ fn cut_fits(
         data_reach,
         there.end as u64,
     ) {
-        Lost::File(_) => false,
-        Lost::Nothing => true,
+        Some(_) => false,
+        None => true,
     }
 }
 
@@ -104,7 +97,7 @@ fn try_cut(
     beginnings: &[u32],
     index_reach: &[u32],
     data_reach: &[u32],
-) -> Tried
+) -> Option<FoundCut>
     ensures { Tries (given uuid.now volume) volume store.now index_table.now k data_table.now
         generations.now beginnings.now index_reach.now data_reach.now result }
 {
@@ -112,7 +105,7 @@ fn try_cut(
     let b = sound::brief_at(store, uuid, volume, volume.index_letter, here);
     let j = tables::item32(beginnings, b.block.0 as usize) as usize;
     if j == 0 {
-        return Tried::Fails;
+        return None;
     }
     let there = constructs::construct(data_table, j - 1);
     let generation = Generation(tables::item(generations, j - 1));
@@ -126,9 +119,9 @@ fn try_cut(
         index_reach,
         data_reach,
     ) {
-        return Tried::Fails;
+        return None;
     }
-    Tried::Fits(cut_after(k, j - 1, here, there, b))
+    Some(cut_after(k, j - 1, here, there, b))
 }
 
 // The first cut that fits, from construct n - 1 of the index partition back.
@@ -143,7 +136,7 @@ pub fn search(
     beginnings: &[u32],
     index_reach: &[u32],
     data_reach: &[u32],
-) -> Tried
+) -> Option<FoundCut>
     ensures { Searches (given uuid.now volume) volume store.now index_table.now n data_table.now
         generations.now beginnings.now index_reach.now data_reach.now result }
 {
@@ -162,11 +155,11 @@ pub fn search(
             index_reach,
             data_reach,
         ) {
-            Tried::Fits(cut) => {
-                return Tried::Fits(cut);
+            Some(cut) => {
+                return Some(cut);
             }
-            Tried::Fails => {}
+            None => {}
         }
     }
-    Tried::Fails
+    None
 }

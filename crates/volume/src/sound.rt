@@ -6,7 +6,6 @@ ghost use Rattle.volume.specs.Volume.{soundly};
 ghost use Rattle.volume.specs.Steps.{link_of, brief_link, joined, bounds_text};
 
 use constructs::Bounds;
-use index::Read;
 use index_values::Partitions;
 use quantities::{BlockNumber, Generation};
 
@@ -31,14 +30,14 @@ pub fn read_brief(
     ensures { brief_link result ≡ link_of (soundly (index_of (given uuid.now volume) letter block.0 text.now)) }
 {
     match index::read_index(text, uuid, volume, letter, block) {
-        Read::Refused(_) => Brief {
+        Err(_) => Brief {
             sound: false,
             generation: Generation(0),
             back: false,
             letter: 0,
             block: BlockNumber(0),
         },
-        Read::Found(h) => {
+        Ok(h) => {
             let generation = h.generation;
             let back_block = h.back_block;
             Brief {

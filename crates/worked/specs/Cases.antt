@@ -1,11 +1,10 @@
 -- Document 01's starred cases (01, Bench examples), each a test of the definitions: one table.
-use Rattle.std.specs.Prelude.{Bool, true, false, not, ◌&&◌, ◌||◌, List, [], ◌∷◌, ◌++◌, ℕ, eqb, ltb, length}
+use Rattle.refusals.specs.declared.Refusal.{Refusal}
+use Rattle.std.specs.Prelude.{Bool, true, false, not, ◌&&◌, ◌||◌, List, [], ◌∷◌, ◌++◌, ℕ, eqb, ltb, length, Err, Ok, Result}
 use Prim.Native.String.{String}
-use Rattle.refusals.specs.Refusals.{Answer, refused, answer, and_then, number_of, shown_number}
+use Rattle.refusals.specs.Refusals.{Answer, and_then, number_of, shown_number}
 use Rattle.slices.specs.Slices.{same}
 use Rattle.slices.specs.Words.{bytes}
-use Rattle.slices.specs.declared.Written.{Written}
-use Rattle.slices.specs.declared.Written.TheVariants.{To, Refused}
 use Rattle.extents.specs.Rows.{rows_of}
 use Rattle.extents.specs.Lawful.{lawful}
 use Rattle.extents.specs.Map.{BytePlace, stored, unstored, byte_map}
@@ -50,25 +49,25 @@ sample_index number =
 abbrev pub read_number : String → Answer ℕ
 read_number number =
     and_then (index_of (record { uuid = bytes "30a91a08-daae-48d1-ae75-69804e61d2ea"; index_letter = 97; data_letter = 98; block_size = 524288 }) 97 5 (sample_index number))
-    (λ x. answer x.heading.highestfileuid)
+    (λ x. Ok x.heading.highestfileuid)
 
 abbrev pub says : ℕ → Answer ℕ → Bool
-says n (refused r) = false
-says n (answer m) = eqb m n
+says n (Err r) = false
+says n (Ok m) = eqb m n
 
 -- the row (b, 10, 100, 8000, 0), for a file of 9000 bytes and blocks of 4096
 abbrev pub maps_at : ℕ → Answer BytePlace
 maps_at p = byte_map (98 ∷ 10 ∷ 100 ∷ 8000 ∷ 0 ∷ []) 9000 4096 p
 
 abbrev pub is_stored : ℕ → ℕ → Answer BytePlace → Bool
-is_stored k n (refused r) = false
-is_stored k n (answer unstored) = false
-is_stored k n (answer (stored l b m)) = eqb l 98 && eqb b k && eqb m n
+is_stored k n (Err r) = false
+is_stored k n (Ok unstored) = false
+is_stored k n (Ok (stored l b m)) = eqb l 98 && eqb b k && eqb m n
 
 abbrev pub is_unstored : Answer BytePlace → Bool
-is_unstored (refused r) = false
-is_unstored (answer unstored) = true
-is_unstored (answer (stored l b m)) = false
+is_unstored (Err r) = false
+is_unstored (Ok unstored) = true
+is_unstored (Ok (stored l b m)) = false
 
 module _ {A : Type 0} where
   abbrev pub is_refused : ℕ → Answer A → Bool
@@ -98,9 +97,9 @@ sample =
     }
 
 -- a writer's answer is the refusal of this number
-abbrev pub refuses : ℕ → Written → Bool
-refuses n (To end) = false
-refuses n (Refused r) = eqb (number_of r) n
+abbrev pub refuses : ℕ → Result ℕ Refusal → Bool
+refuses n (Ok end) = false
+refuses n (Err r) = eqb (number_of r) n
 
 abbrev pub bench_length : Label → Bool
 bench_length f = not (is_bench f) || eqb (length (label_text f)) 378

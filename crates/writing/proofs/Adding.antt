@@ -1,4 +1,5 @@
 -- Runs put together: a writer of a run at the end of another makes one run of both, and each front of a run that fits, fits.
+use Rattle.std.specs.Prelude.{Err, Ok}
 use mathlib.Core.Path.{◌≡◌, refl, subst, ap, ap₂, ◌∙◌, sym}
 use mathlib.Core.List.{List, [], ◌++◌, append-nil, append_assoc}
 use Prim.Native.Nat.{ℕ, ◌+◌, ◌≤◌}
@@ -6,7 +7,6 @@ use native.Mathlib.Nat.{zero-add}
 use native.Mathlib.Omega.{arith}
 use lib.ListN.{length, take, drop, length-append, drop_of_length-le}
 use Rattle.refusals.specs.declared.Refusal.{Refusal}
-use Rattle.slices.specs.declared.Written.TheVariants.{To, Refused}
 use Rattle.slices.specs.Slices.{written}
 use Rattle.slices.specs.Writers.{Puts}
 use Rattle.slices.proofs.Writers.{reached, unreached}
@@ -21,7 +21,7 @@ room out at w b v h e z =
     omega arith
 
 module _ {out : List ℕ} {at : ℕ} {w after : List ℕ} where
-  pub adds : (end : ℕ) → Puts at w out after (To end) → Adds out at w after end
+  pub adds : (end : ℕ) → Puts at w out after (Ok end) → Adds out at w after end
   adds end p = record { run = λ b v h e z. put b v h e z }
     where
       put : (b v : List ℕ) → length (v ++ w) ≤ length b → out ≡ written 0 v b → at ≡ length v → (after ≡ written 0 (v ++ w) b) × (end ≡ length (v ++ w))
@@ -30,7 +30,7 @@ module _ {out : List ℕ} {at : ℕ} {w after : List ℕ} where
           let n : length (v ++ w) ≡ length v + length w = length-append v w in
           (y ∙ ap (written at w) e ∙ ap (λ (i : ℕ). written i w (written 0 v b)) (z ∙ sym (zero-add (length v))) ∙ written_then 0 v w b (omega arith), omega arith)
 
-  pub adds_not : (r : Refusal) (end : ℕ) → Puts at w out after (Refused r) → Adds out at w after end
+  pub adds_not : (r : Refusal) (end : ℕ) → Puts at w out after (Err r) → Adds out at w after end
   adds_not r end p = record { run = λ b v h e z. let (k, q, y) = unreached at w out after r p in absurd (omega (arith, room out at w b v h e z)) }
 
 -- a front of a run that fits

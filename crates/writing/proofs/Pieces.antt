@@ -1,22 +1,21 @@
 -- Pieces one after the other, and how long they are together.
+use Rattle.std.specs.Prelude.{Err, Ok, Result}
 use mathlib.Core.Path.{◌≡◌, subst, ◌∙◌}
 use mathlib.Core.List.{List, ◌++◌}
 use Prim.Native.Nat.{ℕ, ◌+◌, ◌≤◌}
 use native.Mathlib.Omega.{arith}
 use lib.ListN.{length, take, drop, length-append}
 use Rattle.refusals.specs.declared.Refusal.{Refusal}
-use Rattle.slices.specs.declared.Written.{Written}
-use Rattle.slices.specs.declared.Written.TheVariants.{To, Refused}
 use Rattle.slices.specs.Writers.{Puts}
 use Rattle.writing.proofs.Adding.{adds, adds_not, adds_then, composes, front_text}
 use Rattle.writing.specs.Steps.{AddsAtMost}
 
 -- what a writer was asked for is added, whether it was written, or there was no room
-module _ {m at : ℕ} {w out after : List ℕ} {r : Written} where
-  pub piece : (end : ℕ) → length w ≤ m → Puts at w out after r → r ≡ To end → AddsAtMost m out at w after end
+module _ {m at : ℕ} {w out after : List ℕ} {r : (Result ℕ Refusal)} where
+  pub piece : (end : ℕ) → length w ≤ m → Puts at w out after r → r ≡ Ok end → AddsAtMost m out at w after end
   piece end h p e = record { added = adds end (subst (Puts at w out after) e p); few = h }
 
-  pub no_piece : (x : Refusal) (end : ℕ) → length w ≤ m → Puts at w out after r → r ≡ Refused x → AddsAtMost m out at w after end
+  pub no_piece : (x : Refusal) (end : ℕ) → length w ≤ m → Puts at w out after r → r ≡ Err x → AddsAtMost m out at w after end
   no_piece x end h p e = record { added = adds_not x end (subst (Puts at w out after) e p); few = h }
 
 pub then : {m n : ℕ} {out w middle x after : List ℕ} {at to end : ℕ}
@@ -33,7 +32,7 @@ pub the_same : {m : ℕ} {out w x after : List ℕ} {at end : ℕ} → w ≡ x �
 the_same {m} {out} {w} {x} {after} {at} {end} e p = subst (λ (l : List ℕ). AddsAtMost m out at l after end) e p
 
 -- what was put together at the front of a buffer with room for it is delivered as the run that was asked for
-pub delivers : {m n : ℕ} {b w v text part out after : List ℕ} {r : Written} → m ≤ length b → AddsAtMost m b 0 w text n
+pub delivers : {m n : ℕ} {b w v text part out after : List ℕ} {r : (Result ℕ Refusal)} → m ≤ length b → AddsAtMost m b 0 w text n
     → part ≡ take n (drop 0 text) → w ≡ v → Puts 0 part out after r → Puts 0 v out after r
 delivers {m} {n} {b} {w} {v} {text} {part} {out} {after} {r} room p e z q =
     let short : length w ≤ m = p.few in

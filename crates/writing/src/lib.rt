@@ -5,15 +5,14 @@ ghost use Rattle.std.specs.Prelude.{length};
 ghost use Rattle.digits.specs.Decimal.{short};
 ghost use Rattle.writing.specs.Steps.{AddsAtMost};
 
-use slices::Written;
 
 // Adds src at the place at, and answers the place behind it.
 pub fn add(out: &mut [u8], at: usize, src: &[u8]) -> usize
     ensures { AddsAtMost (length src.now) out.old at src.now out.new result }
 {
     match slices::put(out, at, src) {
-        Written::To(end) => end,
-        Written::Refused(_) => at,
+        Ok(end) => end,
+        Err(_) => at,
     }
 }
 
@@ -22,7 +21,7 @@ pub fn add_number(out: &mut [u8], at: usize, n: u64) -> usize
     ensures { AddsAtMost 20 out.old at (short n) out.new result }
 {
     match digits::write(out, at, n) {
-        Written::To(end) => end,
-        Written::Refused(_) => at,
+        Ok(end) => end,
+        Err(_) => at,
     }
 }

@@ -15,38 +15,38 @@ note-end-requires c = at_small c.loop-at.invariant c.loop-at-test.true
 pub overflow_add-at : goal.overflow_add-at
 overflow_add-at c = let few = at_small c.loop-at.invariant c.loop-at-test.true in search rules
 
-pub loop-at-smaller-in-Go : goal.loop-at-smaller-in-Go
-loop-at-smaller-in-Go c = omega (arith, c.loop-at-test.true)
+pub loop-at-smaller-in-Ok : goal.loop-at-smaller-in-Ok
+loop-at-smaller-in-Ok c = omega (arith, c.loop-at-test.true)
 
-pub loop-at-preserved-in-Go : goal.loop-at-preserved-in-Go
-loop-at-preserved-in-Go c = matched_mark c.loop-at.invariant c.loop-at-test.true c.in-Go.p (says_here c.loop-at.invariant c.loop-at-test.true (sym c.entry_at.ensures ∙ c.in-Mark.is)) (ap (step_of c.args.store.now) (sym c.in-Go.is) ∙ c.after_mark.ensures) c.note-end.ensures
+pub loop-at-preserved-in-Ok : goal.loop-at-preserved-in-Ok
+loop-at-preserved-in-Ok c = matched_mark c.loop-at.invariant c.loop-at-test.true c.in-Ok.p (says_here c.loop-at.invariant c.loop-at-test.true (sym c.entry_at.ensures ∙ c.in-Mark.is)) (ap (step_of c.args.store.now) (sym c.in-Ok.is) ∙ c.after_mark.ensures) c.note-end.ensures
 
-pub shape_of-out-in-Stop : goal.shape_of-out-in-Stop
-shape_of-out-in-Stop c = let k = rows_kept c.loop-at.invariant in search rules
+pub shape_of-out-in-Err : goal.shape_of-out-in-Err
+shape_of-out-in-Err c = let k = rows_kept c.loop-at.invariant in search rules
 
-pub returns-in-Stop : goal.returns-in-Stop
-returns-in-Stop c = stopped_mark c.loop-at.invariant c.loop-at-test.true c.in-Stop.r (says_here c.loop-at.invariant c.loop-at-test.true (sym c.entry_at.ensures ∙ c.in-Mark.is)) (ap (step_of c.args.store.now) (sym c.in-Stop.is) ∙ c.after_mark.ensures)
+pub returns-in-Err : goal.returns-in-Err
+returns-in-Err c = stopped_mark c.loop-at.invariant c.loop-at-test.true c.in-Err.r (says_here c.loop-at.invariant c.loop-at-test.true (sym c.entry_at.ensures ∙ c.in-Mark.is)) (ap (step_of c.args.store.now) (sym c.in-Err.is) ∙ c.after_mark.ensures)
 
 pub after_block-requires : goal.after_block-requires
 after_block-requires c = small c.loop-at.invariant c.loop-at-test.true
 
 pub overflow_add-off : goal.overflow_add-off
-overflow_add-off c = let b = bytes_bound (matched_block c.loop-at.invariant c.loop-at-test.true c.in-Go-after_block.p (says_here c.loop-at.invariant c.loop-at-test.true (sym c.entry_at.ensures ∙ c.in-Block.is)) (ap (step_of c.args.store.now) (sym c.in-Go-after_block.is) ∙ c.after_block.ensures)) in search rules
+overflow_add-off c = let b = bytes_bound (matched_block c.loop-at.invariant c.loop-at-test.true c.in-Ok-after_block.p (says_here c.loop-at.invariant c.loop-at-test.true (sym c.entry_at.ensures ∙ c.in-Block.is)) (ap (step_of c.args.store.now) (sym c.in-Ok-after_block.is) ∙ c.after_block.ensures)) in search rules
 
-pub overflow_add-at-in-Go-after_block : goal.overflow_add-at-in-Go-after_block
-overflow_add-at-in-Go-after_block c = let few = at_small c.loop-at.invariant c.loop-at-test.true in search rules
+pub overflow_add-at-in-Ok-after_block : goal.overflow_add-at-in-Ok-after_block
+overflow_add-at-in-Ok-after_block c = let few = at_small c.loop-at.invariant c.loop-at-test.true in search rules
 
 pub loop-at-smaller : goal.loop-at-smaller
 loop-at-smaller c = omega (arith, c.loop-at-test.true)
 
 pub loop-at-preserved : goal.loop-at-preserved
-loop-at-preserved c = matched_block c.loop-at.invariant c.loop-at-test.true c.in-Go-after_block.p (says_here c.loop-at.invariant c.loop-at-test.true (sym c.entry_at.ensures ∙ c.in-Block.is)) (ap (step_of c.args.store.now) (sym c.in-Go-after_block.is) ∙ c.after_block.ensures)
+loop-at-preserved c = matched_block c.loop-at.invariant c.loop-at-test.true c.in-Ok-after_block.p (says_here c.loop-at.invariant c.loop-at-test.true (sym c.entry_at.ensures ∙ c.in-Block.is)) (ap (step_of c.args.store.now) (sym c.in-Ok-after_block.is) ∙ c.after_block.ensures)
 
-pub shape_of-out-in-Stop-after_block : goal.shape_of-out-in-Stop-after_block
-shape_of-out-in-Stop-after_block c = let k = rows_kept c.loop-at.invariant in search rules
+pub shape_of-out-in-Err-after_block : goal.shape_of-out-in-Err-after_block
+shape_of-out-in-Err-after_block c = let k = rows_kept c.loop-at.invariant in search rules
 
-pub returns-in-Stop-after_block : goal.returns-in-Stop-after_block
-returns-in-Stop-after_block c = stopped_block c.loop-at.invariant c.loop-at-test.true c.in-Stop-after_block.r (says_here c.loop-at.invariant c.loop-at-test.true (sym c.entry_at.ensures ∙ c.in-Block.is)) (ap (step_of c.args.store.now) (sym c.in-Stop-after_block.is) ∙ c.after_block.ensures)
+pub returns-in-Err-after_block : goal.returns-in-Err-after_block
+returns-in-Err-after_block c = stopped_block c.loop-at.invariant c.loop-at-test.true c.in-Err-after_block.r (says_here c.loop-at.invariant c.loop-at-test.true (sym c.entry_at.ensures ∙ c.in-Block.is)) (ap (step_of c.args.store.now) (sym c.in-Err-after_block.is) ∙ c.after_block.ensures)
 
 pub shape_of-out-in-Unreadable : goal.shape_of-out-in-Unreadable
 shape_of-out-in-Unreadable c = let k = rows_kept c.loop-at.invariant in search rules

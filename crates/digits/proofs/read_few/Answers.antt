@@ -1,7 +1,7 @@
 -- `digits::read_few` meets its contract. Invariant: the digits passed say v, what is left says the number after it, and v has no more digits than were passed.
+use Rattle.std.specs.Prelude.{Some}
 use mathlib.Core.Path.{◌≡◌, refl, ap, sym, ◌∙◌}
 use mathlib.Core.Bool.{true}
-use mathlib.Core.Option.{some}
 use Prim.Native.Nat.{ℕ, ◌+◌, ◌*◌, ◌-◌}
 use native.Mathlib.Nat.{pow-zero}
 use native.Mathlib.Omega.{arith}
@@ -68,4 +68,4 @@ returns c =
     let l = c.loop-i in
     let z : decimal 0 s ≡ l.v = l.invariant.2 ∙ value_end 10 digit_of s l.i l.v (search rules) in
     let m = few_small l.i l.v l.invariant.3 (omega arith) in
-    sym (few_run s (omega arith) ∙ a_run s (l.invariant.1 ∙ every_end is_digit 0 s l.i (search rules)) (omega arith) (omega arith) ∙ ap some z)
+    sym (few_run s (omega arith) ∙ a_run s (l.invariant.1 ∙ every_end is_digit 0 s l.i (search rules)) (omega arith) (omega arith) ∙ ap Some z)

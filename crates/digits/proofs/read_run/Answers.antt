@@ -1,7 +1,7 @@
 -- `digits::read_run` meets its contract. Invariant: the digits passed say v, and what is left says the number after it.
+use Rattle.std.specs.Prelude.{Some}
 use mathlib.Core.Path.{◌≡◌, refl, ap, sym, ◌∙◌}
 use mathlib.Core.Bool.{true}
-use mathlib.Core.Option.{some}
 use Prim.Native.Nat.{ℕ, ◌+◌, ◌*◌, ◌-◌}
 use native.Mathlib.Omega.{arith}
 use lib.ListN.{drop, get_or}
@@ -60,4 +60,4 @@ returns c =
     let s = c.args.s.now in
     let l = c.loop-i in
     let z : decimal 0 s ≡ l.v = l.invariant.2 ∙ value_end 10 digit_of s l.i l.v (search rules) in
-    sym (a_run s (l.invariant.1 ∙ every_end is_digit 0 s l.i (search rules)) (omega arith) (omega arith) ∙ ap some z)
+    sym (a_run s (l.invariant.1 ∙ every_end is_digit 0 s l.i (search rules)) (omega arith) (omega arith) ∙ ap Some z)

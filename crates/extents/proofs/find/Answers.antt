@@ -1,10 +1,10 @@
 -- `extents::find` meets its contract. Invariant: no row passed has the position.
+use Rattle.std.specs.Prelude.{Ok}
 use mathlib.Core.Path.{refl, ap, sym, ◌∙◌}
 use Prim.Native.Nat.{◌*◌, ◌/◌, ◌<◌}
 use native.Mathlib.Omega.{arith}
 use borrow.Author.Tests.{lt-ltb, le-ltb}
 use lib.ListN.{length}
-use Rattle.refusals.specs.Refusals.{answer}
 use Rattle.quantities.specs.Letters.{is_letter}
 use Rattle.extents.specs.Rows.{Row}
 use Rattle.extents.specs.Steps.{row_from}
@@ -67,7 +67,7 @@ returns-then-holds c =
     let here : l.i < length s / 5 = c.loop-i-test.true in
     let e = placed a.block_size a.position.0 r _ _ _ c.narrow.ensures c.spot-past.ensures.0 c.spot-past.ensures.1 in
     rw (lt-ltb a.position.0 a.file_length.0 c.if-file_length-position.false)
-    (ap answer (e ∙ sym (l.invariant.1 ∙ place_here s a.block_size a.position.0 l.i here (sym c.holds.ensures ∙ c.if-holds.true))))
+    (ap Ok (e ∙ sym (l.invariant.1 ∙ place_here s a.block_size a.position.0 l.i here (sym c.holds.ensures ∙ c.if-holds.true))))
 
 pub loop-i-preserved : goal.loop-i-preserved
 loop-i-preserved c =
@@ -85,4 +85,4 @@ returns c =
     let s = a.rows.now in
     let r = row_from s (l.i * 5) in
     rw (lt-ltb a.position.0 a.file_length.0 c.if-file_length-position.false)
-    (ap answer (sym (l.invariant.1 ∙ place_end s a.block_size a.position.0 l.i (omega arith))))
+    (ap Ok (sym (l.invariant.1 ∙ place_end s a.block_size a.position.0 l.i (omega arith))))

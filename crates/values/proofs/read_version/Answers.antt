@@ -1,9 +1,8 @@
 -- `values::read_version` meets its contract: the first four bytes, then the number of the rest.
+use Rattle.std.specs.Prelude.{None, Some}
 use mathlib.Core.Path.{◌≡◌, ap, sym, ◌∙◌}
 use borrow.Author.Tests.{le-leb, lt-leb}
 use mathlib.Core.Bool.{true}
-use mathlib.Core.Option.{some, none}
-use Rattle.digits.specs.Steps.{value_of}
 use Rattle.slices.specs.Words.{bytes}
 use Rattle.texts.specs.Decoded.{begins}
 use Rattle.values.proofs.Parts.{version_short, version_other, version_rest}
@@ -20,16 +19,16 @@ pub returns-then-n-le65535 : goal.returns-then-n-le65535
 unfolding bytes
 returns-then-n-le65535 c =
     let e : begins (bytes "2.0.") c.args.raw.now ≡ true = sym c.same.ensures ∙ c.if-not-same.false in
-    sym (version_rest c.args.raw.now {o = some c.in-Value.n} e (sym (ap value_of c.in-Value.is) ∙ c.read_plain.ensures) ∙ rw (le-leb _ _ c.if-n-le65535.true))
+    sym (version_rest c.args.raw.now {o = Some c.in-Value.n} e (sym (ap c.in-Value.is) ∙ c.read_plain.ensures) ∙ rw (le-leb _ _ c.if-n-le65535.true))
 
 pub returns-else-n-le65535 : goal.returns-else-n-le65535
 unfolding bytes
 returns-else-n-le65535 c =
     let e : begins (bytes "2.0.") c.args.raw.now ≡ true = sym c.same.ensures ∙ c.if-not-same.false in
-    sym (version_rest c.args.raw.now {o = some c.in-Value.n} e (sym (ap value_of c.in-Value.is) ∙ c.read_plain.ensures) ∙ rw (lt-leb _ _ c.if-n-le65535.false))
+    sym (version_rest c.args.raw.now {o = Some c.in-Value.n} e (sym (ap c.in-Value.is) ∙ c.read_plain.ensures) ∙ rw (lt-leb _ _ c.if-n-le65535.false))
 
-pub returns-in-Nothing : goal.returns-in-Nothing
+pub returns-in-None : goal.returns-in-None
 unfolding bytes
-returns-in-Nothing c =
+returns-in-None c =
     let e : begins (bytes "2.0.") c.args.raw.now ≡ true = sym c.same.ensures ∙ c.if-not-same.false in
-    sym (version_rest c.args.raw.now {o = none} e (sym (ap value_of c.in-Nothing.is) ∙ c.read_plain.ensures))
+    sym (version_rest c.args.raw.now {o = None} e (sym (ap c.in-None.is) ∙ c.read_plain.ensures))

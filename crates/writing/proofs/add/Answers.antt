@@ -3,8 +3,8 @@ use native.Mathlib.Omega.{arith}
 use Rattle.writing.proofs.Pieces.{piece, no_piece}
 use Rattle.writing.proofs.add.Goals as goal
 
-pub returns-in-To : goal.returns-in-To
-returns-in-To c = piece c.in-To.end (omega arith) c.put.ensures c.in-To.is
+pub returns-in-Ok : goal.returns-in-Ok
+returns-in-Ok c = piece c.in-Ok.end (omega arith) c.put.ensures c.in-Ok.is
 
-pub returns-in-Refused : goal.returns-in-Refused
-returns-in-Refused c = no_piece c.in-Refused.field-0 c.args.at (omega arith) c.put.ensures c.in-Refused.is
+pub returns-in-Err : goal.returns-in-Err
+returns-in-Err c = no_piece c.in-Err.field-0 c.args.at (omega arith) c.put.ensures c.in-Err.is

@@ -4,8 +4,8 @@ use Rattle.big_endian.proofs.Left.{length_big_endian}
 use Rattle.writing.proofs.Pieces.{piece, no_piece}
 use Rattle.ansi.proofs.rows.add_number.Goals as goal
 
-pub returns-in-To : goal.returns-in-To
-returns-in-To c = piece c.in-To.end (omega (arith, length_big_endian 8 c.args.n)) c.put.ensures c.in-To.is
+pub returns-in-Ok : goal.returns-in-Ok
+returns-in-Ok c = piece c.in-Ok.end (omega (arith, length_big_endian 8 c.args.n)) c.put.ensures c.in-Ok.is
 
-pub returns-in-Refused : goal.returns-in-Refused
-returns-in-Refused c = no_piece c.in-Refused.field-0 c.args.at (omega (arith, length_big_endian 8 c.args.n)) c.put.ensures c.in-Refused.is
+pub returns-in-Err : goal.returns-in-Err
+returns-in-Err c = no_piece c.in-Err.field-0 c.args.at (omega (arith, length_big_endian 8 c.args.n)) c.put.ensures c.in-Err.is

@@ -1,8 +1,9 @@
 -- `klapouzen_check_form` meets its contract: the outcome of the form.
+use Rattle.std.specs.Prelude.{Ok}
 use mathlib.Core.Path.{◌≡◌, sym, ◌∙◌}
 use mathlib.Core.Bool.{true}
 use Rattle.refusals.specs.declared.Refusal.TheVariants.{Form}
-use Rattle.refusals.specs.Refusals.{answer, shown_number, left_at}
+use Rattle.refusals.specs.Refusals.{shown_number, left_at}
 use Rattle.refusals.proofs.Refusing.{refuses_answer}
 use Rattle.xml.specs.CheckSteps.{in_form, front, require_form}
 use Rattle.xml.proofs.Checked.{checked_good, checked_broken, OfText, of_form}
@@ -17,5 +18,5 @@ returns-in-Good c =
 pub returns-in-Broken : goal.returns-in-Broken
 returns-in-Broken c =
     let e = checked_broken c.args.text.now _ (sym c.in-Broken.is ∙ c.check.ensures) in
-    let number : ◌≡◌ c.number.result (shown_number (require_form c.args.text.now (answer c.args.text.now))) = rw e.0 c.number.ensures in
-    record { refusal = number; place = refused_front {a = require_form c.args.text.now (answer c.args.text.now)} (Form (left_at (front c.args.text.now))) (of_form c.args.text.now _ (refuses_answer (OfText c.args.text.now) _)) (rw e.0) c.number.ensures e.1 }
+    let number : ◌≡◌ c.number.result (shown_number (require_form c.args.text.now (Ok c.args.text.now))) = rw e.0 c.number.ensures in
+    record { refusal = number; place = refused_front {a = require_form c.args.text.now (Ok c.args.text.now)} (Form (left_at (front c.args.text.now))) (of_form c.args.text.now _ (refuses_answer (OfText c.args.text.now) _)) (rw e.0) c.number.ensures e.1 }

@@ -8,7 +8,6 @@ use Rattle.xml.specs.FormSteps.{height}
 use Rattle.xml.specs.Tree.{Forest}
 use Rattle.elements.specs.Reading.{head_at, children_at}
 use Rattle.values.specs.Values as values
-use Rattle.values.specs.Steps.{version_of}
 use Rattle.index_values.specs.Steps.{given}
 use Rattle.index.specs.Index.{children_read}
 use Rattle.index.proofs.Answers.{into_refused, same_into, same_tags, root_name, root_key, root_version, root_read_lem}
@@ -39,7 +38,7 @@ returns-in-Nothing c =
     let s = c.args.text.now in
     let g = given c.args.uuid.now c.args.volume in
     let n = c.args.n in
-    into_refused (root_version g c.args.letter c.args.block.0 (head_at s n) (children_at s n) (sym c.name_is.ensures ∙ c.if-not-name_is.false) (ap (λ (k : List ℕ). same k (bytes "version")) (sym c.key_of.ensures) ∙ sym c.same.ensures ∙ c.if-not-same.false) (ap values.version (sym c.value_of.ensures) ∙ sym c.read_version.ensures ∙ ap version_of c.in-Nothing.is))
+    into_refused (root_version g c.args.letter c.args.block.0 (head_at s n) (children_at s n) (sym c.name_is.ensures ∙ c.if-not-name_is.false) (ap (λ (k : List ℕ). same k (bytes "version")) (sym c.key_of.ensures) ∙ sym c.same.ensures ∙ c.if-not-same.false) (ap values.version (sym c.value_of.ensures) ∙ sym c.read_version.ensures ∙ ap c.in-Nothing.is))
 
 pub returns-in-Release : goal.returns-in-Release
 unfolding bytes
@@ -49,4 +48,4 @@ returns-in-Release c =
     let n = c.args.n in
     same_tags c.first_child-at.ensures.tags (same_into c.read_children.ensures
     (ap (λ (k : Forest). children_read g c.args.letter c.args.block.0 c.in-Release.release k) c.first_child-at.ensures.row
-    ∙ root_read_lem g c.args.letter c.args.block.0 (head_at s n) (children_at s n) (sym c.name_is.ensures ∙ c.if-not-name_is.false) (ap (λ (k : List ℕ). same k (bytes "version")) (sym c.key_of.ensures) ∙ sym c.same.ensures ∙ c.if-not-same.false) c.in-Release.release (ap values.version (sym c.value_of.ensures) ∙ sym c.read_version.ensures ∙ ap version_of c.in-Release.is)))
+    ∙ root_read_lem g c.args.letter c.args.block.0 (head_at s n) (children_at s n) (sym c.name_is.ensures ∙ c.if-not-name_is.false) (ap (λ (k : List ℕ). same k (bytes "version")) (sym c.key_of.ensures) ∙ sym c.same.ensures ∙ c.if-not-same.false) c.in-Release.release (ap values.version (sym c.value_of.ensures) ∙ sym c.read_version.ensures ∙ ap c.in-Release.is)))

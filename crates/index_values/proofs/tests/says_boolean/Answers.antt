@@ -1,11 +1,10 @@
 -- `says_boolean` meets its contract: by what is read.
 use mathlib.Core.Path.{ap, sym, ◌∙◌}
-use Rattle.values.specs.Steps.{boolean_of}
 use Rattle.index_values.specs.Tests.{is_some}
 use Rattle.index_values.proofs.tests.says_boolean.Goals as goal
 
-pub returns-in-Value : goal.returns-in-Value
-returns-in-Value c = ap is_some (ap boolean_of (sym c.in-Value.is) ∙ c.read_boolean.ensures)
+pub returns-in-Some : goal.returns-in-Some
+returns-in-Some c = ap is_some (ap (sym c.in-Some.is) ∙ c.read_boolean.ensures)
 
-pub returns-in-Nothing : goal.returns-in-Nothing
-returns-in-Nothing c = ap is_some (ap boolean_of (sym c.in-Nothing.is) ∙ c.read_boolean.ensures)
+pub returns-in-None : goal.returns-in-None
+returns-in-None c = ap is_some (ap (sym c.in-None.is) ∙ c.read_boolean.ensures)

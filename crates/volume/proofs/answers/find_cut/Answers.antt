@@ -1,7 +1,6 @@
 -- `find_cut` meets its contract: what the labels are refused for, or the cut of the volume that they give.
+use Rattle.std.specs.Prelude.{Err, Ok, Option}
 use Rattle.volume.proofs.Answering.{ask_refused, rescues, cut_found}
-use Rattle.volume.specs.declared.answers.Rescue.TheVariants.{Cut, Refused}
-use Rattle.volume.specs.declared.search.Tried.{Tried}
 use Rattle.volume.specs.Steps.{tried_cut}
 use Rattle.volume.specs.Volume.{or_no_cut}
 use Rattle.verdict.specs.Rescue.{rescue}
@@ -14,19 +13,19 @@ use mathlib.Core.List.{List}
 use mathlib.Core.Path.{sym, ap, ◌∙◌}
 use Rattle.volume.proofs.answers.find_cut.Goals as goal
 
-pub returns-in-Refused : goal.returns-in-Refused
-returns-in-Refused c = rescues c.args.index_list.now c.args.index_store.now c.args.data_list.now c.args.data_store.now (Refused c.in-Refused.r) (ask_refused (λ v i d. or_no_cut (rescue v i d)) c.args.index_list.now c.args.index_store.now c.args.data_list.now c.args.data_store.now c.in-Refused.r (ap (means c.args.index_store.now) (sym c.in-Refused.is) ∙ c.check.ensures.says))
+pub returns-in-Err : goal.returns-in-Err
+returns-in-Err c = rescues c.args.index_list.now c.args.index_store.now c.args.data_list.now c.args.data_store.now (Err c.in-Err.r) (ask_refused (λ v i d. or_no_cut (rescue v i d)) c.args.index_list.now c.args.index_store.now c.args.data_list.now c.args.data_store.now c.in-Err.r (ap (means c.args.index_store.now) (sym c.in-Err.is) ∙ c.check.ensures.says))
 
-pub returns-in-Fits : goal.returns-in-Fits
-returns-in-Fits c =
+pub returns-in-Some : goal.returns-in-Some
+returns-in-Some c =
     cut_found c.args.index_list.now c.args.index_store.now c.args.data_list.now c.args.data_store.now (λ i. (c.type_inv.index_list i).fits) (λ i. (c.type_inv.data_list i).fits)
-    (fields_in c.args.index_store.now c.in-Says.f) (ap (means c.args.index_store.now) (sym c.in-Says.is) ∙ c.check.ensures.says)
-    (given c.part-uuid.result.now c.letters_of.result) (ap (λ (u : List ℕ). given u c.letters_of.result) c.part-uuid.ensures ∙ ap (given (part_at c.args.index_store.now c.in-Says.f.uuid)) c.letters_of.ensures)
-    c.rescue_with.result c.rescue_with.ensures (Cut c.in-Fits.cut) (ap (λ (t : Tried). or_no_cut (tried_cut t)) (sym c.in-Fits.is))
+    (fields_in c.args.index_store.now c.in-Ok.f) (ap (means c.args.index_store.now) (sym c.in-Ok.is) ∙ c.check.ensures.says)
+    (given c.part-uuid.result.now c.letters_of.result) (ap (λ (u : List ℕ). given u c.letters_of.result) c.part-uuid.ensures ∙ ap (given (part_at c.args.index_store.now c.in-Ok.f.uuid)) c.letters_of.ensures)
+    c.rescue_with.result c.rescue_with.ensures (Ok c.in-Some.cut) (ap (λ (t : Option FoundCut). or_no_cut (tried_cut t)) (sym c.in-Some.is))
 
-pub returns-in-Fails : goal.returns-in-Fails
-returns-in-Fails c =
+pub returns-in-None : goal.returns-in-None
+returns-in-None c =
     cut_found c.args.index_list.now c.args.index_store.now c.args.data_list.now c.args.data_store.now (λ i. (c.type_inv.index_list i).fits) (λ i. (c.type_inv.data_list i).fits)
-    (fields_in c.args.index_store.now c.in-Says.f) (ap (means c.args.index_store.now) (sym c.in-Says.is) ∙ c.check.ensures.says)
-    (given c.part-uuid.result.now c.letters_of.result) (ap (λ (u : List ℕ). given u c.letters_of.result) c.part-uuid.ensures ∙ ap (given (part_at c.args.index_store.now c.in-Says.f.uuid)) c.letters_of.ensures)
-    c.rescue_with.result c.rescue_with.ensures (Refused NoCut) (ap (λ (t : Tried). or_no_cut (tried_cut t)) (sym c.in-Fails.is))
+    (fields_in c.args.index_store.now c.in-Ok.f) (ap (means c.args.index_store.now) (sym c.in-Ok.is) ∙ c.check.ensures.says)
+    (given c.part-uuid.result.now c.letters_of.result) (ap (λ (u : List ℕ). given u c.letters_of.result) c.part-uuid.ensures ∙ ap (given (part_at c.args.index_store.now c.in-Ok.f.uuid)) c.letters_of.ensures)
+    c.rescue_with.result c.rescue_with.ensures (Err NoCut) (ap (λ (t : Option FoundCut). or_no_cut (tried_cut t)) (sym c.in-None.is))

@@ -1,6 +1,6 @@
 -- `first_lost` meets its contract: file after file along the text.
+use Rattle.std.specs.Prelude.{None, Some}
 use Rattle.volume.proofs.Extents.{lost_end, lost_stop, lost_on, loses}
-use Rattle.volume.specs.declared.lost.Lost.TheVariants.{File, Nothing}
 use Rattle.volume.specs.Steps.{lies_in}
 use Rattle.verdict.specs.Verdict.{first_failing}
 use Rattle.index_files.specs.FileSteps.{files_left, FileFrom}
@@ -17,13 +17,13 @@ loop-n-init c = (omega arith, refl)
 
 pub returns-in-Done : goal.returns-in-Done
 returns-in-Done c =
-    loses c.args.text.now c.args.volume c.args.index_reach.now c.args.index_kept c.args.data_reach.now c.args.data_kept Nothing
+    loses c.args.text.now c.args.volume c.args.index_reach.now c.args.index_kept c.args.data_reach.now c.args.data_kept None
     (lost_end (every (lies_in c.args.volume c.args.index_reach.now c.args.index_kept c.args.data_reach.now c.args.data_kept)) (first_failing (every (lies_in c.args.volume c.args.index_reach.now c.args.index_kept c.args.data_reach.now c.args.data_kept)) 0 (map extent_rows (files_left (left_at c.args.text.now 38)))) c.loop-n.k (files_left (left_at c.args.text.now c.loop-n.at)) c.loop-n.invariant.1 (subst (FileFrom c.args.text.now c.loop-n.at) c.in-Done.is c.next_file.ensures).left)
 
 pub returns-then-not-file_lies : goal.returns-then-not-file_lies
 returns-then-not-file_lies c =
     let w = subst (FileFrom c.args.text.now c.loop-n.at) c.in-File.is c.next_file.ensures in
-    loses c.args.text.now c.args.volume c.args.index_reach.now c.args.index_kept c.args.data_reach.now c.args.data_kept (File c.loop-n.k)
+    loses c.args.text.now c.args.volume c.args.index_reach.now c.args.index_kept c.args.data_reach.now c.args.data_kept (Some c.loop-n.k)
     (lost_stop (every (lies_in c.args.volume c.args.index_reach.now c.args.index_kept c.args.data_reach.now c.args.data_kept)) (first_failing (every (lies_in c.args.volume c.args.index_reach.now c.args.index_kept c.args.data_reach.now c.args.data_kept)) 0 (map extent_rows (files_left (left_at c.args.text.now 38)))) c.loop-n.k (files_left (left_at c.args.text.now c.loop-n.at)) c.loop-n.invariant.1 (children_at c.args.text.now c.in-File.n) (files_left (left_at c.args.text.now c.in-File.next)) w.left (sym c.file_lies.ensures ∙ c.if-not-file_lies.true))
 
 pub overflow_add-k : goal.overflow_add-k

@@ -1,5 +1,5 @@
 -- `cut_fits` meets its contract: each answer is one of its cases.
-use Rattle.volume.specs.Steps.{lost_file, Loses, apart, losing, fitting}
+use Rattle.volume.specs.Steps.{Loses, apart, losing, fitting}
 use mathlib.Core.List.{List}
 use Prim.Native.Nat.{ℕ}
 use mathlib.Core.Path.{refl, sym, ap, subst, ◌∙◌}
@@ -13,10 +13,10 @@ pub returns-in-File : goal.returns-in-File
 returns-in-File c =
     losing c.first_lost.result c.in-File.field-0 refl (sym c.joins.ensures ∙ c.if-not-joins.false)
     (subst (λ (x : List ℕ). Loses x c.args.volume c.args.index_reach.now c.args.here.end c.args.data_reach.now c.args.there.end c.first_lost.result) c.text_at.ensures c.first_lost.ensures)
-    (ap lost_file c.in-File.is)
+    (ap c.in-File.is)
 
 pub returns-in-Nothing : goal.returns-in-Nothing
 returns-in-Nothing c =
     fitting c.first_lost.result refl (sym c.joins.ensures ∙ c.if-not-joins.false)
     (subst (λ (x : List ℕ). Loses x c.args.volume c.args.index_reach.now c.args.here.end c.args.data_reach.now c.args.there.end c.first_lost.result) c.text_at.ensures c.first_lost.ensures)
-    (ap lost_file c.in-Nothing.is)
+    (ap c.in-Nothing.is)

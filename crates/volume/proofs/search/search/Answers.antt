@@ -10,11 +10,11 @@ use Rattle.volume.proofs.search.search.Goals as goal
 pub loop-k-init : goal.loop-k-init
 loop-k-init c = (omega arith, searches_start (given c.args.uuid.now c.args.volume) c.args.volume c.args.store.now c.args.index_table.now c.args.n c.args.data_table.now c.args.generations.now c.args.beginnings.now c.args.index_reach.now c.args.data_reach.now)
 
-pub returns-in-Fits : goal.returns-in-Fits
-returns-in-Fits c =
+pub returns-in-Some : goal.returns-in-Some
+returns-in-Some c =
     searches_found (given c.args.uuid.now c.args.volume) c.args.volume c.args.store.now c.args.index_table.now c.args.n c.args.data_table.now c.args.generations.now c.args.beginnings.now c.args.index_reach.now c.args.data_reach.now
-    c.loop-k.k c.loop-k.invariant.1 c.loop-k-test.true c.loop-k.invariant.0 c.in-Fits.cut
-    (subst (Tries (given c.args.uuid.now c.args.volume) c.args.volume c.args.store.now c.args.index_table.now (c.loop-k.k - 1) c.args.data_table.now c.args.generations.now c.args.beginnings.now c.args.index_reach.now c.args.data_reach.now) c.in-Fits.is c.try_cut.ensures)
+    c.loop-k.k c.loop-k.invariant.1 c.loop-k-test.true c.loop-k.invariant.0 c.in-Some.cut
+    (subst (Tries (given c.args.uuid.now c.args.volume) c.args.volume c.args.store.now c.args.index_table.now (c.loop-k.k - 1) c.args.data_table.now c.args.generations.now c.args.beginnings.now c.args.index_reach.now c.args.data_reach.now) c.in-Some.is c.try_cut.ensures)
 
 pub loop-k-smaller : goal.loop-k-smaller
 loop-k-smaller c = omega (arith, c.loop-k-test.true)
@@ -24,7 +24,7 @@ loop-k-preserved c = (
   omega (arith, c.loop-k.invariant.0),
   searches_on (given c.args.uuid.now c.args.volume) c.args.volume c.args.store.now c.args.index_table.now c.args.n c.args.data_table.now c.args.generations.now c.args.beginnings.now c.args.index_reach.now c.args.data_reach.now
       c.loop-k.k c.loop-k.invariant.1 c.loop-k-test.true c.loop-k.invariant.0
-      (subst (Tries (given c.args.uuid.now c.args.volume) c.args.volume c.args.store.now c.args.index_table.now (c.loop-k.k - 1) c.args.data_table.now c.args.generations.now c.args.beginnings.now c.args.index_reach.now c.args.data_reach.now) c.in-Fails.is c.try_cut.ensures),
+      (subst (Tries (given c.args.uuid.now c.args.volume) c.args.volume c.args.store.now c.args.index_table.now (c.loop-k.k - 1) c.args.data_table.now c.args.generations.now c.args.beginnings.now c.args.index_reach.now c.args.data_reach.now) c.in-None.is c.try_cut.ensures),
 )
 
 pub returns : goal.returns
