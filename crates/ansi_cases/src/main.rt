@@ -15,7 +15,7 @@ fn read(list: &[u8], store: &[u8], out: &mut [u8]) -> Answer {
     match ansi::files(list, store, out) {
         Ok(files) => Answer { refusal: 0, files },
         Err(r) => Answer {
-            refusal: refusals::number(r),
+            refusal: u64::from(r),
             files: 0,
         },
     }
@@ -61,7 +61,7 @@ fn place_case(list: &[u8], store: &[u8], file: &mut File) -> bool {
             }
             n == place
         }
-        Err(r) => refusals::number(r) == refusal,
+        Err(r) => u64::from(r) == refusal,
     }
 }
 

@@ -1,7 +1,6 @@
 // ANSI labelled tapes: their files, and where a tape leaves the layout.
 ghost use Rattle.api.specs.Tapes.{ReadsAnsi, PlacesAnsi};
 
-
 // The files of an ANSI labelled tape, 36 bytes each, at the front of buffer.
 #[unsafe(no_mangle)]
 pub extern "C" fn klapouzen_ansi(
@@ -19,7 +18,7 @@ pub extern "C" fn klapouzen_ansi(
         }
         Err(r) => {
             *count = 0;
-            refusals::number(r)
+            u64::from(r)
         }
     }
 }
@@ -36,7 +35,7 @@ pub extern "C" fn klapouzen_ansi_place(list: &[u8], store: &[u8], place: &mut u6
         }
         Err(r) => {
             *place = 0;
-            refusals::number(r)
+            u64::from(r)
         }
     }
 }

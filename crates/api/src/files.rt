@@ -20,7 +20,7 @@ pub extern "C" fn klapouzen_check_form(text: &[u8], front: &mut u64) -> u64
         }
         FormChecked::Broken(n) => {
             *front = n as u64;
-            refusals::number(Refusal::Form(Place {
+            u64::from(Refusal::Form(Place {
                 front: n,
                 on_data: false,
             }))
@@ -54,7 +54,7 @@ pub extern "C" fn klapouzen_byte_at(
         }
         ByteAt::Refused(r) => {
             *out = [0; 4];
-            refusals::number(r)
+            u64::from(r)
         }
     }
 }

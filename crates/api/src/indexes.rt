@@ -3,12 +3,12 @@ ghost use Rattle.std.specs.Prelude.{◌≡◌};
 ghost use Rattle.api.specs.Indexes.{ReadsIndexOut, ReadsFileOut, FillsRows, ReadsWholeOut, ReadsConstructOut};
 ghost use Rattle.api.specs.Steps.{header_numbers, construct_numbers, Counts};
 
-use refusals::Refusal;
 use crate::numbers::{flag, front};
 use constructs::Bounds;
 use index::Header;
 use index_values::Partitions;
 use quantities::BlockNumber;
+use refusals::Refusal;
 use volume::Chosen;
 
 // The last number is the place of the front.
@@ -63,7 +63,7 @@ pub extern "C" fn klapouzen_read_index(
         Err(r) => {
             *out = [0; 15];
             out[14] = front(r);
-            refusals::number(r)
+            u64::from(r)
         }
     }
 }
@@ -97,7 +97,7 @@ pub extern "C" fn klapouzen_read_file(
         Err(r) => {
             *out = [0; 5];
             out[4] = front(r);
-            refusals::number(r)
+            u64::from(r)
         }
     }
 }
@@ -115,7 +115,7 @@ fn counted(filled: Result<u64, Refusal>, count: &mut u64, place: &mut u64) -> u6
         Err(r) => {
             *count = 0;
             *place = front(r);
-            refusals::number(r)
+            u64::from(r)
         }
     }
 }
@@ -185,7 +185,7 @@ pub extern "C" fn klapouzen_read_whole(
         Err(r) => {
             *out = [0; 15];
             out[14] = front(r);
-            refusals::number(r)
+            u64::from(r)
         }
     }
 }
@@ -247,7 +247,7 @@ pub extern "C" fn klapouzen_index(
         Chosen::Refused(r) => {
             *out = [0; 19];
             out[18] = front(r);
-            refusals::number(r)
+            u64::from(r)
         }
     }
 }

@@ -47,7 +47,7 @@ pub extern "C" fn klapouzen_read_vol1(block: &[u8], out: &mut [u64; 4]) -> u64
         }
         Err(r) => {
             *out = [0; 4];
-            refusals::number(r)
+            u64::from(r)
         }
     }
 }
@@ -69,7 +69,7 @@ pub extern "C" fn klapouzen_write_vol1(
         }
         Err(r) => {
             *length = 0;
-            refusals::number(r)
+            u64::from(r)
         }
     }
 }
@@ -87,7 +87,7 @@ pub extern "C" fn klapouzen_read_label(text: &[u8], out: &mut [u64; 13]) -> u64
         Err(r) => {
             *out = [0; 13];
             out[12] = front(r);
-            refusals::number(r)
+            u64::from(r)
         }
     }
 }
@@ -111,7 +111,7 @@ pub extern "C" fn klapouzen_write_label(
 {
     if 1 < compression {
         *length = 0;
-        return refusals::number(Refusal::Caller);
+        return u64::from(Refusal::Caller);
     }
     let given = Given {
         location,
@@ -127,7 +127,7 @@ pub extern "C" fn klapouzen_write_label(
         }
         Err(r) => {
             *length = 0;
-            refusals::number(r)
+            u64::from(r)
         }
     }
 }
@@ -163,7 +163,7 @@ pub extern "C" fn klapouzen_check_labels(
             *out = [0; 14];
             out[12] = front(r);
             out[13] = side(r);
-            refusals::number(r)
+            u64::from(r)
         }
     }
 }

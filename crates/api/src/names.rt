@@ -2,7 +2,6 @@
 ghost use Rattle.api.specs.Outputs.{Shown, one};
 ghost use Rattle.api.specs.Names.{DecodesOut, WritesPathOut};
 
-
 // How many bytes were written; 0 where refused.
 fn told(wrote: Result<usize, Refusal>, count: &mut u64) -> u64
     ensures { Shown 1 one wrote result (one count.new) }
@@ -14,7 +13,7 @@ fn told(wrote: Result<usize, Refusal>, count: &mut u64) -> u64
         }
         Err(r) => {
             *count = 0;
-            refusals::number(r)
+            u64::from(r)
         }
     }
 }

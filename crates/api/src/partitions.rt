@@ -19,7 +19,7 @@ pub extern "C" fn klapouzen_check_list(list: &[u8], store: &[u8], count: &mut u6
         }
         Err(r) => {
             *count = 0;
-            refusals::number(r)
+            u64::from(r)
         }
     }
 }
@@ -36,7 +36,7 @@ pub extern "C" fn klapouzen_keep(list: &[u8], store: &[u8], n: u64, out: &mut [u
         }
         Kept::Refused(r) => {
             *out = [0; 2];
-            refusals::number(r)
+            u64::from(r)
         }
     }
 }
@@ -77,7 +77,7 @@ pub extern "C" fn klapouzen_block(
         }
         Located::Refused(r) => {
             *out = [0; 3];
-            refusals::number(r)
+            u64::from(r)
         }
     }
 }
@@ -96,7 +96,7 @@ pub extern "C" fn klapouzen_constructs(
 {
     if !quantities::is_block_size(block_size) {
         *count = 0;
-        return refusals::number(Refusal::Caller);
+        return u64::from(Refusal::Caller);
     }
     match constructs::scan(list, store, block_size as usize, table) {
         Ok(n) => {
@@ -105,7 +105,7 @@ pub extern "C" fn klapouzen_constructs(
         }
         Err(r) => {
             *count = 0;
-            refusals::number(r)
+            u64::from(r)
         }
     }
 }

@@ -29,7 +29,7 @@ pub extern "C" fn klapouzen_verdict(
             *out = [0; 4];
             out[2] = front(r);
             out[3] = side(r);
-            refusals::number(r)
+            u64::from(r)
         }
     }
 }
@@ -63,7 +63,7 @@ pub extern "C" fn klapouzen_rescue(
             *out = [0; 7];
             out[5] = front(r);
             out[6] = side(r);
-            refusals::number(r)
+            u64::from(r)
         }
     }
 }

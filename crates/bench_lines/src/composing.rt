@@ -24,7 +24,7 @@ pub fn add_refusal(out: &mut [u8], from: usize, refusal: Refusal) -> usize
     ensures { AddsAtMost 29 out.old from (refused_line refusal) out.new result }
 {
     let mut at = add(out, from, b"refused ");
-    at = add_number(out, at, refusals::number(refusal));
+    at = add_number(out, at, u64::from(refusal));
     add(out, at, b"\n")
 }
 
@@ -58,7 +58,12 @@ fn add_rescue(out: &mut [u8], from: usize, rescue: Result<FoundCut, Refusal>) ->
 }
 
 // Adds both lines, or the one of a refusal.
-pub fn add_lines(out: &mut [u8], from: usize, verdict: Verdict, rescue: Result<FoundCut, Refusal>) -> usize
+pub fn add_lines(
+    out: &mut [u8],
+    from: usize,
+    verdict: Verdict,
+    rescue: Result<FoundCut, Refusal>,
+) -> usize
     ensures { AddsAtMost 181 out.old from (lines_of (judged verdict) (rescued rescue)) out.new result }
 {
     match verdict {

@@ -70,7 +70,7 @@ fn print(rt: &impl Print, answer: ByteAt) -> io::Result<()> {
         }
         ByteAt::Refused(r) => {
             rt.write_all(b"refused ")?;
-            print_number(rt, refusals::number(r))?;
+            print_number(rt, u64::from(r))?;
         }
     }
     rt.write_all(b"\n")

@@ -4,12 +4,12 @@
 ghost use Rattle.std.specs.Prelude.{◌≡◌, ◌≤◌, length};
 ghost use Rattle.case_files.specs.Counts.{IsPrefixLen};
 
-use refusals::Refusal;
 use constructs::Bounds;
 use elements::Span;
 use index::Header;
 use index_values::Partitions;
 use quantities::BlockNumber;
+use refusals::Refusal;
 use std::fs::File;
 use std::io;
 use volume::Chosen;
@@ -95,7 +95,7 @@ fn header_as(file: &mut File, text: &[u8], h: Header) -> bool {
 
 fn read_as(file: &mut File, text: &[u8], read: Result<Header, Refusal>, refusal: u64) -> bool {
     match read {
-        Err(r) => refusals::number(r) == refusal,
+        Err(r) => u64::from(r) == refusal,
         Ok(h) => {
             if refusal != 0 {
                 return false;
@@ -157,7 +157,7 @@ fn rows_as(
 
 fn count_as(read: Result<u64, Refusal>, refusal: u64, count: u64) -> bool {
     match read {
-        Err(r) => refusals::number(r) == refusal,
+        Err(r) => u64::from(r) == refusal,
         Ok(n) => {
             if refusal != 0 {
                 return false;
@@ -208,7 +208,7 @@ fn file_as(
     let count = case_files::number(file);
     match index_files::file(text, uuid, volume, letter, BlockNumber(block), k) {
         Err(r) => {
-            if refusals::number(r) != refusal {
+            if u64::from(r) != refusal {
                 return false;
             }
         }
@@ -261,7 +261,7 @@ fn length_as(read: Result<FileHead, Refusal>, refusal: u64, bytes: u64) -> bool 
             }
             h.length.0 == bytes
         }
-        Err(r) => refusals::number(r) == refusal,
+        Err(r) => u64::from(r) == refusal,
     }
 }
 
@@ -353,7 +353,7 @@ fn construct_as(file: &mut File, store: &[u8], place: Bounds, h: Header) -> bool
 
 fn chosen_as(file: &mut File, store: &[u8], chosen: Chosen, refusal: u64) -> bool {
     match chosen {
-        Chosen::Refused(r) => refusals::number(r) == refusal,
+        Chosen::Refused(r) => u64::from(r) == refusal,
         Chosen::Found(place, h) => {
             if refusal != 0 {
                 return false;
@@ -454,7 +454,7 @@ fn refused_as(text: &[u8], refusal: u64) -> bool {
     let uuid = b"30a91a08-daae-48d1-ae75-69804e61d2ea";
     match index::read_index(text, uuid, volume, 97, BlockNumber(6)) {
         Ok(_) => false,
-        Err(r) => refusals::number(r) == refusal,
+        Err(r) => u64::from(r) == refusal,
     }
 }
 

@@ -81,7 +81,7 @@ fn says(text: &[u8], release: u64, creator: &[u8], time: &[u8], uuid: &[u8], g: 
 fn is_refused(text: &[u8], refusal: u64) -> bool {
     match label::read(text) {
         Ok(_) => false,
-        Err(r) => refusals::number(r) == refusal,
+        Err(r) => u64::from(r) == refusal,
     }
 }
 
@@ -160,7 +160,7 @@ fn written_as(
             }
         }
         Err(r) => {
-            if refusals::number(r) != refusal {
+            if u64::from(r) != refusal {
                 return false;
             }
         }

@@ -9,7 +9,7 @@ pub fn read_case(file: &mut File) -> bool {
     let refusal = case_files::number(file);
     match vol1::read_vol1(&block[..n]) {
         Ok(()) => refusal == 0,
-        Err(r) => refusals::number(r) == refusal,
+        Err(r) => u64::from(r) == refusal,
     }
 }
 
@@ -25,7 +25,7 @@ fn written_as(out: &mut [u8], identifier: &[u8], owner: &[u8], refusal: u64, aft
             }
         }
         Err(r) => {
-            if refusals::number(r) != refusal {
+            if u64::from(r) != refusal {
                 return false;
             }
         }

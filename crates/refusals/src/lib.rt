@@ -5,7 +5,7 @@ ghost use Rattle.std.specs.Prelude.{◌≡◌};
 ghost use Rattle.refusals.specs.Refusals.{number_of, place_of, on_data_side};
 
 // Where a text leaves the XML form (02, Item 6).
-#[derive(Clone, Copy)]
+#[derive(Clone, Copy, PartialEq, Eq, Debug)]
 pub struct Place {
     // How long the longest front of it is that some text in the form begins with.
     pub front: usize,
@@ -13,7 +13,7 @@ pub struct Place {
     pub on_data: bool,
 }
 
-#[derive(Clone, Copy)]
+#[derive(Clone, Copy, PartialEq, Eq, Debug)]
 pub enum Refusal {
     // The block list or its store.
     List,
@@ -56,29 +56,31 @@ pub enum Refusal {
 }
 
 // The number of a refusal in document 01's table, and from 16 on in 02.
-pub fn number(refusal: Refusal) -> u64
-    ensures { result ≡ number_of refusal }
-{
-    match refusal {
-        Refusal::List => 1,
-        Refusal::Missing => 2,
-        Refusal::Vol1 => 3,
-        Refusal::Form(_) => 4,
-        Refusal::Structure => 5,
-        Refusal::Value => 6,
-        Refusal::Version => 7,
-        Refusal::Foreign => 8,
-        Refusal::Layout => 9,
-        Refusal::Short => 10,
-        Refusal::Extents => 11,
-        Refusal::Location => 12,
-        Refusal::NoCut => 13,
-        Refusal::Caller => 14,
-        Refusal::TooMany => 15,
-        Refusal::Labels => 16,
-        Refusal::EndOfVolume => 17,
-        Refusal::BlockCount => 18,
-        Refusal::Unreadable => 19,
+impl From<Refusal> for u64 {
+    ghost from_gives = { λ r n. n ≡ number_of r };
+
+    fn from(refusal: Refusal) -> u64 {
+        match refusal {
+            Refusal::List => 1,
+            Refusal::Missing => 2,
+            Refusal::Vol1 => 3,
+            Refusal::Form(_) => 4,
+            Refusal::Structure => 5,
+            Refusal::Value => 6,
+            Refusal::Version => 7,
+            Refusal::Foreign => 8,
+            Refusal::Layout => 9,
+            Refusal::Short => 10,
+            Refusal::Extents => 11,
+            Refusal::Location => 12,
+            Refusal::NoCut => 13,
+            Refusal::Caller => 14,
+            Refusal::TooMany => 15,
+            Refusal::Labels => 16,
+            Refusal::EndOfVolume => 17,
+            Refusal::BlockCount => 18,
+            Refusal::Unreadable => 19,
+        }
     }
 }
 

@@ -216,7 +216,7 @@ pub fn kept_list<'a>(list: &'a [u8], store: &[u8], n: usize, refusal: &mut u64) 
             &list[..l]
         }
         Kept::Refused(r) => {
-            *refusal = refusals::number(r);
+            *refusal = u64::from(r);
             &list[..0]
         }
     }
@@ -232,7 +232,7 @@ pub fn kept_store<'a>(list: &[u8], store: &'a [u8], n: usize, refusal: &mut u64)
             &store[..s]
         }
         Kept::Refused(r) => {
-            *refusal = refusals::number(r);
+            *refusal = u64::from(r);
             &store[..0]
         }
     }
@@ -375,7 +375,7 @@ pub fn block<'a>(
             &data_store[from..end]
         }
         Located::Refused(r) => {
-            *refusal = refusals::number(r);
+            *refusal = u64::from(r);
             &index_store[..0]
         }
     }

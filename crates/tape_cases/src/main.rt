@@ -20,7 +20,7 @@ fn check_case(file: &mut File) -> bool {
             }
             n == elements
         }
-        Err(r) => refusals::number(r) == refusal,
+        Err(r) => u64::from(r) == refusal,
     }
 }
 
@@ -129,7 +129,7 @@ fn lengths_as(list: &[u8], store: &[u8], n: usize, refusal: u64, a: usize, b: us
             }
             y == b
         }
-        tape::Kept::Refused(r) => refusals::number(r) == refusal,
+        tape::Kept::Refused(r) => u64::from(r) == refusal,
     }
 }
 

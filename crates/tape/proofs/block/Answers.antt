@@ -49,4 +49,4 @@ returns-in-Data c =
 pub returns-in-Refused : goal.returns-in-Refused
 returns-in-Refused c =
     let a = c.args in
-    rw (found a.index_letter a.data_letter a.letter a.number.0 a.index_list.now a.index_store.now a.data_list.now a.data_store.now _ _ c.in-Refused.is c.find_block.ensures).bytes record { part = refl; refusal = c.number.ensures }
+    rw (found a.index_letter a.data_letter a.letter a.number.0 a.index_list.now a.index_store.now a.data_list.now a.data_store.now _ _ c.in-Refused.is c.find_block.ensures).bytes record { part = refl; refusal = c.from.ensures }

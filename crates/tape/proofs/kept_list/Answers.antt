@@ -14,4 +14,4 @@ returns-in-Lengths c = (parts (keeps_as c.keep.ensures c.in-Lengths.is)).list
 
 pub returns-in-Refused : goal.returns-in-Refused
 returns-in-Refused c =
-    rw (keeps_as c.keep.ensures c.in-Refused.is).bytes record { part = refl; refusal = c.number.ensures }
+    rw (keeps_as c.keep.ensures c.in-Refused.is).bytes record { part = refl; refusal = c.from.ensures }

@@ -22,7 +22,7 @@ pub returns-in-Refused : goal.returns-in-Refused
 returns-in-Refused c =
     let a = c.args in
     record {
-      answers = shown_counted (files_on (length a.buffer.now) a.list.now a.store.now) (not_shown c.in-Refused.r (ap (sym c.in-Refused.is) ∙ c.files.ensures.answers) c.number.ensures);
+      answers = shown_counted (files_on (length a.buffer.now) a.list.now a.store.now) (not_shown c.in-Refused.r (ap (sym c.in-Refused.is) ∙ c.files.ensures.answers) c.from.ensures);
       holds = c.files.ensures.holds;
       layout = by_layout (length a.buffer.now) a.list.now a.store.now (λ i. (c.type_inv.list i).fits);
       few = omega arith;

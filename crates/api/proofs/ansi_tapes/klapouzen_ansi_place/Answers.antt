@@ -18,6 +18,6 @@ returns-in-Refused c =
     let a = c.args in
     let e = ap (sym c.in-Refused.is) ∙ c.place.ensures in
     record {
-      answers = not_shown c.in-Refused.r e c.number.ensures;
+      answers = not_shown c.in-Refused.r e c.from.ensures;
       longest = λ t q. place_none a.list.now a.store.now c.in-Refused.r e t q 0;
     }

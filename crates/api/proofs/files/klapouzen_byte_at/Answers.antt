@@ -11,4 +11,4 @@ pub returns-in-Unstored : goal.returns-in-Unstored
 returns-in-Unstored c = shown _ (ap byte_answered (sym c.in-Unstored.is) ∙ c.byte_at.ensures)
 
 pub returns-in-Refused : goal.returns-in-Refused
-returns-in-Refused c = not_shown c.in-Refused.r (ap byte_answered (sym c.in-Refused.is) ∙ c.byte_at.ensures) c.number.ensures
+returns-in-Refused c = not_shown c.in-Refused.r (ap byte_answered (sym c.in-Refused.is) ∙ c.byte_at.ensures) c.from.ensures

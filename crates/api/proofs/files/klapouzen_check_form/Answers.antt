@@ -18,5 +18,5 @@ returns-in-Good c =
 pub returns-in-Broken : goal.returns-in-Broken
 returns-in-Broken c =
     let e = checked_broken c.args.text.now _ (sym c.in-Broken.is ∙ c.check.ensures) in
-    let number : ◌≡◌ c.number.result (shown_number (require_form c.args.text.now (Ok c.args.text.now))) = rw e.0 c.number.ensures in
-    record { refusal = number; place = refused_front {a = require_form c.args.text.now (Ok c.args.text.now)} (Form (left_at (front c.args.text.now))) (of_form c.args.text.now _ (refuses_answer (OfText c.args.text.now) _)) (rw e.0) c.number.ensures e.1 }
+    let number : ◌≡◌ c.from.result (shown_number (require_form c.args.text.now (Ok c.args.text.now))) = rw e.0 c.from.ensures in
+    record { refusal = number; place = refused_front {a = require_form c.args.text.now (Ok c.args.text.now)} (Form (left_at (front c.args.text.now))) (of_form c.args.text.now _ (refuses_answer (OfText c.args.text.now) _)) (rw e.0) c.from.ensures e.1 }

@@ -10,4 +10,4 @@ pub returns-in-Ok : goal.returns-in-Ok
 returns-in-Ok c = record { shows = shown _ (ap (sym c.in-Ok.is)); place = rw c.in-Ok.is }
 
 pub returns-in-Err : goal.returns-in-Err
-returns-in-Err c = record { shows = not_shown c.in-Err.r (ap (sym c.in-Err.is)) c.number.ensures; place = c.front.ensures ∙ ap (λ (x : Result ℕ Refusal). (shown_place x).front) (sym c.in-Err.is) }
+returns-in-Err c = record { shows = not_shown c.in-Err.r (ap (sym c.in-Err.is)) c.from.ensures; place = c.front.ensures ∙ ap (λ (x : Result ℕ Refusal). (shown_place x).front) (sym c.in-Err.is) }

@@ -13,4 +13,4 @@ returns-in-Found c = with_answer (says_construct c.args.store.now _ c.in-Found.p
 pub returns-in-Refused : goal.returns-in-Refused
 returns-in-Refused c =
     let e = ap (chosen_by c.args.store.now) (sym c.in-Refused.is) ∙ c.read_construct.ensures.answers in
-    with_refusal c.in-Refused.r (chosen_front _ c.args.letter c.args.number c.args.list.now c.args.store.now) e c.number.ensures c.front.ensures (not_told c.in-Refused.r e c.number.ensures)
+    with_refusal c.in-Refused.r (chosen_front _ c.args.letter c.args.number c.args.list.now c.args.store.now) e c.from.ensures c.front.ensures (not_told c.in-Refused.r e c.from.ensures)

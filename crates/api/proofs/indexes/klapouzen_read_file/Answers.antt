@@ -15,4 +15,4 @@ returns-in-Found c = with_answer (says_file c.args.text.now _ _ c.in-Found.h (su
 pub returns-in-Refused : goal.returns-in-Refused
 returns-in-Refused c =
     let e = mapped_refused shown _ _ (ap (file_answered c.args.text.now) (sym c.in-Refused.is) ∙ c.file.ensures.says) in
-    with_refusal c.in-Refused.r (file_front c.args.text.now _ (index_front c.args.text.now _ c.args.letter c.args.block) c.args.file) e c.number.ensures c.front.ensures (not_told c.in-Refused.r e c.number.ensures)
+    with_refusal c.in-Refused.r (file_front c.args.text.now _ (index_front c.args.text.now _ c.args.letter c.args.block) c.args.file) e c.from.ensures c.front.ensures (not_told c.in-Refused.r e c.from.ensures)

@@ -15,4 +15,4 @@ returns-in-Found c = with_answer (says_index c.args.text.now _ c.in-Found.h (sub
 pub returns-in-Refused : goal.returns-in-Refused
 returns-in-Refused c =
     let e = mapped_refused summary _ _ (ap (means c.args.text.now) (sym c.in-Refused.is) ∙ c.read_index.ensures.answers) in
-    with_refusal c.in-Refused.r (index_front c.args.text.now _ c.args.letter c.args.block) e c.number.ensures c.front.ensures (not_told c.in-Refused.r e c.number.ensures)
+    with_refusal c.in-Refused.r (index_front c.args.text.now _ c.args.letter c.args.block) e c.from.ensures c.front.ensures (not_told c.in-Refused.r e c.from.ensures)

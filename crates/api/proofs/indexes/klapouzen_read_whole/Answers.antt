@@ -28,6 +28,6 @@ returns-in-Refused c =
     let s = c.args.text.now in
     let e = mapped_refused summary _ _ (ap (means s) (sym c.in-Refused.is) ∙ c.read_whole.ensures.reads.answers) in
     record {
-      numbers = record { answers = not_told c.in-Refused.r e c.number.ensures; stored = c.read_whole.ensures.holds };
-      front = refused_front c.in-Refused.r (whole_front s _ (index_front s _ c.args.letter c.args.block) (length c.args.entries.now) (length c.args.rows.now)) e c.number.ensures c.front.ensures;
+      numbers = record { answers = not_told c.in-Refused.r e c.from.ensures; stored = c.read_whole.ensures.holds };
+      front = refused_front c.in-Refused.r (whole_front s _ (index_front s _ c.args.letter c.args.block) (length c.args.entries.now) (length c.args.rows.now)) e c.from.ensures c.front.ensures;
     }

@@ -14,4 +14,4 @@ returns-in-Says c = record { numbers = told _ (ap (means c.args.index_store.now)
 pub returns-in-Refused : goal.returns-in-Refused
 returns-in-Refused c =
     let e = ap (means c.args.index_store.now) (sym c.in-Refused.is) ∙ c.check.ensures.says in
-    record { numbers = not_told c.in-Refused.r e c.number.ensures; side = refused_side c.in-Refused.r (labels_front c.args.index_list.now c.args.index_store.now c.args.data_list.now c.args.data_store.now) e c.number.ensures c.front.ensures c.side.ensures }
+    record { numbers = not_told c.in-Refused.r e c.from.ensures; side = refused_side c.in-Refused.r (labels_front c.args.index_list.now c.args.index_store.now c.args.data_list.now c.args.data_store.now) e c.from.ensures c.front.ensures c.side.ensures }

@@ -14,4 +14,4 @@ returns-in-Says c = with_answer (told _ (ap (means c.args.text.now) (sym c.in-Sa
 pub returns-in-Refused : goal.returns-in-Refused
 returns-in-Refused c =
     let e = ap (means c.args.text.now) (sym c.in-Refused.is) ∙ c.read.ensures.says in
-    with_refusal c.in-Refused.r (label_front c.args.text.now) e c.number.ensures c.front.ensures (not_told c.in-Refused.r e c.number.ensures)
+    with_refusal c.in-Refused.r (label_front c.args.text.now) e c.from.ensures c.front.ensures (not_told c.in-Refused.r e c.from.ensures)

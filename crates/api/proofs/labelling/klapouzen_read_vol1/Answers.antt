@@ -8,4 +8,4 @@ pub returns-in-Good : goal.returns-in-Good
 returns-in-Good c = shown _ (ap (means_vol1 c.args.block.now) (sym c.in-Good.is) ∙ c.read_vol1.ensures)
 
 pub returns-in-Refused : goal.returns-in-Refused
-returns-in-Refused c = not_shown c.in-Refused.r (ap (means_vol1 c.args.block.now) (sym c.in-Refused.is) ∙ c.read_vol1.ensures) c.number.ensures
+returns-in-Refused c = not_shown c.in-Refused.r (ap (means_vol1 c.args.block.now) (sym c.in-Refused.is) ∙ c.read_vol1.ensures) c.from.ensures

@@ -9,4 +9,4 @@ pub returns-in-To : goal.returns-in-To
 returns-in-To c = vol1_stored (wrote _ _ _ _ c.in-To.n (subst (Writes _ _ _ _) c.in-To.is c.write_vol1.ensures))
 
 pub returns-in-Refused : goal.returns-in-Refused
-returns-in-Refused c = vol1_stored (unwritten _ _ _ _ c.in-Refused.r c.number.ensures (subst (Writes _ _ _ _) c.in-Refused.is c.write_vol1.ensures))
+returns-in-Refused c = vol1_stored (unwritten _ _ _ _ c.in-Refused.r c.from.ensures (subst (Writes _ _ _ _) c.in-Refused.is c.write_vol1.ensures))

@@ -22,6 +22,6 @@ returns-in-Data c = record { shown = shown _ (ap located (sym c.in-Data.is) ∙ 
 pub returns-in-Refused : goal.returns-in-Refused
 returns-in-Refused c =
     record {
-      shown = not_shown c.in-Refused.r (ap located (sym c.in-Refused.is) ∙ c.find_block.ensures.place) c.number.ensures;
+      shown = not_shown c.in-Refused.r (ap located (sym c.in-Refused.is) ∙ c.find_block.ensures.place) c.from.ensures;
       holds = held c.args.index_letter c.args.data_letter c.args.letter c.args.number c.args.index_list.now c.args.index_store.now c.args.data_list.now c.args.data_store.now c.find_block.ensures;
     }

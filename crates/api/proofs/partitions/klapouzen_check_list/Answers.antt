@@ -7,4 +7,4 @@ pub returns-in-Elements : goal.returns-in-Elements
 returns-in-Elements c = shown c.in-Elements.n (ap (sym c.in-Elements.is) ∙ c.check.ensures)
 
 pub returns-in-Refused : goal.returns-in-Refused
-returns-in-Refused c = not_shown c.in-Refused.r (ap (sym c.in-Refused.is) ∙ c.check.ensures) c.number.ensures
+returns-in-Refused c = not_shown c.in-Refused.r (ap (sym c.in-Refused.is) ∙ c.check.ensures) c.from.ensures

@@ -9,7 +9,7 @@ pub returns-then-not-is_block_size : goal.returns-then-not-is_block_size
 returns-then-not-is_block_size c =
     let a = c.args in
     let e = sym c.is_block_size.ensures ∙ c.if-not-is_block_size.true in
-    record { answers = not_shown Caller (unsized_count a.block_size a.list.now a.store.now e) c.number.ensures; table = unsized_table a.block_size a.list.now a.store.now a.table.now e }
+    record { answers = not_shown Caller (unsized_count a.block_size a.list.now a.store.now e) c.from.ensures; table = unsized_table a.block_size a.list.now a.store.now a.table.now e }
 
 pub returns-in-Constructs : goal.returns-in-Constructs
 returns-in-Constructs c =

@@ -8,4 +8,4 @@ returns-in-Lengths c = kept_shown (keeps_as c.keep.ensures c.in-Lengths.is)
 
 pub returns-in-Refused : goal.returns-in-Refused
 returns-in-Refused c =
-    kept_refused c.in-Refused.r (keeps_as c.keep.ensures c.in-Refused.is) c.number.ensures
+    kept_refused c.in-Refused.r (keeps_as c.keep.ensures c.in-Refused.is) c.from.ensures

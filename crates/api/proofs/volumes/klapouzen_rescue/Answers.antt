@@ -13,4 +13,4 @@ returns-in-Cut c = record { numbers = record { rescue = Ok c.in-Cut.k; rescues =
 pub returns-in-Refused : goal.returns-in-Refused
 returns-in-Refused c =
     let e = subst (Rescues c.args.index_list.now c.args.index_store.now c.args.data_list.now c.args.data_store.now) c.in-Refused.is c.find_cut.ensures in
-    record { numbers = record { rescue = Err c.in-Refused.r; rescues = e; shows = not_shown c.in-Refused.r refl c.number.ensures }; side = refused_side c.in-Refused.r (rescue_front c.args.index_list.now c.args.index_store.now c.args.data_list.now c.args.data_store.now) e.answers c.number.ensures c.front.ensures c.side.ensures }
+    record { numbers = record { rescue = Err c.in-Refused.r; rescues = e; shows = not_shown c.in-Refused.r refl c.from.ensures }; side = refused_side c.in-Refused.r (rescue_front c.args.index_list.now c.args.index_store.now c.args.data_list.now c.args.data_store.now) e.answers c.from.ensures c.front.ensures c.side.ensures }

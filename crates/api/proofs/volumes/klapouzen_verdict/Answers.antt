@@ -16,4 +16,4 @@ returns-in-Break c = record { numbers = judges_out (shown _ (ap judged (sym c.in
 pub returns-in-Refused : goal.returns-in-Refused
 returns-in-Refused c =
     let e = ap judged (sym c.in-Refused.is) ∙ c.find_break.ensures.answers in
-    record { numbers = judges_out (not_shown c.in-Refused.r e c.number.ensures); side = refused_side c.in-Refused.r (verdict_front c.args.index_list.now c.args.index_store.now c.args.data_list.now c.args.data_store.now) e c.number.ensures c.front.ensures c.side.ensures }
+    record { numbers = judges_out (not_shown c.in-Refused.r e c.from.ensures); side = refused_side c.in-Refused.r (verdict_front c.args.index_list.now c.args.index_store.now c.args.data_list.now c.args.data_store.now) e c.from.ensures c.front.ensures c.side.ensures }
