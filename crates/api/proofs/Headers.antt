@@ -1,19 +1,18 @@
 -- An index's header and a file in numbers say what was read; so does a buffer that was filled.
 use Rattle.refusals.specs.declared.Refusal.{Refusal}
-use Rattle.std.specs.Prelude.{None, Ok, Result, Some, Err}
+use Rattle.std.specs.Prelude.{None, Ok, Option, Result, Some, Err}
 use mathlib.Core.Path.{◌≡◌, refl, subst, sym, ap, ◌∙◌}
-use mathlib.Core.Bool.{Bool, true, false, cond}
 use mathlib.Core.List.{List, [], ◌∷◌}
 use Prim.Native.Nat.{ℕ, ◌-◌, min}
 use native.Mathlib.Omega.{arith}
-use lib.ListN.{length, take, drop, length-take, length-drop}
+use lib.ListN.{length, take, drop, get_or, length-take, length-drop}
 use Rattle.refusals.specs.Refusals.{Answer}
-use Rattle.quantities.specs.Addresses.{Address}
 use Rattle.constructs.specs.declared.Bounds.{Bounds}
 use Rattle.index.specs.Index.{Index, File, Summary, summary}
 use Rattle.index.specs.Places.{update_time_place}
-use Rattle.index.specs.Steps.{summary_in, Definite, ReadsIndex}
+use Rattle.index.specs.Steps.{back_of, summary_in, Definite, ReadsIndex}
 use Rattle.index.specs.declared.read.Header.{Header}
+use Rattle.index.specs.declared.read.Location.{Location}
 use Rattle.index_files.specs.AskedSteps.{FileShown as Head, shown as head_of, ReadsFile}
 use Rattle.index_files.specs.Filling.{SaysFile}
 use Rattle.index_files.specs.FillingSteps.{count_of, FillsBuffer}
@@ -33,10 +32,9 @@ use Rattle.api.specs.Steps.{header_numbers, construct_numbers, Counts}
 use Rattle.api.proofs.Fronts.{no_front, refused_front}
 use Rattle.api.proofs.Showing.{told as tells}
 
-back_numbers_lem : (b : Bool) (l k : ℕ) → (b ≡ false → ◌≡◌ {A = Address} (record { letter = l; block = k }) (record { letter = 0; block = 0 }))
-    → bit b ∷ l ∷ k ∷ [] ≡ back_numbers (cond b (Some (record { letter = l; block = k })) None)
-back_numbers_lem true l k z = refl
-back_numbers_lem false l k z = ap (λ (p : Address). 0 ∷ p.letter ∷ p.block ∷ []) (z refl)
+back_numbers_lem : (b : Option Location) → get_or (back_numbers (back_of b)) 0 0 ∷ get_or (back_numbers (back_of b)) 1 0 ∷ get_or (back_numbers (back_of b)) 2 0 ∷ [] ≡ back_numbers (back_of b)
+back_numbers_lem None = refl
+back_numbers_lem (Some l) = refl
 
 says_header : (s : List ℕ) (h : Header) → Definite s (update_time_place s) h → SaysHeader s (summary_in s h) (take 14 (header_numbers h))
 says_header s h d =
@@ -47,7 +45,7 @@ says_header s h d =
       place = d.time;
       letter = refl;
       block = refl;
-      back = back_numbers_lem h.back h.back_letter h.back_block.0 d.no_back;
+      back = back_numbers_lem h.back;
       allowpolicyupdate = refl;
       highestfileuid = refl;
       directories = refl;

@@ -1,16 +1,19 @@
 -- What a reader hands out, in the numbers that C is told.
-use Rattle.std.specs.Prelude.{◌≡◌, List, [], ◌∷◌, ℕ, ◌-◌}
+use Rattle.std.specs.Prelude.{◌≡◌, List, [], ◌∷◌, ℕ, ◌-◌, get_or}
+use Rattle.index.specs.Steps.{back_of}
 use Rattle.index.specs.declared.read.Header.{Header}
 use Rattle.constructs.specs.declared.Bounds.{Bounds}
 use Rattle.refusals.specs.Refusals.{Answer, shown_place}
 use Rattle.api.specs.Outputs.{bit, Shown, one}
+use Rattle.api.specs.Indexes.{back_numbers}
 use Rattle.label.specs.declared.reader.LabelFields.{LabelFields}
 
 -- a header that a reader read, in numbers, and 0 in the place of the front
 abbrev pub header_numbers : Header → List ℕ
 header_numbers h =
-    h.release ∷ h.generation.0 ∷ h.time.from ∷ h.time.len ∷ h.letter ∷ h.block.0
-    ∷ bit h.back ∷ h.back_letter ∷ h.back_block.0
+    let back = back_numbers (back_of h.back) in
+    h.release ∷ h.generation.0 ∷ h.time.from ∷ h.time.len ∷ h.location.letter ∷ h.location.block.0
+    ∷ get_or back 0 0 ∷ get_or back 1 0 ∷ get_or back 2 0
     ∷ bit h.allow ∷ h.highest ∷ h.directories ∷ h.files ∷ h.rows ∷ 0 ∷ []
 
 -- that of a construct that was found in a store, with its place

@@ -1,30 +1,42 @@
 // Indexes: an index's text read, its files, and their rows.
 ghost use Rattle.std.specs.Prelude.{◌≡◌};
-ghost use Rattle.api.specs.Indexes.{ReadsIndexOut, ReadsFileOut, FillsRows, ReadsWholeOut, ReadsConstructOut};
+ghost use Rattle.index.specs.Steps.{back_of};
+ghost use Rattle.api.specs.Indexes.{back_numbers, ReadsIndexOut, ReadsFileOut, FillsRows, ReadsWholeOut, ReadsConstructOut};
 ghost use Rattle.api.specs.Steps.{header_numbers, construct_numbers, Counts};
 
 use crate::numbers::{flag, front};
 use constructs::Bounds;
-use index::Header;
+use index::{Header, Location};
 use index_values::Partitions;
 use quantities::BlockNumber;
 use refusals::Refusal;
 use volume::Chosen;
 
+// Whether there is a back pointer, its letter and its block; zeros where there is none.
+fn in_back_numbers(back: Option<Location>) -> [u64; 3]
+    ensures { result ≡ back_numbers (back_of back) }
+{
+    match back {
+        None => [0; 3],
+        Some(place) => [1, u64::from(place.letter), place.block.0],
+    }
+}
+
 // The last number is the place of the front.
 fn in_numbers(h: Header) -> [u64; 15]
     ensures { result ≡ header_numbers h }
 {
+    let back = in_back_numbers(h.back);
     [
         h.release,
         h.generation.0,
         h.time.from as u64,
         h.time.len as u64,
-        h.letter as u64,
-        h.block.0,
-        flag(h.back),
-        h.back_letter as u64,
-        h.back_block.0,
+        u64::from(h.location.letter),
+        h.location.block.0,
+        back[0],
+        back[1],
+        back[2],
         flag(h.allow),
         h.highest,
         h.directories,

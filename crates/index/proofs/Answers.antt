@@ -1,5 +1,5 @@
 -- The order of the classes, class by class, and the header that is handed out.
-use Rattle.std.specs.Prelude.{Err, None, Ok, Result, Some}
+use Rattle.std.specs.Prelude.{Err, None, Ok, Option, Result, Some}
 use mathlib.Core.Path.{◌≡◌, refl, ap, sym, subst, ◌∙◌}
 use mathlib.Core.Bool.{Bool, true, false, cond, ◌||◌, and-true}
 use mathlib.Core.List.{List, [], ◌∷◌}
@@ -22,16 +22,15 @@ use Rattle.elements.specs.TagSteps.{NextTag}
 use Rattle.elements.specs.declared.tags.Tag.TheVariants.{Open, Empty}
 use Rattle.elements.proofs.Rows.{first_empty}
 use Rattle.children.specs.Children.{children_of_first}
-use Rattle.elements.specs.Reading.{forest_at, has_element}
+use Rattle.elements.specs.Reading.{forest_at}
 use Rattle.values.specs.Values as values
 use Rattle.index_names.specs.Sorts.{index, file}
-use Rattle.index_values.specs.Elements.{IndexElement, elements, text_in, children_in}
+use Rattle.index_values.specs.Elements.{IndexElement, elements, text_in}
 use Rattle.index_values.specs.Entries.{number_or_zero, many, entries_of}
 use Rattle.index_values.specs.Tests.{Given}
-use Rattle.index_values.proofs.Seated.{no_number}
 use Rattle.index_rows.specs.Steps.{Placed, TagsPlaced}
 use Rattle.index.specs.declared.read.Header.{Header}
-use Rattle.index.specs.Index.{Index, Summary, heading_of, index_with, summary_of, is_true, structured, bounded, all_valued, all_own, all_lawful, stands_at, location_of, location_in, files_of, file_of, file_count, children_read, tag_read, root_read, caller_right, index_of}
+use Rattle.index.specs.Index.{Index, Summary, heading_of, index_with, summary_of, is_true, structured, bounded, all_valued, all_own, all_lawful, stands_at, location_in, back_in, files_of, file_of, file_count, children_read, tag_read, root_read, caller_right, index_of}
 use Rattle.index.specs.Places.{update_time_in}
 use Rattle.index.specs.Steps.{ReadsAs, HeaderOf, ReadsInto, row_count}
 
@@ -165,21 +164,9 @@ module _ (g : Given) (letter block : ℕ) (text : List ℕ) where
       unfolding index_of
       index_read c = sym (rw (a, b, c))
 
--- without a back pointer its letter and its block are 0
-no_back : (f : Forest) → has_element f ≡ false → location_of f ≡ record { letter = 0; block = 0 }
-unfolding has_element text_in values.letter
-no_back no_element e = rw no_number
-no_back (node h k r) e = let z : ◌≡◌ {A = ℕ} 0 1 = cc in absurd (omega arith)
-
-pub no_back_at : (f : Forest) (back : Bool) (letter block : ℕ) → back ≡ has_element f → letter ≡ (location_of f).letter → block ≡ (location_of f).block → back ≡ false
-    → ◌≡◌ {A = Address} (record { letter = letter; block = block }) (record { letter = 0; block = 0 })
-no_back_at f back letter block b l n e = rw (l, n) (no_back f (sym b ∙ e))
-
-pub same_heading : (release : ℕ) (k : Forest) (entries files rows generation highest directories : ℕ) (time : List ℕ) (letter block letter₂ block₂ : ℕ) (back allow : Bool)
+pub same_heading : (release : ℕ) (k : Forest) (entries files rows generation highest directories : ℕ) (time : List ℕ) (location : Address) (back : Option Address) (allow : Bool)
     → entries ≡ entries_of (elements index k) → files ≡ file_count (elements index k) → rows ≡ row_count (elements index k)
-    → generation ≡ number_or_zero (text_in (bytes "generationnumber") k) → time ≡ text_in (bytes "updatetime") k → letter ≡ (location_in k).letter → block ≡ (location_in k).block
-    → back ≡ has_element (children_in (bytes "previousgenerationlocation") k)
-    → letter₂ ≡ (location_of (children_in (bytes "previousgenerationlocation") k)).letter → block₂ ≡ (location_of (children_in (bytes "previousgenerationlocation") k)).block
+    → generation ≡ number_or_zero (text_in (bytes "generationnumber") k) → time ≡ text_in (bytes "updatetime") k → location ≡ location_in k → back ≡ back_in k
     → allow ≡ is_true (values.boolean (text_in (bytes "allowpolicyupdate") k)) → highest ≡ number_or_zero (text_in (bytes "highestfileuid") k)
     → directories ≡ entries - files
     → ◌≡◌ {A = Summary}
@@ -189,8 +176,8 @@ pub same_heading : (release : ℕ) (k : Forest) (entries files rows generation h
             release = release;
             generation = generation;
             updatetime = time;
-            location = record { letter = letter; block = block };
-            back = cond back (Some (record { letter = letter₂; block = block₂ })) None;
+            location = location;
+            back = back;
             allowpolicyupdate = allow;
             highestfileuid = highest;
             directories = directories;
@@ -199,5 +186,5 @@ pub same_heading : (release : ℕ) (k : Forest) (entries files rows generation h
       rows = rows;
     })
     (record { heading = heading_of release k; files = file_count (elements index k); rows = row_count (elements index k) })
-same_heading release k entries files rows generation highest directories time letter block letter₂ block₂ back allow m n o a b c d e f g h i j =
-    rw (a, b, c, d, e, f, g, h, i, j, m, n, o)
+same_heading release k entries files rows generation highest directories time location back allow m n o a b c d e f g =
+    rw (a, b, c, d, e, f, g, m, n, o)

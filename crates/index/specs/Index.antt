@@ -48,8 +48,11 @@ abbrev pub location_in : Forest → Address
 location_in k = location_of (children_in (bytes "location") k)
 
 -- the back pointer, if there is one
+abbrev pub back_at : Forest → Option Address
+back_at f = cond (has_element f) (Some (location_of f)) None
+
 abbrev pub back_in : Forest → Option Address
-back_in k = cond (has_element (children_in (bytes "previousgenerationlocation") k)) (Some (location_of (children_in (bytes "previousgenerationlocation") k))) None
+back_in k = back_at (children_in (bytes "previousgenerationlocation") k)
 
 abbrev pub file_of : Forest → File
 file_of c = record { length = length_of c; name = text_in (bytes "name") c; rows = extent_rows c }

@@ -30,6 +30,7 @@ use Rattle.index.specs.declared.walk.Left.{Left}
 use Rattle.refusals.specs.Refusals.{Answer}
 use Rattle.quantities.specs.Addresses.{Address}
 use Rattle.index.specs.declared.read.Header.{Header}
+use Rattle.index.specs.declared.read.Location.{Location}
 
 -- how many rows the files among some elements have
 abbrev pub row_count : List IndexElement → ℕ
@@ -46,11 +47,13 @@ pub record Surveyed (g : Given) (k : Forest) (sums : Sums) : Type 0 where
   pub files : sums.few ≡ true → sums.files ≡ file_count (elements index k)
   pub rows : sums.few ≡ true → sums.rows ≡ row_count (elements index k)
 
-abbrev pub location_from : ℕ → BlockNumber → Address
-location_from l b = record { letter = l; block = b.0 }
+-- a location, and a back pointer, as places on the volume
+abbrev pub address_of : Location → Address
+address_of l = record { letter = l.letter; block = l.block.0 }
 
-abbrev pub back_of : Header → Option Address
-back_of h = cond h.back (Some (location_from h.back_letter h.back_block)) None
+abbrev pub back_of : Option Location → Option Address
+back_of None = None
+back_of (Some l) = Some (address_of l)
 
 -- what a reader's header means of a text
 abbrev pub summary_in : List ℕ → Header → Summary
@@ -61,8 +64,8 @@ summary_in s h =
             release = h.release;
             generation = h.generation.0;
             updatetime = part_at s h.time;
-            location = location_from h.letter h.block;
-            back = back_of h;
+            location = address_of h.location;
+            back = back_of h.back;
             allowpolicyupdate = h.allow;
             highestfileuid = h.highest;
             directories = h.directories;
@@ -75,11 +78,10 @@ abbrev pub means : List ℕ → Result Header Refusal → Answer Summary
 means s (Ok h) = Ok (summary_in s h)
 means s (Err r) = Err r
 
--- what that leaves open: the update time stands at w, which lies in the text, and without a back pointer its letter and its block are 0
+-- what that leaves open: the update time stands at w, which lies in the text
 pub record Definite (s : List ℕ) (w : Span) (h : Header) : Type 0 where
   pub time : h.time ≡ w
   pub inside : Inside s h.time.from h.time.len
-  pub no_back : h.back ≡ false → location_from h.back_letter h.back_block ≡ record { letter = 0; block = 0 }
 
 abbrev pub IsDefinite : List ℕ → Span → Result Header Refusal → Type 0
 IsDefinite s w (Ok h) = Definite s w h

@@ -5,4 +5,4 @@ mod read;
 mod survey;
 mod walk;
 
-pub use read::{Header, is_caller_right, read_index, read_into};
+pub use read::{Header, Location, is_caller_right, read_index, read_into};

@@ -5,8 +5,8 @@ ghost use Rattle.xml.specs.FormSteps.{height};
 ghost use Rattle.xml.specs.CheckSteps.{good, form};
 ghost use Rattle.elements.specs.Reading.{forest_at, children_at, has_element};
 ghost use Rattle.index_values.specs.Steps.{given};
-ghost use Rattle.index.specs.Index.{is_true, location_of, stands_at, caller_right, index_of};
-ghost use Rattle.index.specs.Steps.{HeaderOf, ReadsIndex, ReadsAll, ReadsChildren, ReadsTag, ReadsRoot};
+ghost use Rattle.index.specs.Index.{is_true, location_of, back_at, stands_at, caller_right, index_of};
+ghost use Rattle.index.specs.Steps.{address_of, back_of, HeaderOf, ReadsIndex, ReadsAll, ReadsChildren, ReadsTag, ReadsRoot};
 
 use crate::survey;
 use elements::{Span, Tag};
@@ -15,18 +15,22 @@ use quantities::{BlockNumber, Generation};
 use refusals::{Place, Refusal};
 use xml::FormChecked;
 
+// A location, as an index says one: a partition's letter, and a block's number there.
+#[derive(Clone, Copy)]
+pub struct Location {
+    pub letter: u8,
+    pub block: BlockNumber,
+}
+
 // What an index says besides its files: the R of its version 2.0.R; its generation; where the update time stands in its text; its location;
-// its back pointer, or zeros if it has none; whether the policy may be updated; the highest fileuid; how many directories, with the root, and files it has, and how many rows these.
+// its back pointer, if it has one; whether the policy may be updated; the highest fileuid; how many directories, with the root, and files it has, and how many rows these.
 #[derive(Clone, Copy)]
 pub struct Header {
     pub release: u64,
     pub generation: Generation,
     pub time: Span,
-    pub letter: u8,
-    pub block: BlockNumber,
-    pub back: bool,
-    pub back_letter: u8,
-    pub back_block: BlockNumber,
+    pub location: Location,
+    pub back: Option<Location>,
     pub allow: bool,
     pub highest: u64,
     pub directories: u64,
@@ -59,29 +63,22 @@ pub fn is_caller_right(uuid: &[u8], volume: Partitions, letter: u8) -> bool
     letter == volume.data_letter
 }
 
-// The letter that the location whose row is at at says.
-fn letter_named(text: &[u8], at: usize) -> u8
-    ensures { result ≡ (location_of (forest_at text.now at)).letter }
+// The location whose row is at at.
+fn location_at(text: &[u8], at: usize) -> Location
+    ensures { address_of result ≡ location_of (forest_at text.now at) }
 {
-    index_values::letter_said(index_values::text_in(text, at, b"partition"))
-}
-
-// The block that it says.
-fn block_named(text: &[u8], at: usize) -> BlockNumber
-    ensures { result.0 ≡ (location_of (forest_at text.now at)).block }
-{
-    BlockNumber(index_values::number_named(text, at, b"startblock"))
+    Location {
+        letter: index_values::letter_said(index_values::text_in(text, at, b"partition")),
+        block: BlockNumber(index_values::number_named(text, at, b"startblock")),
+    }
 }
 
 // Whether the location whose row is at at is that place.
 fn is_place(text: &[u8], at: usize, letter: u8, block: BlockNumber) -> bool
     ensures { result ≡ stands_at letter block.0 (location_of (forest_at text.now at)) }
 {
-    if letter_named(text, at) != letter {
-        return false;
-    }
-    let b = block_named(text, at);
-    b.0 == block.0
+    let found = location_at(text, at);
+    found.letter == letter && found.block.0 == block.0
 }
 
 fn is_true(raw: &[u8]) -> bool
@@ -105,6 +102,17 @@ fn has_row(text: &[u8], at: usize) -> bool
     }
 }
 
+// The location whose row is at at, if there is one.
+fn back_at(text: &[u8], at: usize) -> Option<Location>
+    ensures { back_of result ≡ back_at (forest_at text.now at) }
+{
+    if has_row(text, at) {
+        Some(location_at(text, at))
+    } else {
+        None
+    }
+}
+
 // The header of an index whose children have those places.
 fn head_from(
     text: &[u8],
@@ -117,17 +125,12 @@ fn head_from(
     requires { files ≤ entries }
     ensures { HeaderOf text.now places.now release entries files rows result }
 {
-    let here = index_rows::row_at(text, places[4]);
-    let back = index_rows::row_at(text, places[9]);
     Header {
         release,
         generation: Generation(index_values::number_placed(text, places[2])),
         time: index_rows::span_at(text, places[3]),
-        letter: letter_named(text, here),
-        block: block_named(text, here),
-        back: has_row(text, back),
-        back_letter: letter_named(text, back),
-        back_block: block_named(text, back),
+        location: location_at(text, index_rows::row_at(text, places[4])),
+        back: back_at(text, index_rows::row_at(text, places[9])),
         allow: is_true(index_rows::text_at(text, places[5])),
         highest: index_values::number_placed(text, places[6]),
         directories: entries - files,

@@ -6,7 +6,8 @@ ghost use Rattle.case_files.specs.Counts.{IsPrefixLen};
 
 use constructs::Bounds;
 use elements::Span;
-use index::Header;
+use index::{Header, Location};
+use index_files::FileHead;
 use index_values::Partitions;
 use quantities::BlockNumber;
 use refusals::Refusal;
@@ -55,26 +56,23 @@ fn same_numbers(a: &[u64], b: &[u64]) -> bool {
     true
 }
 
-fn flag(b: bool) -> u64 {
-    if b {
-        return 1;
-    }
-    0
-}
-
 // The numbers expected of a header.
 fn numbers_as(file: &mut File, h: Header) -> bool {
     let mut expected = [0u64; 11];
     let n = numbers(file, &mut expected);
+    let back = h.back.unwrap_or(Location {
+        letter: 0,
+        block: BlockNumber(0),
+    });
     let found = [
         h.release,
         h.generation.0,
-        h.letter as u64,
-        h.block.0,
-        flag(h.back),
-        h.back_letter as u64,
-        h.back_block.0,
-        flag(h.allow),
+        u64::from(h.location.letter),
+        h.location.block.0,
+        u64::from(h.back.is_some()),
+        u64::from(back.letter),
+        back.block.0,
+        u64::from(h.allow),
         h.highest,
         h.directories,
         h.files,

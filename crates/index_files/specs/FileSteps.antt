@@ -1,12 +1,11 @@
 -- The files of an index, read along its text: by their children, and by their tags.
-use Rattle.std.specs.Prelude.{◌≡◌, List, [], ◌∷◌, ◌++◌, map, ℕ, ◌<◌, ◌≤◌, length, drop}
+use Rattle.std.specs.Prelude.{◌≡◌, List, [], ◌∷◌, ◌++◌, map, ℕ, ◌<◌, ◌≤◌, length, drop, None, Option, Some}
 use Rattle.xml.specs.Tree.{Tree, Forest, tag_head}
 use Rattle.elements.specs.Tags.{Tags, tags_left}
 use Rattle.elements.specs.Reading.{left_at, children_at}
 use Rattle.index.specs.Index.{File as Said, file_of}
 use Rattle.index_files.specs.Names.{each_file}
 use Rattle.index_files.specs.declared.files.NextFile.{NextFile}
-use Rattle.index_files.specs.declared.files.NextFile.TheVariants.{File, Done}
 
 -- the children of each file in a row of elements and in what stands in them, in text order
 abbrev pub files_in : Forest → List Forest
@@ -43,6 +42,6 @@ pub record NoFile (s : List ℕ) (i : ℕ) : Type 0 where
   pub tags : file_tags_from s i ≡ []
 
 -- the next file from i on
-abbrev pub FileFrom : List ℕ → ℕ → NextFile → Type 0
-FileFrom s i Done = NoFile s i
-FileFrom s i (File n j) = FileAt s i n j
+abbrev pub FileFrom : List ℕ → ℕ → Option NextFile → Type 0
+FileFrom s i None = NoFile s i
+FileFrom s i (Some f) = FileAt s i f.at f.next

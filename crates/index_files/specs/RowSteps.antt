@@ -1,5 +1,5 @@
 -- A file's rows, read along its text (01, Extents: rows in text order).
-use Rattle.std.specs.Prelude.{◌≡◌, List, [], ◌∷◌, ℕ, ◌<◌, ◌≤◌, length}
+use Rattle.std.specs.Prelude.{◌≡◌, List, [], ◌∷◌, ℕ, ◌<◌, ◌≤◌, length, None, Option, Some}
 use Rattle.slices.specs.Words.{bytes}
 use Rattle.elements.specs.Reading.{forest_at, children_at}
 use Rattle.extents.specs.Rows as extents
@@ -7,7 +7,6 @@ use Rattle.index_values.specs.Elements.{children_in}
 use Rattle.index_values.specs.Tests.{rows_in}
 use Rattle.index_files.specs.declared.extent_rows.Row.{Row}
 use Rattle.index_files.specs.declared.extent_rows.NextRow.{NextRow}
-use Rattle.index_files.specs.declared.extent_rows.NextRow.TheVariants.{Found, Done}
 
 -- the five numbers of a row that is handed out
 abbrev pub row_is : Row → extents.Row
@@ -30,6 +29,6 @@ pub record FirstRow (s : List ℕ) (i : ℕ) (r : Row) (j : ℕ) : Type 0 where
   pub place : (i < j) × (j ≤ length s)
 
 -- the next of the rows at i
-abbrev pub RowAhead : List ℕ → ℕ → NextRow → Type 0
-RowAhead s i Done = rows_in (forest_at s i) ≡ []
-RowAhead s i (Found r j) = FirstRow s i r j
+abbrev pub RowAhead : List ℕ → ℕ → Option NextRow → Type 0
+RowAhead s i None = rows_in (forest_at s i) ≡ []
+RowAhead s i (Some r) = FirstRow s i r.row r.next

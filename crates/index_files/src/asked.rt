@@ -6,7 +6,6 @@ ghost use Rattle.index_values.specs.Steps.{given};
 ghost use Rattle.index_files.specs.AskedSteps.{FindsFile, HeadOf};
 ghost use Rattle.index_files.specs.Steps.{LocatesFile, ReadsNumbered, PutsRows, PutsFileRows};
 
-use crate::files::NextFile;
 use crate::{extent_rows, files, filling};
 use elements::{Child, Span};
 use index_values::Partitions;
@@ -27,20 +26,14 @@ fn find(text: &[u8], k: u64) -> Result<usize, Refusal>
 {
     let mut i: usize = 38;
     let mut left = k;
-    loop {
-        match files::next_file(text, i) {
-            NextFile::Done => {
-                return Err(Refusal::Missing);
-            }
-            NextFile::File(n, next) => {
-                if left == 0 {
-                    return Ok(n);
-                }
-                left -= 1;
-                i = next;
-            }
+    while let Some(found) = files::next_file(text, i) {
+        if left == 0 {
+            return Ok(found.at);
         }
+        left -= 1;
+        i = found.next;
     }
+    Err(Refusal::Missing)
 }
 
 // The k-th file of an index, once its text is read.

@@ -20,11 +20,11 @@ pub struct Row {
     pub fileoffset: ByteCount,
 }
 
-// The next row, and where the rows go on.
+// A row, and where the rows go on behind it.
 #[derive(Clone, Copy)]
-pub enum NextRow {
-    Found(Row, usize),
-    Done,
+pub struct NextRow {
+    pub row: Row,
+    pub next: usize,
 }
 
 // Where the rows of the file whose tag is at n begin.
@@ -128,11 +128,14 @@ fn row_from(text: &[u8], at: usize) -> Row
 }
 
 // The next of the rows at at.
-pub fn next_row(text: &[u8], at: usize) -> NextRow
+pub fn next_row(text: &[u8], at: usize) -> Option<NextRow>
     ensures { RowAhead text.now at result }
 {
     match elements::next_child(text, at) {
-        Child::Done => NextRow::Done,
-        Child::At(n, next) => NextRow::Found(row_from(text, elements::first_child(text, n)), next),
+        Child::Done => None,
+        Child::At(n, next) => Some(NextRow {
+            row: row_from(text, elements::first_child(text, n)),
+            next,
+        }),
     }
 }

@@ -5,11 +5,11 @@ ghost use Rattle.index_files.specs.FileSteps.{FileFrom};
 
 use elements::Tag;
 
-// The next file: the place of its tag, and where reading goes on behind it.
+// A file: the place of its tag, and where reading goes on behind it.
 #[derive(Clone, Copy)]
-pub enum NextFile {
-    File(usize, usize),
-    Done,
+pub struct NextFile {
+    pub at: usize,
+    pub next: usize,
 }
 
 fn is_file(name: &[u8]) -> bool
@@ -29,14 +29,14 @@ fn is_skipped(name: &[u8]) -> bool
 }
 
 // The next file from at on; the first one of an index's text from 38 on, behind its declaration.
-pub fn next_file(text: &[u8], at: usize) -> NextFile
+pub fn next_file(text: &[u8], at: usize) -> Option<NextFile>
     ensures { FileFrom text.now at result }
 {
     let mut i = at;
     loop {
         match elements::next_tag(text, i) {
             Tag::End => {
-                return NextFile::Done;
+                return None;
             }
             Tag::Close(n) => {
                 i = n;
@@ -44,7 +44,10 @@ pub fn next_file(text: &[u8], at: usize) -> NextFile
             Tag::Open(n) => {
                 let name = elements::name_of(text, n);
                 if is_file(name) {
-                    return NextFile::File(n, elements::leave(text, n));
+                    return Some(NextFile {
+                        at: n,
+                        next: elements::leave(text, n),
+                    });
                 }
                 if is_skipped(name) {
                     i = elements::leave(text, n);
@@ -54,7 +57,7 @@ pub fn next_file(text: &[u8], at: usize) -> NextFile
             }
             Tag::Empty(n) => {
                 if is_file(elements::name_of(text, n)) {
-                    return NextFile::File(n, n);
+                    return Some(NextFile { at: n, next: n });
                 }
                 i = n;
             }

@@ -8,7 +8,7 @@ ghost use Rattle.index_files.specs.RowSteps.{row_is};
 ghost use Rattle.index_files.specs.FillingSteps.{WritesRows};
 
 use crate::extent_rows;
-use crate::extent_rows::{NextRow, Row};
+use crate::extent_rows::Row;
 use refusals::Refusal;
 
 pub(crate) fn store(out: &mut [u64], at: usize, v: u64)
@@ -37,16 +37,10 @@ pub(crate) fn write_rows(text: &[u8], at: usize, k: usize, out: &mut [u64]) -> u
 {
     let mut i = at;
     let mut j = k;
-    loop {
-        match extent_rows::next_row(text, i) {
-            NextRow::Done => {
-                return j;
-            }
-            NextRow::Found(row, next) => {
-                put_row(out, j, row);
-                j += 5;
-                i = next;
-            }
-        }
+    while let Some(found) = extent_rows::next_row(text, i) {
+        put_row(out, j, found.row);
+        j += 5;
+        i = found.next;
     }
+    j
 }

@@ -6,7 +6,7 @@ ghost use Rattle.index_values.specs.Tests.{extent_rows};
 ghost use Rattle.index_files.specs.RowSteps.{row_is};
 ghost use Rattle.volume.specs.Steps.{lies_in, Loses};
 
-use index_files::{NextFile, NextRow, Row};
+use index_files::Row;
 use index_values::Partitions;
 
 // An extent, on so many elements of each partition, by tables of how far data blocks reach.
@@ -57,19 +57,20 @@ fn file_lies(
         (extent_rows (children_at text.now n)) }
 {
     let mut at = index_files::first_row(text, n);
-    loop {
-        match index_files::next_row(text, at) {
-            NextRow::Done => {
-                return true;
-            }
-            NextRow::Found(row, next) => {
-                if !row_lies(row, volume, index_reach, index_kept, data_reach, data_kept) {
-                    return false;
-                }
-                at = next;
-            }
+    while let Some(found) = index_files::next_row(text, at) {
+        if !row_lies(
+            found.row,
+            volume,
+            index_reach,
+            index_kept,
+            data_reach,
+            data_kept,
+        ) {
+            return false;
         }
+        at = found.next;
     }
+    true
 }
 
 // Of the index with that text.
@@ -85,26 +86,20 @@ pub fn first_lost(
 {
     let mut at: usize = 38;
     let mut k: u64 = 0;
-    loop {
-        match index_files::next_file(text, at) {
-            NextFile::Done => {
-                return None;
-            }
-            NextFile::File(n, next) => {
-                if !file_lies(
-                    text,
-                    n,
-                    volume,
-                    index_reach,
-                    index_kept,
-                    data_reach,
-                    data_kept,
-                ) {
-                    return Some(k);
-                }
-                k += 1;
-                at = next;
-            }
+    while let Some(found) = index_files::next_file(text, at) {
+        if !file_lies(
+            text,
+            found.at,
+            volume,
+            index_reach,
+            index_kept,
+            data_reach,
+            data_kept,
+        ) {
+            return Some(k);
         }
+        k += 1;
+        at = found.next;
     }
+    None
 }

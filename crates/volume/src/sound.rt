@@ -6,6 +6,7 @@ ghost use Rattle.volume.specs.Volume.{soundly};
 ghost use Rattle.volume.specs.Steps.{link_of, brief_link, joined, bounds_text};
 
 use constructs::Bounds;
+use index::Location;
 use index_values::Partitions;
 use quantities::{BlockNumber, Generation};
 
@@ -38,14 +39,16 @@ pub fn read_brief(
             block: BlockNumber(0),
         },
         Ok(h) => {
-            let generation = h.generation;
-            let back_block = h.back_block;
+            let back = h.back.unwrap_or(Location {
+                letter: 0,
+                block: BlockNumber(0),
+            });
             Brief {
                 sound: true,
-                generation: generation,
-                back: h.back,
-                letter: h.back_letter,
-                block: back_block,
+                generation: h.generation,
+                back: h.back.is_some(),
+                letter: back.letter,
+                block: back.block,
             }
         }
     }

@@ -3,12 +3,10 @@ use mathlib.Core.Path.{refl, ap, sym, ◌∙◌}
 use mathlib.Core.List.{List}
 use Prim.Native.Nat.{ℕ}
 use native.Mathlib.Omega.{arith}
-use Rattle.xml.specs.Tree.{Forest}
-use Rattle.elements.specs.Reading.{has_element, forest_at}
 use Rattle.values.specs.Values as values
 use Rattle.index_values.specs.Entries.{number_or_zero}
-use Rattle.index.specs.Index.{is_true, location_of}
-use Rattle.index.proofs.Answers.{same_heading, no_back_at}
+use Rattle.index.specs.Index.{is_true, location_of, back_at}
+use Rattle.index.proofs.Answers.{same_heading}
 use Rattle.index_values.proofs.Seated.{generation_placed, updatetime_placed, updatetime_stands, location_placed, allow_placed, highest_placed, back_placed}
 use Rattle.index.proofs.read.head_from.Goals as goal
 
@@ -21,21 +19,19 @@ returns c =
       heading = λ k p e f o.
           let s = c.args.text.now in
           let t = c.args.places.now in
-          let here = c.row_at-here.ensures.0 ∙ sym (location_placed s k t p) in
-          let back = c.row_at-back.ensures.0 ∙ sym (back_placed s k t p) in
-          same_heading c.args.release k c.args.entries c.args.files c.args.rows c.number_placed.result c.number_placed-2.result _ _ c.letter_named.result c.block_named.result.0 c.letter_named-2.result c.block_named-2.result.0 c.has_row.result c.is_true.result
+          let here = c.row_at.ensures.0 ∙ sym (location_placed s k t p) in
+          let back = c.row_at-2.ensures.0 ∙ sym (back_placed s k t p) in
+          same_heading c.args.release k c.args.entries c.args.files c.args.rows c.number_placed.result c.number_placed-2.result _ _ _ _ c.is_true.result
           e f o
           (c.number_placed.ensures ∙ ap number_or_zero (sym (generation_placed s k t p)))
           (c.span_at.ensures.spans.part ∙ sym (updatetime_placed s k t p))
-          (c.letter_named.ensures ∙ ap (λ (f : Forest). (location_of f).letter) here) (c.block_named.ensures ∙ ap (λ (f : Forest). (location_of f).block) here)
-          (c.has_row.ensures ∙ ap has_element back)
-          (c.letter_named-2.ensures ∙ ap (λ (f : Forest). (location_of f).letter) back) (c.block_named-2.ensures ∙ ap (λ (f : Forest). (location_of f).block) back)
+          (c.location_at.ensures ∙ ap location_of here)
+          (c.back_at.ensures ∙ ap back_at back)
           (c.is_true.ensures ∙ ap (λ (x : List ℕ). is_true (values.boolean x)) (c.text_at.ensures ∙ sym (allow_placed s k t p)))
           (c.number_placed-2.ensures ∙ ap number_or_zero (sym (highest_placed s k t p))) refl;
       definite = λ f q.
           record {
             time = c.span_at.ensures.place ∙ sym (updatetime_stands c.args.text.now f c.args.places.now q);
             inside = c.span_at.ensures.spans.inside;
-            no_back = no_back_at (forest_at c.args.text.now c.row_at-back.result) c.has_row.result c.letter_named-2.result c.block_named-2.result.0 c.has_row.ensures c.letter_named-2.ensures c.block_named-2.ensures;
           };
     }

@@ -3,51 +3,51 @@ use mathlib.Core.Path.{subst}
 use native.Mathlib.Omega.{arith}
 use Rattle.elements.specs.Reading.{forest_at}
 use Rattle.index_values.specs.Tests.{rows_in}
-use Rattle.index_files.specs.declared.extent_rows.NextRow.TheVariants.{Done, Found}
+use Rattle.std.specs.Prelude.{None, Some}
 use Rattle.index_files.specs.RowSteps.{row_is, RowAhead}
 use Rattle.index_files.proofs.Buffers.{writing_first, writing_done, row_fits, row_on}
 use borrow.Author.Rules.{rules}
 use Rattle.index_files.proofs.filling.write_rows.Goals as goal
 
-pub loop-row-init : goal.loop-row-init
-loop-row-init c = writing_first c.args.k (rows_in (forest_at c.args.text.now c.args.at)) c.args.out.now c.requires
+pub loop-found-init : goal.loop-found-init
+loop-found-init c = writing_first c.args.k (rows_in (forest_at c.args.text.now c.args.at)) c.args.out.now c.requires
 
-pub shape_of-out-in-Done : goal.shape_of-out-in-Done
-shape_of-out-in-Done c = c.loop-row.invariant.long
+pub shape_of-out : goal.shape_of-out
+shape_of-out c = c.loop-found.invariant.long
 
-pub returns-in-Done : goal.returns-in-Done
-returns-in-Done c =
+pub returns : goal.returns
+returns c =
     let s = c.args.text.now in
-    let l = c.loop-row in
-    let e : RowAhead s l.i Done = subst (RowAhead s l.i) c.in-Done.is c.next_row.ensures in
+    let l = c.loop-found in
+    let e : RowAhead s l.i None = subst (RowAhead s l.i) c.in-None.is c.next_row.ensures in
     let (h, z) = writing_done l.invariant e in
     record { holds = h; up_to = z }
 
 pub put_row-requires : goal.put_row-requires
 put_row-requires c =
     let s = c.args.text.now in
-    let l = c.loop-row in
-    let f : RowAhead s l.i (Found c.in-Found.row c.in-Found.next) = subst (RowAhead s l.i) c.in-Found.is c.next_row.ensures in
-    row_fits l.invariant (row_is c.in-Found.row) (rows_in (forest_at s c.in-Found.next)) f.rows
+    let l = c.loop-found in
+    let f : RowAhead s l.i (Some c.in-Some.found) = subst (RowAhead s l.i) c.in-Some.is c.next_row.ensures in
+    row_fits l.invariant (row_is c.in-Some.found.row) (rows_in (forest_at s c.in-Some.found.next)) f.rows
 
 pub overflow_add-j : goal.overflow_add-j
 overflow_add-j c =
     let s = c.args.text.now in
-    let l = c.loop-row in
-    let f : RowAhead s l.i (Found c.in-Found.row c.in-Found.next) = subst (RowAhead s l.i) c.in-Found.is c.next_row.ensures in
-    let p = row_fits l.invariant (row_is c.in-Found.row) (rows_in (forest_at s c.in-Found.next)) f.rows in
+    let l = c.loop-found in
+    let f : RowAhead s l.i (Some c.in-Some.found) = subst (RowAhead s l.i) c.in-Some.is c.next_row.ensures in
+    let p = row_fits l.invariant (row_is c.in-Some.found.row) (rows_in (forest_at s c.in-Some.found.next)) f.rows in
     search rules
 
-pub loop-row-smaller : goal.loop-row-smaller
-loop-row-smaller c =
+pub loop-found-smaller : goal.loop-found-smaller
+loop-found-smaller c =
     let s = c.args.text.now in
-    let l = c.loop-row in
-    let f : RowAhead s l.i (Found c.in-Found.row c.in-Found.next) = subst (RowAhead s l.i) c.in-Found.is c.next_row.ensures in
+    let l = c.loop-found in
+    let f : RowAhead s l.i (Some c.in-Some.found) = subst (RowAhead s l.i) c.in-Some.is c.next_row.ensures in
     omega (arith, f.place)
 
-pub loop-row-preserved : goal.loop-row-preserved
-loop-row-preserved c =
+pub loop-found-preserved : goal.loop-found-preserved
+loop-found-preserved c =
     let s = c.args.text.now in
-    let l = c.loop-row in
-    let f : RowAhead s l.i (Found c.in-Found.row c.in-Found.next) = subst (RowAhead s l.i) c.in-Found.is c.next_row.ensures in
-    row_on l.invariant (row_is c.in-Found.row) (rows_in (forest_at s c.in-Found.next)) f.rows c.put_row.ensures
+    let l = c.loop-found in
+    let f : RowAhead s l.i (Some c.in-Some.found) = subst (RowAhead s l.i) c.in-Some.is c.next_row.ensures in
+    row_on l.invariant (row_is c.in-Some.found.row) (rows_in (forest_at s c.in-Some.found.next)) f.rows c.put_row.ensures

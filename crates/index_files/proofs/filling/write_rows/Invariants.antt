@@ -8,9 +8,9 @@ use Rattle.index_values.specs.Tests.{rows_in}
 use Rattle.index_files.proofs.Buffers.{Writing}
 use Rattle.index_files.proofs.filling.write_rows.Given as goal
 
-abbrev pub invariant-loop-row : goal.invariant-loop-row
-invariant-loop-row l =
+abbrev pub invariant-loop-found : goal.invariant-loop-found
+invariant-loop-found l =
     Writing (written l.k (numbers_of (rows_in (forest_at l.text l.at))) l.initial.out) (l.k + length (rows_in (forest_at l.text l.at)) * 5) l.initial.out l.out l.j (rows_in (forest_at l.text l.i))
 
-abbrev pub decreases-loop-row : goal.decreases-loop-row
-decreases-loop-row l = length l.text - l.i
+abbrev pub decreases-loop-found : goal.decreases-loop-found
+decreases-loop-found l = length l.text - l.i

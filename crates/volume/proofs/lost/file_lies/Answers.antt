@@ -10,23 +10,23 @@ use native.Mathlib.Omega.{arith}
 use mathlib.Core.Path.{sym, ap, subst, ◌∙◌}
 use Rattle.volume.proofs.lost.file_lies.Goals as goal
 
-pub loop-row-init : goal.loop-row-init
-loop-row-init c = ap (λ (f : Forest). every (lies_in c.args.volume c.args.index_reach.now c.args.index_kept c.args.data_reach.now c.args.data_kept) (rows_in f)) (sym c.first_row-at.ensures.row)
+pub loop-found-init : goal.loop-found-init
+loop-found-init c = ap (λ (f : Forest). every (lies_in c.args.volume c.args.index_reach.now c.args.index_kept c.args.data_reach.now c.args.data_kept) (rows_in f)) (sym c.first_row-at.ensures.row)
 
-pub returns-in-Done : goal.returns-in-Done
-returns-in-Done c = every_end (lies_in c.args.volume c.args.index_reach.now c.args.index_kept c.args.data_reach.now c.args.data_kept) (every (lies_in c.args.volume c.args.index_reach.now c.args.index_kept c.args.data_reach.now c.args.data_kept) (extent_rows (children_at c.args.text.now c.args.n))) (rows_in (forest_at c.args.text.now c.loop-row.at)) c.loop-row.invariant (subst (RowAhead c.args.text.now c.loop-row.at) c.in-Done.is c.next_row.ensures)
+pub returns : goal.returns
+returns c = every_end (lies_in c.args.volume c.args.index_reach.now c.args.index_kept c.args.data_reach.now c.args.data_kept) (every (lies_in c.args.volume c.args.index_reach.now c.args.index_kept c.args.data_reach.now c.args.data_kept) (extent_rows (children_at c.args.text.now c.args.n))) (rows_in (forest_at c.args.text.now c.loop-found.at)) c.loop-found.invariant (subst (RowAhead c.args.text.now c.loop-found.at) c.in-None.is c.next_row.ensures)
 
 pub returns-then-not-row_lies : goal.returns-then-not-row_lies
 returns-then-not-row_lies c =
-    let w = subst (RowAhead c.args.text.now c.loop-row.at) c.in-Found.is c.next_row.ensures in
-    every_stop (lies_in c.args.volume c.args.index_reach.now c.args.index_kept c.args.data_reach.now c.args.data_kept) (every (lies_in c.args.volume c.args.index_reach.now c.args.index_kept c.args.data_reach.now c.args.data_kept) (extent_rows (children_at c.args.text.now c.args.n))) (rows_in (forest_at c.args.text.now c.loop-row.at)) c.loop-row.invariant (row_is c.in-Found.row) (rows_in (forest_at c.args.text.now c.in-Found.next)) w.rows (sym c.row_lies.ensures ∙ c.if-not-row_lies.true)
+    let w = subst (RowAhead c.args.text.now c.loop-found.at) c.in-Some.is c.next_row.ensures in
+    every_stop (lies_in c.args.volume c.args.index_reach.now c.args.index_kept c.args.data_reach.now c.args.data_kept) (every (lies_in c.args.volume c.args.index_reach.now c.args.index_kept c.args.data_reach.now c.args.data_kept) (extent_rows (children_at c.args.text.now c.args.n))) (rows_in (forest_at c.args.text.now c.loop-found.at)) c.loop-found.invariant (row_is c.in-Some.found.row) (rows_in (forest_at c.args.text.now c.in-Some.found.next)) w.rows (sym c.row_lies.ensures ∙ c.if-not-row_lies.true)
 
-pub loop-row-smaller : goal.loop-row-smaller
-loop-row-smaller c =
-    let w = subst (RowAhead c.args.text.now c.loop-row.at) c.in-Found.is c.next_row.ensures in
+pub loop-found-smaller : goal.loop-found-smaller
+loop-found-smaller c =
+    let w = subst (RowAhead c.args.text.now c.loop-found.at) c.in-Some.is c.next_row.ensures in
     omega (arith, w.place.0, w.place.1)
 
-pub loop-row-preserved : goal.loop-row-preserved
-loop-row-preserved c =
-    let w = subst (RowAhead c.args.text.now c.loop-row.at) c.in-Found.is c.next_row.ensures in
-    every_on (lies_in c.args.volume c.args.index_reach.now c.args.index_kept c.args.data_reach.now c.args.data_kept) (every (lies_in c.args.volume c.args.index_reach.now c.args.index_kept c.args.data_reach.now c.args.data_kept) (extent_rows (children_at c.args.text.now c.args.n))) (rows_in (forest_at c.args.text.now c.loop-row.at)) c.loop-row.invariant (row_is c.in-Found.row) (rows_in (forest_at c.args.text.now c.in-Found.next)) w.rows (sym c.row_lies.ensures ∙ c.if-not-row_lies.false)
+pub loop-found-preserved : goal.loop-found-preserved
+loop-found-preserved c =
+    let w = subst (RowAhead c.args.text.now c.loop-found.at) c.in-Some.is c.next_row.ensures in
+    every_on (lies_in c.args.volume c.args.index_reach.now c.args.index_kept c.args.data_reach.now c.args.data_kept) (every (lies_in c.args.volume c.args.index_reach.now c.args.index_kept c.args.data_reach.now c.args.data_kept) (extent_rows (children_at c.args.text.now c.args.n))) (rows_in (forest_at c.args.text.now c.loop-found.at)) c.loop-found.invariant (row_is c.in-Some.found.row) (rows_in (forest_at c.args.text.now c.in-Some.found.next)) w.rows (sym c.row_lies.ensures ∙ c.if-not-row_lies.false)

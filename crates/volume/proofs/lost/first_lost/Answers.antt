@@ -12,33 +12,33 @@ use mathlib.Core.List.{map}
 use mathlib.Core.Path.{refl, sym, subst, ◌∙◌}
 use Rattle.volume.proofs.lost.first_lost.Goals as goal
 
-pub loop-n-init : goal.loop-n-init
-loop-n-init c = (omega arith, refl)
+pub loop-found-init : goal.loop-found-init
+loop-found-init c = (omega arith, refl)
 
-pub returns-in-Done : goal.returns-in-Done
-returns-in-Done c =
+pub returns : goal.returns
+returns c =
     loses c.args.text.now c.args.volume c.args.index_reach.now c.args.index_kept c.args.data_reach.now c.args.data_kept None
-    (lost_end (every (lies_in c.args.volume c.args.index_reach.now c.args.index_kept c.args.data_reach.now c.args.data_kept)) (first_failing (every (lies_in c.args.volume c.args.index_reach.now c.args.index_kept c.args.data_reach.now c.args.data_kept)) 0 (map extent_rows (files_left (left_at c.args.text.now 38)))) c.loop-n.k (files_left (left_at c.args.text.now c.loop-n.at)) c.loop-n.invariant.1 (subst (FileFrom c.args.text.now c.loop-n.at) c.in-Done.is c.next_file.ensures).left)
+    (lost_end (every (lies_in c.args.volume c.args.index_reach.now c.args.index_kept c.args.data_reach.now c.args.data_kept)) (first_failing (every (lies_in c.args.volume c.args.index_reach.now c.args.index_kept c.args.data_reach.now c.args.data_kept)) 0 (map extent_rows (files_left (left_at c.args.text.now 38)))) c.loop-found.k (files_left (left_at c.args.text.now c.loop-found.at)) c.loop-found.invariant.1 (subst (FileFrom c.args.text.now c.loop-found.at) c.in-None.is c.next_file.ensures).left)
 
 pub returns-then-not-file_lies : goal.returns-then-not-file_lies
 returns-then-not-file_lies c =
-    let w = subst (FileFrom c.args.text.now c.loop-n.at) c.in-File.is c.next_file.ensures in
-    loses c.args.text.now c.args.volume c.args.index_reach.now c.args.index_kept c.args.data_reach.now c.args.data_kept (Some c.loop-n.k)
-    (lost_stop (every (lies_in c.args.volume c.args.index_reach.now c.args.index_kept c.args.data_reach.now c.args.data_kept)) (first_failing (every (lies_in c.args.volume c.args.index_reach.now c.args.index_kept c.args.data_reach.now c.args.data_kept)) 0 (map extent_rows (files_left (left_at c.args.text.now 38)))) c.loop-n.k (files_left (left_at c.args.text.now c.loop-n.at)) c.loop-n.invariant.1 (children_at c.args.text.now c.in-File.n) (files_left (left_at c.args.text.now c.in-File.next)) w.left (sym c.file_lies.ensures ∙ c.if-not-file_lies.true))
+    let w = subst (FileFrom c.args.text.now c.loop-found.at) c.in-Some.is c.next_file.ensures in
+    loses c.args.text.now c.args.volume c.args.index_reach.now c.args.index_kept c.args.data_reach.now c.args.data_kept (Some c.loop-found.k)
+    (lost_stop (every (lies_in c.args.volume c.args.index_reach.now c.args.index_kept c.args.data_reach.now c.args.data_kept)) (first_failing (every (lies_in c.args.volume c.args.index_reach.now c.args.index_kept c.args.data_reach.now c.args.data_kept)) 0 (map extent_rows (files_left (left_at c.args.text.now 38)))) c.loop-found.k (files_left (left_at c.args.text.now c.loop-found.at)) c.loop-found.invariant.1 (children_at c.args.text.now c.in-Some.found.at) (files_left (left_at c.args.text.now c.in-Some.found.next)) w.left (sym c.file_lies.ensures ∙ c.if-not-file_lies.true))
 
 pub overflow_add-k : goal.overflow_add-k
 overflow_add-k c =
-    let w = subst (FileFrom c.args.text.now c.loop-n.at) c.in-File.is c.next_file.ensures in
-    omega (arith, c.loop-n.invariant.0, w.place.0, w.place.1, w.place.2)
+    let w = subst (FileFrom c.args.text.now c.loop-found.at) c.in-Some.is c.next_file.ensures in
+    omega (arith, c.loop-found.invariant.0, w.place.0, w.place.1, w.place.2)
 
-pub loop-n-smaller : goal.loop-n-smaller
-loop-n-smaller c =
-    let w = subst (FileFrom c.args.text.now c.loop-n.at) c.in-File.is c.next_file.ensures in
+pub loop-found-smaller : goal.loop-found-smaller
+loop-found-smaller c =
+    let w = subst (FileFrom c.args.text.now c.loop-found.at) c.in-Some.is c.next_file.ensures in
     omega (arith, w.place.0, w.place.1, w.place.2)
 
-pub loop-n-preserved : goal.loop-n-preserved
-loop-n-preserved c =
-    let w = subst (FileFrom c.args.text.now c.loop-n.at) c.in-File.is c.next_file.ensures in (
-      omega (arith, c.loop-n.invariant.0, w.place.0, w.place.1),
-      lost_on (every (lies_in c.args.volume c.args.index_reach.now c.args.index_kept c.args.data_reach.now c.args.data_kept)) (first_failing (every (lies_in c.args.volume c.args.index_reach.now c.args.index_kept c.args.data_reach.now c.args.data_kept)) 0 (map extent_rows (files_left (left_at c.args.text.now 38)))) c.loop-n.k (files_left (left_at c.args.text.now c.loop-n.at)) c.loop-n.invariant.1 (children_at c.args.text.now c.in-File.n) (files_left (left_at c.args.text.now c.in-File.next)) w.left (sym c.file_lies.ensures ∙ c.if-not-file_lies.false),
+pub loop-found-preserved : goal.loop-found-preserved
+loop-found-preserved c =
+    let w = subst (FileFrom c.args.text.now c.loop-found.at) c.in-Some.is c.next_file.ensures in (
+      omega (arith, c.loop-found.invariant.0, w.place.0, w.place.1),
+      lost_on (every (lies_in c.args.volume c.args.index_reach.now c.args.index_kept c.args.data_reach.now c.args.data_kept)) (first_failing (every (lies_in c.args.volume c.args.index_reach.now c.args.index_kept c.args.data_reach.now c.args.data_kept)) 0 (map extent_rows (files_left (left_at c.args.text.now 38)))) c.loop-found.k (files_left (left_at c.args.text.now c.loop-found.at)) c.loop-found.invariant.1 (children_at c.args.text.now c.in-Some.found.at) (files_left (left_at c.args.text.now c.in-Some.found.next)) w.left (sym c.file_lies.ensures ∙ c.if-not-file_lies.false),
     )

@@ -11,10 +11,10 @@ use mathlib.Core.List.{map}
 use mathlib.Core.Path.{◌≡◌}
 use Rattle.volume.proofs.lost.first_lost.Given as goal
 
-abbrev pub invariant-loop-n : goal.invariant-loop-n
-invariant-loop-n l =
+abbrev pub invariant-loop-found : goal.invariant-loop-found
+invariant-loop-found l =
     (l.k ≤ l.at) × (first_failing (every (lies_in l.volume l.index_reach l.index_kept l.data_reach l.data_kept)) 0 (map extent_rows (files_left (left_at l.text 38)))
     ≡ first_failing (every (lies_in l.volume l.index_reach l.index_kept l.data_reach l.data_kept)) l.k (map extent_rows (files_left (left_at l.text l.at))))
 
-abbrev pub decreases-loop-n : goal.decreases-loop-n
-decreases-loop-n l = length l.text - l.at
+abbrev pub decreases-loop-found : goal.decreases-loop-found
+decreases-loop-found l = length l.text - l.at
