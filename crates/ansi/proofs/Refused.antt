@@ -1,5 +1,5 @@
 -- The reading refuses a tape at its first wrong place, with the number that the layout gives there, and a tape has one refusal at most.
-use Rattle.std.specs.Prelude.{None, Option, Some, Err, Ok}
+use Rattle.std.specs.Prelude.{None, Option, Some, Err, Ok, slice_get}
 use mathlib.Core.Path.{◌≡◌, refl, sym, ap, ◌∙◌}
 use mathlib.Core.Bool.{Bool, true, false, cond, ◌&&◌, false≢true}
 use mathlib.Core.List.{List, [], ◌∷◌, ◌++◌, append_assoc, append-nil}
@@ -7,7 +7,7 @@ use mathlib.Core.Logic.{◌⊎◌, inl, inr, ◌↔◌}
 use Prim.Native.Nat.{ℕ, suc, ◌+◌, ◌-◌, ◌≤◌, ◌<◌}
 use native.Mathlib.Omega.{arith}
 use lib.Dec.{eqb, leb}
-use lib.ListN.{length, take, drop, get_elem?, length-append}
+use lib.ListN.{length, take, drop, length-append}
 use lib.Seq.{take-append_seam, take-add, take-length}
 use borrow.Author.Tests.{le-leb}
 use Rattle.refusals.specs.declared.Refusal.{Refusal}
@@ -31,11 +31,11 @@ use Rattle.ansi.proofs.Stops.{AtTrailer, stops, EofAt, eof_at}
 use Rattle.ansi.proofs.Fronts.{Reach, reach_length, reach_passed, answered, front_begins, next_begins, next_stops, Reason, Halt, halts}
 
 -- the element behind a front
-element_behind : (s : Tape) (e : Element) (t : Tape) → get_elem? (s ++ (e ∷ t)) (length s) ≡ Some e
+element_behind : (s : Tape) (e : Element) (t : Tape) → slice_get (s ++ (e ∷ t)) (length s) ≡ Some e
 element_behind [] e t = refl
 element_behind (x ∷ s) e t = element_behind s e t
 
-nothing_behind : (s : Tape) → get_elem? (s ++ []) (length s) ≡ None
+nothing_behind : (s : Tape) → slice_get (s ++ []) (length s) ≡ None
 nothing_behind [] = refl
 nothing_behind (x ∷ s) = nothing_behind s
 

@@ -1,6 +1,5 @@
 -- Where a tape leaves the layout, and the refusal that is given there (02, Item 1), from the layout alone.
-use Rattle.std.specs.Prelude.{◌≡◌, true, List, [], ◌∷◌, ◌++◌, ℕ, suc, ◌<◌, ◌≤◌, length, take, Some, Err, Ok}
-use Rattle.std.proofs.Math.ListN.{get_elem?}
+use Rattle.std.specs.Prelude.{◌≡◌, true, List, [], ◌∷◌, ◌++◌, ℕ, suc, ◌<◌, ◌≤◌, length, take, Some, Err, Ok, slice_get}
 use Rattle.refusals.specs.declared.Refusal.{Refusal}
 use Rattle.refusals.specs.declared.Refusal.TheVariants.{Labels, EndOfVolume, BlockCount}
 use Rattle.refusals.specs.Refusals.{Answer}
@@ -28,7 +27,7 @@ pub record LongestFront (t : Tape) (n : ℕ) : Type 0 where
 -- element n is a label EOV1 where a label EOF1 could stand
 pub record IsEndOfVolume (t : Tape) (n : ℕ) : Type 0 where
   pub label : List ℕ
-  pub is : get_elem? t n ≡ Some (block label)
+  pub is : slice_get t n ≡ Some (block label)
   pub eov1 : is_label (bytes "EOV1") label ≡ true
   pub other : List ℕ
   pub eof1 : is_label (bytes "EOF1") other ≡ true
@@ -37,7 +36,7 @@ pub record IsEndOfVolume (t : Tape) (n : ℕ) : Type 0 where
 -- element n is a label EOF1 with six digits that could stand if its digits were others
 pub record IsOtherCount (t : Tape) (n : ℕ) : Type 0 where
   pub label : List ℕ
-  pub is : get_elem? t n ≡ Some (block label)
+  pub is : slice_get t n ≡ Some (block label)
   pub eof1 : is_label (bytes "EOF1") label ≡ true
   pub digits : every is_digit (label_part 55 60 label) ≡ true
   pub other : List ℕ

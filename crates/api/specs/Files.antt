@@ -1,8 +1,8 @@
 -- What is shown of a text's form, and of a file's bytes.
-use Rattle.std.specs.Prelude.{◌≡◌, List, [], ◌∷◌, ℕ, Ok}
+use Rattle.std.specs.Prelude.{◌≡◌, List, [], ◌∷◌, ℕ, None, Some, Ok}
 use Rattle.refusals.specs.Refusals.{shown_number}
 use Rattle.xml.specs.CheckSteps.{require_form}
-use Rattle.extents.specs.Map.{BytePlace, stored, unstored}
+use Rattle.extents.specs.Map.{BytePlace}
 use Rattle.api.specs.Fronts.{TellsFront}
 
 -- 4 where the text is not in the form, and its front
@@ -12,5 +12,5 @@ pub record ChecksForm (s : List ℕ) (returned front : ℕ) : Type 0 where
 
 -- whether the byte is stored, 1, or not, 0; then its letter, its block, and where in the block
 abbrev pub byte_place : BytePlace → List ℕ
-byte_place (stored letter block byte) = 1 ∷ letter ∷ block ∷ byte ∷ []
-byte_place unstored = 0 ∷ 0 ∷ 0 ∷ 0 ∷ []
+byte_place (Some b) = 1 ∷ b.letter ∷ b.block.0 ∷ b.byte.0 ∷ []
+byte_place None = 0 ∷ 0 ∷ 0 ∷ 0 ∷ []

@@ -3,15 +3,16 @@ use Rattle.std.specs.Prelude.{◌≡◌, not, List, [], ◌∷◌, ℕ, length, 
 use Rattle.refusals.specs.declared.Refusal.TheVariants.{Caller}
 use Rattle.refusals.specs.Refusals.{Answer, require, and_then}
 use Rattle.quantities.specs.Sizes.{is_block_size}
+use Rattle.tape.specs.declared.Front.{Front}
 use Rattle.tape.specs.Tape.{Tape}
-use Rattle.tape.specs.Answers.{tape_in, Fronts, Lengths, keeping, kept_of, StorePart, place_of, block_of, Holds}
+use Rattle.tape.specs.Answers.{tape_in, Fronts, keeping, kept_of, StorePart, place_of, block_of, Holds}
 use Rattle.tape.specs.Again.{fronts_of, KeepsAgain}
 use Rattle.constructs.specs.Constructs.{standing}
 use Rattle.constructs.specs.Tables.{table_after}
 use Rattle.api.specs.Outputs.{Shown, one, bit}
 
 -- how many bytes of the list and of the store are kept
-abbrev pub fronts : Lengths → List ℕ
+abbrev pub fronts : Front → List ℕ
 fronts f = f.list ∷ f.store ∷ []
 
 -- the first bytes of the list and of the store, as many as the outputs tell

@@ -3,7 +3,6 @@ ghost use Rattle.extents.specs.Map.{byte_map};
 ghost use Rattle.api.specs.Outputs.{Shown};
 ghost use Rattle.api.specs.Files.{byte_place, ChecksForm};
 
-use extents::ByteAt;
 use quantities::ByteCount;
 use refusals::{Place, Refusal};
 use xml::FormChecked;
@@ -40,19 +39,15 @@ pub extern "C" fn klapouzen_byte_at(
     ensures { Shown 4 byte_place (byte_map rows.now length block_size position) result out.new }
 {
     match extents::byte_at(rows, ByteCount(length), block_size, ByteCount(position)) {
-        ByteAt::Stored {
-            letter,
-            block,
-            byte,
-        } => {
-            *out = [1, letter as u64, block.0, byte.0];
+        Ok(Some(stored)) => {
+            *out = [1, u64::from(stored.letter), stored.block.0, stored.byte.0];
             0
         }
-        ByteAt::Unstored => {
+        Ok(None) => {
             *out = [0; 4];
             0
         }
-        ByteAt::Refused(r) => {
+        Err(r) => {
             *out = [0; 4];
             u64::from(r)
         }

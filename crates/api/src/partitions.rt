@@ -5,7 +5,6 @@ ghost use Rattle.api.specs.Partitions.{ShowsKept, ShowsPlace, ListsConstructs};
 
 use quantities::BlockNumber;
 use refusals::Refusal;
-use tape::{Kept, Located};
 
 // The number of elements of a partition.
 #[unsafe(no_mangle)]
@@ -30,11 +29,11 @@ pub extern "C" fn klapouzen_keep(list: &[u8], store: &[u8], n: u64, out: &mut [u
     ensures { ShowsKept n list.now store.now result out.new }
 {
     match tape::keep(list, store, n as usize) {
-        Kept::Lengths(l, s) => {
-            *out = [l as u64, s as u64];
+        Ok(front) => {
+            *out = [front.list as u64, front.store as u64];
             0
         }
-        Kept::Refused(r) => {
+        Err(r) => {
             *out = [0; 2];
             u64::from(r)
         }
@@ -67,15 +66,11 @@ pub extern "C" fn klapouzen_block(
         letter,
         BlockNumber(number),
     ) {
-        Located::Index(from, n) => {
-            *out = [0, from as u64, n as u64];
+        Ok(part) => {
+            *out = [u64::from(!part.on_index), part.from as u64, part.size as u64];
             0
         }
-        Located::Data(from, n) => {
-            *out = [1, from as u64, n as u64];
-            0
-        }
-        Located::Refused(r) => {
+        Err(r) => {
             *out = [0; 3];
             u64::from(r)
         }

@@ -16,7 +16,7 @@ use Rattle.tape.proofs.Passing.{drop_next, bytes_next, bytes_within}
 use Rattle.tape.specs.Answers.{element_count, bytes_before}
 use Rattle.tape.specs.Steps.{Encoded}
 use Rattle.refusals.specs.declared.Refusal.{Refusal}
-use Rattle.core.specs.declared.result.Result.TheVariants as Scanned·is
+use Rattle.std.specs.declared.result.Result.TheVariants as Scanned·is
 use Rattle.constructs.specs.declared.Phase.{Phase}
 use Rattle.constructs.specs.declared.Phase.TheVariants.{Labels}
 use Rattle.constructs.specs.Constructs.{Construct, Scan, run_after, scan_step, scan, scan_start, standing}

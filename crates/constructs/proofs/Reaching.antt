@@ -12,7 +12,7 @@ use borrow.Author.Tests.{eqb-true, le-leb, lt-leb}
 use Rattle.slices.proofs.Booleans.{split}
 use Rattle.refusals.specs.declared.Refusal.{Refusal}
 use Rattle.refusals.specs.declared.Refusal.TheVariants as refusal
-use Rattle.core.specs.declared.result.Result.TheVariants as checked
+use Rattle.std.specs.declared.result.Result.TheVariants as checked
 use Rattle.tape.specs.Tape.{Tape, mark, block, unreadable, store, content}
 use Rattle.tape.specs.Answers.{element_count}
 use Rattle.tape.proofs.Keeping.{Present, absent}

@@ -1,5 +1,5 @@
 -- The byte map's answers: what each failed test gives, and the place along the rows.
-use Rattle.std.specs.Prelude.{Err, Ok}
+use Rattle.std.specs.Prelude.{None, Some, Err, Ok}
 use mathlib.Core.Path.{◌≡◌, refl, ap, ◌∙◌}
 use mathlib.Core.Bool.{Bool, true, false, cond, ◌&&◌, and-false}
 use mathlib.Core.List.{List, [], ◌∷◌}
@@ -15,7 +15,7 @@ use Rattle.quantities.specs.Sizes.{is_block_size}
 use Rattle.extents.specs.Rows.{Row, rows_of, numbers_of}
 use Rattle.extents.specs.Steps.{row_from}
 use Rattle.extents.specs.Lawful.{in_row, lawful, holders}
-use Rattle.extents.specs.Map.{stored, unstored, byte_in_row, byte_at, lettered, byte_map}
+use Rattle.extents.specs.Map.{byte_in_row, byte_at, lettered, byte_map}
 use Rattle.extents.proofs.Rows.{rows_on, rows_end, rows_count, rows_numbers, length_numbers}
 
 module _ (s : List ℕ) (L B p : ℕ) where
@@ -62,7 +62,7 @@ numbers_mapped rows L B p size letters few law =
 
 -- along the rows, of which i were passed
 module _ (s : List ℕ) (B p i : ℕ) where
-  pub place_here : i < length s / 5 → in_row p (row_from s (i * 5)) ≡ true → byte_at B p (drop i (rows_of s)) ≡ byte_in_row B p (row_from s (i * 5))
+  pub place_here : i < length s / 5 → in_row p (row_from s (i * 5)) ≡ true → byte_at B p (drop i (rows_of s)) ≡ Some (byte_in_row B p (row_from s (i * 5)))
   unfolding byte_at
   place_here h e = rw (rows_on s i h, e)
 
@@ -70,16 +70,16 @@ module _ (s : List ℕ) (B p i : ℕ) where
   unfolding byte_at
   place_on h e = rw (rows_on s i h, e)
 
-  pub place_end : length s / 5 ≤ i → byte_at B p (drop i (rows_of s)) ≡ unstored
+  pub place_end : length s / 5 ≤ i → byte_at B p (drop i (rows_of s)) ≡ None
   unfolding byte_at
   place_end h = ap (byte_at B p) (rows_end s i h)
 
 -- a place by its numbers
 pub placed : (B p : ℕ) (r : Row) (letter blocks byte : ℕ) → letter ≡ r.letter → blocks ≡ (r.byteoffset + (p - r.fileoffset)) / B → byte ≡ (r.byteoffset + (p - r.fileoffset)) % B
-    → stored letter (r.startblock + blocks) byte ≡ byte_in_row B p r
+    → record { letter = letter; block = record { 0 = r.startblock + blocks }; byte = record { 0 = byte } } ≡ byte_in_row B p r
 placed B p r letter blocks byte e f g = cc
 
--- the paper's two sentences: in a row, by that row, whichever it is; in no row, unstored
+-- the paper's two sentences: in a row, by that row, whichever it is; in no row, not stored
 module _ (d : Row) (B p : ℕ) where
   held : (rows : List Row) (i : ℕ) → i < length rows → in_row p (get_or rows i d) ≡ true → 1 ≤ holders p rows
   unfolding holders
@@ -87,7 +87,7 @@ module _ (d : Row) (B p : ℕ) where
   held (r ∷ rows) zero h e = rw e (omega arith)
   held (r ∷ rows) (suc i) h e = omega (arith, held rows i (le_of_suc-le-suc h) e)
 
-  pub place_in_row : (rows : List Row) (i : ℕ) → i < length rows → in_row p (get_or rows i d) ≡ true → holders p rows ≤ 1 → byte_at B p rows ≡ byte_in_row B p (get_or rows i d)
+  pub place_in_row : (rows : List Row) (i : ℕ) → i < length rows → in_row p (get_or rows i d) ≡ true → holders p rows ≤ 1 → byte_at B p rows ≡ Some (byte_in_row B p (get_or rows i d))
   unfolding byte_at holders
   place_in_row [] i h e u = absurd (not-suc-le-zero h)
   place_in_row (r ∷ rows) zero h e u = rw e
@@ -96,16 +96,16 @@ module _ (d : Row) (B p : ℕ) where
       g : i < length rows
       g = le_of_suc-le-suc h
 
-      go : (t : Bool) → in_row p r ≡ t → (holders p rows ≤ 1 → byte_at B p rows ≡ byte_in_row B p (get_or rows i d))
-          → cond t (byte_in_row B p r) (byte_at B p rows) ≡ byte_in_row B p (get_or rows i d)
+      go : (t : Bool) → in_row p r ≡ t → (holders p rows ≤ 1 → byte_at B p rows ≡ Some (byte_in_row B p (get_or rows i d)))
+          → cond t (Some (byte_in_row B p r)) (byte_at B p rows) ≡ Some (byte_in_row B p (get_or rows i d))
       go true f next = let z : 1 + holders p rows ≤ 1 = rw f at u in absurd (omega (arith, held rows i g e))
       go false f next = next (omega (arith, u))
 
-pub place_in_none : (B p : ℕ) (rows : List Row) → holders p rows ≡ 0 → byte_at B p rows ≡ unstored
+pub place_in_none : (B p : ℕ) (rows : List Row) → holders p rows ≡ 0 → byte_at B p rows ≡ None
 unfolding byte_at holders
 place_in_none B p [] e = refl
 place_in_none B p (r ∷ rows) e = go (in_row p r) refl (place_in_none B p rows)
   where
-    go : (t : Bool) → in_row p r ≡ t → (holders p rows ≡ 0 → byte_at B p rows ≡ unstored) → cond t (byte_in_row B p r) (byte_at B p rows) ≡ unstored
+    go : (t : Bool) → in_row p r ≡ t → (holders p rows ≡ 0 → byte_at B p rows ≡ None) → cond t (Some (byte_in_row B p r)) (byte_at B p rows) ≡ None
     go true f next = let z : 1 + holders p rows ≡ 0 = rw f at e in absurd (omega arith)
     go false f next = next (omega (arith, e))

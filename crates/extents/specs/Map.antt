@@ -1,27 +1,31 @@
 -- The byte map (01, Extents): where the byte at a file position is.
-use Rattle.std.specs.Prelude.{Bool, cond, ◌&&◌, List, [], ◌∷◌, ℕ, ◌+◌, ◌-◌, ◌/◌, ◌%◌, leb, ltb, eqb, length, Ok}
+use Rattle.std.specs.Prelude.{Bool, cond, ◌&&◌, List, [], ◌∷◌, ℕ, ◌+◌, ◌-◌, ◌/◌, ◌%◌, leb, ltb, eqb, length, None, Option, Some, Ok}
 use Rattle.refusals.specs.Refusals.{Answer, require}
 use Rattle.refusals.specs.declared.Refusal.TheVariants.{Caller, TooMany, Extents, Missing}
 use Rattle.slices.specs.Slices.{every}
 use Rattle.quantities.specs.Letters.{is_letter}
 use Rattle.quantities.specs.Sizes.{is_block_size}
+use Rattle.extents.specs.declared.Stored.{Stored}
 use Rattle.extents.specs.Rows.{Row, rows_of}
 use Rattle.extents.specs.Lawful.{in_row, lawful}
 
--- a byte of a block, or a zero byte that is not stored
-pub data BytePlace : Type 0 where
-  stored : (letter block byte : ℕ) → BytePlace
-  unstored : BytePlace
+-- a byte of a block; none: a zero byte that is not stored
+abbrev pub BytePlace : Type 0
+BytePlace = Option Stored
 
 -- in a row: the block is startblock + (byteoffset + p - fileoffset) div B, at the remainder
-abbrev pub byte_in_row : ℕ → ℕ → Row → BytePlace
+abbrev pub byte_in_row : ℕ → ℕ → Row → Stored
 byte_in_row B p r =
-    stored r.letter (r.startblock + (r.byteoffset + (p - r.fileoffset)) / B) ((r.byteoffset + (p - r.fileoffset)) % B)
+    record {
+      letter = r.letter;
+      block = record { 0 = r.startblock + (r.byteoffset + (p - r.fileoffset)) / B };
+      byte = record { 0 = (r.byteoffset + (p - r.fileoffset)) % B };
+    }
 
--- in no row: unstored
+-- in no row: not stored
 unfoldable pub byte_at : ℕ → ℕ → List Row → BytePlace
-byte_at B p [] = unstored
-byte_at B p (r ∷ rows) = cond (in_row p r) (byte_in_row B p r) (byte_at B p rows)
+byte_at B p [] = None
+byte_at B p (r ∷ rows) = cond (in_row p r) (Some (byte_in_row B p r)) (byte_at B p rows)
 
 -- each row's letter is `a` to `z`
 abbrev pub lettered : List Row → Bool

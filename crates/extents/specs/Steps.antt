@@ -1,16 +1,6 @@
--- The row whose numbers begin at a place, and what an answer of the byte map says.
-use Rattle.refusals.specs.Refusals.{Answer}
-use Rattle.extents.specs.declared.ByteAt.{ByteAt}
-use Rattle.extents.specs.declared.ByteAt.TheVariants.{Stored, Unstored, Refused}
-use Rattle.extents.specs.Map.{BytePlace, stored, unstored}
-use Rattle.std.specs.Prelude.{List, ℕ, ◌+◌, get_or, Err, Ok}
+-- The row whose numbers begin at a place.
+use Rattle.std.specs.Prelude.{List, ℕ, ◌+◌, get_or}
 use Rattle.extents.specs.Rows.{Row}
-
--- what an answer says
-abbrev pub byte_answered : ByteAt → Answer BytePlace
-byte_answered (Stored letter block byte) = Ok (stored letter block.0 byte.0)
-byte_answered Unstored = Ok unstored
-byte_answered (Refused r) = Err r
 
 -- the row whose numbers begin at a place
 abbrev pub row_from : List ℕ → ℕ → Row

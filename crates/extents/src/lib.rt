@@ -6,24 +6,19 @@ ghost use Rattle.refusals.specs.Refusals.{require};
 ghost use Rattle.refusals.specs.declared.Refusal.TheVariants.{Missing};
 ghost use Rattle.slices.specs.Slices.{every};
 ghost use Rattle.extents.specs.Rows.{rows_of};
-ghost use Rattle.extents.specs.Steps.{row_from, byte_answered};
+ghost use Rattle.extents.specs.Steps.{row_from};
 ghost use Rattle.extents.specs.Lawful as lawfulness;
 ghost use Rattle.extents.specs.Map.{lettered, byte_at, byte_map};
 
 use quantities::{BlockNumber, ByteCount};
 use refusals::Refusal;
 
-// Where the byte at a file position is.
+// Where a byte is stored: the partition's letter, the block's number, and where in the block.
 #[derive(Clone, Copy)]
-pub enum ByteAt {
-    Stored {
-        letter: u8,
-        block: BlockNumber,
-        byte: ByteCount,
-    },
-    // A zero byte that is not stored.
-    Unstored,
-    Refused(Refusal),
+pub struct Stored {
+    pub letter: u8,
+    pub block: BlockNumber,
+    pub byte: ByteCount,
 }
 
 // A byte counted from the start of a first block: how many blocks past it, and where in its own block.
@@ -197,49 +192,49 @@ fn narrow(letter: u64) -> u8
     letter as u8
 }
 
-// Where the byte at a position is, by lawful rows.
-fn find(rows: &[u64], file_length: ByteCount, block_size: u64, position: ByteCount) -> ByteAt
+// Where the byte at a position is, by lawful rows; none where it is a zero byte that is not stored.
+fn find(rows: &[u64], file_length: ByteCount, block_size: u64, position: ByteCount) -> Result<Option<Stored>, Refusal>
     requires { (lettered (rows_of rows.now) ≡ true) × (lawfulness.each_lawful file_length.0 block_size (rows_of rows.now) ≡ true) }
-    ensures { byte_answered result ≡ require (ltb position.0 file_length.0) Missing
+    ensures { result ≡ require (ltb position.0 file_length.0) Missing
         (answer (byte_at block_size position.0 (rows_of rows.now))) }
 {
     if file_length.0 <= position.0 {
-        return ByteAt::Refused(Refusal::Missing);
+        return Err(Refusal::Missing);
     }
     let mut i: usize = 0;
     while i < rows.len() / 5 {
         let at = i * 5;
         if holds(rows, at, position) {
             let past = spot(rows[at + 2], position.0 - rows[at + 4], block_size);
-            return ByteAt::Stored {
+            return Ok(Some(Stored {
                 letter: narrow(rows[at]),
                 block: BlockNumber(rows[at + 1] + past.blocks),
                 byte: ByteCount(past.byte),
-            };
+            }));
         }
         i += 1;
     }
-    ByteAt::Unstored
+    Ok(None)
 }
 
-// Where the byte at a position of a file is, by its rows, its length and the block size.
-pub fn byte_at(rows: &[u64], file_length: ByteCount, block_size: u64, position: ByteCount) -> ByteAt
-    ensures { byte_answered result ≡ byte_map rows.now file_length.0 block_size position.0 }
+// Where the byte at a position of a file is, by its rows, its length and the block size; none where it is a zero byte that is not stored.
+pub fn byte_at(rows: &[u64], file_length: ByteCount, block_size: u64, position: ByteCount) -> Result<Option<Stored>, Refusal>
+    ensures { result ≡ byte_map rows.now file_length.0 block_size position.0 }
 {
     if !quantities::is_block_size(block_size) {
-        return ByteAt::Refused(Refusal::Caller);
+        return Err(Refusal::Caller);
     }
     if !each_lettered(rows) {
-        return ByteAt::Refused(Refusal::Caller);
+        return Err(Refusal::Caller);
     }
     if rows.len() % 5 != 0 {
-        return ByteAt::Refused(Refusal::Caller);
+        return Err(Refusal::Caller);
     }
     if 1024 < rows.len() / 5 {
-        return ByteAt::Refused(Refusal::TooMany);
+        return Err(Refusal::TooMany);
     }
     if !lawful(rows, file_length, block_size) {
-        return ByteAt::Refused(Refusal::Extents);
+        return Err(Refusal::Extents);
     }
     find(rows, file_length, block_size, position)
 }

@@ -3,8 +3,9 @@
 
 ghost use Rattle.std.specs.Prelude.{◌≤◌};
 
-use extents::ByteAt;
+use extents::Stored;
 use quantities::ByteCount;
+use refusals::Refusal;
 use std::io;
 
 // Where the number at from ends.
@@ -50,25 +51,21 @@ fn print_number(rt: &impl Print, n: u64) -> io::Result<()> {
     }
 }
 
-fn print(rt: &impl Print, answer: ByteAt) -> io::Result<()> {
+fn print(rt: &impl Print, answer: Result<Option<Stored>, Refusal>) -> io::Result<()> {
     match answer {
-        ByteAt::Stored {
-            letter,
-            block,
-            byte,
-        } => {
-            let name = [letter];
+        Ok(Some(stored)) => {
+            let name = [stored.letter];
             rt.write_all(b"stored ")?;
             rt.write_all(&name)?;
             rt.write_all(b" ")?;
-            print_number(rt, block.0)?;
+            print_number(rt, stored.block.0)?;
             rt.write_all(b" ")?;
-            print_number(rt, byte.0)?;
+            print_number(rt, stored.byte.0)?;
         }
-        ByteAt::Unstored => {
+        Ok(None) => {
             rt.write_all(b"unstored")?;
         }
-        ByteAt::Refused(r) => {
+        Err(r) => {
             rt.write_all(b"refused ")?;
             print_number(rt, u64::from(r))?;
         }

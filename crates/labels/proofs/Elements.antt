@@ -1,10 +1,11 @@
 -- The elements 0 to 3 of a tape, step by step along its list; and the parts of the store that its first two blocks are.
+use Rattle.std.specs.Prelude.{slice_get}
 use mathlib.Core.Path.{◌≡◌, refl, sym, ◌∙◌, ap, ap₂}
 use mathlib.Core.Bool.{true, false}
 use mathlib.Core.List.{List, [], ◌∷◌}
 use Prim.Native.Nat.{ℕ, ◌+◌}
 use native.Mathlib.Omega.{arith}
-use lib.ListN.{length, drop, get_elem?}
+use lib.ListN.{length, drop}
 use Rattle.slices.proofs.Booleans.{and_left, and_right}
 use Rattle.tape.specs.Tape.{mark, block, unreadable, content, Tape, mark_cell, block_cell, unreadable_cell, list, lawful_tape, is_block_length, Encodes}
 use Rattle.tape.specs.ReadingSteps.{entry_at}
@@ -79,7 +80,7 @@ module _ {l : List ℕ} {at : ℕ} where
       let k : at + 5 ≡ next = cc in
       record { bytes = x; rest = t; is = refl; size = cc; on = rw (← k) (after_block w) }
 
-  block_not : (t : Tape) → Stands l at t → past_block (entry_at l at) ≡ Other → is_block (get_elem? t 0) ≡ false
+  block_not : (t : Tape) → Stands l at t → past_block (entry_at l at) ≡ Other → is_block (slice_get t 0) ≡ false
   block_not [] w e = refl
   block_not (mark ∷ t) w e = refl
   block_not (unreadable ∷ t) w e = refl
@@ -94,7 +95,7 @@ module _ {l : List ℕ} {at : ℕ} where
       let k : at + 1 ≡ next = cc in
       record { rest = t; is = refl; on = rw (← k) (after_mark w) }
 
-  mark_not : (t : Tape) → Stands l at t → past_mark (entry_at l at) ≡ Other → is_mark (get_elem? t 0) ≡ false
+  mark_not : (t : Tape) → Stands l at t → past_mark (entry_at l at) ≡ Other → is_mark (slice_get t 0) ≡ false
   mark_not [] w e = refl
   mark_not (block x ∷ t) w e = refl
   mark_not (unreadable ∷ t) w e = refl

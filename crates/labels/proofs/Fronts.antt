@@ -1,11 +1,11 @@
 -- The labels stand in elements 0 to 3: no other element has a say in them.
-use Rattle.std.specs.Prelude.{Ok}
+use Rattle.std.specs.Prelude.{Ok, slice_get}
 use mathlib.Core.Path.{◌≡◌, refl, sym, subst₂, ◌∙◌}
 use mathlib.Core.Bool.{Bool, true, false, ◌&&◌}
 use mathlib.Core.List.{[], ◌∷◌, ◌++◌}
 use Prim.Native.Nat.{ℕ, zero, suc, ◌≤◌, ◌<◌}
 use native.Mathlib.Omega.{arith}
-use lib.ListN.{length, take, drop, take-append-drop, get_elem?}
+use lib.ListN.{length, take, drop, take-append-drop}
 use lib.Seq.{take-append-le}
 use Rattle.slices.proofs.Booleans.{and_right}
 use Rattle.refusals.specs.declared.Refusal.TheVariants.{Layout}
@@ -14,7 +14,7 @@ use Rattle.tape.specs.Tape.{Tape}
 use Rattle.label.specs.Label.{Label}
 use Rattle.labels.specs.Labels.{is_mark, is_block, is_laid, bytes_at, labels_from, labels_of}
 
-element_front : (n k : ℕ) (t : Tape) → k < n → get_elem? (take n t) k ≡ get_elem? t k
+element_front : (n k : ℕ) (t : Tape) → k < n → slice_get (take n t) k ≡ slice_get t k
 element_front zero k t h = absurd (omega arith)
 element_front (suc n) k [] h = refl
 element_front (suc n) zero (e ∷ t) h = refl
@@ -23,7 +23,7 @@ element_front (suc n) (suc k) (e ∷ t) h = element_front n k t (omega arith)
 pub labels_front : (i d : Tape) → labels_of (take 4 i) (take 4 d) ≡ labels_of i d
 unfolding labels_of
 labels_front i d =
-    let at : (t : Tape) (k : ℕ) → k < 4 → get_elem? (take 4 t) k ≡ get_elem? t k = λ t k h. element_front 4 k t h in
+    let at : (t : Tape) (k : ℕ) → k < 4 → slice_get (take 4 t) k ≡ slice_get t k = λ t k h. element_front 4 k t h in
     rw (
       at i 0 (omega arith),
       at i 1 (omega arith),
@@ -36,7 +36,7 @@ labels_front i d =
     )
 
 -- where element 3 is a mark there are four
-fourth : (t : Tape) → is_mark (get_elem? t 3) ≡ true → 4 ≤ length t
+fourth : (t : Tape) → is_mark (slice_get t 3) ≡ true → 4 ≤ length t
 fourth [] h = let z : ◌≡◌ {A = ℕ} 0 1 = cc in absurd (omega arith)
 fourth (a ∷ []) h = let z : ◌≡◌ {A = ℕ} 0 1 = cc in absurd (omega arith)
 fourth (a ∷ b ∷ []) h = let z : ◌≡◌ {A = ℕ} 0 1 = cc in absurd (omega arith)
@@ -44,7 +44,7 @@ fourth (a ∷ b ∷ c ∷ []) h = let z : ◌≡◌ {A = ℕ} 0 1 = cc in absurd
 fourth (a ∷ b ∷ c ∷ e ∷ t) h = omega arith
 
 laid_four : (t : Tape) → is_laid t ≡ true → 4 ≤ length t
-laid_four t h = fourth t (and_right (is_block (get_elem? t 0) && is_mark (get_elem? t 1) && is_block (get_elem? t 2)) (is_mark (get_elem? t 3)) h)
+laid_four t h = fourth t (and_right (is_block (slice_get t 0) && is_mark (slice_get t 1) && is_block (slice_get t 2)) (is_mark (slice_get t 3)) h)
 
 -- labels that agree do so however the tapes go on
 pub labels_on : (i d x y : Tape) (f : Label) → labels_of i d ≡ Ok f → labels_of (i ++ x) (d ++ y) ≡ Ok f

@@ -1,7 +1,6 @@
 -- The labels of two partitions, in document 01's volume order (01, Refusal numbers): 1; 9; 3; label text; then 8 for agreement, the index side
 -- first at each.
-use Rattle.std.specs.Prelude.{Bool, true, false, ◌&&◌, List, [], ℕ, None, Option, Some, Err, Ok}
-use Rattle.std.proofs.Math.ListN.{get_elem?}
+use Rattle.std.specs.Prelude.{Bool, true, false, ◌&&◌, List, [], ℕ, None, Option, Some, Err, Ok, slice_get}
 use Rattle.refusals.specs.Refusals.{Answer, require, and_then, on_data_side}
 use Rattle.refusals.specs.declared.Refusal.TheVariants.{Layout, Foreign}
 use Rattle.tape.specs.Tape.{Element, mark, block, unreadable, content, Tape}
@@ -24,7 +23,7 @@ is_block (Some unreadable) = false
 
 -- 9: elements 0 to 3 are block, mark, block, mark, no block of them unreadable (02, Item 7)
 abbrev pub is_laid : Tape → Bool
-is_laid t = is_block (get_elem? t 0) && is_mark (get_elem? t 1) && is_block (get_elem? t 2) && is_mark (get_elem? t 3)
+is_laid t = is_block (slice_get t 0) && is_mark (slice_get t 1) && is_block (slice_get t 2) && is_mark (slice_get t 3)
 
 abbrev pub bytes_in : Option Element → List ℕ
 bytes_in None = []
@@ -32,7 +31,7 @@ bytes_in (Some e) = content e
 
 -- the bytes of block n
 abbrev pub bytes_at : Tape → ℕ → List ℕ
-bytes_at t n = bytes_in (get_elem? t n)
+bytes_at t n = bytes_in (slice_get t n)
 
 -- what is read on the data side: a text outside the form is that side's (02, Item 6)
 abbrev pub on_data : {A : Type 0} → Answer A → Answer A

@@ -1,12 +1,12 @@
 -- A block by its number: the walk ends where it stands, and its bytes are a part of the store.
-use Rattle.std.specs.Prelude.{None, Option, Some, Err, Ok}
+use Rattle.std.specs.Prelude.{None, Option, Some, Err, Ok, slice_get}
 use mathlib.Core.Path.{◌≡◌, refl, sym, ◌∙◌, ap, subst}
 use mathlib.Core.Bool.{Bool, true, false, cond}
 use mathlib.Core.List.{List, [], ◌∷◌, ◌++◌}
 use Prim.Native.Nat.{ℕ, zero, suc, ◌+◌, ◌-◌, ◌≤◌}
 use native.Mathlib.Nat.{add-zero, zero-add}
 use native.Mathlib.Omega.{arith}
-use lib.ListN.{length, take, drop, get_elem?, length-append}
+use lib.ListN.{length, take, drop, length-append}
 use lib.Seq.{take-append_seam, drop-append-add}
 use borrow.Author.Tests.{leb-true}
 use lib.Dec.{leb, eqb}
@@ -48,7 +48,7 @@ spot_element v at unreadable = refl
 
 -- the walk over n entries of a tape ends at element n
 spot_from : (n : ℕ) (l : List ℕ) (at v : ℕ) (t : Tape) → lawful_tape t ≡ true → drop at l ≡ list t
-    → spot_of (reach n l at v).store (entry_at l (reach n l at v).list) ≡ spot_for (v + length (store (take n t))) (get_elem? t n)
+    → spot_of (reach n l at v).store (entry_at l (reach n l at v).list) ≡ spot_for (v + length (store (take n t))) (slice_get t n)
 unfolding list store lawful_tape
 spot_from zero l at v [] h d = rw (reach_done l at v zero (omega arith), entry_none l at d)
 spot_from zero l at v (e ∷ t) h d =
@@ -63,18 +63,18 @@ spot_from (suc n) l at v (e ∷ t) h d =
     rw (reach_element n l at v e (list t) ok d, ← f)
     (spot_from n l (at + width (cell_of e)) (v + length (content e)) t rest (next_here l at (cell_of e) (list t) d))
 
-pub spot_of_lem : (n count : ℕ) (l s : List ℕ) (p : Present l s count) → spot_at l n ≡ spot_for (length (store (take n p.tape))) (get_elem? p.tape n)
+pub spot_of_lem : (n count : ℕ) (l s : List ℕ) (p : Present l s count) → spot_at l n ≡ spot_for (length (store (take n p.tape))) (slice_get p.tape n)
 unfolding spot_at
 spot_of_lem n count l s p = rw (zero-add (length (store (take n p.tape)))) at (spot_from n l 0 0 p.tape p.encodes.blocks p.encodes.lists)
 
-past_end : (t : Tape) (n : ℕ) → length t ≤ n → get_elem? t n ≡ None
+past_end : (t : Tape) (n : ℕ) → length t ≤ n → slice_get t n ≡ None
 past_end [] n h = refl
 past_end (e ∷ t) zero h = absurd (omega arith)
 past_end (e ∷ t) (suc n) h = past_end t n (omega arith)
 
-below_of : (n count : ℕ) (l s : List ℕ) (p : Present l s count) → spot_below count l n ≡ spot_for (length (store (take n p.tape))) (get_elem? p.tape n)
+below_of : (n count : ℕ) (l s : List ℕ) (p : Present l s count) → spot_below count l n ≡ spot_for (length (store (take n p.tape))) (slice_get p.tape n)
 below_of n count l s p =
-    split (λ b. cond b spot.Nothing (spot_at l n) ≡ spot_for (length (store (take n p.tape))) (get_elem? p.tape n)) (leb count n)
+    split (λ b. cond b spot.Nothing (spot_at l n) ≡ spot_for (length (store (take n p.tape))) (slice_get p.tape n)) (leb count n)
     (λ e. rw (past_end p.tape n (rw p.count (leb-true count n e))))
     (λ e. spot_of_lem n count l s p)
 
@@ -110,12 +110,12 @@ module _ (i d c n : ℕ) (l s l' s' : List ℕ) where
           → x ≡ spot_below (cond side count count') (cond side l l') n → place_of i d c n l s l' s' ≡ place_from side x
       unfolding place_of
       place_found count' q true e x f =
-          rw (h, p.read, q.read, e) (placed true _ (get_elem? p.tape n) ∙ ap (place_from true) (sym (f ∙ below_of n count l s p)))
+          rw (h, p.read, q.read, e) (placed true _ (slice_get p.tape n) ∙ ap (place_from true) (sym (f ∙ below_of n count l s p)))
       place_found count' q false e x f =
-          rw (h, p.read, q.read, e) (placed false _ (get_elem? q.tape n) ∙ ap (place_from false) (sym (f ∙ below_of n count' l' s' q)))
+          rw (h, p.read, q.read, e) (placed false _ (slice_get q.tape n) ∙ ap (place_from false) (sym (f ∙ below_of n count' l' s' q)))
 
 -- block n is a part of the store
-pub block_bytes : (t : Tape) (n : ℕ) (x : List ℕ) → get_elem? t n ≡ Some (block x)
+pub block_bytes : (t : Tape) (n : ℕ) (x : List ℕ) → slice_get t n ≡ Some (block x)
     → (take (length x) (drop (length (store (take n t))) (store t)) ≡ x) × (length (store (take n t)) + length x ≤ length (store t))
 unfolding store content
 block_bytes [] n x e = let z : ◌≡◌ {A = ℕ} 0 1 = cc in absurd (omega arith)
@@ -135,7 +135,7 @@ refused_holds : (s s' : List ℕ) (r : Refusal) → Holds s s' (Err r) (Err r)
 refused_holds s s' r = record { bytes = refl; inside = λ p e. let z : ◌≡◌ {A = ℕ} 0 1 = cc in absurd (omega arith) }
 
 -- the place of a block of a tape holds it
-holds_on : (side : Bool) (t : Tape) (n : ℕ) (s s' : List ℕ) (o : Option Element) → get_elem? t n ≡ o → cond side s s' ≡ store t
+holds_on : (side : Bool) (t : Tape) (n : ℕ) (s s' : List ℕ) (o : Option Element) → slice_get t n ≡ o → cond side s s' ≡ store t
     → Holds s s' (and_then (as_block o) (λ x. Ok (record { on_index = side; from = length (store (take n t)); size = length x }))) (as_block o)
 holds_on side t n s s' None e q = refused_holds s s' refusal.Missing
 holds_on side t n s s' (Some mark) e q = refused_holds s s' refusal.Missing
@@ -158,8 +158,8 @@ module _ (i d c n : ℕ) (l s l' s' : List ℕ) (w : Bytes l) (w' : Bytes l') wh
   holds_of true (Some t) None e e' = refused_holds s s' refusal.List
   holds_of true (Some t) (Some u) e e' =
       split (λ b. Holds s s' (place_on n b (cond b t u)) (block_on (cond b t u) n)) (eqb c i)
-      (λ y. holds_on true t n s s' (get_elem? t n) refl (encodes_read l s t w e).stores)
-      (λ y. holds_on false u n s s' (get_elem? u n) refl (encodes_read l' s' u w' e').stores)
+      (λ y. holds_on true t n s s' (slice_get t n) refl (encodes_read l s t w e).stores)
+      (λ y. holds_on false u n s s' (slice_get u n) refl (encodes_read l' s' u w' e').stores)
 
   -- what is found holds the block
   pub finds : (a : Answer StorePart) → a ≡ place_of i d c n l s l' s' → FindsBlock i d c n l s l' s' a

@@ -1,9 +1,10 @@
 -- What this crate's functions answer: the check, keeping n elements, a block by letter and number (01, The block list).
-use Rattle.std.specs.Prelude.{◌≡◌, Bool, cond, List, ℕ, ◌+◌, ◌≤◌, length, take, drop, eqb, None, Option, Some, Err, Ok}
-use Rattle.std.proofs.Math.ListN.{get_elem?}
+use Rattle.std.specs.Prelude.{◌≡◌, Bool, cond, List, ℕ, ◌+◌, ◌≤◌, length, take, drop, eqb, slice_get, None, Option, Some, Err, Ok}
 use Rattle.refusals.specs.declared.Refusal.TheVariants as refusal
 use Rattle.refusals.specs.Refusals.{Answer, require, and_then}
 use Rattle.quantities.specs.Letters.{are_letters}
+use Rattle.tape.specs.declared.Front.{Front}
+pub use Rattle.tape.specs.declared.StorePart.{StorePart}
 use Rattle.tape.specs.Tape.{Tape, Element, mark, block, unreadable, list, store}
 use Rattle.tape.specs.ReadingSteps.{tape_of}
 
@@ -36,14 +37,10 @@ unfoldable pub keeping : ℕ → List ℕ → List ℕ → Answer Fronts
 keeping n l s = and_then (tape_in l s) (λ t. Ok (kept n t))
 
 -- the lengths of what is kept
-pub record Lengths : Type 0 where
-  pub list : ℕ
-  pub store : ℕ
-
-abbrev pub lengths : Fronts → Lengths
+abbrev pub lengths : Fronts → Front
 lengths f = record { list = length f.list; store = length f.store }
 
-abbrev pub kept_of : ℕ → List ℕ → List ℕ → Answer Lengths
+abbrev pub kept_of : ℕ → List ℕ → List ℕ → Answer Front
 kept_of n l s = and_then (keeping n l s) (λ f. Ok (lengths f))
 
 abbrev pub as_block : Option Element → Answer (List ℕ)
@@ -54,7 +51,7 @@ as_block (Some unreadable) = Err refusal.Unreadable
 
 -- the bytes of block n
 abbrev pub block_on : Tape → ℕ → Answer (List ℕ)
-block_on t n = as_block (get_elem? t n)
+block_on t n = as_block (slice_get t n)
 
 module _ {A : Type 0} where
   -- what is asked of the partition with that letter, i and d being the letters of the index and the data partition, and whether it is the
@@ -69,11 +66,6 @@ unfoldable pub block_of : ℕ → ℕ → ℕ → ℕ → List ℕ → List ℕ 
 block_of i d letter n l s l' s' = on_partition i d letter l s l' s' (λ side t. block_on t n)
 
 -- where a block lies: whether on the index side, from which byte of the store on, and how long
-pub record StorePart : Type 0 where
-  pub on_index : Bool
-  pub from : ℕ
-  pub size : ℕ
-
 abbrev pub place_on : ℕ → Bool → Tape → Answer StorePart
 place_on n side t = and_then (block_on t n) (λ x. Ok (record { on_index = side; from = bytes_before t n; size = length x }))
 

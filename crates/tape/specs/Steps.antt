@@ -1,14 +1,9 @@
 -- What the answers of this crate say, and what keeping and finding a block owe.
-use Rattle.refusals.specs.declared.Refusal.{Refusal}
-use Rattle.std.specs.Prelude.{◌≡◌, true, false, List, ℕ, length, Result, Err, Ok}
+use Rattle.std.specs.Prelude.{◌≡◌, List, ℕ, length, Ok}
 use Rattle.refusals.specs.Refusals.{Answer, and_then, Shows}
-use Rattle.core.specs.declared.result.Result.TheVariants as checked
-use Rattle.tape.specs.declared.Kept.{Kept}
-use Rattle.tape.specs.declared.Kept.TheVariants as kept_is
-use Rattle.tape.specs.declared.Located.{Located}
-use Rattle.tape.specs.declared.Located.TheVariants as located_is
+use Rattle.tape.specs.declared.Front.{Front}
 use Rattle.tape.specs.Tape.{Tape, Encodes}
-use Rattle.tape.specs.Answers.{Lengths, keeping, kept_of, Holds, StorePart, block_of, place_of}
+use Rattle.tape.specs.Answers.{keeping, kept_of, Holds, StorePart, block_of, place_of}
 use Rattle.tape.specs.Again.{fronts_of, KeepsAgain}
 
 -- a list and a store of a tape with so many elements
@@ -17,15 +12,11 @@ pub record Encoded (l s : List ℕ) (count : ℕ) : Type 0 where
   pub encodes : Encodes l s tape
   pub counted : length tape ≡ count
 
-abbrev pub kept_lengths : Kept → Answer Lengths
-kept_lengths (kept_is.Lengths l s) = Ok (record { list = l; store = s })
-kept_lengths (kept_is.Refused r) = Err r
-
 -- what keeping m elements answers: the lengths of what is kept, which is the first bytes, and these can be kept again
-pub record Keeps (m : ℕ) (l s : List ℕ) (a : Answer Lengths) : Type 0 where
+pub record Keeps (m : ℕ) (l s : List ℕ) (a : Answer Front) : Type 0 where
   pub answers : a ≡ kept_of m l s
   pub bytes : keeping m l s ≡ and_then a (λ k. Ok (fronts_of k l s))
-  pub again : (k : Lengths) → a ≡ Ok k → KeepsAgain m l s (fronts_of k l s)
+  pub again : (k : Front) → a ≡ Ok k → KeepsAgain m l s (fronts_of k l s)
 
 -- the list that is kept, and the store, each beside the refusal's number
 abbrev pub ShowsList : ℕ → List ℕ → List ℕ → List ℕ → ℕ → Type 0
@@ -33,11 +24,6 @@ ShowsList m l s x number = Shows (and_then (keeping m l s) (λ f. Ok f.list)) x 
 
 abbrev pub ShowsStore : ℕ → List ℕ → List ℕ → List ℕ → ℕ → Type 0
 ShowsStore m l s y number = Shows (and_then (keeping m l s) (λ f. Ok f.store)) y number
-
-abbrev pub located : Located → Answer StorePart
-located (located_is.Index from n) = Ok (record { on_index = true; from = from; size = n })
-located (located_is.Data from n) = Ok (record { on_index = false; from = from; size = n })
-located (located_is.Refused r) = Err r
 
 -- what finding a block answers: its place, which holds it
 pub record FindsBlock (i d letter n : ℕ) (l s l' s' : List ℕ) (a : Answer StorePart) : Type 0 where

@@ -1,21 +1,21 @@
 // A partition's block list and store (01, The block list): checked, walked, cut after n elements, and asked for a block.
 #![tactic(auto)]
 
-ghost use Rattle.std.specs.Prelude.{◌≡◌, ◌+◌, ◌≤◌, ◌<◌, min, length};
+ghost use Rattle.std.specs.Prelude.{◌≡◌, ◌+◌, ◌≤◌, Ok, length};
 ghost use Rattle.refusals.specs.Refusals.{Shows};
 ghost use Rattle.quantities.specs.Letters.{are_letters};
 ghost use Rattle.tape.specs.Tape.{max_elements};
 ghost use Rattle.tape.specs.ReadingSteps.{number_at, entry_at, cells};
-ghost use Rattle.tape.specs.WalkSteps.{totals_from, reach, spot_at, spot_below};
+ghost use Rattle.tape.specs.WalkSteps.{passed, totals_from, reach, spot_at, spot_below};
 ghost use Rattle.tape.specs.Answers.{element_count, block_of};
-ghost use Rattle.tape.specs.Steps.{kept_lengths, Keeps, ShowsList, ShowsStore, located, FindsBlock};
+ghost use Rattle.tape.specs.Steps.{Keeps, ShowsList, ShowsStore, FindsBlock};
 
 use quantities::BlockNumber;
 use refusals::Refusal;
 
 // What stands at a place of a list, with the place of the next entry: a file mark, a block with its length, an unreadable block, nothing
 // since the list ends, or no entry of a list.
-#[derive(Clone, Copy)]
+#[derive(Clone, Copy, PartialEq, Eq, Debug)]
 pub enum Entry {
     Mark(usize),
     Block(usize, usize),
@@ -24,10 +24,17 @@ pub enum Entry {
     Bad,
 }
 
-fn wide(x: u8) -> usize
-    ensures { (result ≡ x) × (result < 256) }
-{
-    x as usize
+impl Entry {
+    // The bytes that the element has in the store, and the place of the next entry; none where no element stands.
+    fn passed(self) -> Option<(usize, usize)>
+        ensures { result ≡ passed self }
+    {
+        match self {
+            Entry::Mark(next) | Entry::Unreadable(next) => Some((0, next)),
+            Entry::Block(n, next) => Some((n, next)),
+            Entry::End | Entry::Bad => None,
+        }
+    }
 }
 
 // The number in four bytes, high byte first.
@@ -35,50 +42,36 @@ fn number_at(list: &[u8], at: usize) -> usize
     requires { at + 4 ≤ length list.now }
     ensures { result ≡ number_at list.now at }
 {
-    wide(list[at]) * 16777216
-        + wide(list[at + 1]) * 65536
-        + wide(list[at + 2]) * 256
-        + wide(list[at + 3])
+    u32::from_be_bytes([list[at], list[at + 1], list[at + 2], list[at + 3]]) as usize
 }
 
 // The entry at a place of a list.
 pub fn entry_at(list: &[u8], at: usize) -> Entry
     ensures { result ≡ entry_at list.now at }
 {
-    if list.len() <= at {
+    let Some(kind) = list.get(at) else {
         return Entry::End;
+    };
+    match *kind {
+        1 => Entry::Mark(at + 1),
+        3 => Entry::Unreadable(at + 1),
+        2 if 5 <= list.len() - at => match number_at(list, at + 1) {
+            n @ 1..=1048576 => Entry::Block(n, at + 5),
+            _ => Entry::Bad,
+        },
+        _ => Entry::Bad,
     }
-    let k = list[at];
-    if k == 1 {
-        return Entry::Mark(at + 1);
-    }
-    if k == 3 {
-        return Entry::Unreadable(at + 1);
-    }
-    if k != 2 {
-        return Entry::Bad;
-    }
-    if list.len() - at < 5 {
-        return Entry::Bad;
-    }
-    let n = number_at(list, at + 1);
-    if n < 1 {
-        return Entry::Bad;
-    }
-    if 1048576 < n {
-        return Entry::Bad;
-    }
-    Entry::Block(n, at + 5)
-}
-
-#[derive(Clone, Copy)]
-enum Totals {
-    Of(usize, usize),
-    Bad,
 }
 
 // The number of elements of a list, and the bytes of its blocks.
-fn sum_up(list: &[u8]) -> Totals
+#[derive(Clone, Copy)]
+struct Totals {
+    elements: usize,
+    bytes: usize,
+}
+
+// The totals of a list, none where an entry is wrong or the elements are too many.
+fn sum_up(list: &[u8]) -> Option<Totals>
     ensures { result ≡ totals_from 0 0 (cells list.now) }
 {
     let mut at: usize = 0;
@@ -86,31 +79,14 @@ fn sum_up(list: &[u8]) -> Totals
     let mut bytes: usize = 0;
     while at < list.len() {
         if elements == 65536 {
-            return Totals::Bad;
+            return None;
         }
-        match entry_at(list, at) {
-            Entry::Mark(next) => {
-                at = next;
-                elements += 1; // marks count too
-            }
-            Entry::Block(n, next) => {
-                at = next;
-                elements += 1;
-                bytes += n;
-            }
-            Entry::Unreadable(next) => {
-                at = next;
-                elements += 1;
-            }
-            Entry::End => {
-                return Totals::Bad;
-            }
-            Entry::Bad => {
-                return Totals::Bad;
-            }
-        }
+        let (n, next) = entry_at(list, at).passed()?;
+        elements += 1; // marks count too
+        bytes += n;
+        at = next;
     }
-    Totals::Of(elements, bytes)
+    Some(Totals { elements, bytes })
 }
 
 // Whether a list and a store are well formed, and how many elements they have.
@@ -118,91 +94,58 @@ pub fn check(list: &[u8], store: &[u8]) -> Result<usize, Refusal>
     ensures { result ≡ element_count list.now store.now }
 {
     match sum_up(list) {
-        Totals::Of(elements, bytes) => {
-            if bytes != store.len() {
-                return Err(Refusal::List);
-            }
-            if 16777216 < bytes {
-                return Err(Refusal::List);
-            }
-            Ok(elements)
+        Some(totals) if totals.bytes == store.len() && totals.bytes <= 16777216 => {
+            Ok(totals.elements)
         }
-        Totals::Bad => Err(Refusal::List),
+        _ => Err(Refusal::List),
     }
 }
 
 // How far the first entries of a list reach, in the list and in the store.
-#[derive(Clone, Copy)]
-struct Front {
-    list: usize,
-    store: usize,
+#[derive(Clone, Copy, PartialEq, Eq, Debug)]
+pub struct Front {
+    pub list: usize,
+    pub store: usize,
 }
 
+// How far the first n entries reach, as far as there are entries.
 fn walk(list: &[u8], n: usize) -> Front
     requires { n ≤ max_elements }
     ensures { result ≡ reach n list.now 0 0 }
 {
     let mut at: usize = 0;
     let mut store: usize = 0;
-    let mut left = n;
-    while 0 < left {
-        match entry_at(list, at) {
-            Entry::Mark(next) => {
-                at = next;
-                left -= 1;
-            }
-            Entry::Block(n, next) => {
-                at = next;
-                store += n;
-                left -= 1;
-            }
-            Entry::Unreadable(next) => {
-                at = next;
-                left -= 1;
-            }
-            Entry::End => {
-                return Front {
-                    list: at,
-                    store: store,
-                };
-            }
-            Entry::Bad => {
-                return Front {
-                    list: at,
-                    store: store,
-                };
-            }
-        }
+    for _ in 0..n {
+        let Some((size, next)) = entry_at(list, at).passed() else {
+            return Front { list: at, store };
+        };
+        at = next;
+        store += size;
     }
-    Front {
-        list: at,
-        store: store,
-    }
+    Front { list: at, store }
 }
 
-// What keeping some elements answers: the lengths of the two fronts.
-#[derive(Clone, Copy)]
-pub enum Kept {
-    Lengths(usize, usize),
-    Refused(Refusal),
-}
-
-fn least(a: usize, b: usize) -> usize
-    ensures { result ≡ min a b }
+// Keeps n elements, and answers the lengths of the two fronts; n above the count keeps all.
+pub fn keep(list: &[u8], store: &[u8], n: usize) -> Result<Front, Refusal>
+    ensures { Keeps n list.now store.now result }
 {
-    if a < b { a } else { b }
+    let count = check(list, store)?;
+    Ok(walk(list, n.min(count)))
 }
 
-// Keeps n elements; n above the count keeps all.
-pub fn keep(list: &[u8], store: &[u8], n: usize) -> Kept
-    ensures { Keeps n list.now store.now (kept_lengths result) }
+// A part that is handed out, empty where refused; the refusal's number, or 0, beside it.
+fn shown<'a>(part: Result<&'a [u8], Refusal>, refusal: &mut u64) -> &'a [u8]
+    ensures { Shows (part_of part) result.now refusal.new }
 {
-    match check(list, store) {
-        Ok(count) => {
-            let f = walk(list, least(n, count));
-            Kept::Lengths(f.list, f.store)
+    match part {
+        Ok(bytes) => {
+            *refusal = 0;
+            bytes
         }
-        Err(r) => Kept::Refused(r),
+        Err(r) => {
+            *refusal = u64::from(r);
+            &[]
+        }
     }
 }
 
@@ -210,54 +153,42 @@ pub fn keep(list: &[u8], store: &[u8], n: usize) -> Kept
 pub fn kept_list<'a>(list: &'a [u8], store: &[u8], n: usize, refusal: &mut u64) -> &'a [u8]
     ensures { ShowsList n list.now store.now result.now refusal.new }
 {
-    match keep(list, store, n) {
-        Kept::Lengths(l, _) => {
-            *refusal = 0;
-            &list[..l]
-        }
-        Kept::Refused(r) => {
-            *refusal = u64::from(r);
-            &list[..0]
-        }
-    }
+    shown(
+        keep(list, store, n).map(|front| &list[..front.list]),
+        refusal,
+    )
 }
 
 // The front of the store, likewise.
 pub fn kept_store<'a>(list: &[u8], store: &'a [u8], n: usize, refusal: &mut u64) -> &'a [u8]
     ensures { ShowsStore n list.now store.now result.now refusal.new }
 {
-    match keep(list, store, n) {
-        Kept::Lengths(_, s) => {
-            *refusal = 0;
-            &store[..s]
-        }
-        Kept::Refused(r) => {
-            *refusal = u64::from(r);
-            &store[..0]
-        }
-    }
+    shown(
+        keep(list, store, n).map(|front| &store[..front.store]),
+        refusal,
+    )
 }
 
-// A block of a list: where its bytes begin in the store, and their number; or that it is unreadable; or that none stands there.
+// Where a block's bytes begin in the store, and their number.
 #[derive(Clone, Copy)]
-enum Spot {
-    Block(usize, usize),
-    Unreadable,
-    Nothing,
+struct Spot {
+    from: usize,
+    size: usize,
 }
 
 // The block behind the first n entries of a list.
-fn find(list: &[u8], n: usize) -> Spot
+fn find(list: &[u8], n: usize) -> Result<Spot, Refusal>
     requires { n ≤ max_elements }
     ensures { result ≡ spot_at list.now n }
 {
-    let f = walk(list, n);
-    match entry_at(list, f.list) {
-        Entry::Mark(_) => Spot::Nothing,
-        Entry::Block(k, _) => Spot::Block(f.store, k),
-        Entry::Unreadable(_) => Spot::Unreadable,
-        Entry::End => Spot::Nothing,
-        Entry::Bad => Spot::Nothing,
+    let front = walk(list, n);
+    match entry_at(list, front.list) {
+        Entry::Block(size, _) => Ok(Spot {
+            from: front.store,
+            size,
+        }),
+        Entry::Unreadable(_) => Err(Refusal::Unreadable),
+        Entry::Mark(_) | Entry::End | Entry::Bad => Err(Refusal::Missing),
     }
 }
 
@@ -265,39 +196,31 @@ fn find(list: &[u8], n: usize) -> Spot
 pub fn are_letters(index: u8, data: u8, letter: u8) -> bool
     ensures { result ≡ are_letters index «data» letter }
 {
-    if !quantities::is_letter(index as u64) {
-        return false;
-    }
-    if !quantities::is_letter(data as u64) {
-        return false;
-    }
-    if index == data {
-        return false;
-    }
-    if letter == index {
-        return true;
-    }
-    letter == data
-}
-
-// Where a block lies: in the store of the index or of the data partition, from a byte on, so many bytes.
-#[derive(Clone, Copy)]
-pub enum Located {
-    Index(usize, usize),
-    Data(usize, usize),
-    Refused(Refusal),
+    quantities::is_letter(u64::from(index))
+        && quantities::is_letter(u64::from(data))
+        && index != data
+        && (letter == index || letter == data)
 }
 
 // The block with a number, of a list with so many elements.
-fn numbered(list: &[u8], count: usize, number: BlockNumber) -> Spot
+fn numbered(list: &[u8], count: usize, number: BlockNumber) -> Result<Spot, Refusal>
     requires { count ≤ max_elements }
     ensures { result ≡ spot_below count list.now number.0 }
 {
     let n = number.0 as usize;
-    if count <= n {
-        return Spot::Nothing;
+    if n < count {
+        find(list, n)
+    } else {
+        Err(Refusal::Missing)
     }
-    find(list, n)
+}
+
+// Where a block lies: whether in the store of the index partition, from which byte on, and how long it is.
+#[derive(Clone, Copy, PartialEq, Eq, Debug)]
+pub struct StorePart {
+    pub on_index: bool,
+    pub from: usize,
+    pub size: usize,
 }
 
 // Where the block with a letter and a number lies; its bytes lie there.
@@ -310,32 +233,27 @@ pub fn find_block(
     data_letter: u8,
     letter: u8,
     number: BlockNumber,
-) -> Located
+) -> Result<StorePart, Refusal>
     ensures { FindsBlock index_letter data_letter letter number.0 index_list.now index_store.now
-        data_list.now data_store.now (located result) }
+        data_list.now data_store.now result }
 {
     if !are_letters(index_letter, data_letter, letter) {
-        return Located::Refused(Refusal::Caller);
+        return Err(Refusal::Caller);
     }
-    let Ok(index_count) = check(index_list, index_store) else {
-        return Located::Refused(Refusal::List);
-    };
-    let Ok(data_count) = check(data_list, data_store) else {
-        return Located::Refused(Refusal::List);
-    };
-    if letter == index_letter {
-        match numbered(index_list, index_count, number) {
-            Spot::Block(from, n) => Located::Index(from, n),
-            Spot::Unreadable => Located::Refused(Refusal::Unreadable),
-            Spot::Nothing => Located::Refused(Refusal::Missing),
-        }
+    let index_count = check(index_list, index_store)?;
+    let data_count = check(data_list, data_store)?;
+    let on_index = letter == index_letter;
+    let (list, count) = if on_index {
+        (index_list, index_count)
     } else {
-        match numbered(data_list, data_count, number) {
-            Spot::Block(from, n) => Located::Data(from, n),
-            Spot::Unreadable => Located::Refused(Refusal::Unreadable),
-            Spot::Nothing => Located::Refused(Refusal::Missing),
-        }
-    }
+        (data_list, data_count)
+    };
+    let Spot { from, size } = numbered(list, count, number)?;
+    Ok(StorePart {
+        on_index,
+        from,
+        size,
+    })
 }
 
 // The bytes of the block with a letter and a number, a part of whichever store holds it, empty where refused; the refusal's number,
@@ -354,7 +272,7 @@ pub fn block<'a>(
     ensures { Shows (block_of index_letter data_letter letter number.0 index_list.now index_store.now
         data_list.now data_store.now) result.now refusal.new }
 {
-    match find_block(
+    let found = find_block(
         index_list,
         index_store,
         data_list,
@@ -363,20 +281,14 @@ pub fn block<'a>(
         data_letter,
         letter,
         number,
-    ) {
-        Located::Index(from, n) => {
-            *refusal = 0;
-            let end = from + n;
-            &index_store[from..end]
-        }
-        Located::Data(from, n) => {
-            *refusal = 0;
-            let end = from + n;
-            &data_store[from..end]
-        }
-        Located::Refused(r) => {
-            *refusal = u64::from(r);
-            &index_store[..0]
-        }
-    }
+    );
+    let bytes = found.map(|part| {
+        let store = if part.on_index {
+            index_store
+        } else {
+            data_store
+        };
+        &store[part.from..part.from + part.size]
+    });
+    shown(bytes, refusal)
 }

@@ -14,12 +14,7 @@ fn check_case(file: &mut File) -> bool {
     let refusal = case_files::number(file);
     let elements = case_files::number(file) as usize;
     match tape::check(&list[..l], &store[..s]) {
-        Ok(n) => {
-            if refusal != 0 {
-                return false;
-            }
-            n == elements
-        }
+        Ok(n) => refusal == 0 && n == elements,
         Err(r) => u64::from(r) == refusal,
     }
 }
@@ -120,16 +115,8 @@ fn through_as(
 
 fn lengths_as(list: &[u8], store: &[u8], n: usize, refusal: u64, a: usize, b: usize) -> bool {
     match tape::keep(list, store, n) {
-        tape::Kept::Lengths(x, y) => {
-            if refusal != 0 {
-                return false;
-            }
-            if x != a {
-                return false;
-            }
-            y == b
-        }
-        tape::Kept::Refused(r) => u64::from(r) == refusal,
+        Ok(front) => refusal == 0 && front.list == a && front.store == b,
+        Err(r) => u64::from(r) == refusal,
     }
 }
 

@@ -7,7 +7,7 @@ use Rattle.slices.specs.Slices.{same}
 use Rattle.slices.specs.Words.{bytes}
 use Rattle.extents.specs.Rows.{rows_of}
 use Rattle.extents.specs.Lawful.{lawful}
-use Rattle.extents.specs.Map.{BytePlace, stored, unstored, byte_map}
+use Rattle.extents.specs.Map.{BytePlace, byte_map}
 use Rattle.tape.specs.Tape.{Tape, mark, block, list}
 use Rattle.constructs.specs.Constructs.{Construct, standing}
 use Rattle.label.specs.Label.{Label}
@@ -61,13 +61,13 @@ maps_at p = byte_map (98 ∷ 10 ∷ 100 ∷ 8000 ∷ 0 ∷ []) 9000 4096 p
 
 abbrev pub is_stored : ℕ → ℕ → Answer BytePlace → Bool
 is_stored k n (Err r) = false
-is_stored k n (Ok unstored) = false
-is_stored k n (Ok (stored l b m)) = eqb l 98 && eqb b k && eqb m n
+is_stored k n (Ok None) = false
+is_stored k n (Ok (Some x)) = eqb x.letter 98 && eqb x.block.0 k && eqb x.byte.0 n
 
 abbrev pub is_unstored : Answer BytePlace → Bool
 is_unstored (Err r) = false
-is_unstored (Ok unstored) = true
-is_unstored (Ok (stored l b m)) = false
+is_unstored (Ok None) = true
+is_unstored (Ok (Some x)) = false
 
 module _ {A : Type 0} where
   abbrev pub is_refused : ℕ → Answer A → Bool

@@ -1,5 +1,5 @@
 -- `extents::find` meets its contract. Invariant: no row passed has the position.
-use Rattle.std.specs.Prelude.{Ok}
+use Rattle.std.specs.Prelude.{Some, Ok}
 use mathlib.Core.Path.{refl, ap, sym, ◌∙◌}
 use Prim.Native.Nat.{◌*◌, ◌/◌, ◌<◌}
 use native.Mathlib.Omega.{arith}
@@ -67,7 +67,7 @@ returns-then-holds c =
     let here : l.i < length s / 5 = c.loop-i-test.true in
     let e = placed a.block_size a.position.0 r _ _ _ c.narrow.ensures c.spot-past.ensures.0 c.spot-past.ensures.1 in
     rw (lt-ltb a.position.0 a.file_length.0 c.if-file_length-position.false)
-    (ap Ok (e ∙ sym (l.invariant.1 ∙ place_here s a.block_size a.position.0 l.i here (sym c.holds.ensures ∙ c.if-holds.true))))
+    (ap Ok (ap Some e ∙ sym (l.invariant.1 ∙ place_here s a.block_size a.position.0 l.i here (sym c.holds.ensures ∙ c.if-holds.true))))
 
 pub loop-i-preserved : goal.loop-i-preserved
 loop-i-preserved c =

@@ -1,10 +1,10 @@
 -- `klapouzen_block` meets its contract: the place that was found.
-use mathlib.Core.Path.{sym, ◌∙◌, ap, subst}
+use mathlib.Core.Path.{subst}
 use mathlib.Core.List.{List}
 use Prim.Native.Nat.{ℕ}
 use Rattle.refusals.specs.Refusals.{Answer}
 use Rattle.tape.specs.Answers.{StorePart, place_of, block_of, Holds}
-use Rattle.tape.specs.Steps.{located, FindsBlock}
+use Rattle.tape.specs.Steps.{FindsBlock}
 use Rattle.api.proofs.Showing.{shown, not_shown}
 use Rattle.api.proofs.partitions.klapouzen_block.Goals as goal
 
@@ -13,15 +13,12 @@ held : (i d letter n : ℕ) (l s l' s' : List ℕ) {p : Answer StorePart} → Fi
     → Holds s s' (place_of i d letter n l s l' s') (block_of i d letter n l s l' s')
 held i d letter n l s l' s' f = subst (λ (p : Answer StorePart). Holds s s' p (block_of i d letter n l s l' s')) f.place f.holds
 
-pub returns-in-Index : goal.returns-in-Index
-returns-in-Index c = record { shown = shown _ (ap located (sym c.in-Index.is) ∙ c.find_block.ensures.place); holds = held c.args.index_letter c.args.data_letter c.args.letter c.args.number c.args.index_list.now c.args.index_store.now c.args.data_list.now c.args.data_store.now c.find_block.ensures }
+pub returns-in-Ok : goal.returns-in-Ok
+returns-in-Ok c = record { shown = shown _ c.in-Ok.ensures.place; holds = held c.args.index_letter c.args.data_letter c.args.letter c.args.number c.args.index_list.now c.args.index_store.now c.args.data_list.now c.args.data_store.now c.in-Ok.ensures }
 
-pub returns-in-Data : goal.returns-in-Data
-returns-in-Data c = record { shown = shown _ (ap located (sym c.in-Data.is) ∙ c.find_block.ensures.place); holds = held c.args.index_letter c.args.data_letter c.args.letter c.args.number c.args.index_list.now c.args.index_store.now c.args.data_list.now c.args.data_store.now c.find_block.ensures }
-
-pub returns-in-Refused : goal.returns-in-Refused
-returns-in-Refused c =
+pub returns-in-Err : goal.returns-in-Err
+returns-in-Err c =
     record {
-      shown = not_shown c.in-Refused.r (ap located (sym c.in-Refused.is) ∙ c.find_block.ensures.place) c.from.ensures;
-      holds = held c.args.index_letter c.args.data_letter c.args.letter c.args.number c.args.index_list.now c.args.index_store.now c.args.data_list.now c.args.data_store.now c.find_block.ensures;
+      shown = not_shown c.in-Err.r c.in-Err.ensures.place c.from.ensures;
+      holds = held c.args.index_letter c.args.data_letter c.args.letter c.args.number c.args.index_list.now c.args.index_store.now c.args.data_list.now c.args.data_store.now c.in-Err.ensures;
     }

@@ -1,11 +1,9 @@
 -- `klapouzen_keep` meets its contract: the lengths that are kept, and what the bytes of those lengths are.
-use Rattle.tape.proofs.Again.{keeps_as}
 use Rattle.api.proofs.Keeping.{kept_shown, kept_refused}
 use Rattle.api.proofs.partitions.klapouzen_keep.Goals as goal
 
-pub returns-in-Lengths : goal.returns-in-Lengths
-returns-in-Lengths c = kept_shown (keeps_as c.keep.ensures c.in-Lengths.is)
+pub returns-in-Ok : goal.returns-in-Ok
+returns-in-Ok c = kept_shown c.in-Ok.ensures
 
-pub returns-in-Refused : goal.returns-in-Refused
-returns-in-Refused c =
-    kept_refused c.in-Refused.r (keeps_as c.keep.ensures c.in-Refused.is) c.from.ensures
+pub returns-in-Err : goal.returns-in-Err
+returns-in-Err c = kept_refused c.in-Err.r c.in-Err.ensures c.from.ensures
