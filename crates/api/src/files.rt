@@ -4,8 +4,7 @@ ghost use Rattle.api.specs.Outputs.{Shown};
 ghost use Rattle.api.specs.Files.{byte_place, ChecksForm};
 
 use quantities::ByteCount;
-use refusals::{Place, Refusal};
-use xml::FormChecked;
+use refusals::Refusal;
 
 // Whether a text is in the XML form.
 #[unsafe(no_mangle)]
@@ -13,16 +12,14 @@ pub extern "C" fn klapouzen_check_form(text: &[u8], front: &mut u64) -> u64
     ensures { ChecksForm text.now result front.new }
 {
     match xml::check(text) {
-        FormChecked::Good => {
+        Ok(()) => {
             *front = 0;
             0
         }
-        FormChecked::Broken(n) => {
-            *front = n as u64;
-            u64::from(Refusal::Form(Place {
-                front: n,
-                on_data: false,
-            }))
+        Err(e) => {
+            *front = e.front as u64;
+            let refusal = Refusal::from(e);
+            u64::from(refusal)
         }
     }
 }

@@ -12,8 +12,7 @@ use crate::survey;
 use elements::{Span, Tag};
 use index_values::Partitions;
 use quantities::{BlockNumber, Generation};
-use refusals::{Place, Refusal};
-use xml::FormChecked;
+use refusals::Refusal;
 
 // A location, as an index says one: a partition's letter, and a block's number there.
 #[derive(Clone, Copy)]
@@ -261,15 +260,8 @@ pub fn read_into(
     if 1048576 < text.len() {
         return Err(Refusal::TooMany);
     }
-    match xml::check(text) {
-        FormChecked::Broken(front) => Err(Refusal::Form(Place {
-            front,
-            on_data: false,
-        })),
-        FormChecked::Good => {
-            read_root(text, uuid, entry_table, row_table, volume, letter, block)
-        }
-    }
+    xml::check(text)?;
+    read_root(text, uuid, entry_table, row_table, volume, letter, block)
 }
 
 // The same without the tables.

@@ -9,8 +9,7 @@ ghost use Rattle.label.specs.TextPlaces.{text_places};
 ghost use Rattle.label.specs.Steps.{places_at, sized, three_letters, letters_of, texts_at, FindsTexts, ReadsLabel, ReadsLabelRoot};
 
 use elements::{Child, Span};
-use refusals::{Place, Refusal};
-use xml::FormChecked;
+use refusals::Refusal;
 
 // Whether the children of the root are lawful, and the places of the elements that hold the values.
 #[derive(Clone, Copy)]
@@ -217,14 +216,9 @@ pub fn read(text: &[u8]) -> Result<LabelFields, Refusal>
     if 4096 < text.len() {
         return Err(Refusal::TooMany);
     }
-    match xml::check(text) {
-        FormChecked::Broken(front) => Err(Refusal::Form(Place {
-            front,
-            on_data: false,
-        })),
-        FormChecked::Good => match elements::next_child(text, 38) {
-            Child::Done => Err(Refusal::Structure),
-            Child::At(n, _) => read_root(text, n),
-        },
+    xml::check(text)?;
+    match elements::next_child(text, 38) {
+        Child::Done => Err(Refusal::Structure),
+        Child::At(n, _) => read_root(text, n),
     }
 }

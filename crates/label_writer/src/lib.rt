@@ -13,7 +13,6 @@ ghost use Rattle.label_writer.specs.Steps.{ComposesText, WritesText};
 use label::letters_fit;
 use refusals::Refusal;
 use writing::{add, add_number};
-use xml::FormChecked;
 
 // The fields of a label that are numbers: its letters, its block size, and whether it is compressed.
 #[derive(Clone, Copy)]
@@ -189,7 +188,7 @@ fn deliver(out: &mut [u8], text: &[u8], n: usize) -> Result<usize, Refusal>
     ensures { Writes (in_form (take n text.now)) (take n text.now) out.old out.new result }
 {
     let part = &text[0..n];
-    let FormChecked::Good = xml::check(part) else {
+    let Ok(()) = xml::check(part) else {
         return Err(Refusal::Caller);
     };
     slices::put(out, 0, part)

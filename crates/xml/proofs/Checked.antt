@@ -10,48 +10,37 @@ use Rattle.refusals.specs.declared.Refusal.{Refusal}
 use Rattle.refusals.specs.declared.Refusal.TheVariants.{Form}
 use Rattle.refusals.specs.Refusals.{Answer, number_of, place_of, left_at}
 use Rattle.refusals.proofs.Refusing.{Refuses, refuses_require}
-use Rattle.xml.specs.declared.FormChecked.{FormChecked}
-use Rattle.xml.specs.declared.FormChecked.TheVariants.{Good, Broken}
+use Rattle.std.specs.Prelude.{Result, Ok, Err}
+use Rattle.xml.specs.declared.FormError.{FormError}
 use Rattle.xml.specs.Form.{LeavesForm}
 use Rattle.xml.specs.CheckSteps.{Outcome, good, broken, form, is_good, in_form, read_of, front, require_form, form_checked}
 use Rattle.xml.proofs.Form.{same_form, longest_front}
 
 module _ (s : List ℕ) where
-  abbrev is_right : FormChecked → Bool
-  is_right Good = true
-  is_right (Broken n) = false
-
-  abbrev told : FormChecked → ℕ
-  told Good = front s
-  told (Broken n) = n
-
-  right_answer : is_right (form_checked s) ≡ in_form s
-  right_answer = go (in_form s) refl
-    where
-      go : (b : Bool) → in_form s ≡ b → is_right (form_checked s) ≡ in_form s
-      go true e = rw e
-      go false e = rw e
-
-  told_answer : told (form_checked s) ≡ front s
-  told_answer = go (in_form s) refl
-    where
-      go : (b : Bool) → in_form s ≡ b → told (form_checked s) ≡ front s
-      go true e = rw e
-      go false e = rw e
-
-  pub good_checked : form s ≡ good → Good ≡ form_checked s
+  pub good_checked : form s ≡ good → Ok tt ≡ form_checked s
   unfolding in_form front
   good_checked e = rw e
 
-  pub broken_checked : (u : ℕ) → form s ≡ broken u → Broken (length s - u) ≡ form_checked s
+  pub broken_checked : (u : ℕ) → form s ≡ broken u → Err (record { front = length s - u }) ≡ form_checked s
   unfolding in_form front
   broken_checked u e = rw e
 
-  pub checked_good : Good ≡ form_checked s → in_form s ≡ true
-  checked_good e = sym right_answer ∙ ap is_right (sym e)
+  pub checked_good : Ok tt ≡ form_checked s → in_form s ≡ true
+  checked_good e = go (in_form s) refl
+    where
+      go : (b : Bool) → in_form s ≡ b → in_form s ≡ true
+      go true h = h
+      go false h = let z : ◌≡◌ {A = Result (Unit {0}) FormError} (Ok tt) (Err (record { front = front s })) = e ∙ rw h in cc
 
-  pub checked_broken : (n : ℕ) → Broken n ≡ form_checked s → (in_form s ≡ false) × (n ≡ front s)
-  checked_broken n e = (sym right_answer ∙ ap is_right (sym e), ap told e ∙ told_answer)
+  pub checked_broken : (r : FormError) → Err r ≡ form_checked s → (in_form s ≡ false) × (r.front ≡ front s)
+  checked_broken r e = go (in_form s) refl
+    where
+      go : (b : Bool) → in_form s ≡ b → (in_form s ≡ false) × (r.front ≡ front s)
+      go true h = let z : Err r ≡ Ok tt = e ∙ rw h in cc
+      go false h =
+          let z : Err r ≡ Err (record { front = front s }) = e ∙ rw h in
+          let w : r ≡ record { front = front s } = cc in
+          (h, ap (λ (x : FormError). x.front) w)
 
   -- a text outside the form, with its longest front
   pub leaves_form : in_form s ≡ false → LeavesForm s (front s)

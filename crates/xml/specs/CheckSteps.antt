@@ -1,12 +1,11 @@
 -- The XML form as a machine that reads a text from left to right, byte by byte. A text is in the form (specs/Grammar) where the machine,
 -- started before the declaration, reads all of it and ends after the root element. Where it stops, no text in the form begins so.
-use Rattle.std.specs.Prelude.{Bool, true, false, cond, ◌&&◌, ◌||◌, List, [], ◌∷◌, ◌++◌, ℕ, suc, ◌+◌, ◌-◌, min, length, leb, ltb, eqb}
+use Rattle.std.specs.Prelude.{Bool, true, false, cond, ◌&&◌, ◌||◌, List, [], ◌∷◌, ◌++◌, ℕ, suc, ◌+◌, ◌-◌, min, length, leb, ltb, eqb, Result, Ok, Err}
 use Rattle.refusals.specs.Refusals.{Answer, require, left_at}
 use Rattle.slices.specs.Words.{bytes}
 use Rattle.refusals.specs.declared.Refusal.TheVariants.{Form}
 use Rattle.xml.specs.Bytes.{is_space, is_ascii_letter, is_name_byte, declaration}
-use Rattle.xml.specs.declared.FormChecked.{FormChecked}
-use Rattle.xml.specs.declared.FormChecked.TheVariants.{Good, Broken}
+use Rattle.xml.specs.declared.FormError.{FormError}
 use Rattle.xml.specs.declared.Ending.{Ending}
 use Rattle.xml.specs.declared.Ending.TheVariants as ending
 
@@ -192,8 +191,8 @@ module _ {A : Type 0} where
   require_form s next = require (in_form s) (Form (left_at (front s))) next
 
 -- what `check` answers
-abbrev pub form_checked : List ℕ → FormChecked
-form_checked s = cond (in_form s) Good (Broken (front s))
+abbrev pub form_checked : List ℕ → Result (Unit {0}) FormError
+form_checked s = cond (in_form s) (Ok tt) (Err (record { front = front s }))
 
 -- the outcome by its parts
 abbrev pub outcome_of : Ending → Outcome

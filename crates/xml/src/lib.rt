@@ -2,6 +2,8 @@
 #![tactic(auto)]
 
 ghost use Rattle.std.specs.Prelude.{◌≡◌, ◌&&◌, [], ◌∷◌, ◌≤◌, ltb, length, drop};
+ghost use Rattle.refusals.specs.Refusals.{left_at};
+ghost use Rattle.refusals.specs.declared.Refusal.TheVariants.{Form};
 ghost use Rattle.xml.specs.CheckSteps.{at, before, after, content, blank, form_run, form, outcome_of, form_checked};
 ghost use Rattle.xml.specs.ScanSteps.{Kinds, OpensTurn, Reaches, NextTurn, part};
 
@@ -11,13 +13,25 @@ mod tags;
 
 use bytes::{KINDS, Scan, byte, past_spaces, word_end};
 use characters::text_end;
+use refusals::{Place, Refusal};
 use tags::{Start, end_tag, inner_tag, start_tag};
 
-// A text in the form, or the length of its longest front that some text in the form begins with.
-#[derive(Clone, Copy)]
-pub enum FormChecked {
-    Good,
-    Broken(usize),
+// A text is not in the form.
+#[derive(Clone, Copy, PartialEq, Eq, Debug)]
+pub struct FormError {
+    // How long its longest front is that some text in the form begins with.
+    pub front: usize,
+}
+
+impl From<FormError> for Refusal {
+    ghost from_gives = { λ e r. r ≡ Form (left_at e.front) };
+
+    fn from(error: FormError) -> Refusal {
+        Refusal::Form(Place {
+            front: error.front,
+            on_data: false,
+        })
+    }
 }
 
 // How a text ends: in the form, or with so many bytes left unread.
@@ -199,11 +213,13 @@ fn read_all(text: &[u8]) -> Ending
 }
 
 // Whether the text is in the form.
-pub fn check(text: &[u8]) -> FormChecked
+pub fn check(text: &[u8]) -> Result<(), FormError>
     ensures { result ≡ form_checked text.now }
 {
     match read_all(text) {
-        Ending::Good => FormChecked::Good,
-        Ending::Broken(u) => FormChecked::Broken(text.len() - u),
+        Ending::Good => Ok(()),
+        Ending::Broken(u) => Err(FormError {
+            front: text.len() - u,
+        }),
     }
 }

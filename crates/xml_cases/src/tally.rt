@@ -45,8 +45,8 @@ fn say(rt: &impl Print, what: &[u8], text: &[u8]) -> io::Result<()> {
 // Whether the text is in the form, or can still be: all of it begins a text in the form.
 fn fits(text: &[u8]) -> bool {
     match xml::check(text) {
-        xml::FormChecked::Good => true,
-        xml::FormChecked::Broken(front) => front == text.len(),
+        Ok(()) => true,
+        Err(e) => e.front == text.len(),
     }
 }
 
@@ -65,8 +65,8 @@ fn fronts_fit(text: &[u8]) -> bool {
 // A text in the form.
 fn in_form(rt: &impl Print, tally: Tally, text: &[u8]) -> io::Result<Tally> {
     match xml::check(text) {
-        xml::FormChecked::Good => Ok(one_good(tally)),
-        xml::FormChecked::Broken(_) => {
+        Ok(()) => Ok(one_good(tally)),
+        Err(_) => {
             say(rt, b"refused: ", text)?;
             Ok(tally)
         }
@@ -76,23 +76,23 @@ fn in_form(rt: &impl Print, tally: Tally, text: &[u8]) -> io::Result<Tally> {
 // A text that is not in the form.
 fn not_in_form(rt: &impl Print, tally: Tally, text: &[u8]) -> io::Result<Tally> {
     match xml::check(text) {
-        xml::FormChecked::Good => {
+        Ok(()) => {
             say(rt, b"in the form: ", text)?;
             Ok(tally)
         }
-        xml::FormChecked::Broken(_) => Ok(one_refused(tally)),
+        Err(_) => Ok(one_refused(tally)),
     }
 }
 
 // A text that leaves the form where so many bytes are left.
 fn leaves(rt: &impl Print, tally: Tally, text: &[u8], left: usize) -> io::Result<Tally> {
     match xml::check(text) {
-        xml::FormChecked::Good => {
+        Ok(()) => {
             say(rt, b"in the form: ", text)?;
             Ok(tally)
         }
-        xml::FormChecked::Broken(front) => {
-            if std::num::wrapping_sub_usize(text.len(), front) == left {
+        Err(e) => {
+            if std::num::wrapping_sub_usize(text.len(), e.front) == left {
                 return Ok(one_refused(tally));
             }
             say(rt, b"refused elsewhere: ", text)?;

@@ -19,5 +19,5 @@ returns-in_default c =
 pub returns : goal.returns
 returns c =
     let m : c.args.n - 0 ≡ c.args.n = omega arith in
-    let z : in_form (take c.args.n c.args.text.now) ≡ true = ap (λ (k : ℕ). in_form (take k c.args.text.now)) (sym m) ∙ checked_good _ (sym c.in-Good.is ∙ c.check.ensures) in
+    let z : in_form (take c.args.n c.args.text.now) ≡ true = ap (λ (k : ℕ). in_form (take k c.args.text.now)) (sym m) ∙ checked_good _ (sym c.in-Ok.is ∙ c.check.ensures) in
     writes _ (take c.args.n c.args.text.now) c.args.out.now c.put.new.out c.put.result z (subst (λ (k : ℕ). Puts 0 (take k c.args.text.now) c.args.out.now c.put.new.out c.put.result) m c.put.ensures)

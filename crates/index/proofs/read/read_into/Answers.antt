@@ -14,12 +14,12 @@ pub returns-then-text-gt1048576 : goal.returns-then-text-gt1048576
 returns-then-text-gt1048576 c = into_refused (index_15 (given c.args.uuid.now c.args.volume) c.args.letter c.args.block.0 c.args.text.now (sym c.is_caller_right.ensures ∙ c.if-not-is_caller_right.false) (lt-leb _ _ c.if-text-gt1048576.true))
 
 pub read_root-requires : goal.read_root-requires
-read_root-requires c = in_form_lem c.args.text.now (checked_good c.args.text.now (sym c.in-Good.is ∙ c.check.ensures))
+read_root-requires c = in_form_lem c.args.text.now (checked_good c.args.text.now (sym c.in_ok-check.was ∙ c.check.ensures))
 
-pub returns-in-Broken : goal.returns-in-Broken
-returns-in-Broken c =
-    let broken = checked_broken c.args.text.now _ (sym c.in-Broken.is ∙ c.check.ensures) in
+pub returns-in_err-check : goal.returns-in_err-check
+returns-in_err-check c =
+    let broken = checked_broken c.args.text.now _ (sym c.in_err-check.was ∙ c.check.ensures) in
     into_refused (index_4 (given c.args.uuid.now c.args.volume) c.args.letter c.args.block.0 c.args.text.now (sym c.is_caller_right.ensures ∙ c.if-not-is_caller_right.false) (le-leb _ _ c.if-text-gt1048576.false) _ broken.0 broken.1)
 
-pub returns-in-Good : goal.returns-in-Good
-returns-in-Good c = same_into c.read_root.ensures (index_read (given c.args.uuid.now c.args.volume) c.args.letter c.args.block.0 c.args.text.now (sym c.is_caller_right.ensures ∙ c.if-not-is_caller_right.false) (le-leb _ _ c.if-text-gt1048576.false) (checked_good c.args.text.now (sym c.in-Good.is ∙ c.check.ensures)))
+pub returns : goal.returns
+returns c = same_into c.read_root.ensures (index_read (given c.args.uuid.now c.args.volume) c.args.letter c.args.block.0 c.args.text.now (sym c.is_caller_right.ensures ∙ c.if-not-is_caller_right.false) (le-leb _ _ c.if-text-gt1048576.false) (checked_good c.args.text.now (sym c.in_ok-check.was ∙ c.check.ensures)))

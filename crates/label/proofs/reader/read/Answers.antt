@@ -15,15 +15,15 @@ use Rattle.label.proofs.reader.read.Goals as goal
 pub returns-then-text-gt4096 : goal.returns-then-text-gt4096
 returns-then-text-gt4096 c = refuses (too_long c.args.text.now c.if-text-gt4096.true)
 
-pub returns-in-Broken : goal.returns-in-Broken
-returns-in-Broken c =
-    let e = checked_broken c.args.text.now _ (sym c.in-Broken.is ∙ c.check.ensures) in
+pub returns-in_err-check : goal.returns-in_err-check
+returns-in_err-check c =
+    let e = checked_broken c.args.text.now _ (sym c.in_err-check.was ∙ c.check.ensures) in
     refuses (unformed c.args.text.now c.if-text-gt4096.false _ e.0 e.1)
 
 pub returns-in-Done : goal.returns-in-Done
 returns-in-Done c =
     let s = c.args.text.now in
-    let f : in_form s ≡ true = checked_good s (sym c.in-Good.is ∙ c.check.ensures) in
+    let f : in_form s ≡ true = checked_good s (sym c.in_ok-check.was ∙ c.check.ensures) in
     let e : NextChild s 38 Done = subst (NextChild s 38) c.in-Done.is c.next_child.ensures in
     refuses (no_first s c.if-text-gt4096.false f e)
 
@@ -31,6 +31,6 @@ pub returns-in-At : goal.returns-in-At
 unfolding children_of_first
 returns-in-At c =
     let s = c.args.text.now in
-    let f : in_form s ≡ true = checked_good s (sym c.in-Good.is ∙ c.check.ensures) in
+    let f : in_form s ≡ true = checked_good s (sym c.in_ok-check.was ∙ c.check.ensures) in
     let q : NextChild s 38 (At c.in-At.n c.in-At.field-1) = subst (NextChild s 38) c.in-At.is c.next_child.ensures in
     reads_as (the_first s c.if-text-gt4096.false f _ _ _ q.row) (ap (λ (t : Tags). places_in s (children_of_first t)) (sym q.tags)) c.read_root.ensures
