@@ -7,8 +7,6 @@ ghost use Rattle.elements.specs.Reading.{head_at, children_at};
 ghost use Rattle.children.specs.RowSteps.{is_rule_mark, not_rule_mark, rules, table_of, FindsRule, ReadsRow};
 ghost use Rattle.children.specs.Children.{no_attribute, may_hold, below};
 
-use elements::Child;
-
 // A rule's number in its table, and its mark.
 #[derive(Clone, Copy)]
 pub struct RuleFound {
@@ -133,11 +131,12 @@ pub fn read_row(text: &[u8], at: usize, table: &[u8], must: usize) -> RowRead
     let mut i = at;
     loop {
         match elements::next_child(text, i) {
-            Child::Done => {
+            None => {
                 let ok = all_seated(&seats, must);
                 return RowRead { ok, seats };
             }
-            Child::At(n, j) => {
+            Some(child) => {
+                let n = child.at;
                 let p = place_of(table, elements::name_of(text, n));
                 if !is_known(text, n, p.mark) {
                     return RowRead { ok: false, seats };
@@ -150,7 +149,7 @@ pub fn read_row(text: &[u8], at: usize, table: &[u8], must: usize) -> RowRead
                     return RowRead { ok: false, seats };
                 }
                 seats[k] = n;
-                i = j;
+                i = child.next;
             }
         }
     }

@@ -1,5 +1,5 @@
 -- What a look at a start tag tells: the element there, and where reading goes on.
-use Rattle.std.specs.Prelude.{◌≡◌, Bool, true, false, not, cond, List, ℕ, eqb, length, drop}
+use Rattle.std.specs.Prelude.{Option, None, Some, ◌≡◌, Bool, true, false, not, cond, List, ℕ, eqb, length, drop}
 use Rattle.xml.specs.Tree.{none}
 use Rattle.elements.specs.Tags.{text_place}
 use Rattle.elements.specs.Reading.{forest_at, head_at, empty_at, children_at, has_element, Spans}
@@ -10,7 +10,6 @@ use Rattle.elements.specs.declared.starts.Start.{Start}
 use Rattle.elements.specs.declared.starts.Next.{Next}
 use Rattle.elements.specs.declared.starts.Next.TheVariants.{End, Close, Opens}
 use Rattle.elements.specs.declared.starts.Item.{Item}
-use Rattle.elements.specs.declared.starts.Item.TheVariants.{Done, At}
 
 -- what is told of the element is so
 pub record Shape (s : List ℕ) (h : Start) : Type 0 where
@@ -53,6 +52,6 @@ pub record ItemOf (s : List ℕ) (i : ℕ) (h : Start) (j : ℕ) : Type 0 where
   pub first : FirstOf s i h.at j
   pub shape : Shape s h
 
-abbrev pub NextItem : List ℕ → ℕ → Item → Type 0
-NextItem s i Done = forest_at s i ≡ none
-NextItem s i (At h j) = ItemOf s i h j
+abbrev pub NextItem : List ℕ → ℕ → Option Item → Type 0
+NextItem s i None = forest_at s i ≡ none
+NextItem s i (Some e) = ItemOf s i e.start e.next

@@ -1,11 +1,10 @@
 -- What a reader that goes from tag to tag owes: the next tag, the next element, where reading goes on behind an element.
-use Rattle.std.specs.Prelude.{◌≡◌, true, false, List, [], ℕ, ◌+◌, ◌≤◌, min, length, drop}
+use Rattle.std.specs.Prelude.{Option, None, Some, ◌≡◌, true, false, List, [], ℕ, ◌+◌, ◌≤◌, min, length, drop}
 use Rattle.xml.specs.Tree.{Tree, Forest, none, node, front, not_open, tag_head, pop, closed, opened, alone, trees}
 use Rattle.elements.specs.Tags.{tags_left, tags_at, tags_around, tags_in, text_place}
 use Rattle.elements.specs.declared.tags.Tag.{Tag}
 use Rattle.elements.specs.declared.tags.Tag.TheVariants.{End, Close, Open, Empty}
 use Rattle.elements.specs.declared.tags.Child.{Child}
-use Rattle.elements.specs.declared.tags.Child.TheVariants.{Done, At}
 use Rattle.elements.specs.declared.heads.Span.{Span}
 use Rattle.elements.specs.Reading.{Spans, children_at, empty_at, head_at, left_at, forest_at}
 
@@ -62,9 +61,9 @@ pub record FirstOf (s : List ℕ) (i n j : ℕ) : Type 0 where
   pub after : (n ≤ j) × (j ≤ length s)
 
 -- the next element of the row at i
-abbrev pub NextChild : List ℕ → ℕ → Child → Type 0
-NextChild s i Done = forest_at s i ≡ none
-NextChild s i (At n j) = FirstOf s i n j
+abbrev pub NextChild : List ℕ → ℕ → Option Child → Type 0
+NextChild s i None = forest_at s i ≡ none
+NextChild s i (Some c) = FirstOf s i c.at c.next
 
 -- at j the row of the children of the element at n begins
 pub record ChildrenFrom (s : List ℕ) (n j : ℕ) : Type 0 where

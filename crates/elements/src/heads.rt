@@ -88,7 +88,7 @@ pub fn text_of(text: &[u8], n: usize) -> &[u8]
 }
 
 // A part of a text: where it begins, and how many bytes it has.
-#[derive(Clone, Copy)]
+#[derive(Clone, Copy, Debug, PartialEq, Eq)]
 pub struct Span {
     pub from: usize,
     pub len: usize,

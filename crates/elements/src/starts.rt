@@ -10,7 +10,7 @@ use crate::{heads, scan, tags};
 
 // An element as its start tag shows it: the tag's place; its name; whether it has no attribute; whether its tag is an empty-element tag; its
 // text; whether it has no children, and if so where its row goes on.
-#[derive(Clone, Copy)]
+#[derive(Clone, Copy, Debug, PartialEq, Eq)]
 pub struct Start {
     pub at: usize,
     pub name: Span,
@@ -22,18 +22,18 @@ pub struct Start {
 }
 
 // The end of the text, an end tag with the place behind its `<`, or an element.
-#[derive(Clone, Copy)]
+#[derive(Clone, Copy, Debug, PartialEq, Eq)]
 pub enum Next {
     End,
     Close(usize),
     Opens(Start),
 }
 
-// The next element of a row, and where the row goes on.
-#[derive(Clone, Copy)]
-pub enum Item {
-    Done,
-    At(Start, usize),
+// An element of a row as its start tag shows it, and where the row goes on.
+#[derive(Clone, Copy, Debug, PartialEq, Eq)]
+pub struct Item {
+    pub start: Start,
+    pub next: usize,
 }
 
 // That part of a text, as far as it lies there.
@@ -158,19 +158,18 @@ pub fn next_start(text: &[u8], at: usize) -> Next
 }
 
 // The next element of the row at at.
-pub fn next_item(text: &[u8], at: usize) -> Item
+pub fn next_item(text: &[u8], at: usize) -> Option<Item>
     ensures { NextItem text.now at result }
 {
     match next_start(text, at) {
-        Next::End => Item::Done,
-        Next::Close(_) => Item::Done,
-        Next::Opens(s) => {
-            let next = s.next;
-            if s.leaf {
-                return Item::At(s, next);
-            }
-            let j = tags::leave(text, s.at);
-            Item::At(s, j)
+        Next::End | Next::Close(_) => None,
+        Next::Opens(start) => {
+            let next = if start.leaf {
+                start.next
+            } else {
+                tags::leave(text, start.at)
+            };
+            Some(Item { start, next })
         }
     }
 }

@@ -4,7 +4,7 @@ ghost use Rattle.elements.specs.TagSteps.{NextTag, Behind, NextChild};
 use crate::scan;
 
 // A tag, with the place behind its `<`: an end tag, a start tag, an empty-element tag; or the end of the text.
-#[derive(Clone, Copy)]
+#[derive(Clone, Copy, Debug, PartialEq, Eq)]
 pub enum Tag {
     End,
     Close(usize),
@@ -12,11 +12,11 @@ pub enum Tag {
     Empty(usize),
 }
 
-// The next element of a row: the place of its tag, and where the row goes on.
-#[derive(Clone, Copy)]
-pub enum Child {
-    Done,
-    At(usize, usize),
+// An element of a row: the place of its tag, and where the row goes on.
+#[derive(Clone, Copy, Debug, PartialEq, Eq)]
+pub struct Child {
+    pub at: usize,
+    pub next: usize,
 }
 
 // The next tag from at on. Reading goes on at its place.
@@ -73,13 +73,15 @@ pub fn leave(text: &[u8], at: usize) -> usize
 }
 
 // The next element of the row at at.
-pub fn next_child(text: &[u8], at: usize) -> Child
+pub fn next_child(text: &[u8], at: usize) -> Option<Child>
     ensures { NextChild text.now at result }
 {
     match next_tag(text, at) {
-        Tag::End => Child::Done,
-        Tag::Close(_) => Child::Done,
-        Tag::Open(n) => Child::At(n, leave(text, n)),
-        Tag::Empty(n) => Child::At(n, n),
+        Tag::End | Tag::Close(_) => None,
+        Tag::Open(n) => Some(Child {
+            at: n,
+            next: leave(text, n),
+        }),
+        Tag::Empty(n) => Some(Child { at: n, next: n }),
     }
 }

@@ -1,7 +1,7 @@
 // Elements read off texts in the XML form and outside it, and texts decoded.
 #![tactic(auto)]
 
-use elements::{Child, Tag};
+use elements::Tag;
 use std::io;
 
 fn put(rt: &impl Print, s: &[u8]) -> io::Result<()> {
@@ -104,12 +104,12 @@ fn row(rt: &impl Print, text: &[u8], at: usize) -> io::Result<()> {
     let mut i = at;
     loop {
         match elements::next_child(text, i) {
-            Child::Done => {
+            None => {
                 return Ok(());
             }
-            Child::At(n, next) => {
-                child(rt, text, n)?;
-                i = next;
+            Some(next) => {
+                child(rt, text, next.at)?;
+                i = next.next;
             }
         }
     }
@@ -118,8 +118,8 @@ fn row(rt: &impl Print, text: &[u8], at: usize) -> io::Result<()> {
 // The children of the first element from at on.
 fn children(rt: &impl Print, text: &[u8], at: usize) -> io::Result<()> {
     match elements::next_child(text, at) {
-        Child::Done => line(rt, b"no element"),
-        Child::At(n, _) => row(rt, text, elements::first_child(text, n)),
+        None => line(rt, b"no element"),
+        Some(first) => row(rt, text, elements::first_child(text, first.at)),
     }
 }
 

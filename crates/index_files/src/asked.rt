@@ -7,7 +7,7 @@ ghost use Rattle.index_files.specs.AskedSteps.{FindsFile, HeadOf};
 ghost use Rattle.index_files.specs.Steps.{LocatesFile, ReadsNumbered, PutsRows, PutsFileRows};
 
 use crate::{extent_rows, files, filling};
-use elements::{Child, Span};
+use elements::Span;
 use index_values::Partitions;
 use quantities::{BlockNumber, ByteCount};
 use refusals::Refusal;
@@ -61,12 +61,12 @@ pub(crate) fn count_rows(text: &[u8], at: usize) -> u64
     let mut n: u64 = 0;
     loop {
         match elements::next_child(text, i) {
-            Child::Done => {
+            None => {
                 return n;
             }
-            Child::At(_, next) => {
+            Some(child) => {
                 n += 1;
-                i = next;
+                i = child.next;
             }
         }
     }

@@ -6,7 +6,6 @@ ghost use Rattle.index_values.specs.Tests.{row_of};
 ghost use Rattle.index_files.specs.MetSteps.{text_met, MeetsExtent, Along};
 ghost use Rattle.index_files.specs.RowSteps.{row_is, RowsFrom, RowAhead};
 
-use elements::Child;
 use quantities::{BlockNumber, ByteCount};
 
 // An extent: its partition's letter (ASCII), its first block, where in that block it begins, how many bytes it has, and where in the
@@ -85,12 +84,12 @@ fn tags_in(text: &[u8], at: usize) -> Tags
     };
     loop {
         match elements::next_child(text, i) {
-            Child::Done => {
+            None => {
                 return t;
             }
-            Child::At(n, next) => {
-                t = meet(text, n, t);
-                i = next;
+            Some(child) => {
+                t = meet(text, child.at, t);
+                i = child.next;
             }
         }
     }
@@ -132,10 +131,10 @@ pub fn next_row(text: &[u8], at: usize) -> Option<NextRow>
     ensures { RowAhead text.now at result }
 {
     match elements::next_child(text, at) {
-        Child::Done => None,
-        Child::At(n, next) => Some(NextRow {
-            row: row_from(text, elements::first_child(text, n)),
-            next,
+        None => None,
+        Some(child) => Some(NextRow {
+            row: row_from(text, elements::first_child(text, child.at)),
+            next: child.next,
         }),
     }
 }

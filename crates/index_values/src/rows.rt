@@ -6,7 +6,7 @@ ghost use Rattle.index_values.specs.Elements.{text_in, children_in};
 ghost use Rattle.index_values.specs.Entries.{number_or_zero};
 ghost use Rattle.index_values.specs.Steps.{TextFound};
 
-use elements::{Item, Span, Start};
+use elements::{Span, Start};
 
 // Where the text of the first element of a name in the row at at stands.
 pub fn span_in(text: &[u8], at: usize, name: &[u8]) -> Span
@@ -15,14 +15,15 @@ pub fn span_in(text: &[u8], at: usize, name: &[u8]) -> Span
     let mut i = at;
     loop {
         match elements::next_item(text, i) {
-            Item::Done => {
+            None => {
                 return Span { from: 0, len: 0 };
             }
-            Item::At(h, next) => {
+            Some(item) => {
+                let h = item.start;
                 if slices::same(elements::part(text, h.name), name) {
                     return h.text;
                 }
-                i = next;
+                i = item.next;
             }
         }
     }
@@ -53,14 +54,15 @@ pub fn row_in(text: &[u8], at: usize, name: &[u8]) -> usize
     let mut i = at;
     loop {
         match elements::next_item(text, i) {
-            Item::Done => {
+            None => {
                 return text.len();
             }
-            Item::At(h, next) => {
+            Some(item) => {
+                let h = item.start;
                 if slices::same(elements::part(text, h.name), name) {
                     return children_row(text, h);
                 }
-                i = next;
+                i = item.next;
             }
         }
     }

@@ -8,7 +8,7 @@ ghost use Rattle.label.specs.Label.{letters_fit, label_from, is_root, label_of};
 ghost use Rattle.label.specs.TextPlaces.{text_places};
 ghost use Rattle.label.specs.Steps.{places_at, sized, three_letters, letters_of, texts_at, FindsTexts, ReadsLabel, ReadsLabelRoot};
 
-use elements::{Child, Span};
+use elements::Span;
 use refusals::Refusal;
 
 // Whether the children of the root are lawful, and the places of the elements that hold the values.
@@ -165,8 +165,7 @@ fn read_values(text: &[u8], p: Places, release: u64) -> Result<LabelFields, Refu
     let Some(block_size) = read_size(elements::text_of(text, p.block_size)) else {
         return Err(Refusal::Value);
     };
-    let Some(compression) = values::read_boolean(elements::text_of(text, p.compression))
-    else {
+    let Some(compression) = values::read_boolean(elements::text_of(text, p.compression)) else {
         return Err(Refusal::Value);
     };
     Ok(LabelFields {
@@ -218,7 +217,7 @@ pub fn read(text: &[u8]) -> Result<LabelFields, Refusal>
     }
     xml::check(text)?;
     match elements::next_child(text, 38) {
-        Child::Done => Err(Refusal::Structure),
-        Child::At(n, _) => read_root(text, n),
+        None => Err(Refusal::Structure),
+        Some(child) => read_root(text, child.at),
     }
 }

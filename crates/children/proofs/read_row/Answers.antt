@@ -5,8 +5,6 @@ use Prim.Native.Nat.{ℕ, ◌<◌}
 use mathlib.Core.Bool.{◌&&◌}
 use lib.ListN.{length, take, replicate, length-take, length-set}
 use Rattle.elements.specs.Reading.{forest_at, head_at, children_at}
-use Rattle.elements.specs.TagSteps.{NextChild}
-use Rattle.elements.specs.declared.tags.Child.TheVariants.{Done, At}
 use Rattle.children.specs.Rules.{rule_number, mark_of}
 use Rattle.children.specs.RowSteps.{rules, table_of}
 use Rattle.children.specs.Children.{no_attribute, may_hold}
@@ -30,11 +28,11 @@ loop-seats-init c = (search needed, refl, none_passed c.args.text.now (table_of 
 pub all_seated-ok-requires : goal.all_seated-ok-requires
 all_seated-ok-requires c = c.loop-seats.invariant.0
 
-pub returns-in-Done : goal.returns-in-Done
-returns-in-Done c =
+pub returns-in-None : goal.returns-in-None
+returns-in-None c =
     let s = c.args.text.now in
     let l = c.loop-seats in
-    let e : NextChild s l.i Done = subst (NextChild s l.i) c.in-Done.is c.next_child.ensures in
+    let e = c.in-None.ensures in
     all_passed s (table_of c.args.table.now) c.args.at l.i l.seats l.invariant.2 e c.args.must c.all_seated-ok.result c.all_seated-ok.ensures
 
 pub returns-then-not-is_known : goal.returns-then-not-is_known
@@ -42,9 +40,9 @@ returns-then-not-is_known c =
     let s = c.args.text.now in
     let rs = rules c.args.table.now in
     let l = c.loop-seats in
-    let n = c.in-At.n in
-    let j = c.in-At.j in
-    let q : NextChild s l.i (At n j) = subst (NextChild s l.i) c.in-At.is c.next_child.ensures in
+    let n = c.in-Some.child.at in
+    let j = c.in-Some.child.next in
+    let q = c.in-Some.ensures in
     let w = c.name_of in
     let p = c.place_of-p in
     let place : p.result.number ≡ rule_number rs (head_at s n).name = p.ensures.0 ∙ ap (rule_number rs) w.ensures in
@@ -58,9 +56,9 @@ returns-then-k-ge16 c =
     let s = c.args.text.now in
     let rs = rules c.args.table.now in
     let l = c.loop-seats in
-    let n = c.in-At.n in
-    let j = c.in-At.j in
-    let q : NextChild s l.i (At n j) = subst (NextChild s l.i) c.in-At.is c.next_child.ensures in
+    let n = c.in-Some.child.at in
+    let j = c.in-Some.child.next in
+    let q = c.in-Some.ensures in
     let w = c.name_of in
     let p = c.place_of-p in
     let place : p.result.number ≡ rule_number rs (head_at s n).name = p.ensures.0 ∙ ap (rule_number rs) w.ensures in
@@ -74,9 +72,9 @@ returns-then-seats-k-ne0 c =
     let s = c.args.text.now in
     let rs = rules c.args.table.now in
     let l = c.loop-seats in
-    let n = c.in-At.n in
-    let j = c.in-At.j in
-    let q : NextChild s l.i (At n j) = subst (NextChild s l.i) c.in-At.is c.next_child.ensures in
+    let n = c.in-Some.child.at in
+    let j = c.in-Some.child.next in
+    let q = c.in-Some.ensures in
     let w = c.name_of in
     let p = c.place_of-p in
     let place : p.result.number ≡ rule_number rs (head_at s n).name = p.ensures.0 ∙ ap (rule_number rs) w.ensures in
@@ -92,9 +90,9 @@ loop-seats-smaller c =
     let s = c.args.text.now in
     let rs = rules c.args.table.now in
     let l = c.loop-seats in
-    let n = c.in-At.n in
-    let j = c.in-At.j in
-    let q : NextChild s l.i (At n j) = subst (NextChild s l.i) c.in-At.is c.next_child.ensures in
+    let n = c.in-Some.child.at in
+    let j = c.in-Some.child.next in
+    let q = c.in-Some.ensures in
     omega (arith, q.place)
 
 pub loop-seats-preserved : goal.loop-seats-preserved
@@ -102,9 +100,9 @@ loop-seats-preserved c =
     let s = c.args.text.now in
     let rs = rules c.args.table.now in
     let l = c.loop-seats in
-    let n = c.in-At.n in
-    let j = c.in-At.j in
-    let q : NextChild s l.i (At n j) = subst (NextChild s l.i) c.in-At.is c.next_child.ensures in
+    let n = c.in-Some.child.at in
+    let j = c.in-Some.child.next in
+    let q = c.in-Some.ensures in
     let w = c.name_of in
     let p = c.place_of-p in
     let place : p.result.number ≡ rule_number rs (head_at s n).name = p.ensures.0 ∙ ap (rule_number rs) w.ensures in

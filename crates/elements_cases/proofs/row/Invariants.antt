@@ -2,8 +2,8 @@
 use Rattle.std.proofs.Common.{◌-◌, length}
 use Rattle.elements_cases.proofs.row.Given as goal
 
-abbrev pub invariant-loop-n : goal.invariant-loop-n
-invariant-loop-n g l = Unit {0}
+abbrev pub invariant-loop-next : goal.invariant-loop-next
+invariant-loop-next g l = Unit {0}
 
-abbrev pub decreases-loop-n : goal.decreases-loop-n
-decreases-loop-n g l = length l.text - l.i
+abbrev pub decreases-loop-next : goal.decreases-loop-next
+decreases-loop-next g l = length l.text - l.i

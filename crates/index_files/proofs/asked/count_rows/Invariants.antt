@@ -6,8 +6,8 @@ use Rattle.elements.specs.Reading.{forest_at}
 use Rattle.index_values.specs.Tests.{rows_in}
 use Rattle.index_files.proofs.asked.count_rows.Given as goal
 
-abbrev pub invariant-loop-next : goal.invariant-loop-next
-invariant-loop-next l = (l.n ≤ l.i) × (l.n + length (rows_in (forest_at l.text l.i)) ≡ length (rows_in (forest_at l.text l.at)))
+abbrev pub invariant-loop-child : goal.invariant-loop-child
+invariant-loop-child l = (l.n ≤ l.i) × (l.n + length (rows_in (forest_at l.text l.i)) ≡ length (rows_in (forest_at l.text l.at)))
 
-abbrev pub decreases-loop-next : goal.decreases-loop-next
-decreases-loop-next l = length l.text - l.i
+abbrev pub decreases-loop-child : goal.decreases-loop-child
+decreases-loop-child l = length l.text - l.i

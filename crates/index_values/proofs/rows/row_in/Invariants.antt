@@ -6,8 +6,8 @@ use Rattle.elements.specs.Reading.{forest_at}
 use Rattle.index_values.specs.Elements.{children_in}
 use Rattle.index_values.proofs.rows.row_in.Given as goal
 
-abbrev pub invariant-loop-h : goal.invariant-loop-h
-invariant-loop-h l = children_in l.name (forest_at l.text l.at) ≡ children_in l.name (forest_at l.text l.i)
+abbrev pub invariant-loop-item : goal.invariant-loop-item
+invariant-loop-item l = children_in l.name (forest_at l.text l.at) ≡ children_in l.name (forest_at l.text l.i)
 
-abbrev pub decreases-loop-h : goal.decreases-loop-h
-decreases-loop-h l = length l.text - l.i
+abbrev pub decreases-loop-item : goal.decreases-loop-item
+decreases-loop-item l = length l.text - l.i

@@ -4,20 +4,18 @@ use Prim.Native.Nat.{ℕ}
 use native.Mathlib.Omega.{arith}
 use mathlib.Core.List.{List}
 use Rattle.slices.specs.Slices.{same}
-use Rattle.elements.specs.StartSteps.{NextItem}
-use Rattle.elements.specs.declared.starts.Item.TheVariants.{Done, At}
 use Rattle.index_values.proofs.Found.{place_none, place_here, place_next, text_none, text_here, text_next}
 use Rattle.index_values.proofs.rows.span_in.Goals as goal
 
-pub loop-h-init : goal.loop-h-init
-loop-h-init c = (refl, refl)
+pub loop-item-init : goal.loop-item-init
+loop-item-init c = (refl, refl)
 
-pub returns-in-Done : goal.returns-in-Done
-returns-in-Done c =
+pub returns-in-None : goal.returns-in-None
+returns-in-None c =
     let s = c.args.text.now in
     let w = c.args.name.now in
-    let l = c.loop-h in
-    let e : NextItem s l.i Done = subst (NextItem s l.i) c.in-Done.is c.next_item.ensures in
+    let l = c.loop-item in
+    let e = c.in-None.ensures in
     record {
       place = sym (l.invariant.1 ∙ place_none w s l.i e);
       spans = record { part = sym (l.invariant.0 ∙ text_none w s l.i e); inside = omega arith };
@@ -27,27 +25,27 @@ pub returns-then-same : goal.returns-then-same
 returns-then-same c =
     let s = c.args.text.now in
     let w = c.args.name.now in
-    let l = c.loop-h in
-    let f : NextItem s l.i (At c.in-At.h c.in-At.next) = subst (NextItem s l.i) c.in-At.is c.next_item.ensures in
+    let l = c.loop-item in
+    let f = c.in-Some.ensures in
     let named = ap (λ (n : List ℕ). same n w) (sym f.shape.name.part ∙ sym c.part.ensures) ∙ sym c.same.ensures ∙ c.if-same.true in
     record {
       place = f.shape.place ∙ sym (l.invariant.1 ∙ place_here w s l.i f.first named);
       spans = record { part = f.shape.text.part ∙ sym (l.invariant.0 ∙ text_here w s l.i f.first named); inside = f.shape.text.inside };
     }
 
-pub loop-h-smaller : goal.loop-h-smaller
-loop-h-smaller c =
+pub loop-item-smaller : goal.loop-item-smaller
+loop-item-smaller c =
     let s = c.args.text.now in
     let w = c.args.name.now in
-    let l = c.loop-h in
-    let f : NextItem s l.i (At c.in-At.h c.in-At.next) = subst (NextItem s l.i) c.in-At.is c.next_item.ensures in
+    let l = c.loop-item in
+    let f = c.in-Some.ensures in
     omega (arith, f.first.place, f.first.after)
 
-pub loop-h-preserved : goal.loop-h-preserved
-loop-h-preserved c =
+pub loop-item-preserved : goal.loop-item-preserved
+loop-item-preserved c =
     let s = c.args.text.now in
     let w = c.args.name.now in
-    let l = c.loop-h in
-    let f : NextItem s l.i (At c.in-At.h c.in-At.next) = subst (NextItem s l.i) c.in-At.is c.next_item.ensures in
+    let l = c.loop-item in
+    let f = c.in-Some.ensures in
     let named = ap (λ (n : List ℕ). same n w) (sym f.shape.name.part ∙ sym c.part.ensures) ∙ sym c.same.ensures ∙ c.if-same.false in
     (l.invariant.0 ∙ text_next w s l.i f.first named, l.invariant.1 ∙ place_next w s l.i f.first named)

@@ -4,8 +4,6 @@ use mathlib.Core.Bool.{true}
 use Rattle.xml.specs.CheckSteps.{in_form}
 use Rattle.xml.proofs.Checked.{checked_good, checked_broken}
 use Rattle.elements.specs.Tags.{Tags}
-use Rattle.elements.specs.TagSteps.{NextChild}
-use Rattle.elements.specs.declared.tags.Child.TheVariants.{Done, At}
 use Rattle.children.specs.Children.{children_of_first}
 use Rattle.label.specs.TextPlaces.{places_in}
 use Rattle.label.proofs.Values.{too_long, unformed, no_first, the_first}
@@ -20,17 +18,17 @@ returns-in_err-check c =
     let e = checked_broken c.args.text.now _ (sym c.in_err-check.was ∙ c.check.ensures) in
     refuses (unformed c.args.text.now c.if-text-gt4096.false _ e.0 e.1)
 
-pub returns-in-Done : goal.returns-in-Done
-returns-in-Done c =
+pub returns-in-None : goal.returns-in-None
+returns-in-None c =
     let s = c.args.text.now in
     let f : in_form s ≡ true = checked_good s (sym c.in_ok-check.was ∙ c.check.ensures) in
-    let e : NextChild s 38 Done = subst (NextChild s 38) c.in-Done.is c.next_child.ensures in
+    let e = c.in-None.ensures in
     refuses (no_first s c.if-text-gt4096.false f e)
 
-pub returns-in-At : goal.returns-in-At
+pub returns-in-Some : goal.returns-in-Some
 unfolding children_of_first
-returns-in-At c =
+returns-in-Some c =
     let s = c.args.text.now in
     let f : in_form s ≡ true = checked_good s (sym c.in_ok-check.was ∙ c.check.ensures) in
-    let q : NextChild s 38 (At c.in-At.n c.in-At.field-1) = subst (NextChild s 38) c.in-At.is c.next_child.ensures in
+    let q = c.in-Some.ensures in
     reads_as (the_first s c.if-text-gt4096.false f _ _ _ q.row) (ap (λ (t : Tags). places_in s (children_of_first t)) (sym q.tags)) c.read_root.ensures
