@@ -8,6 +8,7 @@ use borrow.Author.Tests.{eq-eqb, ne_eqb, eqb-true}
 use lib.Dec.{eqb}
 use lib.ListN.{length, drop, get_or, drop_of_length-le}
 use lib.Seq.{drop-cons}
+use Rattle.std.specs.Cmp.Lexicographic.{pointwise}
 use Rattle.slices.specs.Slices.{same}
 use Rattle.slices.proofs.Booleans.{same_tests}
 
@@ -21,6 +22,14 @@ same_eq (x ∷ xs) (y ∷ ys) e = go (eqb x y) refl e (same_eq xs ys)
     go : (t : Bool) → eqb x y ≡ t → (t && same xs ys) ≡ true → (same xs ys ≡ true → xs ≡ ys) → x ∷ xs ≡ y ∷ ys
     go true h z next = ap₂ ◌∷◌ (eqb-true x y h) (next z)
     go false h z next = absurd (false≢true z)
+
+-- the library's comparison of two slices is the same
+pub pointwise_same : (a b : List ℕ) → pointwise eqb a b ≡ same a b
+unfolding same
+pointwise_same [] [] = refl
+pointwise_same [] (y ∷ b) = refl
+pointwise_same (x ∷ a) [] = refl
+pointwise_same (x ∷ a) (y ∷ b) = ap (λ (e : Bool). eqb x y && e) (pointwise_same a b)
 
 pub same_refl : (a : List ℕ) → same a a ≡ true
 unfolding same

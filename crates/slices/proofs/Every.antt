@@ -7,6 +7,7 @@ use native.Mathlib.Nat.{not-suc-le-zero, le_of_suc-le-suc}
 use native.Mathlib.Numerals.{add-one}
 use lib.ListN.{length, drop, get_or, drop_of_length-le}
 use lib.Seq.{drop-cons}
+use Rattle.std.specs.List.{list_all}
 use Rattle.slices.specs.Slices.{every}
 use Rattle.slices.proofs.Booleans.{and_left, and_right, and_both}
 
@@ -36,6 +37,12 @@ module _ {A : Type 0} (test : A → Bool) where
       pub every_end : length s ≤ i → every test (drop i s) ≡ true
       unfolding every
       every_end h = ap (every test) (drop_of_length-le s h)
+
+-- the library's test of each is the same
+pub list_all_every : {A : Type 0} (test : A → Bool) (s : List A) → list_all test s ≡ every test s
+unfolding every
+list_all_every test [] = refl
+list_all_every test (x ∷ s) = ap (λ (e : Bool). test x && e) (list_all_every test s)
 
 -- what passes a test passes a weaker one
 pub every_weaker : {A : Type 0} (strong weak : A → Bool) → ((x : A) → strong x ≡ true → weak x ≡ true) → (s : List A) → every strong s ≡ true → every weak s ≡ true

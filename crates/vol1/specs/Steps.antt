@@ -1,18 +1,13 @@
 -- What an answer of the reader of VOL1 says, and what its writer owes.
 use Rattle.refusals.specs.declared.Refusal.{Refusal}
-use Rattle.std.specs.Prelude.{List, ℕ, replicate, Err, Ok, Result}
+use Rattle.std.specs.Prelude.{List, ℕ, Err, Ok, Result}
 use Rattle.refusals.specs.Refusals.{Answer}
-use Rattle.slices.specs.Writers.{held_after}
 use Rattle.writing.specs.Writing.{Writes}
 use Rattle.vol1.specs.Vol1.{Vol1Fields, are_fields, identifier_in, owner_in, vol1}
 
--- an array of n bytes into which a field was put: where the field has n bytes, it is the field
-abbrev pub in_array : ℕ → List ℕ → List ℕ
-in_array n field = held_after 0 field (replicate n 0)
-
 -- what an answer of the reader says of the block
 abbrev pub means_vol1 : List ℕ → Result Unit Refusal → Answer Vol1Fields
-means_vol1 s Ok = Ok (record { identifier = identifier_in s; owner = owner_in s })
+means_vol1 s (Ok u) = Ok (record { identifier = identifier_in s; owner = owner_in s })
 means_vol1 s (Err r) = Err r
 
 -- the block of such fields, written to the front of a buffer

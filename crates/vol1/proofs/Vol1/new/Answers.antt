@@ -1,6 +1,7 @@
 -- `Vol1::new` meets its contract: each of the eight pieces stands where the one before it ends, and together they are the block.
 use mathlib.Core.Path.{◌≡◌, refl, sym, ◌∙◌}
 use native.Mathlib.Omega.{arith}
+use borrow.Author.Rules.{rules}
 use Rattle.slices.specs.Words.{bytes}
 use mathlib.Core.List.{[], List, ◌++◌}
 use Prim.Native.Nat.{ℕ}
@@ -14,8 +15,8 @@ unfolding vol1 bytes
 returns c =
     let i = c.args.identifier.now in
     let o = c.args.owner.now in
-    let h : length i ≡ 6 = c.add-arg-1.given in
-    let g : length o ≡ 14 = c.add-arg-2-1.given in
+    let h : length i ≡ 6 = search rules in
+    let g : length o ≡ 14 = search rules in
     let b : List ℕ = replicate 80 0 in
     let w₁ : List ℕ = bytes "VOL1" in
     let w₂ = w₁ ++ i in
