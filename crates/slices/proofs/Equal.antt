@@ -1,43 +1,30 @@
 -- Two runs are the same exactly where they are equal lists; and what their rests say at each place along them.
-use mathlib.Core.Path.{◌≡◌, refl, ap, ap₂, sym, ◌∙◌}
-use mathlib.Core.Bool.{Bool, true, false, ◌&&◌, false≢true}
-use mathlib.Core.List.{List, [], ◌∷◌}
+use mathlib.Core.Path.{◌≡◌, refl, ap, sym, ◌∙◌}
+use mathlib.Core.Bool.{Bool, true, false, false≢true}
+use mathlib.Core.List.{List}
 use Prim.Native.Nat.{ℕ, ◌+◌, ◌<◌, ◌≤◌}
 use native.Mathlib.Numerals.{add-one}
-use borrow.Author.Tests.{eq-eqb, ne_eqb, eqb-true}
+use borrow.Author.Tests.{eq-eqb, ne_eqb}
 use lib.Dec.{eqb}
 use lib.ListN.{length, drop, get_or, drop_of_length-le}
 use lib.Seq.{drop-cons}
 use Rattle.std.specs.Cmp.Lexicographic.{pointwise}
+use Rattle.std.proofs.lemmas.Slice.Eq.{bytes_eq-Decides}
 use Rattle.slices.specs.Slices.{same}
 use Rattle.slices.proofs.Booleans.{same_tests}
 
 pub same_eq : (a b : List ℕ) → same a b ≡ true → a ≡ b
-unfolding same
-same_eq [] [] e = refl
-same_eq [] (y ∷ ys) e = absurd (false≢true e)
-same_eq (x ∷ xs) [] e = absurd (false≢true e)
-same_eq (x ∷ xs) (y ∷ ys) e = go (eqb x y) refl e (same_eq xs ys)
-  where
-    go : (t : Bool) → eqb x y ≡ t → (t && same xs ys) ≡ true → (same xs ys ≡ true → xs ≡ ys) → x ∷ xs ≡ y ∷ ys
-    go true h z next = ap₂ ◌∷◌ (eqb-true x y h) (next z)
-    go false h z next = absurd (false≢true z)
+same_eq a b = (bytes_eq-Decides a b).0
 
 -- the library's comparison of two slices is the same
 pub pointwise_same : (a b : List ℕ) → pointwise eqb a b ≡ same a b
-unfolding same
-pointwise_same [] [] = refl
-pointwise_same [] (y ∷ b) = refl
-pointwise_same (x ∷ a) [] = refl
-pointwise_same (x ∷ a) (y ∷ b) = ap (λ (e : Bool). eqb x y && e) (pointwise_same a b)
+pointwise_same a b = refl
 
 pub same_refl : (a : List ℕ) → same a a ≡ true
-unfolding same
-same_refl [] = refl
-same_refl (x ∷ xs) = rw (eq-eqb x x refl) (same_refl xs)
+same_refl a = (bytes_eq-Decides a a).1 refl
 
 pub eq_same : (a b : List ℕ) → a ≡ b → same a b ≡ true
-eq_same a b e = rw e (same_refl b)
+eq_same a b = (bytes_eq-Decides a b).1
 
 pub ne_same : (a b : List ℕ) → (a ≡ b → ⊥) → same a b ≡ false
 ne_same a b n = go (same a b) refl
@@ -59,11 +46,9 @@ lengths_differ a b n = ne_same a b (λ e. n (ap length e))
 -- along two runs of which i bytes were passed
 module _ (a b : List ℕ) (i : ℕ) where
   pub same_on : i < length a → i < length b → get_or a i 0 ≡ get_or b i 0 → same (drop i a) (drop i b) ≡ same (drop (i + 1) a) (drop (i + 1) b)
-  unfolding same
   same_on h g e = rw (drop-cons a i 0, drop-cons b i 0, add-one) (rw (eq-eqb _ _ e))
 
   pub same_off : i < length a → i < length b → (get_or a i 0 ≡ get_or b i 0 → ⊥) → same (drop i a) (drop i b) ≡ false
-  unfolding same
   same_off h g n = rw (drop-cons a i 0, drop-cons b i 0) (rw (ne_eqb _ _ n))
 
   pub same_end : length a ≤ i → length b ≤ i → same (drop i a) (drop i b) ≡ true

@@ -1,5 +1,6 @@
 -- Bytes in a row: a range of byte values, a test of each, equal runs, and what a buffer holds once a run is written into it.
-use Rattle.std.specs.Prelude.{Bool, true, false, ◌&&◌, List, [], ◌∷◌, ◌++◌, ℕ, ◌+◌, leb, eqb, length, take, drop}
+use Rattle.std.specs.Str.{bytes_eq}
+use Rattle.std.specs.Prelude.{Bool, true, ◌&&◌, List, [], ◌∷◌, ◌++◌, ℕ, ◌+◌, leb, length, take, drop}
 
 -- from lo to hi
 abbrev pub within : ℕ → ℕ → ℕ → Bool
@@ -12,11 +13,8 @@ module _ {A : Type 0} where
   every test (x ∷ xs) = test x && every test xs
 
 -- the same numbers in the same order
-unfoldable pub same : List ℕ → List ℕ → Bool
-same [] [] = true
-same [] (y ∷ ys) = false
-same (x ∷ xs) [] = false
-same (x ∷ xs) (y ∷ ys) = eqb x y && same xs ys
+abbrev pub same : List ℕ → List ℕ → Bool
+same = bytes_eq
 
 -- the buffer with w written at its place at, and all else as it was
 unfoldable pub written : ℕ → List ℕ → List ℕ → List ℕ
