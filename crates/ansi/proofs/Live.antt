@@ -115,28 +115,28 @@ vol1 : List ℕ
 vol1 = bytes "VOL1" ++ (replicate 75 32 ++ (51 ∷ []))
 
 vol1_is : is_volume vol1 ≡ true
-unfolding vol1 is_volume is_label bytes same
+unfolding vol1 is_volume is_label bytes
 vol1_is = refl
 
 hdr1 : List ℕ
 hdr1 = blank (bytes "HDR1           ")
 
 hdr1_is : is_label (bytes "HDR1") hdr1 ≡ true
-unfolding hdr1 blank is_label bytes same
+unfolding hdr1 blank is_label bytes
 hdr1_is = refl
 
 hdr2 : List ℕ
 hdr2 = blank (bytes "HDR2F0000000000")
 
 hdr2_is : is_header2 hdr2 ≡ true
-unfolding hdr2 blank is_header2 is_label bytes same every
+unfolding hdr2 blank is_header2 is_label bytes every
 hdr2_is = refl
 
 eof2 : List ℕ
 eof2 = blank (bytes "EOF2           ")
 
 eof2_is : is_label (bytes "EOF2") eof2 ≡ true
-unfolding eof2 blank is_label bytes same
+unfolding eof2 blank is_label bytes
 eof2_is = refl
 
 ends_done : (n : ℕ) → Ends n done
@@ -196,7 +196,7 @@ module _ (h : List ℕ) (e : is_label (bytes "HDR1") h ≡ true) where
   ends_header n = ends_go n (header h) (headers h hdr2 3) (block hdr2) (rw hdr2_is) (ends_headers (suc n) hdr2 3)
 
 ends_volume : (n k : ℕ) → Ends n (volume k)
-unfolding read_step at_mark at_block passing opening is_numbered is_label hdr1 blank bytes same
+unfolding read_step at_mark at_block passing opening is_numbered is_label hdr1 blank bytes
 ends_volume n k = ends_go n (volume k) (header hdr1) (block hdr1) refl (ends_header hdr1 hdr1_is (suc n))
 
 pub ends : (n : ℕ) (σ : Stage) → n < 1000000 → Live n σ → Ends n σ

@@ -78,7 +78,7 @@ go_not_wrong σ e = let z : ◌≡◌ {A = ℕ} 0 1 = cc in omega arith
 18_not_wrong e = let z : ◌≡◌ {A = ℕ} 0 1 = cc in omega arith
 
 not_trailer : (h x : List ℕ) → is_label (bytes "EOV1") x ≡ true → is_trailer h x ≡ false
-unfolding is_trailer bytes same
+unfolding is_trailer bytes
 not_trailer h x e = rw (other_word (bytes "EOV1") (bytes "EOF1") x e refl refl)
 
 closing_eov : (h : List ℕ) (m : ℕ) (x : List ℕ) → is_label (bytes "EOV1") x ≡ true → closing h m x ≡ stop EndOfVolume
@@ -250,7 +250,7 @@ one_place t n m f g =
     omega arith
 
 not_both : (t : Tape) (n : ℕ) → IsEndOfVolume t n → IsOtherCount t n → ⊥
-unfolding same bytes
+unfolding bytes
 not_both t n a b =
     let z : b.label ≡ a.label = same_block (sym b.is ∙ a.is) in
     let e : is_label (bytes "EOF1") a.label ≡ true = rw z at b.eof1 in

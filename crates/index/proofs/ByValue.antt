@@ -126,7 +126,7 @@ module _ (x : List ℕ) where
 -- ---- what is in an element
 
 same_row : {kind : ℕ} {f g : Forest} → Respelled kind f g → row_of f ≡ row_of g
-unfolding row_of is_number_name same bytes
+unfolding row_of is_number_name bytes
 same_row r =
     rw (text_in_lem (bytes "partition") refl r, number_in (bytes "startblock") r, number_in (bytes "byteoffset") r, number_in (bytes "bytecount") r, number_in (bytes "fileoffset") r)
 
@@ -143,7 +143,7 @@ module _ {kind : ℕ} {f g : Forest} (r : Respelled kind f g) where
   same_length = ap or_zero (number_in (bytes "length") r)
 
   same_file : file_of f ≡ file_of g
-  unfolding is_number_name same bytes
+  unfolding is_number_name bytes
   same_file = rw (same_extents, number_in (bytes "length") r, text_in_lem (bytes "name") refl r)
 
   same_uid : uid_of f ≡ uid_of g
@@ -232,11 +232,11 @@ module _ {k l : Forest} (r : Respelled index k l) where
     same_all_lawful = every_alike (λ e. lawful_file v e.sort e.kids) (λ kind h t c d w s. as_lawful s v (sort_of kind h)) (all_alike r)
 
   location_in : (x : List ℕ) → location_of (children_in x k) ≡ location_of (children_in x l)
-  unfolding is_number_name same bytes
+  unfolding is_number_name bytes
   location_in x = let s = (children_in_lem x r).same_but in rw (text_in_lem (bytes "partition") refl s, number_in (bytes "startblock") s)
 
   same_index : (release : ℕ) → index_with release k ≡ index_with release l
-  unfolding is_number_name same bytes
+  unfolding is_number_name bytes
   same_index release =
       rw (
         number_in (bytes "generationnumber") r,

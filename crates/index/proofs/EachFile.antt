@@ -102,7 +102,7 @@ extentinfo_sort j q = ap (sort file) q
 
 -- in an extent stands a partition
 partition_told : (n : List ℕ) → eqb (number_in (names extent) n) 1 ≡ same n (bytes "partition")
-unfolding names table extent_table bytes ruled same
+unfolding names table extent_table bytes ruled
 partition_told n = number_own (names extent) 1 n refl
 
 partition_there : (c : Forest) → complete extent c ≡ true → 1 ≤ count 1 extent c
@@ -150,7 +150,7 @@ rows_lettered (node h c r) e = and_both _ _ first (rows_lettered r (behind sound
 
 -- in a file stands its extentinfo
 extentinfo_told : (n : List ℕ) → eqb (number_in (names file) n) 9 ≡ same n (bytes "extentinfo")
-unfolding names table times entry_table of_file bytes ruled same
+unfolding names table times entry_table of_file bytes ruled
 extentinfo_told n = number_own (names file) 9 n refl
 
 extents_sound : (f : Forest) → every sound (elements file f) ≡ true → every sound (elements extentinfo (children_in (bytes "extentinfo") f)) ≡ true

@@ -177,7 +177,7 @@ files_row kind (node h c r) e = go (files_row (sort_of kind h) c) (files_row kin
 
 -- the root's own element is gone into
 root_left : (h : Head) (k : Forest) → same h.name (bytes "ltfsindex") ≡ true → files_left (node h k none ∷ []) ≡ files_in k
-unfolding each_left each_file names_file names_skipped same bytes
+unfolding each_left each_file names_file names_skipped bytes
 root_left h k e =
     let n : h.name ≡ bytes "ltfsindex" = same_eq h.name (bytes "ltfsindex") e in
     ap (λ (w : List ℕ). cond (names_file w) (k ∷ []) (cond (names_skipped w) [] (files_in k)) ++ [] ++ []) n

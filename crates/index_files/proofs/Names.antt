@@ -47,7 +47,7 @@ abbrev told : ℕ → List ℕ → Bool
 told s n = eqb s unknown || (both (names_file n) (eqb s file) && both (names_skipped n) (eqb s skipped))
 
 told_kind : (k : ℕ) → passes told (λ n. refl) (sort k) (names k) ≡ true
-unfolding passes names sort index_table place_table times entry_table of_directory contents_table of_file extentinfo_table extent_table names_file names_skipped same bytes
+unfolding passes names sort index_table place_table times entry_table of_directory contents_table of_file extentinfo_table extent_table names_file names_skipped bytes
 told_kind =
     each_table (λ (rows : List TableRow). passes told (λ n. refl) (λ j. get_or (sorts_of rows) j unknown) (names_of rows) ≡ true) refl refl refl refl refl refl refl refl refl
 

@@ -74,13 +74,13 @@ module _ (kind : ℕ) (e : is_entry kind ≡ true) where
       go false false false p q r o = let y : ◌≡◌ {A = ℕ} 0 1 = cc in absurd (omega arith)
 
   fileuid_told : (n : List ℕ) → eqb (number_in (names kind) n) 0 ≡ same n (bytes "fileuid")
-  unfolding names table times entry_table of_directory of_file bytes ruled same
+  unfolding names table times entry_table of_directory of_file bytes ruled
   fileuid_told n =
       by_kind (λ k. eqb (number_in (names k) n) 0 ≡ same n (bytes "fileuid"))
       (number_own (names root) 0 n refl) (number_own (names directory) 0 n refl) (number_own (names file) 0 n refl)
 
   name_told : (n : List ℕ) → eqb (number_in (names kind) n) 1 ≡ same n (bytes "name")
-  unfolding names table times entry_table of_directory of_file bytes ruled same
+  unfolding names table times entry_table of_directory of_file bytes ruled
   name_told n =
       by_kind (λ k. eqb (number_in (names k) n) 1 ≡ same n (bytes "name"))
       (number_own (names root) 1 n refl) (number_own (names directory) 1 n refl) (number_own (names file) 1 n refl)
@@ -93,59 +93,59 @@ fileuid_placed kind e s f t placed = ap number_or_zero (text_placed kind 0 (byte
 -- of a file: its length and its extents
 module _ (s : List ℕ) (f : Forest) (t : List ℕ) (placed : Placed s file f t) where
   pub length_placed : text_in (bytes "length") f ≡ text_of_first (seat s (get_or t 8 0))
-  unfolding names table times entry_table of_file bytes ruled same
+  unfolding names table times entry_table of_file bytes ruled
   length_placed = text_placed file 8 (bytes "length") (λ n. number_own (names file) 8 n refl) s f t placed (omega arith)
 
   pub extents_placed : children_in (bytes "extentinfo") f ≡ children_of_first (seat s (get_or t 9 0))
-  unfolding names table times entry_table of_file bytes ruled same
+  unfolding names table times entry_table of_file bytes ruled
   extents_placed = row_placed file 9 (bytes "extentinfo") (λ n. number_own (names file) 9 n refl) s f t placed (omega arith)
 
 -- of an extent: its five values
 module _ (s : List ℕ) (f : Forest) (t : List ℕ) (placed : Placed s extent f t) where
   pub fileoffset_placed : text_in (bytes "fileoffset") f ≡ text_of_first (seat s (get_or t 0 0))
-  unfolding names table extent_table bytes ruled same
+  unfolding names table extent_table bytes ruled
   fileoffset_placed = text_placed extent 0 (bytes "fileoffset") (λ n. number_own (names extent) 0 n refl) s f t placed (omega arith)
 
   pub partition_placed : text_in (bytes "partition") f ≡ text_of_first (seat s (get_or t 1 0))
-  unfolding names table extent_table bytes ruled same
+  unfolding names table extent_table bytes ruled
   partition_placed = text_placed extent 1 (bytes "partition") (λ n. number_own (names extent) 1 n refl) s f t placed (omega arith)
 
   pub startblock_placed : text_in (bytes "startblock") f ≡ text_of_first (seat s (get_or t 2 0))
-  unfolding names table extent_table bytes ruled same
+  unfolding names table extent_table bytes ruled
   startblock_placed = text_placed extent 2 (bytes "startblock") (λ n. number_own (names extent) 2 n refl) s f t placed (omega arith)
 
   pub byteoffset_placed : text_in (bytes "byteoffset") f ≡ text_of_first (seat s (get_or t 3 0))
-  unfolding names table extent_table bytes ruled same
+  unfolding names table extent_table bytes ruled
   byteoffset_placed = text_placed extent 3 (bytes "byteoffset") (λ n. number_own (names extent) 3 n refl) s f t placed (omega arith)
 
   pub bytecount_placed : text_in (bytes "bytecount") f ≡ text_of_first (seat s (get_or t 4 0))
-  unfolding names table extent_table bytes ruled same
+  unfolding names table extent_table bytes ruled
   bytecount_placed = text_placed extent 4 (bytes "bytecount") (λ n. number_own (names extent) 4 n refl) s f t placed (omega arith)
 
 -- of an index: what its header says
 module _ (s : List ℕ) (f : Forest) (t : List ℕ) (placed : Placed s index f t) where
   pub generation_placed : text_in (bytes "generationnumber") f ≡ text_of_first (seat s (get_or t 2 0))
-  unfolding names table index_table bytes ruled same
+  unfolding names table index_table bytes ruled
   generation_placed = text_placed index 2 (bytes "generationnumber") (λ n. number_own (names index) 2 n refl) s f t placed (omega arith)
 
   pub updatetime_placed : text_in (bytes "updatetime") f ≡ text_of_first (seat s (get_or t 3 0))
-  unfolding names table index_table bytes ruled same
+  unfolding names table index_table bytes ruled
   updatetime_placed = text_placed index 3 (bytes "updatetime") (λ n. number_own (names index) 3 n refl) s f t placed (omega arith)
 
   pub location_placed : children_in (bytes "location") f ≡ children_of_first (seat s (get_or t 4 0))
-  unfolding names table index_table bytes ruled same
+  unfolding names table index_table bytes ruled
   location_placed = row_placed index 4 (bytes "location") (λ n. number_own (names index) 4 n refl) s f t placed (omega arith)
 
   pub allow_placed : text_in (bytes "allowpolicyupdate") f ≡ text_of_first (seat s (get_or t 5 0))
-  unfolding names table index_table bytes ruled same
+  unfolding names table index_table bytes ruled
   allow_placed = text_placed index 5 (bytes "allowpolicyupdate") (λ n. number_own (names index) 5 n refl) s f t placed (omega arith)
 
   pub highest_placed : text_in (bytes "highestfileuid") f ≡ text_of_first (seat s (get_or t 6 0))
-  unfolding names table index_table bytes ruled same
+  unfolding names table index_table bytes ruled
   highest_placed = text_placed index 6 (bytes "highestfileuid") (λ n. number_own (names index) 6 n refl) s f t placed (omega arith)
 
   pub back_placed : children_in (bytes "previousgenerationlocation") f ≡ children_of_first (seat s (get_or t 9 0))
-  unfolding names table index_table bytes ruled same
+  unfolding names table index_table bytes ruled
   back_placed = row_placed index 9 (bytes "previousgenerationlocation") (λ n. number_own (names index) 9 n refl) s f t placed (omega arith)
 
 -- what is not there says no number
@@ -153,7 +153,7 @@ pub no_number : number_or_zero [] ≡ 0
 no_number = ap or_zero number_empty
 
 pub updatetime_stands : (s : List ℕ) (f : Tags) (t : List ℕ) → TagsPlaced s index f t → first_text s (tags_named (bytes "updatetime") f) ≡ first_text s (tag_seat s (get_or t 3 0))
-unfolding names table index_table bytes ruled same
+unfolding names table index_table bytes ruled
 updatetime_stands s f t placed =
     place_first index 3 (bytes "updatetime") (λ n. number_own (names index) 3 n refl) s f ∙ ap (first_text s) (placed 3 (omega arith))
 

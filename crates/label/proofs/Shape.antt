@@ -27,11 +27,11 @@ module _ {s : List ℕ} {f X Y : Forest} {okA okP okQ : Bool} {a p q : List ℕ}
     (ex : X ≡ children_at s (get_or a 3 0)) (P : Seated s of_location 1 (X) okP p)
     (ey : Y ≡ children_at s (get_or a 4 0)) (Q : Seated s of_partitions 2 (Y) okQ q) where
   location_row : okA ≡ true → children_named "location" f ≡ X
-  unfolding bytes same
+  unfolding bytes
   location_row t = found_children A t 3 (omega arith) refl ∙ sym ex
 
   partitions_row : okA ≡ true → children_named "partitions" f ≡ Y
-  unfolding bytes same
+  unfolding bytes
   partitions_row t = found_children A t 4 (omega arith) refl ∙ sym ey
 
   pub shaped : (okA && okP && okQ) ≡ is_shaped f
@@ -67,7 +67,7 @@ module _ {s : List ℕ} {f X Y : Forest} {okA okP okQ : Bool} {a p q : List ℕ}
           compression = (head_at s (get_or a 6 0)).text;
         })
         (texts_in f)
-    unfolding texts_in bytes same
+    unfolding texts_in bytes
     found =
         same_texts
         (sym (found_text A all 0 (omega arith) refl))
@@ -84,7 +84,7 @@ module _ {s : List ℕ} {f X Y : Forest} {okA okP okQ : Bool} {a p q : List ℕ}
         → ◌≡◌ {A = TextPlaces}
         (record { creator = text_place s (drop (get_or a 0 0) s); time = text_place s (drop (get_or a 1 0) s); uuid = text_place s (drop (get_or a 2 0) s) })
         (places_in s g)
-    unfolding bytes same
+    unfolding bytes
     standing w =
         same_places
         (sym (found_place A all 0 (omega arith) refl w))

@@ -42,16 +42,16 @@ unfolding letter
 letter_alone b e = rw e
 
 word_says : (c : Bool) → boolean (boolean_word c) ≡ Some c
-unfolding boolean_word boolean same bytes
+unfolding boolean_word boolean bytes
 word_says true = refl
 word_says false = refl
 
 version_says : version (bytes "2.0.1") ≡ Some 1
-unfolding version same bytes decimal.plain_number decimal.plain decimal.run decimal.is_run runs.value every
+unfolding version bytes decimal.plain_number decimal.plain decimal.run decimal.is_run runs.value every
 version_says = refl
 
 children_shaped : (f : Label) → is_shaped (children f) ≡ true
-unfolding is_shaped lawful_children bytes same all_known may_hold mark_of rule_number matching at_most_one below has_element children_of_first
+unfolding is_shaped lawful_children bytes all_known may_hold mark_of rule_number matching at_most_one below has_element children_of_first
 children_shaped f = refl
 
 -- the texts that were written
@@ -69,7 +69,7 @@ shown f =
     }
 
 children_texts : (f : Label) → texts_in (children f) ≡ shown f
-unfolding texts_in bytes same matching text_of_first children_of_first
+unfolding texts_in bytes matching text_of_first children_of_first
 children_texts f = refl
 
 -- the same values in another release
@@ -101,7 +101,7 @@ values_read f ok =
 
 -- the text of a label of version 2.0.1 that may be written is that label
 pub text_reads : (f : Label) → is_given f ≡ true → f.release ≡ 1 → label_of (label_text f) ≡ Ok f
-unfolding is_given same bytes
+unfolding is_given bytes
 text_reads f given e =
     let l : is_lawful_label f ≡ true = and_left (is_lawful_label f) (is_characters f.creator) given in
     let ok = in_rules f l in

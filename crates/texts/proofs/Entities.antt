@@ -19,7 +19,7 @@ entity_byte quot = 34
 entity_byte apos = 39
 
 pub decoded_entity : {e : List ℕ} (x : Entity e) (s : List ℕ) → decoded (38 ∷ e ++ s) ≡ entity_byte x ∷ decoded s
-unfolding same reference_meant meaning decoded_behind bytes
+unfolding reference_meant meaning decoded_behind bytes
 decoded_entity amp s = refl
 decoded_entity lt s = refl
 decoded_entity gt s = refl

@@ -11,7 +11,6 @@ pub loop-x-init : goal.loop-x-init
 loop-x-init c = (search rules, search rules, refl)
 
 pub returns-in-End-next_byte : goal.returns-in-End-next_byte
-unfolding same
 returns-in-End-next_byte c =
     let l = c.loop-x in
     let e = subst (NextByte c.args.a.now l.i) c.in-End.is c.next_byte.ensures in
@@ -19,7 +18,6 @@ returns-in-End-next_byte c =
     sym (l.invariant.2 ∙ ap₂ same e f)
 
 pub returns-in-Byte-next_byte : goal.returns-in-Byte-next_byte
-unfolding same
 returns-in-Byte-next_byte c =
     let l = c.loop-x in
     let e = subst (NextByte c.args.a.now l.i) c.in-End.is c.next_byte.ensures in
@@ -27,7 +25,6 @@ returns-in-Byte-next_byte c =
     sym (l.invariant.2 ∙ ap₂ same e f.bytes)
 
 pub returns-in-End-next_byte-2 : goal.returns-in-End-next_byte-2
-unfolding same
 returns-in-End-next_byte-2 c =
     let l = c.loop-x in
     let e = subst (NextByte c.args.a.now l.i) c.in-Byte.is c.next_byte.ensures in
@@ -35,7 +32,6 @@ returns-in-End-next_byte-2 c =
     sym (l.invariant.2 ∙ ap₂ same e.bytes f)
 
 pub returns-then-x-y : goal.returns-then-x-y
-unfolding same
 returns-then-x-y c =
     let l = c.loop-x in
     let e = subst (NextByte c.args.a.now l.i) c.in-Byte.is c.next_byte.ensures in
@@ -49,7 +45,6 @@ loop-x-smaller c =
     omega (arith, e.place)
 
 pub loop-x-preserved : goal.loop-x-preserved
-unfolding same
 loop-x-preserved c =
     let l = c.loop-x in
     let e = subst (NextByte c.args.a.now l.i) c.in-Byte.is c.next_byte.ensures in
