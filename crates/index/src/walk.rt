@@ -54,7 +54,7 @@ fn bump(n: u64) -> u64
 fn mark(seen: &mut [u64; 16], j: usize)
     ensures { seen.new ≡ marked j seen.old }
 {
-    let n = tables::item(seen, j);
+    let n = tables::item(seen, j, 0);
     tables::put(seen, j, bump(n));
 }
 

@@ -81,7 +81,7 @@ fn judge_indexes(
         sound::between(1, n),
         data_table,
         last,
-        Generation(tables::item(&generations, last)),
+        Generation(tables::item(&generations, last, 0)),
         index_reach,
         data_reach,
     )

@@ -35,7 +35,7 @@ pub fn put_beginnings(table: &[u32; NUMBERS], n: usize, beginnings: &mut [u32])
     let mut k: usize = 0;
     while k < n {
         let here = constructs::construct(table, k);
-        tables::put32(beginnings, here.first.0 as usize, narrow(k + 1));
+        tables::put(beginnings, here.first.0 as usize, narrow(k + 1));
         k += 1;
     }
 }
@@ -103,12 +103,12 @@ fn try_cut(
 {
     let here = constructs::construct(index_table, k);
     let b = sound::brief_at(store, uuid, volume, volume.index_letter, here);
-    let j = tables::item32(beginnings, b.block.0 as usize) as usize;
+    let j = tables::item(beginnings, b.block.0 as usize, 0) as usize;
     if j == 0 {
         return None;
     }
     let there = constructs::construct(data_table, j - 1);
-    let generation = Generation(tables::item(generations, j - 1));
+    let generation = Generation(tables::item(generations, j - 1, 0));
     if !cut_fits(
         store,
         here,

@@ -4,4 +4,4 @@ use lib.Seq.{set_out}
 use Rattle.tables.proofs.put.Goals as goal
 
 pub returns-else-n-table : goal.returns-else-n-table
-returns-else-n-table c = sym (set_out _ _ _ c.if-n-table.false)
+returns-else-n-table g c = sym (set_out _ _ _ c.if-n-table.false)

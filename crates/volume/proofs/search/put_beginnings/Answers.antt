@@ -15,7 +15,7 @@ loop-k-smaller c = omega (arith, c.loop-k.invariant.0, c.loop-k-test.true)
 
 pub loop-k-preserved : goal.loop-k-preserved
 loop-k-preserved c =
-    let p = c.put32.ensures in (
+    let p = c.put.ensures in (
       omega (arith, c.loop-k-test.true),
       ap length p ∙ length-set c.loop-k.beginnings c.construct-here.result.first.0 c.narrow.result ∙ c.loop-k.invariant.1,
       subst (λ (l : List ℕ). BeginsAt c.args.table.now c.args.n c.args.beginnings.now l (c.loop-k.k + 1)) (sym p)
