@@ -14,10 +14,10 @@ use Rattle.refusals.specs.Refusals.{Answer, and_then, Shows}
 use Rattle.refusals.proofs.Numbers.{not_zero}
 use Rattle.tape.specs.Tape.{Tape, cell_of, is_lawful_cell, lawful_tape, Encodes}
 use Rattle.tape.specs.ReadingSteps.{tape_of}
-use Rattle.tape.specs.Answers.{or_refused, element_count, Fronts, kept, keeping, Lengths, lengths, kept_of}
+use Rattle.tape.specs.Answers.{or_refused, element_count, Fronts, kept, keeping, lengths, kept_of}
+use Rattle.tape.specs.declared.Front.{Front}
 use Rattle.tape.specs.Again.{fronts_of, KeepsAgain}
-use Rattle.tape.specs.declared.Kept.{Kept}
-use Rattle.tape.specs.Steps.{kept_lengths, Keeps, ShowsList, ShowsStore}
+use Rattle.tape.specs.Steps.{Keeps, ShowsList, ShowsStore}
 use Rattle.tape.proofs.Entries.{Bytes}
 use Rattle.tape.proofs.Encoding.{encodes_read, read_encoded}
 use Rattle.tape.proofs.Keeping.{Present, keeping_present, keeping_absent, list_front, store_front, front_within}
@@ -80,12 +80,12 @@ module _ (m : ℕ) (l s : List ℕ) (w : Bytes l) where
   pub store_twice : (n : ℕ) (x y z : List ℕ) (k : ℕ) → ShowsList m l s x 0 → ShowsStore m l s y 0 → ShowsStore n x y z k → ShowsStore (min m n) l s z k
   store_twice n x y z k p q = subst (λ (a : Answer Fronts). Shows (and_then a (λ f. Ok f.store)) z k) (parts_again x y p q n)
 
-  keeps : (a : Answer Lengths) → a ≡ kept_of m l s → keeping m l s ≡ and_then a (λ k. Ok (fronts_of k l s)) → Keeps m l s a
+  keeps : (a : Answer Front) → a ≡ kept_of m l s → keeping m l s ≡ and_then a (λ k. Ok (fronts_of k l s)) → Keeps m l s a
   keeps a h q =
       record {
         answers = h;
         bytes = q;
-        again = λ k e. kept_again (fronts_of k l s) (q ∙ ap (λ (b : Answer Lengths). and_then b (λ j. Ok (fronts_of j l s))) e);
+        again = λ k e. kept_again (fronts_of k l s) (q ∙ ap (λ (b : Answer Front). and_then b (λ j. Ok (fronts_of j l s))) e);
       }
 
   -- keeping of a list and a store that were checked
@@ -100,26 +100,22 @@ module _ (m : ℕ) (l s : List ℕ) (w : Bytes l) where
       let is = keeping_absent m l s r e in
       keeps (Err r) (rw is) is
 
--- what is owed of an answer is owed of what it is found to be
-pub keeps_as : {m : ℕ} {l s : List ℕ} {x y : Kept} → Keeps m l s (kept_lengths x) → x ≡ y → Keeps m l s (kept_lengths y)
-keeps_as {m} {l} {s} k e = subst (λ (z : Kept). Keeps m l s (kept_lengths z)) e k
-
 -- the parts of those lengths
-pub record Parts (m : ℕ) (l s : List ℕ) (a b : ℕ) : Type 0 where
-  pub list : ShowsList m l s (take a l) 0
-  pub store : ShowsStore m l s (take b s) 0
-  pub in_list : a ≤ length l
-  pub in_store : b ≤ length s
+pub record Parts (m : ℕ) (l s : List ℕ) (f : Front) : Type 0 where
+  pub list : ShowsList m l s (take f.list l) 0
+  pub store : ShowsStore m l s (take f.store s) 0
+  pub in_list : f.list ≤ length l
+  pub in_store : f.store ≤ length s
 
-pub parts : {m a b : ℕ} {l s : List ℕ} → Keeps m l s (Ok (record { list = a; store = b })) → Parts m l s a b
-parts {m} {a} {b} {l} {s} k =
+pub parts : {m : ℕ} {l s : List ℕ} {f : Front} → Keeps m l s (Ok f) → Parts m l s f
+parts {m} {l} {s} {f} k =
     let q = k.bytes in
-    let e : record { list = a; store = b } ≡ lengths (record { list = take a l; store = take b s }) = cc (k.answers, q) in
-    let x : a ≡ length (take a l) = ap (λ (j : Lengths). j.list) e in
-    let y : b ≡ length (take b s) = ap (λ (j : Lengths). j.store) e in
+    let e : f ≡ lengths (fronts_of f l s) = cc (k.answers, q) in
+    let x : f.list ≡ length (take f.list l) = ap (λ (j : Front). j.list) e in
+    let y : f.store ≡ length (take f.store s) = ap (λ (j : Front). j.store) e in
     record {
       list = rw q record { part = refl; refusal = refl };
       store = rw q record { part = refl; refusal = refl };
-      in_list = omega (arith, x, length-take a l);
-      in_store = omega (arith, y, length-take b s);
+      in_list = omega (arith, x, length-take f.list l);
+      in_store = omega (arith, y, length-take f.store s);
     }

@@ -17,7 +17,6 @@ use Rattle.quantities.specs.Letters.{are_letters}
 use Rattle.tape.specs.declared.Entry.{Entry}
 use Rattle.tape.specs.declared.Front.{Front}
 use Rattle.tape.specs.declared.Spot.{Spot}
-use Rattle.tape.specs.declared.Spot.TheVariants as spot
 use Rattle.tape.specs.Tape.{Tape, Element, mark, block, unreadable, cell_of, list, store, content, is_lawful_cell, lawful_tape}
 use Rattle.tape.specs.ReadingSteps.{entry_at, tape_of}
 use Rattle.tape.specs.WalkSteps.{reach, spot_of, spot_at, spot_below}
@@ -27,7 +26,7 @@ use Rattle.slices.proofs.Booleans.{split, and_parts}
 use Rattle.tape.proofs.Walking.{entry_for, width, entry_here, entry_none, next_here, reach_done, reach_step, reach_element}
 use Rattle.tape.proofs.Entries.{Bytes}
 use Rattle.tape.proofs.Encoding.{encodes_read}
-use Rattle.tape.proofs.Keeping.{Present, absent_list}
+use Rattle.tape.proofs.Keeping.{Present, absent}
 
 -- the spot from the walk's end and the entry there
 pub spot_as : (l : List ℕ) (n : ℕ) {f : Front} {e a : Entry} → f ≡ reach n l 0 0 → e ≡ entry_at l f.list → e ≡ a → spot_of f.store a ≡ spot_at l n
@@ -35,11 +34,8 @@ unfolding spot_at
 spot_as l n {f} {e} {a} w q g = rw (← g, q, w)
 
 -- an element as a spot
-abbrev pub spot_for : ℕ → Option Element → Spot
-spot_for v None = spot.Nothing
-spot_for v (Some mark) = spot.Nothing
-spot_for v (Some (block x)) = spot.Block v (length x)
-spot_for v (Some unreadable) = spot.Unreadable
+abbrev pub spot_for : ℕ → Option Element → Answer Spot
+spot_for v o = and_then (as_block o) (λ x. Ok (record { from = v; size = length x }))
 
 spot_element : (v at : ℕ) (e : Element) → spot_of v (entry_for (cell_of e) at) ≡ spot_for v (Some e)
 spot_element v at mark = refl
@@ -74,15 +70,13 @@ past_end (e ∷ t) (suc n) h = past_end t n (omega arith)
 
 below_of : (n count : ℕ) (l s : List ℕ) (p : Present l s count) → spot_below count l n ≡ spot_for (length (store (take n p.tape))) (slice_get p.tape n)
 below_of n count l s p =
-    split (λ b. cond b spot.Nothing (spot_at l n) ≡ spot_for (length (store (take n p.tape))) (slice_get p.tape n)) (leb count n)
+    split (λ b. cond b (Err refusal.Missing) (spot_at l n) ≡ spot_for (length (store (take n p.tape))) (slice_get p.tape n)) (leb count n)
     (λ e. rw (past_end p.tape n (rw p.count (leb-true count n e))))
     (λ e. spot_of_lem n count l s p)
 
 -- what a spot on one side answers
-abbrev pub place_from : Bool → Spot → Answer StorePart
-place_from side (spot.Block v k) = Ok (record { on_index = side; from = v; size = k })
-place_from side spot.Unreadable = Err refusal.Unreadable
-place_from side spot.Nothing = Err refusal.Missing
+abbrev pub place_from : Bool → Answer Spot → Answer StorePart
+place_from side a = and_then a (λ p. Ok (record { on_index = side; from = p.from; size = p.size }))
 
 placed : (side : Bool) (v : ℕ) (o : Option Element) → and_then (as_block o) (λ x. Ok (record { on_index = side; from = v; size = length x })) ≡ place_from side (spot_for v o)
 placed side v None = refl
@@ -96,17 +90,17 @@ module _ (i d c n : ℕ) (l s l' s' : List ℕ) where
   place_letters h = rw h
 
   module _ (h : are_letters i d c ≡ true) where
-    pub place_index : (r : Refusal) → Err r ≡ element_count l s → place_of i d c n l s l' s' ≡ Err refusal.List
+    pub place_index : (r : Refusal) → Err r ≡ element_count l s → place_of i d c n l s l' s' ≡ Err r
     unfolding place_of
-    place_index r e = rw (h, absent_list l s r e)
+    place_index r e = rw (h, absent l s r e)
 
     module _ (count : ℕ) (p : Present l s count) where
-      pub place_data : (r : Refusal) → Err r ≡ element_count l' s' → place_of i d c n l s l' s' ≡ Err refusal.List
+      pub place_data : (r : Refusal) → Err r ≡ element_count l' s' → place_of i d c n l s l' s' ≡ Err r
       unfolding place_of
-      place_data r e = rw (h, p.read, absent_list l' s' r e)
+      place_data r e = rw (h, p.read, absent l' s' r e)
 
       -- both tapes are there: the spot on the side that the letter picks
-      pub place_found : (count' : ℕ) → Present l' s' count' → (side : Bool) → eqb c i ≡ side → (x : Spot)
+      pub place_found : (count' : ℕ) → Present l' s' count' → (side : Bool) → eqb c i ≡ side → (x : Answer Spot)
           → x ≡ spot_below (cond side count count') (cond side l l') n → place_of i d c n l s l' s' ≡ place_from side x
       unfolding place_of
       place_found count' q true e x f =

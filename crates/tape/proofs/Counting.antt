@@ -15,12 +15,11 @@ use Rattle.refusals.specs.Refusals.{Answer, and_then}
 use Rattle.tape.specs.declared.Entry.{Entry}
 use Rattle.tape.specs.declared.Entry.TheVariants as entry
 use Rattle.tape.specs.declared.Totals.{Totals}
-use Rattle.tape.specs.declared.Totals.TheVariants.{Of, Bad}
-use Rattle.tape.specs.Tape.{Tape, Cell, max_store}
+use Rattle.tape.specs.Tape.{Tape, Cell, mark_cell, block_cell, unreadable_cell, max_store}
 use Rattle.tape.specs.ReadingSteps.{and_behind, cells_from, cells, added, size, total, entry_at, filled, filled_with, tape_of}
-use Rattle.tape.specs.WalkSteps.{totals_from}
+use Rattle.tape.specs.WalkSteps.{passed, totals_from}
 use Rattle.tape.specs.Answers.{or_refused, element_count}
-use Rattle.tape.proofs.Entries.{Lies, entry_lies}
+use Rattle.tape.proofs.Entries.{Lies, entry_lies, lies_as}
 
 -- one element counted
 pub totals_more : (n v : ℕ) (c : Cell) (o : Option (List Cell)) → totals_from n v (added c o) ≡ totals_from (n + 1) (v + size c) o
@@ -31,17 +30,17 @@ totals_more n v c (Some cs) =
     let f : v + (size c + total cs) ≡ (v + size c) + total cs = omega arith in
     rw (e, f)
 
-pub totals_end : (n v : ℕ) → n ≤ 65536 → totals_from n v (Some []) ≡ Of n v
+pub totals_end : (n v : ℕ) → n ≤ 65536 → totals_from n v (Some []) ≡ Some (record { elements = n; bytes = v })
 unfolding totals_from total
 totals_end n v h = simp (add-zero, le-leb n 65536 h)
 
 -- no element fits any more
-over : (v : ℕ) (c : Cell) (o : Option (List Cell)) → totals_from 65536 v (added c o) ≡ Bad
+over : (v : ℕ) (c : Cell) (o : Option (List Cell)) → totals_from 65536 v (added c o) ≡ None
 unfolding totals_from added
 over v c None = refl
 over v c (Some cs) = simp (lt-leb (65536 + suc (length cs)) 65536 (omega arith))
 
-full_at : (l : List ℕ) (at v : ℕ) (behind : ℕ → Option (List Cell)) (e : Entry) → at < length l → Lies l at e → totals_from 65536 v (and_behind behind e) ≡ Bad
+full_at : (l : List ℕ) (at v : ℕ) (behind : ℕ → Option (List Cell)) (e : Entry) → at < length l → Lies l at e → totals_from 65536 v (and_behind behind e) ≡ None
 unfolding totals_from
 full_at l at v behind (entry.Mark next) h i = over v _ (behind next)
 full_at l at v behind (entry.Block n next) h i = over v _ (behind next)
@@ -56,7 +55,7 @@ left l n at = cells_from (suc (length l - n)) l at
 pub left_all : (l : List ℕ) → cells l ≡ left l 0 0
 left_all l = let e : length l ≡ length l - 0 = omega arith in ap (λ (n : ℕ). cells_from (suc n) l 0) e
 
-pub totals_full : (l : List ℕ) (n at v : ℕ) → at < length l → totals_from 65536 v (left l n at) ≡ Bad
+pub totals_full : (l : List ℕ) (n at v : ℕ) → at < length l → totals_from 65536 v (left l n at) ≡ None
 unfolding cells_from
 totals_full l n at v h = full_at l at v (cells_from (length l - n) l) (entry_at l at) h (entry_lies l at)
 
@@ -64,6 +63,29 @@ totals_full l n at v h = full_at l at v (cells_from (length l - n) l) (entry_at 
 pub left_on : (l : List ℕ) (n at : ℕ) {e : Entry} → n < length l → entry_at l at ≡ e → left l n at ≡ and_behind (left l (n + 1)) e
 unfolding cells_from
 left_on l n at h q = let k : length l - n ≡ suc (length l - (n + 1)) = omega arith in rw (q, k)
+
+-- an element counted by what it takes, or the place of none before the list's end
+pub left_passed : (l : List ℕ) (n at v : ℕ) {x : ℕ × ℕ} → n < length l → passed (entry_at l at) ≡ Some x
+    → totals_from n v (left l n at) ≡ totals_from (n + 1) (v + x.0) (left l (n + 1) x.1)
+left_passed l n at v {x} h q = go (entry_at l at) refl q
+  where
+    go : (e : Entry) → entry_at l at ≡ e → passed e ≡ Some x → totals_from n v (left l n at) ≡ totals_from (n + 1) (v + x.0) (left l (n + 1) x.1)
+    go (entry.Mark to) e p = let z : (0, to) ≡ x = cc in rw (← z, left_on l n at h e) (totals_more n v mark_cell _)
+    go (entry.Block k to) e p = let z : (k, to) ≡ x = cc in rw (← z, left_on l n at h e) (totals_more n v (block_cell k) _)
+    go (entry.Unreadable to) e p = let z : (0, to) ≡ x = cc in rw (← z, left_on l n at h e) (totals_more n v unreadable_cell _)
+    go entry.End e p = cc
+    go entry.Bad e p = cc
+
+pub left_stopped : (l : List ℕ) (n at v : ℕ) → n < length l → at < length l → passed (entry_at l at) ≡ None → totals_from n v (left l n at) ≡ None
+unfolding totals_from
+left_stopped l n at v h k q = go (entry_at l at) refl q
+  where
+    go : (e : Entry) → entry_at l at ≡ e → passed e ≡ None → totals_from n v (left l n at) ≡ None
+    go (entry.Mark to) e p = cc
+    go (entry.Block k to) e p = cc
+    go (entry.Unreadable to) e p = cc
+    go entry.End e p = let i : length l ≤ at = lies_as l at e in absurd (omega arith)
+    go entry.Bad e p = rw (left_on l n at h e)
 
 pub left_none : (l : List ℕ) (n at : ℕ) → length l ≤ at → left l n at ≡ Some []
 unfolding cells_from entry_at
@@ -75,9 +97,9 @@ length_filled [] s = refl
 length_filled (c ∷ cs) s = ap suc (length_filled cs (drop (size c) s))
 
 -- what the check answers, from the totals
-abbrev pub count_by : List ℕ → Totals → Answer ℕ
-count_by s (Of n v) = cond (eqb v (length s) && leb (length s) max_store) (Ok n) (Err refusal.List)
-count_by s Bad = Err refusal.List
+abbrev pub count_by : List ℕ → Option Totals → Answer ℕ
+count_by s (Some t) = cond (eqb t.bytes (length s) && leb (length s) max_store) (Ok t.elements) (Err refusal.List)
+count_by s None = Err refusal.List
 
 by_tests : (n : ℕ) (t : Tape) (a b d : Bool) → length t ≡ n
     → and_then (or_refused (cond (a && b && d) (Some t) None)) (λ u. Ok (length u))
@@ -85,7 +107,7 @@ by_tests : (n : ℕ) (t : Tape) (a b d : Bool) → length t ≡ n
 by_tests n t a b d e = split (λ x. and_then (or_refused (cond x (Some t) None)) (λ u. Ok (length u)) ≡ cond x (Ok n) (Err refusal.List)) (a && b && d) (λ x. ap Ok e) (λ x. refl)
 
 either : (a b d : Bool) (n v : ℕ) (s : List ℕ) → b ≡ eqb v (length s) → d ≡ leb (length s) max_store
-    → cond (a && b && d) (Ok n) (Err refusal.List) ≡ count_by s (cond a (Of n v) Bad)
+    → cond (a && b && d) (Ok n) (Err refusal.List) ≡ count_by s (cond a (Some (record { elements = n; bytes = v })) None)
 either true b d n v s e f = rw (e, f)
 either false b d n v s e f = refl
 
@@ -97,6 +119,6 @@ count_of s (Some cs) =
     (by_tests (length cs) (filled cs s) (leb (length cs) 65536) (eqb (total cs) (length s)) (leb (length s) max_store) (length_filled cs s)
     ∙ either (leb (length cs) 65536) _ _ (length cs) (total cs) s refl refl)
 
-pub counted_by : (l s : List ℕ) {r q : Totals} → r ≡ totals_from 0 0 (cells l) → r ≡ q → element_count l s ≡ count_by s q
+pub counted_by : (l s : List ℕ) {r q : Option Totals} → r ≡ totals_from 0 0 (cells l) → r ≡ q → element_count l s ≡ count_by s q
 unfolding tape_of
 counted_by l s e f = count_of s (cells l) ∙ ap (count_by s) (sym e ∙ f)

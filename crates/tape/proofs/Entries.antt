@@ -1,4 +1,5 @@
 -- What stands at a place of a list: where an entry ends, and the bytes that it is spelt with.
+use Rattle.std.specs.Prelude.{Option, None, Some}
 use mathlib.Core.Path.{◌≡◌, sym, ◌∙◌, ap, subst}
 use mathlib.Core.Bool.{true, cond, ◌&&◌}
 use mathlib.Core.List.{List, [], ◌∷◌, ◌++◌}
@@ -18,6 +19,7 @@ use Rattle.tape.specs.declared.Entry.{Entry}
 use Rattle.tape.specs.declared.Entry.TheVariants.{Mark, Block, Unreadable, End, Bad}
 use Rattle.tape.specs.Tape.{mark_cell, block_cell, unreadable_cell, entry, mark_kind, block_kind, unreadable_kind, is_block_length, max_block}
 use Rattle.tape.specs.ReadingSteps.{entry_at, number_at}
+use Rattle.tape.specs.WalkSteps.{passed}
 
 -- numbers that are bytes
 abbrev pub Bytes : List ℕ → Type 0
@@ -99,6 +101,17 @@ pub entry_lies : (l : List ℕ) (at : ℕ) → Lies l at (entry_at l at)
 entry_lies l at =
     entry_by (Lies l at) l at (λ h k. (omega arith, omega arith)) (λ h k. (omega arith, omega arith))
     (λ h k y. let (lo, hi) = length_between (number_at l (at + 1)) y in (lo, hi, omega arith, h)) (λ h. h) (λ h. h)
+
+-- so does an element that is passed
+pub passed_lies : (l : List ℕ) (at : ℕ) {x : ℕ × ℕ} → passed (entry_at l at) ≡ Some x → (x.0 ≤ max_block) × (at < x.1) × (x.1 ≤ length l)
+passed_lies l at {x} q = go (entry_at l at) (entry_lies l at) q
+  where
+    go : (e : Entry) → Lies l at e → passed e ≡ Some x → (x.0 ≤ max_block) × (at < x.1) × (x.1 ≤ length l)
+    go (Mark to) i p = let z : (0, to) ≡ x = cc in rw (← z) (omega arith, i.0, i.1)
+    go (Block k to) i p = let z : (k, to) ≡ x = cc in rw (← z) (i.1, i.2, i.3)
+    go (Unreadable to) i p = let z : (0, to) ≡ x = cc in rw (← z) (omega arith, i.0, i.1)
+    go End i p = cc
+    go Bad i p = cc
 
 -- the bytes from a place on are the entry's and those behind it
 abbrev pub Spells : List ℕ → ℕ → Entry → Type 0

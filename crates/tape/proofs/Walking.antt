@@ -1,5 +1,6 @@
 -- Walking a list that a tape is known to stand in: the entry at a place is the next element's, and the walk over n entries reaches
 -- behind `take n`.
+use Rattle.std.specs.Prelude.{None, Some}
 use mathlib.Core.Path.{◌≡◌, refl, sym, ◌∙◌, ap}
 use mathlib.Core.Bool.{true}
 use mathlib.Core.List.{List, [], ◌∷◌, ◌++◌}
@@ -11,14 +12,14 @@ use lib.Seq.{get_or-drop, drop-drop, drop-append_seam, take-append_seam}
 use borrow.Author.Tests.{lt-ltb, le-ltb, le-leb}
 use Rattle.slices.proofs.Booleans.{and_parts}
 use Rattle.tape.specs.declared.Entry.{Entry}
-use Rattle.tape.specs.declared.Entry.TheVariants.{Mark, Block, Unreadable, End}
+use Rattle.tape.specs.declared.Entry.TheVariants.{Mark, Block, Unreadable, End, Bad}
 use Rattle.big_endian.specs.BigEndian.{bytes_say}
 use Rattle.big_endian.proofs.Left.{length_big_endian}
 use Rattle.big_endian.proofs.Said.{said_bytes}
 use Rattle.tape.specs.Tape.{Element, mark, block, unreadable, Tape, Cell, mark_cell, block_cell, unreadable_cell, cell_of, four_bytes, entry, content, list, store, is_block_length, is_lawful_cell, lawful_tape}
 use Rattle.tape.specs.ReadingSteps.{entry_at, number_at, size}
 use Rattle.tape.specs.declared.Front.{Front}
-use Rattle.tape.specs.WalkSteps.{reach, past_entry}
+use Rattle.tape.specs.WalkSteps.{passed, reach, past_entry}
 use Rattle.tape.proofs.Entries.{length_between}
 
 -- what a cell's entry is read as
@@ -96,6 +97,27 @@ pub reach_step : (l : List ℕ) (at v left : ℕ) {e : Entry} → 0 < left → e
 unfolding reach
 reach_step l at v zero h q = absurd (omega arith)
 reach_step l at v (suc left) h q = let e : suc left - 1 ≡ left = omega arith in rw (q, e)
+
+-- an element passed by what it takes, or the end of the walk
+pub reach_passed : (l : List ℕ) (at v left : ℕ) {x : ℕ × ℕ} → 0 < left → passed (entry_at l at) ≡ Some x → reach left l at v ≡ reach (left - 1) l x.1 (v + x.0)
+reach_passed l at v left {x} h q = go (entry_at l at) refl q
+  where
+    go : (e : Entry) → entry_at l at ≡ e → passed e ≡ Some x → reach left l at v ≡ reach (left - 1) l x.1 (v + x.0)
+    go (Mark to) e p = let z : (0, to) ≡ x = cc in rw (← z, add-zero v) (reach_step l at v left h e)
+    go (Block k to) e p = let z : (k, to) ≡ x = cc in rw (← z) (reach_step l at v left h e)
+    go (Unreadable to) e p = let z : (0, to) ≡ x = cc in rw (← z, add-zero v) (reach_step l at v left h e)
+    go End e p = cc
+    go Bad e p = cc
+
+pub reach_stopped : (l : List ℕ) (at v left : ℕ) → 0 < left → passed (entry_at l at) ≡ None → reach left l at v ≡ record { list = at; store = v }
+reach_stopped l at v left h q = go (entry_at l at) refl q
+  where
+    go : (e : Entry) → entry_at l at ≡ e → passed e ≡ None → reach left l at v ≡ record { list = at; store = v }
+    go (Mark to) e p = cc
+    go (Block k to) e p = cc
+    go (Unreadable to) e p = cc
+    go End e p = reach_step l at v left h e
+    go Bad e p = reach_step l at v left h e
 
 -- past a cell's entry: by its width in the list, by its size in the store
 past_cell : (walk : ℕ → ℕ → Front) (at v : ℕ) (c : Cell) → past_entry walk (record { list = at; store = v }) (entry_for c at) ≡ walk (at + width c) (v + size c)

@@ -15,6 +15,14 @@ unfoldable pub totals_from : ℕ → ℕ → Option (List Cell) → Option Total
 totals_from n v None = None
 totals_from n v (Some cs) = cond (leb (n + length cs) max_elements) (Some (record { elements = n + length cs; bytes = v + total cs })) None
 
+-- what an element takes: its bytes in the store, and the place of the next entry; none where no element stands
+abbrev pub passed : Entry → Option (ℕ × ℕ)
+passed (Mark next) = Some (0, next)
+passed (Block n next) = Some (n, next)
+passed (Unreadable next) = Some (0, next)
+passed End = None
+passed Bad = None
+
 -- what follows an entry: the walk from the next place with the entry's bytes, or where it stops
 abbrev pub past_entry : (ℕ → ℕ → Front) → Front → Entry → Front
 past_entry walk here (Mark next) = walk next here.store

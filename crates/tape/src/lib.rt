@@ -2,7 +2,7 @@
 #![tactic(auto)]
 
 ghost use Rattle.std.specs.Prelude.{◌≡◌, ◌+◌, ◌≤◌, Ok, length};
-ghost use Rattle.refusals.specs.Refusals.{Shows};
+ghost use Rattle.refusals.specs.Refusals.{and_then, Shows};
 ghost use Rattle.quantities.specs.Letters.{are_letters};
 ghost use Rattle.tape.specs.Tape.{max_elements};
 ghost use Rattle.tape.specs.ReadingSteps.{number_at, entry_at, cells};
@@ -46,6 +46,7 @@ fn number_at(list: &[u8], at: usize) -> usize
 }
 
 // The entry at a place of a list.
+#[tactic(auto, using(std::proofs::lemmas::Bool::Decides::nat_tests), unfolding(crate::specs::ReadingSteps::entry_at))]
 pub fn entry_at(list: &[u8], at: usize) -> Entry
     ensures { result ≡ entry_at list.now at }
 {
@@ -135,7 +136,7 @@ pub fn keep(list: &[u8], store: &[u8], n: usize) -> Result<Front, Refusal>
 
 // A part that is handed out, empty where refused; the refusal's number, or 0, beside it.
 fn shown<'a>(part: Result<&'a [u8], Refusal>, refusal: &mut u64) -> &'a [u8]
-    ensures { Shows (part_of part) result.now refusal.new }
+    ensures { Shows (and_then part.entry (λ p. Ok p.now)) result.now refusal.new }
 {
     match part {
         Ok(bytes) => {

@@ -1,25 +1,23 @@
 -- `tape::check` meets its contract: the totals decide, with the tests of the store's length.
-use mathlib.Core.Path.{sym, ◌∙◌}
-use native.Mathlib.Omega.{arith}
+use Rattle.std.proofs.Common.{sym, ◌∙◌, arith, length}
 use borrow.Author.Tests.{le-leb, lt-leb, eq-eqb, ne_eqb}
-use lib.ListN.{length}
 use Rattle.tape.proofs.Counting.{counted_by}
 use Rattle.tape.proofs.check.Goals as goal
 
-pub returns-then-bytes-store : goal.returns-then-bytes-store
-returns-then-bytes-store c =
-    sym (counted_by c.args.list.now c.args.store.now c.sum_up.ensures c.in-Of.is
-    ∙ simp (ne_eqb _ _ c.if-bytes-store.true))
+pub returns-in-Some : goal.returns-in-Some
+returns-in-Some c =
+    sym (counted_by c.args.list.now c.args.store.now c.sum_up.ensures c.in-Some.is
+    ∙ simp (eq-eqb _ _ c.if-totals-store.true, le-leb (length c.args.store.now) 16777216 (omega arith)))
 
-pub returns-then-bytes-gt16777216 : goal.returns-then-bytes-gt16777216
-returns-then-bytes-gt16777216 c =
-    sym (counted_by c.args.list.now c.args.store.now c.sum_up.ensures c.in-Of.is
-    ∙ simp (eq-eqb _ _ c.if-bytes-store.false, lt-leb (length c.args.store.now) 16777216 (omega arith)))
+pub returns-in_default : goal.returns-in_default
+returns-in_default c =
+    sym (counted_by c.args.list.now c.args.store.now c.sum_up.ensures c.in-Some.is
+    ∙ simp (eq-eqb _ _ c.if-totals-store.true, lt-leb (length c.args.store.now) 16777216 (omega arith)))
 
-pub returns-else-bytes-gt16777216 : goal.returns-else-bytes-gt16777216
-returns-else-bytes-gt16777216 c =
-    sym (counted_by c.args.list.now c.args.store.now c.sum_up.ensures c.in-Of.is
-    ∙ simp (eq-eqb _ _ c.if-bytes-store.false, le-leb (length c.args.store.now) 16777216 (omega arith)))
+pub returns-in_default-2 : goal.returns-in_default-2
+returns-in_default-2 c =
+    sym (counted_by c.args.list.now c.args.store.now c.sum_up.ensures c.in-Some.is
+    ∙ simp (ne_eqb _ _ c.if-totals-store.false))
 
-pub returns-in-Bad : goal.returns-in-Bad
-returns-in-Bad c = sym (counted_by c.args.list.now c.args.store.now c.sum_up.ensures c.in-Bad.is)
+pub returns-in_default-3 : goal.returns-in_default-3
+returns-in_default-3 c = sym (counted_by c.args.list.now c.args.store.now c.sum_up.ensures c.in_default.is)

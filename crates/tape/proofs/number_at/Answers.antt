@@ -1,9 +1,10 @@
 -- `tape::number_at` meets its contract: the four bytes are the digits of the sum.
-use borrow.Author.Rules.{rules}
+use Rattle.std.proofs.Common.{rules, arith, ◌∙◌, sym}
 use Rattle.tape.proofs.Entries.{number_four}
 use Rattle.tape.proofs.number_at.Goals as goal
 
 pub returns : goal.returns
 returns c =
     let z = number_four c.args.list.now c.args.at c.requires in
+    let e = c.from_be_bytes.ensures in
     search rules

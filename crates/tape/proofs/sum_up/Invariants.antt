@@ -1,7 +1,5 @@
 -- `tape::sum_up` meets its contract. Invariant: the totals so far and those of the rest are the whole list's.
-use Prim.Native.Nat.{◌≤◌, ◌*◌, ◌-◌}
-use mathlib.Core.Path.{◌≡◌}
-use lib.ListN.{length}
+use Rattle.std.proofs.Common.{◌≤◌, ◌*◌, ◌-◌, ◌≡◌, length}
 use Rattle.tape.specs.Tape.{max_elements, max_block}
 use Rattle.tape.specs.ReadingSteps.{cells}
 use Rattle.tape.specs.WalkSteps.{totals_from}
