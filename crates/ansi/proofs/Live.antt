@@ -129,7 +129,7 @@ hdr2 : List ℕ
 hdr2 = blank (bytes "HDR2F0000000000")
 
 hdr2_is : is_header2 hdr2 ≡ true
-unfolding hdr2 blank is_header2 is_label bytes every
+unfolding hdr2 blank is_header2 is_label bytes
 hdr2_is = refl
 
 eof2 : List ℕ

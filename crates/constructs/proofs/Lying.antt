@@ -31,7 +31,7 @@ reach_at B n xs =
 -- q full blocks and then a block of at least rem bytes
 covered : (B : ℕ) (xs : List ℕ) (q rem : ℕ) → 1 ≤ rem → rem ≤ B
     → (every (eqb B) (take q xs) && leb rem (get_or xs q 0)) ≡ leb (q * B + rem) (get_or (reaches B xs) 0 0)
-unfolding every reaches
+unfolding reaches
 covered B [] q rem lo hi = rw (take-nil {A = ℕ} q, lt-leb rem 0 (omega arith), lt-leb (q * B + rem) 0 (omega arith))
 covered B (x ∷ xs) zero rem lo hi =
     let z : 0 * B + rem ≡ rem = rw (zero-mul B) (omega arith) in

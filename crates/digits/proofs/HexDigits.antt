@@ -92,7 +92,6 @@ counts_folded =
 
 module _ (f g h : ℕ → ℕ) (each : (b : ℕ) → is_hex b ≡ true → f b ≡ h (g b)) where
   map_through : (s : List ℕ) → every is_hex s ≡ true → map f s ≡ map h (map g s)
-  unfolding every
   map_through [] e = refl
   map_through (b ∷ s) e = let (p, q) = and_parts (is_hex b) (every is_hex s) e in ap₂ ◌∷◌ (each b p) (map_through s q)
 

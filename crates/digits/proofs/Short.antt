@@ -38,7 +38,6 @@ byte_counts : (d : ℕ) → digit_of (byte_of d) ≡ d
 byte_counts d = omega arith
 
 bytes_counted : (s : List ℕ) → every is_digit s ≡ true → map byte_of (map digit_of s) ≡ s
-unfolding every
 bytes_counted [] e = refl
 bytes_counted (b ∷ s) e =
     let (d, r) = and_parts (is_digit b) (every is_digit s) e in
@@ -47,7 +46,7 @@ bytes_counted (b ∷ s) e =
     ap₂ ◌∷◌ q (bytes_counted s r)
 
 bytes_digits : (w n : ℕ) → every is_digit (map byte_of (digits 10 w n)) ≡ true
-unfolding every digits
+unfolding digits
 bytes_digits zero n = refl
 bytes_digits (suc w) n =
     let d : is_digit (byte_of (n % 10)) ≡ true = digit_between (byte_of (n % 10)) (omega arith) (omega arith) in
@@ -99,7 +98,7 @@ plain_first (b ∷ c ∷ s) h = refl
 
 -- a run of digits as long as its number is wide is plain: a zero in front would leave less than the rest's least
 plain_wide : (s : List ℕ) → every is_digit s ≡ true → Width 10 (decimal 0 s) (length s) → plain s ≡ true
-unfolding plain value every
+unfolding plain value
 plain_wide [] e w = absurd (omega (arith, w.some))
 plain_wide (b ∷ []) e w = refl
 plain_wide (b ∷ c ∷ s) e w = split (λ (t : Bool). not t ≡ true) (eqb b 48) zero_first (λ q. refl)
@@ -113,7 +112,7 @@ plain_wide (b ∷ c ∷ s) e w = split (λ (t : Bool). not t ≡ true) (eqb b 48
 
 -- and a plain one is so long
 wide_plain : (s : List ℕ) → every is_digit s ≡ true → plain s ≡ true → Width 10 (decimal 0 s) (length s)
-unfolding plain value every
+unfolding plain value
 wide_plain [] e p = absurd (false≢true p)
 wide_plain (b ∷ []) e p =
     record { some = omega arith; fits = rw one-mul at (value_below 10 digit_of is_digit digit_small (b ∷ []) 0 e); least = λ k q l. absurd (omega arith) }

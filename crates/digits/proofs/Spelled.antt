@@ -24,7 +24,6 @@ pairs (n ∷ s) = digits 16 2 n ++ pairs s
 
 module _ (high low : ℕ) (h : is_hex high ≡ true) (l : is_hex low ≡ true) where
   pair_hex : every is_hex (high ∷ low ∷ []) ≡ true
-  unfolding every
   pair_hex = rw (h, l)
 
   pair_told : digits 16 2 (value 16 hex_value 0 (high ∷ low ∷ [])) ≡ hex_value high ∷ hex_value low ∷ []
@@ -36,7 +35,7 @@ module _ (high low : ℕ) (h : is_hex high ≡ true) (l : is_hex low ≡ true) w
 
 -- what is spelled tells what each digit counts
 told : (k : ℕ) (s : List ℕ) → length s ≡ 2 * k → every is_hex s ≡ true → pairs (spelled s) ≡ map hex_value s
-unfolding spelled pairs every
+unfolding spelled pairs
 told k [] n e = refl
 told k (high ∷ []) n e = absurd (omega arith)
 told zero (high ∷ low ∷ s) n e = absurd (omega arith)
@@ -79,7 +78,7 @@ spelled_length (suc k) (high ∷ low ∷ s) n = ap suc (spelled_length k s (omeg
 
 -- each of them a byte
 pub spelled_bytes : (s : List ℕ) → every is_hex s ≡ true → every (λ n. ltb n 256) (spelled s) ≡ true
-unfolding spelled every
+unfolding spelled
 spelled_bytes [] e = refl
 spelled_bytes (high ∷ []) e = refl
 spelled_bytes (high ∷ low ∷ s) e =

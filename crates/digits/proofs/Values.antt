@@ -52,7 +52,7 @@ module _ (base : ℕ) (digit : ℕ → ℕ) where
   module _ (test : ℕ → Bool) (small : (b : ℕ) → test b ≡ true → digit b < base) where
     -- after v, w digits say a number below (v + 1) * base ^ w
     pub value_below : (s : List ℕ) (v : ℕ) → every test s ≡ true → value base digit v s < suc v * base ^ length s
-    unfolding value every
+    unfolding value
     value_below [] v e = rw (pow-zero, mul-one) (omega arith)
     value_below (b ∷ s) v e =
         let d : digit b < base = small b (and_parts (test b) (every test s) e).0 in
@@ -63,7 +63,7 @@ module _ (base : ℕ) (digit : ℕ → ℕ) where
 
     -- the digits of what a run says are the run's
     pub digits_value : (s : List ℕ) (k v : ℕ) → every test s ≡ true → digits base (k + length s) (value base digit v s) ≡ digits base k v ++ map digit s
-    unfolding value digits every
+    unfolding value digits
     digits_value [] k v e = rw (add-zero, append-nil)
     digits_value (b ∷ s) k v e =
         let d : digit b < base = small b (and_parts (test b) (every test s) e).0 in

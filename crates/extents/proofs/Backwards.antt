@@ -50,7 +50,6 @@ module _ (s : List ℕ) (k : ℕ) (some : 0 < k) (inside : k ≤ length s / 5) w
       rows_on s (k - 1) (omega arith) ∙ ap (λ (n : ℕ). before ∷ drop n (rows_of s)) e
 
   pub above_more : (low : ℕ) → low ≤ before.fileoffset → above low (drop k (rows_of s)) ≡ true → above low (drop (k - 1) (rows_of s)) ≡ true
-  unfolding every
   above_more low h e = rw row_back (and_both _ _ (le-leb _ _ h) e)
 
   pub apart_more : every (clear before) (drop k (rows_of s)) ≡ true → apart (drop k (rows_of s)) ≡ true → apart (drop (k - 1) (rows_of s)) ≡ true
@@ -69,5 +68,4 @@ unfolding apart
 apart_end s = ap apart (rows_end s (length s / 5) (omega arith))
 
 pub above_end : (low : ℕ) (s : List ℕ) → above low (drop (length s / 5) (rows_of s)) ≡ true
-unfolding every
 above_end low s = ap (above low) (rows_end s (length s / 5) (omega arith))

@@ -79,15 +79,12 @@ module _ (s : List ℕ) (i : ℕ) where
 
   module _ (test : Row → Bool) where
     pub each_on : i < length s / 5 → test (row_from s (i * 5)) ≡ true → every test (drop i (rows_of s)) ≡ every test (drop (i + 1) (rows_of s))
-    unfolding every
     each_on h e = rw (rows_on h, e)
 
     pub each_off : i < length s / 5 → test (row_from s (i * 5)) ≡ false → every test (drop i (rows_of s)) ≡ false
-    unfolding every
     each_off h e = rw (rows_on h, e)
 
     pub each_end : length s / 5 ≤ i → every test (drop i (rows_of s)) ≡ true
-    unfolding every
     each_end h = ap (every test) (rows_end h)
 
 -- a test that each row passes, at a row

@@ -25,7 +25,7 @@ not_both p r q e h = split (λ (t : Bool). t ≡ false) (in_row p q) (λ g. absu
         omega arith
 
 no_holder : (p : ℕ) (r : Row) (rows : List Row) → every (clear r) rows ≡ true → in_row p r ≡ true → holders p rows ≡ 0
-unfolding every holders
+unfolding holders
 no_holder p r [] e h = refl
 no_holder p r (q ∷ rows) e h =
     rw (not_both p r q (and_left _ _ e) h, no_holder p r rows (and_right (clear r q) _ e) h)
@@ -57,7 +57,7 @@ some_byte L B r e = leb-true 1 r.bytecount (and_left _ _ (and_left _ _ (and_left
 
 clear_of_all : (L B : ℕ) (r : Row) (rows : List Row) → 0 < r.bytecount → each_lawful L B rows ≡ true → ((p : ℕ) → in_row p r ≡ true → holders p rows ≡ 0)
     → every (clear r) rows ≡ true
-unfolding every holders
+unfolding holders
 clear_of_all L B r [] m e f = refl
 clear_of_all L B r (q ∷ rows) m e f =
     and_both _ _ (unshared_clear r q m (some_byte L B q (and_left _ _ e)) first)
@@ -67,7 +67,7 @@ clear_of_all L B r (q ∷ rows) m e f =
     first p h g = let z : 1 + holders p rows ≡ 0 = rw g at (f p h) in omega arith
 
 pub unshared_apart : (L B : ℕ) (rows : List Row) → each_lawful L B rows ≡ true → ((p : ℕ) → holders p rows ≤ 1) → apart rows ≡ true
-unfolding apart every holders
+unfolding apart holders
 unshared_apart L B [] e f = refl
 unshared_apart L B (r ∷ rows) e f =
     and_both _ _ (clear_of_all L B r rows (some_byte L B r (and_left _ _ e)) (and_right (row_lawful L B r) _ e) others)

@@ -189,7 +189,7 @@ module _ (x : List ℕ) where
 
 -- where no file has too many rows, there are not too many in all
 pub rows_bounded : (l : List IndexElement) → every (λ e. few e.sort e.kids) l ≡ true → length (all_rows (files_of l)) ≤ file_count l * 1024
-unfolding every few files_of all_rows many
+unfolding few files_of all_rows many
 rows_bounded [] e = omega arith
 rows_bounded (i ∷ l) e =
     go (eqb i.sort file) (and_left _ (every (λ e. few e.sort e.kids) l) e) (rows_bounded l (and_right (few i.sort i.kids) _ e))

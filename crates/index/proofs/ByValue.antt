@@ -184,7 +184,6 @@ Agrees p = (kind : ℕ) (h : Head) (t : List ℕ) (c d : Forest) → SameText ki
     → p (element (sort_of kind h) h c) ≡ p (element (sort_of kind h) (head h.name h.key h.value t) d)
 
 every_alike : (p : IndexElement → Bool) → Agrees p → {l m : List IndexElement} → Alike l m → every p l ≡ every p m
-unfolding every
 every_alike p f none_left = refl
 every_alike p f (one_more {kind} {h} {t} {c} {d} w k r) = ap₂ ◌&&◌ (f kind h t c d w k) (every_alike p f r)
 

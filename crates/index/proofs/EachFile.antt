@@ -46,11 +46,11 @@ within s c = cond (holds_elements s) (elements s c) []
 -- a test that each element of a row passes: the first one, those in it, those behind it
 module _ (test : IndexElement → Bool) (kind : ℕ) (h : Head) (c r : Forest) (e : every test (elements kind (node h c r)) ≡ true) where
   pub here : test (element (sort_of kind h) h c) ≡ true
-  unfolding elements every
+  unfolding elements
   here = and_left _ (every test (within (sort_of kind h) c ++ elements kind r)) e
 
   parts : (every test (within (sort_of kind h) c) && every test (elements kind r)) ≡ true
-  unfolding elements every
+  unfolding elements
   parts = sym (every_append test (within (sort_of kind h) c) (elements kind r)) ∙ and_right (test (element (sort_of kind h) h c)) _ e
 
   pub inside : holds_elements (sort_of kind h) ≡ true → every test (elements (sort_of kind h) c) ≡ true
@@ -129,7 +129,7 @@ extent_lettered (node h c r) e n =
 
 -- in an extentinfo stand extents
 rows_lettered : (f : Forest) → every sound (elements extentinfo f) ≡ true → lettered (rows_in f) ≡ true
-unfolding rows_in row_of every
+unfolding rows_in row_of
 rows_lettered no_element e = refl
 rows_lettered (node h c r) e = and_both _ _ first (rows_lettered r (behind sound extentinfo h c r e))
   where
@@ -154,7 +154,7 @@ unfolding names table times entry_table of_file bytes ruled
 extentinfo_told n = number_own (names file) 9 n refl
 
 extents_sound : (f : Forest) → every sound (elements file f) ≡ true → every sound (elements extentinfo (children_in (bytes "extentinfo") f)) ≡ true
-unfolding children_in elements every
+unfolding children_in elements
 extents_sound no_element e = refl
 extents_sound (node h c r) e =
     ap (λ (b : Bool). every sound (elements extentinfo (cond b c (children_in (bytes "extentinfo") r)))) (sym (extentinfo_told h.name))
@@ -173,7 +173,7 @@ module _ (test : IndexElement → Bool) where
   files_pass e = not (eqb e.sort file) || every test (elements file e.kids)
 
   files_inside : (kind : ℕ) (f : Forest) → every test (elements kind f) ≡ true → every files_pass (elements kind f) ≡ true
-  unfolding elements every
+  unfolding elements
   files_inside kind no_element e = refl
   files_inside kind (node h c r) e =
       and_both _ _ (own (eqb s file) refl)
@@ -195,7 +195,7 @@ module _ (test : IndexElement → Bool) where
 
 -- what each element passes that is a file, each file passes that the index says
 files_each : (test : File → Bool) (l : List IndexElement) → every (λ e. not (eqb e.sort file) || test (file_of e.kids)) l ≡ true → every test (files_of l) ≡ true
-unfolding files_of every
+unfolding files_of
 files_each test [] e = refl
 files_each test (x ∷ l) e = go (eqb x.sort file) (and_left _ _ e) (files_each test l (and_right (not (eqb x.sort file) || test (file_of x.kids)) _ e))
   where
@@ -204,7 +204,6 @@ files_each test (x ∷ l) e = go (eqb x.sort file) (and_left _ _ e) (files_each 
     go false q i = i
 
 both_pass : (l : List IndexElement) → every rightly l ≡ true → every has_value l ≡ true → every sound l ≡ true
-unfolding every
 both_pass [] p q = refl
 both_pass (x ∷ l) p q =
     let (a, b) = and_parts (rightly x) (every rightly l) p in

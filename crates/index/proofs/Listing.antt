@@ -162,13 +162,12 @@ abbrev none_below : ℕ → Bool
 none_below s = not (is_entry s) && (not (holds_elements s) || in_file s)
 
 each_sort : (l : List ℕ) → every none_below l ≡ true → (j : ℕ) → none_below (get_or l j unknown) ≡ true
-unfolding every
 each_sort [] e j = refl
 each_sort (s ∷ l) e Prim.Native.Nat.zero = and_left (none_below s) (every none_below l) e
 each_sort (s ∷ l) e (suc j) = each_sort l (and_right (none_below s) (every none_below l) e) j
 
 sorts_in : (kind : ℕ) → in_file kind ≡ true → (j : ℕ) → none_below (sort kind j) ≡ true
-unfolding sort table times entry_table of_file extentinfo_table extent_table every
+unfolding sort table times entry_table of_file extentinfo_table extent_table
 sorts_in kind e j = go (eqb kind file) (eqb kind extentinfo) (eqb kind extent) refl refl refl e
   where
     at : (k : ℕ) → eqb kind k ≡ true → none_below (sort k j) ≡ true → none_below (sort kind j) ≡ true

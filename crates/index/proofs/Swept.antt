@@ -84,7 +84,7 @@ module _ (x : List ℕ) (g : Given) where
     test e = first e && last e
 
     pub flag_law : (kind p : ℕ) (f : Tags) (m : List ℕ) (a : All) → view (sweep x g kind p m f a).sums ≡ (view a.sums && every test (elements kind (heads f)))
-    unfolding sweep elements after_row after_element every told
+    unfolding sweep elements after_row after_element told
     flag_law kind p none m a = end kind m a.sums ∙ sym (and-true (view a.sums))
     flag_law kind p (node t k f) m a =
         flag_law kind p f (marked (name_number kind h) m) (after_element x g s k p a.sums y)
@@ -121,7 +121,6 @@ module _ (x : List ℕ) (g : Given) where
   -- where nothing is tested at the end
   module _ (t : IndexElement → Bool) where
     at_start : (l : List IndexElement) → every (λ e. t e && true) l ≡ every t l
-    unfolding every
     at_start [] = refl
     at_start (e ∷ l) = ap (λ (b : Bool). b && every (λ e. t e && true) l) (and-true (t e)) ∙ ap (λ (b : Bool). t e && b) (at_start l)
 
@@ -155,7 +154,7 @@ module _ (x : List ℕ) (g : Given) where
   -- the structure: the row is complete, and every element in it and below is right
   pub structure_law : (kind p : ℕ) (f : Tags) (m : List ℕ) (a : All)
       → (sweep x g kind p m f a).sums.structure ≡ (a.sums.structure && (row_done kind (tally kind m (heads f)) && every rightly (elements kind (heads f))))
-  unfolding sweep tally elements every after_row ended_sums rightly begun after_element settled told
+  unfolding sweep tally elements after_row ended_sums rightly begun after_element settled told
   structure_law kind p none m a = ap (λ (b : Bool). a.sums.structure && b) (sym (and-true (row_done kind m)))
   structure_law kind p (node v k f) m a =
       structure_law kind p f (marked (name_number kind h) m) (after_element x g s k p a.sums (cond (holds_elements s) (sweep x g s q none_seen k b) b)) ∙ go (structure_law s q k none_seen b) (holds_elements s) refl

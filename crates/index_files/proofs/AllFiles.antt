@@ -134,7 +134,7 @@ module _ (kind : ℕ) (h : Head) (c : Forest) where
 
 -- rows of elements whose structure is right
 pub files_row : (kind : ℕ) (f : Forest) → every rightly (elements kind f) ≡ true → map file_of (files_in f) ≡ files_of (elements kind f)
-unfolding elements files_of each_file every rightly may_stand s shown said
+unfolding elements files_of each_file rightly may_stand s shown said
 files_row kind none e = refl
 files_row kind (node h c r) e = go (files_row (sort_of kind h) c) (files_row kind r)
   where

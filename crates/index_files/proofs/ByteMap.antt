@@ -41,7 +41,7 @@ answered (Ok x) next b e = (x, refl, e)
 
 -- what each passes, that of number k passes
 nth_passes : {A : Type 0} (test : A → Bool) (k : ℕ) (l : List A) (x : A) → every test l ≡ true → nth k l ≡ Ok x → test x ≡ true
-unfolding nth every
+unfolding nth
 nth_passes test k [] x e n = let z : ◌≡◌ {A = ℕ} 0 1 = cc in absurd (omega arith)
 nth_passes test zero (y ∷ l) x e n = let z : y ≡ x = cc in sym (ap test z) ∙ and_left (test y) (every test l) e
 nth_passes test (suc k) (y ∷ l) x e n = nth_passes test k l x (and_right (test y) (every test l) e) n

@@ -47,7 +47,7 @@ not_is b x h e = eqb-false b x (not-true (eqb b x) h) e
 
 -- the bytes of a character other than x, where x is ASCII
 utf8_lacks : (x c : ℕ) → x < 128 → (c ≡ x → ⊥) → lacks x (utf8 c) ≡ true
-unfolding utf8 every
+unfolding utf8
 utf8_lacks x c h g = go (ltb c 128) (ltb c 2048) (ltb c 65536) refl refl refl
   where
     go : (p q r : Bool) → ltb c 128 ≡ p → ltb c 2048 ≡ q → ltb c 65536 ≡ r → lacks x (utf8 c) ≡ true
@@ -61,7 +61,6 @@ utf8_lacks x c h g = go (ltb c 128) (ltb c 2048) (ltb c 65536) refl refl refl
 -- ---- what a text means is characters
 
 decoded_over : (v t : List ℕ) → lacks 38 v ≡ true → decoded (v ++ t) ≡ v ++ decoded t
-unfolding every
 decoded_over [] t e = refl
 decoded_over (b ∷ v) t e =
     decoded_plain b (v ++ t) (not_is b 38 (and_left (is_not 38 b) (lacks 38 v) e))
@@ -87,7 +86,7 @@ decoded_characters (Text.more _ (Char.reference {t = t} y) x) =
 -- ---- characters escaped are text
 
 escape_lacks : (b : ℕ) → lacks 62 (escape b) ≡ true
-unfolding escape bytes every is_not
+unfolding escape bytes is_not
 escape_lacks b = go (eqb b 38) (eqb b 60) (eqb b 62) refl
   where
     go : (t u v : Bool) → eqb b 62 ≡ v → lacks 62 (cond t (bytes "&amp;") (cond u (bytes "&lt;") (cond v (bytes "&gt;") (b ∷ [])))) ≡ true
@@ -97,16 +96,16 @@ escape_lacks b = go (eqb b 38) (eqb b 60) (eqb b 62) refl
     go false false false e = rw e
 
 escaped_lacks : (s : List ℕ) → lacks 62 (escaped s) ≡ true
-unfolding escaped every
+unfolding escaped
 escaped_lacks [] = refl
 escaped_lacks (b ∷ s) = every_append (is_not 62) (escape b) (escaped s) ∙ and_both (lacks 62 (escape b)) (lacks 62 (escaped s)) (escape_lacks b) (escaped_lacks s)
 
 no_section : (s q : List ℕ) → lacks 62 s ≡ true → s ≡ 93 ∷ 93 ∷ 62 ∷ q → ⊥
-unfolding every is_not
+unfolding is_not
 no_section s q e z = false≢true (sym (ap (lacks 62) z) ∙ e)
 
 escaped_plain : (v : List ℕ) → lacks 38 v ≡ true → lacks 60 v ≡ true → lacks 62 v ≡ true → escaped v ≡ v
-unfolding escaped escape every
+unfolding escaped escape
 escaped_plain [] e f g = refl
 escaped_plain (b ∷ v) e f g =
     rw (ne_eqb b 38 (not_is b 38 (and_left (is_not 38 b) (lacks 38 v) e)), ne_eqb b 60 (not_is b 60 (and_left (is_not 60 b) (lacks 60 v) f)), ne_eqb b 62 (not_is b 62 (and_left (is_not 62 b) (lacks 62 v) g)))
@@ -137,7 +136,6 @@ escaped_text {s} (Characters.more c {t = t} ok z x) =
 -- ---- a label's text, derived
 
 a_name : (b : ℕ) (w : List ℕ) → is_ascii_letter b ≡ true → every is_name_byte w ≡ true → Name (b ∷ w)
-unfolding every
 a_name b w h e = Name.name h (name_bytes w e)
   where
     name_bytes : (w : List ℕ) → every is_name_byte w ≡ true → NameBytes w
@@ -166,7 +164,7 @@ module _ (f : Label) (ok : Rules f) (chars : Characters f.creator) where
   numbers_derived : Elements 63
       (node (named (bytes "blocksize") (short f.block_size)) none (node (named (bytes "compression") (boolean_word f.compression)) none none))
       (size_and_compression f.block_size f.compression ++ text_end) last
-  unfolding size_and_compression text_end bytes is_ascii_letter is_name_byte every
+  unfolding size_and_compression text_end bytes is_ascii_letter is_name_byte
   numbers_derived =
       simp append_assoc
       (leaf (a_name _ _ refl refl) (leaf (a_name _ _ refl refl) Elements.end (boolean_word f.compression) (plain_text _ (word_plain f.compression)))
@@ -176,7 +174,7 @@ module _ (f : Label) (ok : Rules f) (chars : Characters f.creator) where
       (node (named (bytes "location") []) (node (named (bytes "partition") (f.location ∷ [])) none none)
       (node (named (bytes "partitions") []) (node (named (bytes "index") (f.index_letter ∷ [])) none (node (named (bytes "data") (f.data_letter ∷ [])) none none)) g))
       (letters f.location f.index_letter f.data_letter ++ r) last
-  unfolding letters bytes is_ascii_letter is_name_byte every
+  unfolding letters bytes is_ascii_letter is_name_byte
   letters_derived x =
       branch (a_name _ _ refl refl)
       (branch (a_name _ _ refl refl) x
@@ -187,7 +185,7 @@ module _ (f : Label) (ok : Rules f) (chars : Characters f.creator) where
   texts_derived : {r : List ℕ} {g : Forest} → Elements 63 g r last → Elements 63
       (node (named (bytes "creator") (escaped f.creator)) none (node (named (bytes "formattime") f.time) none (node (named (bytes "volumeuuid") f.uuid) none g)))
       (texts f.creator f.time f.uuid ++ r) last
-  unfolding texts bytes is_ascii_letter is_name_byte every
+  unfolding texts bytes is_ascii_letter is_name_byte
   texts_derived x =
       simp append_assoc
       (leaf (a_name _ _ refl refl)
@@ -199,7 +197,7 @@ module _ (f : Label) (ok : Rules f) (chars : Characters f.creator) where
 
   -- the root's tag, and the elements x in it
   root_derived : {r : List ℕ} → Elements 63 (children f) r last → Document (node root_head (children f) none) (text_front ++ r)
-  unfolding text_front declaration bytes is_ascii_letter is_name_byte is_space every
+  unfolding text_front declaration bytes is_ascii_letter is_name_byte is_space
   root_derived x =
       Document.document (Spaces.more refl Spaces.end)
       (Elements.nest {w = []}

@@ -26,7 +26,7 @@ module _ (r : List ℕ) where
   texts_read : (c t u : List ℕ) → every not_open c ≡ true → every not_open t ≡ true → every not_open u ≡ true
       → forests (bytes "<creator>" ++ c ++ bytes "</creator><formattime>" ++ t ++ bytes "</formattime><volumeuuid>" ++ u ++ bytes "</volumeuuid>" ++ r)
       ≡ alone (named (bytes "creator") c) (alone (named (bytes "formattime") t) (alone (named (bytes "volumeuuid") u) (forests r)))
-  unfolding bytes every is_name_byte is_ascii_letter
+  unfolding bytes is_name_byte is_ascii_letter
   texts_read c t u e f g =
       simp append_assoc
       (leaf (bytes "creator") refl c _ e
@@ -37,7 +37,7 @@ module _ (r : List ℕ) where
       → forests (letters l i d ++ r)
       ≡ opened (named (bytes "location") []) (alone (named (bytes "partition") (l ∷ [])) (closed
       (opened (named (bytes "partitions") []) (alone (named (bytes "index") (i ∷ [])) (alone (named (bytes "data") (d ∷ [])) (closed (forests r)))))))
-  unfolding letters bytes every is_name_byte is_ascii_letter
+  unfolding letters bytes is_name_byte is_ascii_letter
   letters_read l i d e f g =
       branch (bytes "location") refl _
       ∙ ap (opened (named (bytes "location") [])) (leaf (bytes "partition") refl (l ∷ []) _ e
@@ -50,7 +50,7 @@ module _ (r : List ℕ) where
   numbers_read : (b c : List ℕ) → every not_open b ≡ true → every not_open c ≡ true
       → forests (bytes "<blocksize>" ++ b ++ bytes "</blocksize><compression>" ++ c ++ bytes "</compression>" ++ r)
       ≡ alone (named (bytes "blocksize") b) (alone (named (bytes "compression") c) (forests r))
-  unfolding bytes every is_name_byte is_ascii_letter
+  unfolding bytes is_name_byte is_ascii_letter
   numbers_read b c e f =
       simp append_assoc
       (leaf (bytes "blocksize") refl b _ e ∙ ap (alone (named (bytes "blocksize") b)) (leaf (bytes "compression") refl c r f))

@@ -47,7 +47,7 @@ decoded_escaped (b ∷ s) = go (eqb b 38) (eqb b 60) (eqb b 62) refl refl refl (
     go false false false e f g h = decoded_plain b (escaped s) (eqb-false b 38 e) ∙ ap (λ (l : List ℕ). b ∷ l) h
 
 pub escaped_closed : (s : List ℕ) → every not_open (escaped s) ≡ true
-unfolding escaped escape bytes every is_not
+unfolding escaped escape bytes is_not
 escaped_closed [] = refl
 escaped_closed (b ∷ s) =
     every_append not_open (escape b) (escaped s) ∙ and_both (every not_open (escape b)) (every not_open (escaped s)) (go (eqb b 38) (eqb b 60) (eqb b 62) refl) (escaped_closed s)

@@ -56,14 +56,12 @@ plain b = go (is_space b) refl
         record { low = omega arith; shown = rw (and_left (leb 32 b) (leb b 127) w); no_open = eqb-false b 60 x; no_and = eqb-false b 38 y; no_bracket = eqb-false b 93 z }
 
 pub plain_text : (s : List ℕ) → every is_text s ≡ true → Text s []
-unfolding every
 plain_text [] e = Text.end
 plain_text (b ∷ s) e =
     let p = plain b (and_left (is_text b) (every is_text s) e) in
     Text.more (λ r z. p.no_bracket (cons_head z)) (ascii b s p.low p.shown p.no_open p.no_and) (plain_text s (and_right (is_text b) (every is_text s) e))
 
 pub spaces_plain : {s : List ℕ} → Spaces s [] → every is_text s ≡ true
-unfolding every
 spaces_plain Spaces.end = refl
 spaces_plain (Spaces.more {b} {s} h x) = and_both (is_text b) (every is_text s) (space_text b h) (spaces_plain x)
 
@@ -91,11 +89,10 @@ hex_plain =
     (λ b e. let (x, y) = range 65 70 b e in large_plain b x (omega arith))
 
 pub letter_plain : (b : ℕ) → is_partition b ≡ true → every is_text (b ∷ []) ≡ true
-unfolding every
 letter_plain b e = let (x, y) = range 97 122 b e in rw (small_plain b x y)
 
 pub word_plain : (c : Bool) → every is_text (boolean_word c) ≡ true
-unfolding every boolean_word bytes is_text is_space
+unfolding boolean_word bytes is_text is_space
 word_plain true = refl
 word_plain false = refl
 
@@ -103,9 +100,9 @@ pub short_plain : (n : ℕ) → every is_text (short n) ≡ true
 short_plain n = every_weaker is_digit is_text digit_plain (short n) (digits_short n)
 
 pub time_plain : (s : List ℕ) → is_time s ≡ true → every is_text s ≡ true
-unfolding is_time every bytes is_text is_space
+unfolding is_time bytes is_text is_space
 time_plain s e = pattern_every is_text digit_plain hex_plain (bytes "####-##-##T##:##:##.#########Z") s refl (and_left _ (in_ranges s) e)
 
 pub uuid_plain : (s : List ℕ) → is_uuid s ≡ true → every is_text s ≡ true
-unfolding is_uuid every bytes is_text is_space
+unfolding is_uuid bytes is_text is_space
 uuid_plain s e = pattern_every is_text digit_plain hex_plain (bytes "********-****-****-****-************") s refl e

@@ -47,7 +47,7 @@ word_says true = refl
 word_says false = refl
 
 version_says : version (bytes "2.0.1") ≡ Some 1
-unfolding version bytes decimal.plain_number decimal.plain decimal.run decimal.is_run runs.value every
+unfolding version bytes decimal.plain_number decimal.plain decimal.run decimal.is_run runs.value
 version_says = refl
 
 children_shaped : (f : Label) → is_shaped (children f) ≡ true

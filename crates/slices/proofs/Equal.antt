@@ -5,20 +5,14 @@ use mathlib.Core.List.{List}
 use Prim.Native.Nat.{ℕ, ◌+◌, ◌<◌, ◌≤◌}
 use native.Mathlib.Numerals.{add-one}
 use borrow.Author.Tests.{eq-eqb, ne_eqb}
-use lib.Dec.{eqb}
 use lib.ListN.{length, drop, get_or, drop_of_length-le}
 use lib.Seq.{drop-cons}
-use Rattle.std.specs.Cmp.Lexicographic.{pointwise}
 use Rattle.std.proofs.lemmas.Slice.Eq.{bytes_eq-Decides}
 use Rattle.slices.specs.Slices.{same}
 use Rattle.slices.proofs.Booleans.{same_tests}
 
 pub same_eq : (a b : List ℕ) → same a b ≡ true → a ≡ b
 same_eq a b = (bytes_eq-Decides a b).0
-
--- the library's comparison of two slices is the same
-pub pointwise_same : (a b : List ℕ) → pointwise eqb a b ≡ same a b
-pointwise_same a b = refl
 
 pub same_refl : (a : List ℕ) → same a a ≡ true
 same_refl a = (bytes_eq-Decides a a).1 refl

@@ -7,19 +7,16 @@ use native.Mathlib.Nat.{not-suc-le-zero, le_of_suc-le-suc}
 use native.Mathlib.Numerals.{add-one}
 use lib.ListN.{length, drop, get_or, drop_of_length-le}
 use lib.Seq.{drop-cons}
-use Rattle.std.specs.List.{list_all}
 use Rattle.slices.specs.Slices.{every}
 use Rattle.slices.proofs.Booleans.{and_left, and_right, and_both}
 
 module _ {A : Type 0} (test : A → Bool) where
   pub every_append : (s t : List A) → every test (s ++ t) ≡ (every test s && every test t)
-  unfolding every
   every_append [] t = refl
   every_append (x ∷ s) t = ap (λ (e : Bool). test x && e) (every_append s t) ∙ sym (and_assoc (test x) (every test s) (every test t))
 
   module _ (d : A) where
     pub every_at : (s : List A) → every test s ≡ true → (i : ℕ) → i < length s → test (get_or s i d) ≡ true
-    unfolding every
     every_at [] e i h = absurd (not-suc-le-zero h)
     every_at (x ∷ s) e zero h = and_left (test x) (every test s) e
     every_at (x ∷ s) e (suc i) h = every_at s (and_right (test x) (every test s) e) i (le_of_suc-le-suc h)
@@ -27,26 +24,16 @@ module _ {A : Type 0} (test : A → Bool) where
     -- along a run of which i were passed
     module _ (s : List A) (i : ℕ) where
       pub every_on : i < length s → test (get_or s i d) ≡ true → every test (drop i s) ≡ every test (drop (i + 1) s)
-      unfolding every
       every_on h e = rw (drop-cons s i d, add-one, e)
 
       pub every_off : i < length s → test (get_or s i d) ≡ false → every test (drop i s) ≡ false
-      unfolding every
       every_off h e = rw (drop-cons s i d, e)
 
       pub every_end : length s ≤ i → every test (drop i s) ≡ true
-      unfolding every
       every_end h = ap (every test) (drop_of_length-le s h)
-
--- the library's test of each is the same
-pub list_all_every : {A : Type 0} (test : A → Bool) (s : List A) → list_all test s ≡ every test s
-unfolding every
-list_all_every test [] = refl
-list_all_every test (x ∷ s) = ap (λ (e : Bool). test x && e) (list_all_every test s)
 
 -- what passes a test passes a weaker one
 pub every_weaker : {A : Type 0} (strong weak : A → Bool) → ((x : A) → strong x ≡ true → weak x ≡ true) → (s : List A) → every strong s ≡ true → every weak s ≡ true
-unfolding every
 every_weaker strong weak f [] e = refl
 every_weaker strong weak f (x ∷ s) e =
     and_both (weak x) (every weak s)

@@ -1,16 +1,15 @@
 -- Bytes in a row: a range of byte values, a test of each, equal runs, and what a buffer holds once a run is written into it.
+use Rattle.std.specs.List.{list_all}
 use Rattle.std.specs.Str.{bytes_eq}
-use Rattle.std.specs.Prelude.{Bool, true, ◌&&◌, List, [], ◌∷◌, ◌++◌, ℕ, ◌+◌, leb, length, take, drop}
+use Rattle.std.specs.Prelude.{Bool, ◌&&◌, List, ◌++◌, ℕ, ◌+◌, leb, length, take, drop}
 
 -- from lo to hi
 abbrev pub within : ℕ → ℕ → ℕ → Bool
 within lo hi b = leb lo b && leb b hi
 
-module _ {A : Type 0} where
-  -- each passes the test
-  unfoldable pub every : (A → Bool) → List A → Bool
-  every test [] = true
-  every test (x ∷ xs) = test x && every test xs
+-- each passes the test
+abbrev pub every : {A : Type 0} → (A → Bool) → List A → Bool
+every = list_all
 
 -- the same numbers in the same order
 abbrev pub same : List ℕ → List ℕ → Bool

@@ -42,7 +42,6 @@ module _ (l : List ℕ) (at : ℕ) (h : at + 4 ≤ length l) where
 
   -- are the number's that they say
   four_bytes : Bytes l → take 4 (drop at l) ≡ big_endian 4 (number_at l at)
-  unfolding every
   four_bytes w =
       let e : every (λ (b : ℕ). ltb b 256) (take 4 (drop at l)) ≡ true
       = rw (four, lt-ltb _ 256 (w at), lt-ltb _ 256 (w (at + 1)), lt-ltb _ 256 (w (at + 2)), lt-ltb _ 256 (w (at + 3))) in

@@ -51,21 +51,20 @@ common b e =
     }
 
 itself : (s : List ℕ) → every is_common s ≡ true → decoded s ≡ s
-unfolding every decoded_behind meaning
+unfolding decoded_behind meaning
 itself [] e = refl
 itself (b ∷ s) e =
     let (f, g) = and_parts (is_common b) (every is_common s) e in
     rw (common b f).reference (ap (λ (l : List ℕ). b ∷ l) (itself s g))
 
 counted : (s : List ℕ) → every is_common s ≡ true → code_points s ≡ length s
-unfolding every code_points
+unfolding code_points
 counted [] e = refl
 counted (b ∷ s) e =
     let (f, g) = and_parts (is_common b) (every is_common s) e in
     rw (common b f).beyond (omega (arith, counted s g))
 
 plain : (s : List ℕ) → every is_common s ≡ true → every (is_plain false) s ≡ true
-unfolding every
 plain [] e = refl
 plain (b ∷ s) e =
     let (f, g) = and_parts (is_common b) (every is_common s) e in

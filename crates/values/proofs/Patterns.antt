@@ -58,7 +58,7 @@ module _ (test : ℕ → Bool) (digit : (b : ℕ) → is_digit b ≡ true → te
       go false false e = ap test (sym (eqb-true q b e)) ∙ h
 
   pub pattern_every : (p s : List ℕ) → every test p ≡ true → in_pattern p s ≡ true → every test s ≡ true
-  unfolding in_pattern every
+  unfolding in_pattern
   pattern_every [] [] h e = refl
   pattern_every [] (b ∷ s) h e = absurd (false≢true e)
   pattern_every (q ∷ p) [] h e = absurd (false≢true e)
@@ -102,7 +102,7 @@ fits_between q b n = go (eqb q 35)
 
 pub between_pattern : (p s : List ℕ) → every (λ q. not (eqb q 42)) p ≡ true → length p ≡ length s
     → between (map least p) (map greatest p) s ≡ in_pattern p s
-unfolding between in_pattern every
+unfolding between in_pattern
 between_pattern [] [] n h = refl
 between_pattern [] (b ∷ s) n h = absurd (omega arith)
 between_pattern (q ∷ p) [] n h = absurd (omega arith)
@@ -112,7 +112,7 @@ between_pattern (q ∷ p) (b ∷ s) n h =
 
 pub time_between : (s : List ℕ) → length s ≡ 30
     → between (bytes "0000-00-00T00:00:00.000000000Z") (bytes "9999-99-99T99:99:99.999999999Z") s ≡ in_pattern (bytes "####-##-##T##:##:##.#########Z") s
-unfolding bytes every
+unfolding bytes
 time_between s h = between_pattern (bytes "####-##-##T##:##:##.#########Z") s refl (sym h)
 
 -- ---- the hex digits of a text in a pattern
@@ -134,7 +134,7 @@ module _ (q b : ℕ) (e : by_pattern q b ≡ true) where
   itself h g = eqb-true q b (rw (h, g) at e)
 
 pub starred_hex : (p s : List ℕ) → in_pattern p s ≡ true → every is_hex (starred p s) ≡ true
-unfolding in_pattern starred every
+unfolding in_pattern starred
 starred_hex [] s e = refl
 starred_hex (q ∷ p) [] e = refl
 starred_hex (q ∷ p) (b ∷ s) e =
@@ -147,7 +147,7 @@ starred_hex (q ∷ p) (b ∷ s) e =
 module _ (f : ℕ → ℕ) where
   pub starred_apart : (p a b : List ℕ) → every (λ q. not (eqb q 35)) p ≡ true → in_pattern p a ≡ true → in_pattern p b ≡ true
       → map f (starred p a) ≡ map f (starred p b) → map f a ≡ map f b
-  unfolding in_pattern starred every
+  unfolding in_pattern starred
   starred_apart [] [] [] h u v z = refl
   starred_apart [] [] (y ∷ b) h u v z = absurd (false≢true v)
   starred_apart [] (x ∷ a) b h u v z = absurd (false≢true u)

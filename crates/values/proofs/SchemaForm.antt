@@ -30,14 +30,14 @@ end_blank (b ∷ t) e = rw e
 module _ (b : ℕ) where
   -- along a text, from its end on
   end_space : is_space b ≡ true → (s : List ℕ) → end_trimmed (s ++ b ∷ []) ≡ end_trimmed s
-  unfolding end_trimmed every
+  unfolding end_trimmed
   end_space e [] = rw e
   end_space e (c ∷ s) =
       let h : every is_space (s ++ b ∷ []) ≡ every is_space s = every_append is_space s (b ∷ []) ∙ rw e (and-true (every is_space s)) in
       rw (h, end_space e s)
 
   end_stays : is_space b ≡ false → (s : List ℕ) → end_trimmed (s ++ b ∷ []) ≡ s ++ b ∷ []
-  unfolding end_trimmed every
+  unfolding end_trimmed
   end_stays e [] = rw e
   end_stays e (c ∷ s) =
       let h : every is_space (s ++ b ∷ []) ≡ false = every_append is_space s (b ∷ []) ∙ rw e (and-false (every is_space s)) in
@@ -65,7 +65,7 @@ record Ended (s : List ℕ) : Type 0 where
   blank : every is_space back ≡ true
 
 ended : (s : List ℕ) → Ended s
-unfolding end_trimmed every
+unfolding end_trimmed
 ended [] = record { back = []; whole = refl; blank = refl }
 ended (b ∷ s) = go (every is_space (b ∷ s)) refl (ended s)
   where
@@ -77,7 +77,7 @@ ended (b ∷ s) = go (every is_space (b ∷ s)) refl (ended s)
 
 module _ (test : ℕ → Bool) where
   every_front : (s : List ℕ) → every test (take (front test s) s) ≡ true
-  unfolding every front
+  unfolding front
   every_front [] = refl
   every_front (b ∷ s) = go (test b) refl (every_front s)
     where
@@ -90,7 +90,7 @@ module _ (test : ℕ → Bool) where
   behind_joined s = sym (take-append-drop (front test s) s)
 
   behind_append : (f t : List ℕ) → every test f ≡ true → behind test (f ++ t) ≡ behind test t
-  unfolding behind front every
+  unfolding behind front
   behind_append [] t e = refl
   behind_append (b ∷ f) t e = rw (and_left (test b) (every test f) e) (behind_append f t (and_right (test b) (every test f) e))
 
@@ -106,12 +106,12 @@ no_space b = not (is_space b)
 
 -- none is in front, and what is behind is taken off
 none_in_front : (s t : List ℕ) → every no_space s ≡ true → 0 < length s → behind is_space (s ++ t) ≡ s ++ t
-unfolding behind front every
+unfolding behind front
 none_in_front [] t e h = absurd (omega arith)
 none_in_front (b ∷ s) t e h = rw (not-true (is_space b) (and_left (no_space b) (every no_space s) e))
 
 end_behind : (s t : List ℕ) → every no_space s ≡ true → every is_space t ≡ true → end_trimmed (s ++ t) ≡ s
-unfolding end_trimmed every
+unfolding end_trimmed
 end_behind [] t e f = end_blank t f
 end_behind (b ∷ s) t e f =
     rw (not-true (is_space b) (and_left (no_space b) (every no_space s) e), end_behind s t (and_right (no_space b) (every no_space s) e) f)
@@ -160,7 +160,7 @@ digit_no_space b e =
     rw (ne_eqb b 32 p, ne_eqb b 9 q, ne_eqb b 13 r, ne_eqb b 10 u)
 
 digits_alone : (s : List ℕ) → every is_digit s ≡ true → 0 < length s → signed s ≡ run s
-unfolding signed every
+unfolding signed
 digits_alone [] e h = absurd (omega arith)
 digits_alone (b ∷ s) e h =
     let d = range 48 57 b (and_left (is_digit b) (every is_digit s) e) in
@@ -170,7 +170,7 @@ digits_alone (b ∷ s) e h =
 
 module _ (n : ℕ) where
   sign_no_space : {x : List ℕ} → Sign n x → every no_space x ≡ true
-  unfolding every is_space
+  unfolding is_space
   sign_no_space unsigned = refl
   sign_no_space plus = refl
   sign_no_space (minus z) = refl
@@ -241,7 +241,6 @@ module _ (n : ℕ) where
 
   -- digits alone say what the run says
   pub number_run : (s : List ℕ) → run s ≡ Some n → number s ≡ Some n
-  unfolding every
   number_run s r = spelled_says (subst (Spells n) (append-nil s) (spells [] [] s [] refl unsigned r refl))
 
   -- the short form of a number says it

@@ -76,7 +76,7 @@ module _ (s : List ℕ) (u : is_uuid s ≡ true) where
 
 module _ (a b : List ℕ) (u : is_uuid a ≡ true) (v : is_uuid b ≡ true) where
   digits_apart : (f : ℕ → ℕ) → map f (uuid_digits a) ≡ map f (uuid_digits b) → map f a ≡ map f b
-  unfolding is_uuid every bytes
+  unfolding is_uuid bytes
   digits_apart f z =
       starred_apart f pattern a b refl u v
       (ap (map f) (sym (digits_starred a u)) ∙ z ∙ ap (map f) (digits_starred b v))

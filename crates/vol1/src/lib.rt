@@ -87,7 +87,7 @@ fn is_printed(s: &[u8]) -> bool
 }
 
 // Reads a VOL1 label. Its fields stand in the block, so the answer carries none: theorem vol1_rereads names them by means_vol1.
-#[tactic(auto, using(slices::proofs::Equal::pointwise_same), unfolding(crate::specs::Vol1::vol1_of))]
+#[tactic(auto, unfolding(crate::specs::Vol1::vol1_of))]
 pub fn read_vol1(block: &[u8]) -> Result<(), Refusal>
     ensures { means_vol1 block.now result ≡ vol1_of block.now }
 {

@@ -58,7 +58,6 @@ module _ (g : Given) (w : Partitions) (li ld ri rd : List ℕ) (ki kd : ℕ) (i 
 
   every_same : (L B : ℕ) (rows : List Row) → every (row_lawful L B) rows ≡ true
       → every (lies_in w ri ki rd kd) rows ≡ every (lies (volume_with g) (take ki li) (take kd ld)) rows
-  unfolding every
   every_same L B [] e = refl
   every_same L B (r ∷ rows) e =
       let a = row_byte L B r (and_left (row_lawful L B r) (every (row_lawful L B) rows) e) in
@@ -66,7 +65,7 @@ module _ (g : Given) (w : Partitions) (li ld ri rd : List ℕ) (ki kd : ℕ) (i 
 
   failing_same : (k : ℕ) (fs : List File) → every (file_lawful g.block_size) fs ≡ true
       → first_failing (every (lies_in w ri ki rd kd)) k (rows_of_each fs) ≡ first_failing (every (lies (volume_with g) (take ki li) (take kd ld))) k (rows_of_each fs)
-  unfolding first_failing rows_of_each lawful every
+  unfolding first_failing rows_of_each lawful
   failing_same k [] h = refl
   failing_same k (f ∷ fs) h =
       let e = and_right (leb (length f.rows) 1024) (lawful f.length g.block_size f.rows) (and_left (file_lawful g.block_size f) (every (file_lawful g.block_size) fs) h) in
@@ -110,15 +109,12 @@ module _ (w : Partitions) (ri : List ℕ) (ki : ℕ) (rd : List ℕ) (kd : ℕ) 
 -- rows one after the other
 module _ (P : Row → Bool) (all : Bool) (l : List Row) (h : all ≡ every P l) where
   pub every_end : l ≡ [] → true ≡ all
-  unfolding every
   every_end e = sym (h ∙ ap (every P) e)
 
   pub every_stop : (x : Row) (m : List Row) → l ≡ x ∷ m → P x ≡ false → false ≡ all
-  unfolding every
   every_stop x m e f = sym (h ∙ ap (every P) e ∙ rw f)
 
   pub every_on : (x : Row) (m : List Row) → l ≡ x ∷ m → P x ≡ true → all ≡ every P m
-  unfolding every
   every_on x m e f = h ∙ ap (every P) e ∙ rw f
 
 -- files one after the other

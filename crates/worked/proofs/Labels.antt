@@ -26,7 +26,7 @@ use Rattle.label_writer.proofs.Lengths.{length_text, time_length, uuid_length}
 use Rattle.worked.specs.Cases.{is_bench, sample, refuses, bench_length, bench_short}
 
 pub one : is_bench sample ≡ true
-unfolding is_bench sample is_given is_lawful_label are_numbers is_creator is_time is_uuid in_pattern by_pattern in_ranges letters_fit every bytes escaped escape characters_behind is_character code_point following is_char utf8
+unfolding is_bench sample is_given is_lawful_label are_numbers is_creator is_time is_uuid in_pattern by_pattern in_ranges letters_fit bytes escaped escape characters_behind is_character code_point following is_char utf8
 one = refl
 
 -- the search for the width stops at its sixth number, however far it may go

@@ -33,5 +33,5 @@ pub numbers :
     (says 18446744073709551615 (cases.read_number "18446744073709551615") ≡ true)
     × (is_refused 6 (cases.read_number "18446744073709551616") ≡ true)
     × (says 7 (cases.read_number "007") ≡ true)
-unfolding sample_times sample_index every bytes value is_run run plain plain_number end_trimmed signed is_space is_ascii_letter is_name_byte reads char in_text inside_element tag_end outside leave innermost without_text form_step ended form_run form in_form front behind is_not quote_after past quoted head_of top pop closed opened alone put trees behind_tag has_element reference_meant meaning decoded_behind code_points below number boolean by_pattern in_pattern in_ranges is_time is_uuid uuid_digits spelled uuid_bytes same_uuid letter is_creator is_name is_root_name version lawful row_lawful apart count_once some_any_number index_table place_table times entry_table of_directory contents_table of_file extentinfo_table extent_table table sort must repeats names number_in elements text_in children_in uid_of many uids_of valued own row_of rows_in few tests.lawful_file member different structure.may_stand count complete rightly files_of structured bounded all_valued children_read tag_read root_read caller_right index_of declaration
+unfolding sample_times sample_index bytes value is_run run plain plain_number end_trimmed signed is_space is_ascii_letter is_name_byte reads char in_text inside_element tag_end outside leave innermost without_text form_step ended form_run form in_form front behind is_not quote_after past quoted head_of top pop closed opened alone put trees behind_tag has_element reference_meant meaning decoded_behind code_points below number boolean by_pattern in_pattern in_ranges is_time is_uuid uuid_digits spelled uuid_bytes same_uuid letter is_creator is_name is_root_name version lawful row_lawful apart count_once some_any_number index_table place_table times entry_table of_directory contents_table of_file extentinfo_table extent_table table sort must repeats names number_in elements text_in children_in uid_of many uids_of valued own row_of rows_in few tests.lawful_file member different structure.may_stand count complete rightly files_of structured bounded all_valued children_read tag_read root_read caller_right index_of declaration
 numbers = (refl, refl, refl)

@@ -27,5 +27,5 @@ module _ (B : ℕ) (x y z : List ℕ) where
   at_5 = split (λ (t : Bool). (t || stands_alone 5 (standing B (fresh x y z))) ≡ true) (ltb B (length z)) (λ e. refl) fits
 
 pub worked : (f : Label) (b : List ℕ) (B : ℕ) (x y z : List ℕ) → every (λ b. b) (cases f b B x y z) ≡ true
-unfolding every cases digits list entry byte_map byte_at rows_of lawful row_lawful apart
+unfolding cases digits list entry byte_map byte_at rows_of lawful row_lawful apart
 worked f b B x y z = rw (at_5 B x y z, numbers.0, numbers.1, numbers.2, one, lengths f, shorts f b)

@@ -15,41 +15,41 @@ use Rattle.xml.proofs.Classes.{name_not}
 -- text before a tag: it holds no tag, and it is what reaches to the tag
 module _ (s : List ℕ) where
   pub text_over : (w : List ℕ) → every not_open w ≡ true → forests (w ++ s) ≡ forests s
-  unfolding every trees
+  unfolding trees
   text_over [] e = refl
   text_over (b ∷ w) e = rw (and_left (not_open b) (every not_open w) e) (text_over w (and_right (not_open b) (every not_open w) e))
 
   pub text_up_to : (w : List ℕ) → every not_open w ≡ true → take (front not_open (w ++ 60 ∷ s)) (w ++ 60 ∷ s) ≡ w
-  unfolding every front is_not
+  unfolding front is_not
   text_up_to [] e = refl
   text_up_to (b ∷ w) e = rw (and_left (not_open b) (every not_open w) e) (ap (λ (l : List ℕ). b ∷ l) (text_up_to w (and_right (not_open b) (every not_open w) e)))
 
 -- a name, and the `>` behind it
 module _ (s : List ℕ) where
   name_past : (n : List ℕ) (l : ℕ) → every is_name_byte n ≡ true → eqb l 47 ≡ false → past 0 l (n ++ 62 ∷ s) ≡ record { empty = false; rest = s }
-  unfolding every past quote_after is_name_byte is_ascii_letter
+  unfolding past quote_after is_name_byte is_ascii_letter
   name_past [] l e h = rw h
   name_past (b ∷ n) l e h =
       let x : is_name_byte b ≡ true = and_left (is_name_byte b) (every is_name_byte n) e in
       rw (name_not b 62 x refl, name_not b 34 x refl, name_not b 39 x refl) (name_past n b (and_right (is_name_byte b) (every is_name_byte n) e) (name_not b 47 x refl))
 
   name_front : (n : List ℕ) → every is_name_byte n ≡ true → take (front is_name_byte (n ++ 62 ∷ s)) (n ++ 62 ∷ s) ≡ n
-  unfolding every front is_name_byte is_ascii_letter
+  unfolding front is_name_byte is_ascii_letter
   name_front [] e = refl
   name_front (b ∷ n) e = rw (and_left (is_name_byte b) (every is_name_byte n) e) (ap (λ (l : List ℕ). b ∷ l) (name_front n (and_right (is_name_byte b) (every is_name_byte n) e)))
 
   name_behind : (n : List ℕ) → every is_name_byte n ≡ true → behind is_name_byte (n ++ 62 ∷ s) ≡ 62 ∷ s
-  unfolding every front behind is_name_byte is_ascii_letter
+  unfolding front behind is_name_byte is_ascii_letter
   name_behind [] e = refl
   name_behind (b ∷ n) e = rw (and_left (is_name_byte b) (every is_name_byte n) e) (name_behind n (and_right (is_name_byte b) (every is_name_byte n) e))
 
   name_over : (n : List ℕ) → every is_name_byte n ≡ true → forests (n ++ 62 ∷ s) ≡ forests s
-  unfolding every trees is_not is_name_byte is_ascii_letter
+  unfolding trees is_not is_name_byte is_ascii_letter
   name_over [] e = refl
   name_over (b ∷ n) e = rw (name_not b 60 (and_left (is_name_byte b) (every is_name_byte n) e) refl) (name_over n (and_right (is_name_byte b) (every is_name_byte n) e))
 
   name_first : (n : List ℕ) → every is_name_byte n ≡ true → eqb (get_or (n ++ 62 ∷ s) 0 0) 47 ≡ false
-  unfolding every is_name_byte is_ascii_letter
+  unfolding is_name_byte is_ascii_letter
   name_first [] e = refl
   name_first (b ∷ n) e = name_not b 47 (and_left (is_name_byte b) (every is_name_byte n) e) refl
 

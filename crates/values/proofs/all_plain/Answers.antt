@@ -12,7 +12,6 @@ pub loop-b-init : goal.loop-b-init
 loop-b-init c = (search rules, refl)
 
 pub returns-in-End : goal.returns-in-End
-unfolding every
 returns-in-End c =
     let s = c.args.raw.now in
     let l = c.loop-b in
@@ -20,7 +19,6 @@ returns-in-End c =
     sym (l.invariant.1 ∙ ap (every (is_plain c.args.slash)) e)
 
 pub returns-then-not-is_plain : goal.returns-then-not-is_plain
-unfolding every
 returns-then-not-is_plain c =
     let s = c.args.raw.now in
     let l = c.loop-b in
@@ -35,7 +33,6 @@ loop-b-smaller c =
     omega (arith, m.place)
 
 pub loop-b-preserved : goal.loop-b-preserved
-unfolding every
 loop-b-preserved c =
     let s = c.args.raw.now in
     let l = c.loop-b in
