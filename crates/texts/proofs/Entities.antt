@@ -5,7 +5,6 @@ use Prim.Native.Nat.{ℕ, zero, suc, ◌≤◌}
 use native.Mathlib.Omega.{arith}
 use borrow.Author.Tests.{ne_eqb}
 use lib.ListN.{length}
-use Rattle.slices.specs.Slices.{same}
 use Rattle.xml.specs.Grammar.{Entity, amp, lt, gt, quot, apos}
 use Rattle.texts.specs.Decoded.{reference_meant, meaning, decoded_behind, decoded}
 use Rattle.slices.specs.Words.{bytes}

@@ -11,7 +11,6 @@ ghost use Rattle.values.specs.Values.{boolean, letter, version, by_pattern, in_p
 ghost use Rattle.values.specs.Steps.{between, is_common};
 
 pub use numbers::read_number;
-use texts::Spelled;
 
 // `true` or `1`; or `false` or `0` where that is the question.
 fn is_either(raw: &[u8], word: &[u8], digit: &[u8]) -> bool
@@ -197,20 +196,7 @@ fn is_plain(slash: bool, b: u8) -> bool
 fn all_plain(raw: &[u8], slash: bool) -> bool
     ensures { result ≡ every (is_plain slash) (decoded raw.now) }
 {
-    let mut i: usize = 0;
-    loop {
-        match texts::next_byte(raw, i) {
-            Spelled::End => {
-                return true;
-            }
-            Spelled::Byte(b, next) => {
-                if !is_plain(slash, b) {
-                    return false;
-                }
-                i = next;
-            }
-        }
-    }
+    texts::decoded(raw).all(|b| is_plain(slash, b))
 }
 
 // Whether n is from 1 to 255.
