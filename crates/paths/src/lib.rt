@@ -102,7 +102,7 @@ fn put_last(text: &[u8], entries: &[u64], n: usize, out: &mut [u8], end: usize) 
 {
     let name = name_of(text, entries, n);
     let from = end - texts::decoded_len(name);
-    texts::decode(name, out, from);
+    let _ = texts::decode(name, out, from);
     if parent_of(entries, n) == 0 {
         return from;
     }

@@ -37,11 +37,11 @@ pub put_path-requires : goal.put_path-requires
 put_path-requires c =
     let a = c.args in
     let e = sym c.is_path.ensures ∙ c.if-not-is_path.false in
-    let (n, h) = had_room (length a.out.now) (path_bytes a.text.now a.entries.now a.entry) c.in-Bytes.len (sym c.in-Bytes.is ∙ c.path_len.ensures) in
+    let (n, h) = had_room (length a.out.now) (path_bytes a.text.now a.entries.now a.entry) c.in-Some.len (sym c.in-Some.is ∙ c.path_len.ensures) in
     record { path = record { in_table = omega arith; answered = e }; ends = n; room = omega arith }
 
 pub returns : goal.returns
 returns c =
     let a = c.args in
     let e = sym c.is_path.ensures ∙ c.if-not-is_path.false in
-    delivers a.out.now (its_path a.text.now a.entries.now a.entry c.if-entries-ne0.false (omega arith) e) (sym c.in-Bytes.is ∙ c.path_len.ensures) c.put_path.ensures
+    delivers a.out.now (its_path a.text.now a.entries.now a.entry c.if-entries-ne0.false (omega arith) e) (sym c.in-Some.is ∙ c.path_len.ensures) c.put_path.ensures
