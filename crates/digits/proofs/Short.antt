@@ -31,7 +31,7 @@ digit_above b h = rw (lt-leb b 57 h) (and-false (leb 48 b))
 digit_bounds : (b : ℕ) → is_digit b ≡ true → (48 ≤ b) × (b ≤ 57)
 digit_bounds b e = let (lo, hi) = and_parts (leb 48 b) (leb b 57) e in (leb-true 48 b lo, leb-true b 57 hi)
 
-digit_small : (b : ℕ) → is_digit b ≡ true → digit_of b < 10
+pub digit_small : (b : ℕ) → is_digit b ≡ true → digit_of b < 10
 digit_small b e = let d = digit_bounds b e in omega arith
 
 byte_counts : (d : ℕ) → digit_of (byte_of d) ≡ d

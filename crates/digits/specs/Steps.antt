@@ -1,5 +1,5 @@
 -- What an answer of the readers of numbers says, and what few digits say; and hex digits without their case.
-use Rattle.std.specs.Prelude.{cond, List, ℕ, ◌+◌, ◌-◌, leb, length, None, Option, Some}
+use Rattle.std.specs.Prelude.{cond, List, ℕ, ◌+◌, ◌-◌, leb, length, None, Option}
 use Prim.Native.Char.{code}
 use Rattle.slices.specs.Slices.{within}
 use Rattle.digits.specs.Decimal.{run}

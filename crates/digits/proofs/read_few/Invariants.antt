@@ -1,13 +1,10 @@
 -- `digits::read_few` meets its contract. Invariant: the digits passed say v, what is left says the number after it, and v has no more digits than were passed.
 use mathlib.Core.Path.{◌≡◌}
-use Prim.Native.Nat.{◌-◌, ◌^◌, ◌<◌, ◌≤◌}
-use lib.ListN.{length, drop}
+use Prim.Native.Nat.{◌^◌, ◌<◌}
+use lib.ListN.{drop}
 use Rattle.slices.specs.Slices.{every}
 use Rattle.digits.specs.Decimal.{is_digit, decimal}
 use Rattle.digits.proofs.read_few.Given as goal
 
-abbrev pub invariant-loop-i : goal.invariant-loop-i
-invariant-loop-i l = (l.i ≤ length l.s) × (every is_digit l.s ≡ every is_digit (drop l.i l.s)) × (decimal 0 l.s ≡ decimal l.v (drop l.i l.s)) × (l.v < 10 ^ l.i)
-
-abbrev pub decreases-loop-i : goal.decreases-loop-i
-decreases-loop-i l = length l.s - l.i
+abbrev pub invariant-loop-b : goal.invariant-loop-b
+invariant-loop-b l = (every is_digit l.s ≡ every is_digit (drop l.b-index l.s)) × (decimal 0 l.s ≡ decimal l.v (drop l.b-index l.s)) × (l.v < 10 ^ l.b-index)

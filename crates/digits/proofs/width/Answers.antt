@@ -1,18 +1,19 @@
--- `digits::width` meets its contract. Invariant: w counts the digits taken off, and one.
+-- `digits::width` meets its contract: one more than the power of ten that n reaches; 0 has a digit too.
+use mathlib.Core.Path.{sym, ◌∙◌}
+use Prim.Native.Nat.{ℕ, ◌+◌, ◌^◌, ◌<◌, ◌≤◌}
+use native.Mathlib.Nat.{pow-suc, pow-le-pow_right, le_trans}
+use native.Mathlib.Numerals.{add-one}
 use native.Mathlib.Omega.{arith}
-use Rattle.digits.proofs.Widths.{width_one, width_more}
-use Rattle.digits.proofs.Short.{short_width, length_short}
-use borrow.Author.Rules.{rules}
+use Rattle.digits.proofs.Widths.{width_is, width_one}
+use Rattle.digits.proofs.Short.{short_width}
 use Rattle.digits.proofs.width.Goals as goal
 
-pub loop-v-init : goal.loop-v-init
-loop-v-init c = (search rules, omega (arith, short_width c.args.n, length_short 20 c.args.n (omega arith) (omega arith)))
+pub returns-in-Some : goal.returns-in-Some
+returns-in-Some c =
+    let n = c.args.n in
+    let p = c.in-Some.power in
+    let least : (k : ℕ) → 0 < k → k < p + 1 → 10 ^ k ≤ n = λ k h l. le_trans (pow-le-pow_right {n = 10} (omega arith) {j = p} (omega arith)) c.in-Some.ensures.power_le in
+    sym (short_width n ∙ width_is 10 (omega arith) n (p + 1) (record { some = omega arith; fits = rw (add-one, pow-suc) (omega (arith, c.in-Some.ensures.next_power_gt)); least = least }))
 
-pub overflow_add-w : goal.overflow_add-w
-overflow_add-w c = omega (arith, width_more 10 (omega arith) c.loop-v.v c.loop-v-test.true)
-
-pub loop-v-preserved : goal.loop-v-preserved
-loop-v-preserved c = (omega (arith, width_more 10 (omega arith) c.loop-v.v c.loop-v-test.true), c.loop-v.invariant.1)
-
-pub returns : goal.returns
-returns c = omega (arith, width_one 10 (omega arith) c.loop-v.v (omega arith), short_width c.args.n)
+pub returns-in-None : goal.returns-in-None
+returns-in-None c = sym (short_width c.args.n ∙ width_one 10 (omega arith) c.args.n (omega (arith, c.in-None.ensures.none)))

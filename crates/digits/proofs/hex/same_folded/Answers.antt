@@ -1,46 +1,34 @@
--- `digits::hex::same_folded` meets its contract. Invariant: what is left of both is the same but for case exactly where they are.
-use mathlib.Core.Path.{◌≡◌, refl, sym, ◌∙◌}
-use mathlib.Core.List.{List, map}
-use mathlib.Core.Bool.{true, false}
-use Prim.Native.Nat.{ℕ, ◌+◌, ◌<◌, ◌≤◌}
-use lib.ListN.{length, drop, get_or, length-map, get_or-map}
-use Rattle.slices.specs.Slices.{same}
-use Rattle.slices.proofs.Equal.{lengths_differ, same_on, same_off, same_end}
+-- `digits::hex::same_folded` meets its contract: as long as each other, and each pair the same but for case.
+use Rattle.std.proofs.Common.{rules, Iter, Bor, Option}
+use borrow.Author.Tests.{tests}
+use mathlib.Core.Path.{◌≡◌, ap, sym, ◌∙◌}
+use mathlib.Core.List.{List, [], ◌∷◌, map}
+use Prim.Native.Nat.{ℕ}
+use lib.ListN.{length, length-map}
+use Rattle.std.proofs.iter.Yields.{fronts}
+use Rattle.std.specs.Slice.Iter.{iter_rest}
+use Rattle.std.specs.Iterator.{AlwaysYields}
+use Rattle.std.proofs.lemmas.Iterator.{YieldsList, YieldsList-from_slice, YieldsList-from_zip, same_from_all}
+use Rattle.std.proofs.lemmas.Bool.Decides.{same_from_decides}
+use Rattle.std.proofs.lemmas.Slice.Eq.{bytes_eq-Decides}
 use Rattle.digits.specs.Steps.{folded}
-use borrow.Author.Rules.{rules}
 use Rattle.digits.proofs.hex.same_folded.Goals as goal
 
--- along both, each byte folded
-module _ (a b : List ℕ) where
-  differ : (length a ≡ length b → ⊥) → same (map folded a) (map folded b) ≡ false
-  differ n = lengths_differ (map folded a) (map folded b) (λ e. n (sym (length-map a folded) ∙ e ∙ length-map b folded))
+-- what a function makes of each item that is read
+module _ {S A B C : Type 0} (steps : S → Option A → S → Type 0) (v : A → B) (h : B → C) where
+  always : (ys : List B) (s : S) → AlwaysYields steps v s ys → AlwaysYields steps (λ x. h (v x)) s (map h ys)
+  always [] s a = a
+  always (y ∷ ys) s a = (a.0, λ x j t. (ap h (a.1 x j t).0, always ys j (a.1 x j t).1))
 
-  module _ (i : ℕ) where
-    on : i < length a → i < length b → folded (get_or a i 0) ≡ folded (get_or b i 0)
-        → same (drop i (map folded a)) (drop i (map folded b)) ≡ same (drop (i + 1) (map folded a)) (drop (i + 1) (map folded b))
-    on h g e =
-        same_on (map folded a) (map folded b) i (rw (length-map a folded) h) (rw (length-map b folded) g)
-        (get_or-map folded a i 0 ∙ e ∙ sym (get_or-map folded b i 0))
-
-    off : i < length a → i < length b → (folded (get_or a i 0) ≡ folded (get_or b i 0) → ⊥) → same (drop i (map folded a)) (drop i (map folded b)) ≡ false
-    off h g n =
-        same_off (map folded a) (map folded b) i (rw (length-map a folded) h) (rw (length-map b folded) g)
-        (λ e. n (sym (get_or-map folded a i 0) ∙ e ∙ get_or-map folded b i 0))
-
-    end : length a ≤ i → length b ≤ i → same (drop i (map folded a)) (drop i (map folded b)) ≡ true
-    end h g = same_end (map folded a) (map folded b) i (rw (length-map a folded) h) (rw (length-map b folded) g)
+of_folded : {s : Iter ℕ} (xs : List ℕ) → iter_rest s ≡ xs → YieldsList fronts (λ (y : Bor ℕ). folded y.now) s (map folded xs)
+of_folded {s = s} xs e = record { runs = always fronts (λ y. y.now) folded xs s (YieldsList-from_slice {s = s} xs e).runs }
 
 pub returns-then-a-b : goal.returns-then-a-b
-returns-then-a-b c = sym (differ c.args.a.now c.args.b.now c.if-a-b.true)
-
-pub loop-i-init : goal.loop-i-init
-loop-i-init c = (search rules, search rules, refl)
-
-pub returns-then-fold : goal.returns-then-fold
-returns-then-fold c = sym (c.loop-i.invariant.2 ∙ off c.args.a.now c.args.b.now c.loop-i.i (search rules) (search rules) (λ e. c.if-fold.true (c.fold.ensures ∙ e ∙ sym c.fold-in-loop-i.ensures)))
-
-pub loop-i-preserved : goal.loop-i-preserved
-loop-i-preserved c = (search rules, c.loop-i.invariant.1, c.loop-i.invariant.2 ∙ on c.args.a.now c.args.b.now c.loop-i.i (search rules) (search rules) (sym c.fold.ensures ∙ c.if-fold.false ∙ c.fold-in-loop-i.ensures))
-
-pub returns : goal.returns
-returns c = sym (c.loop-i.invariant.2 ∙ end c.args.a.now c.args.b.now c.loop-i.i (search rules) (search rules))
+returns-then-a-b c =
+    let a = c.args in
+    let n : length (map folded a.a.now) ≡ length (map folded a.b.now) = length-map a.a.now folded ∙ c.if-a-b.true ∙ sym (length-map a.b.now folded) in
+    same_from_decides _ _
+    (same_from_all c.all.new.self _ c.all.result (map folded a.a.now) (map folded a.b.now) c.all.ensures.ran
+    (YieldsList-from_zip (of_folded a.a.now cc) (of_folded a.b.now cc)) n
+    (λ x q k. search (rules, tests)) (λ x q k. search (rules, tests)))
+    (bytes_eq-Decides (map folded a.a.now) (map folded a.b.now))
