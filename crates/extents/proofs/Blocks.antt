@@ -1,7 +1,7 @@
 -- Bytes counted in blocks of a size: the block and the byte ahead of an offset, without the sum that may pass 64 bits.
 use mathlib.Core.Path.{◌≡◌, ap, ◌∙◌}
 use Prim.Native.Nat.{ℕ, ◌+◌, ◌-◌, ◌*◌, ◌/◌, ◌%◌, ◌<◌, ◌≤◌}
-use native.Mathlib.Nat.{div-add-mod', mod-lt, add-mul, one-mul, le-div_iff_mul-le, div-mul-le_self, mul-le-mul_left, le_trans}
+use native.Mathlib.Nat.{div-add-mod', mod-lt, add-mul, one-mul, le-div_iff_mul-le, div-mul-le_self, le_trans}
 use native.Mathlib.Omega.{arith}
 use lib.Arith.{digits_div, digits_mod}
 
@@ -30,10 +30,3 @@ module _ (offset ahead size : ℕ) (inside : offset < size) where
 -- a byte further on is in no earlier block
 pub div_mono : (size m n : ℕ) → 0 < size → m ≤ n → m / size ≤ n / size
 div_mono size m n h g = (le-div_iff_mul-le h).1 (le_trans (div-mul-le_self m size) g)
-
-pub rest_below : (n size offset : ℕ) → offset < size → n % size < size
-rest_below n size offset h = mod-lt n (omega arith)
-
--- blocks of more than a byte are at most half as many as their bytes
-pub blocks_half : (size n : ℕ) → 1 < size → n / size * 2 ≤ n
-blocks_half size n h = le_trans (mul-le-mul_left (n / size) h) (div-mul-le_self n size)

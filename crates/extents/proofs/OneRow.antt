@@ -1,9 +1,9 @@
--- One row: the positions in it; when it is lawful by itself: what each failed test tells, and that its bytes' blocks have numbers of 64 bits.
+-- One row: the positions in it; and of one that is lawful by itself, that its bytes' blocks have numbers of 64 bits.
 use mathlib.Core.Path.{◌≡◌}
-use mathlib.Core.Bool.{true, false, ◌&&◌, and-false}
+use mathlib.Core.Bool.{true, ◌&&◌}
 use Prim.Native.Nat.{ℕ, ◌+◌, ◌-◌, ◌/◌, ◌<◌, ◌≤◌}
 use native.Mathlib.Omega.{arith}
-use borrow.Author.Tests.{le-leb, lt-leb, lt-ltb, le-ltb, leb-true, ltb-true}
+use borrow.Author.Tests.{le-leb, lt-ltb, leb-true, ltb-true}
 use lib.Dec.{leb, ltb}
 use Rattle.slices.proofs.Booleans.{and_left, and_right, and_both}
 use Rattle.quantities.specs.Letters.{is_letter}
@@ -17,42 +17,22 @@ in_row_lem p r e = (leb-true _ _ (and_left _ _ e), ltb-true _ _ (and_right (leb 
 pub in_row_if : (p : ℕ) (r : Row) → r.fileoffset ≤ p → p < row_end r → in_row p r ≡ true
 in_row_if p r h g = and_both _ _ (le-leb _ _ h) (lt-ltb _ _ g)
 
-module _ (L B : ℕ) (r : Row) where
-  pub no_byte : r.bytecount ≡ 0 → row_lawful L B r ≡ false
+module _ (L B : ℕ) (r : Row) (e : row_lawful L B r ≡ true) where
+  pub inside_block : r.byteoffset < B
   unfolding row_lawful
-  no_byte e = rw (lt-leb 1 r.bytecount (omega arith))
+  inside_block = ltb-true _ _ (and_right (leb 1 r.bytecount) _ (and_left _ _ (and_left _ _ e)))
 
-  pub outside_block : B ≤ r.byteoffset → row_lawful L B r ≡ false
+  last_fits : last_block B r ≤ 18446744073709551615
   unfolding row_lawful
-  outside_block h = rw (le-ltb r.byteoffset B h, and-false (leb 1 r.bytecount))
+  last_fits = leb-true _ _ (and_right (leb 1 r.bytecount && ltb r.byteoffset B && leb (row_end r) L) _ e)
 
-  pub past_length : leb (row_end r) L ≡ false → row_lawful L B r ≡ false
-  unfolding row_lawful
-  past_length e = rw (e, and-false (leb 1 r.bytecount && ltb r.byteoffset B))
-
-  pub block_fits : 0 < r.bytecount → r.byteoffset < B → leb (row_end r) L ≡ true
-      → row_lawful L B r ≡ leb (r.startblock + (r.byteoffset + (r.bytecount - 1)) / B) 18446744073709551615
-  unfolding row_lawful
-  block_fits h g e =
-      let z : r.byteoffset + r.bytecount - 1 ≡ r.byteoffset + (r.bytecount - 1) = omega arith in
-      rw (le-leb 1 r.bytecount h, lt-ltb r.byteoffset B g, e, z)
-
-  module _ (e : row_lawful L B r ≡ true) where
-    pub inside_block : r.byteoffset < B
-    unfolding row_lawful
-    inside_block = ltb-true _ _ (and_right (leb 1 r.bytecount) _ (and_left _ _ (and_left _ _ e)))
-
-    last_fits : last_block B r ≤ 18446744073709551615
-    unfolding row_lawful
-    last_fits = leb-true _ _ (and_right (leb 1 r.bytecount && ltb r.byteoffset B && leb (row_end r) L) _ e)
-
-    -- the block of a position of the row
-    pub block_of_position : (p : ℕ) → in_row p r ≡ true → r.startblock + (r.byteoffset + (p - r.fileoffset)) / B ≤ 18446744073709551615
-    block_of_position p h =
-        let g = in_row_lem p r h in
-        let b = inside_block in
-        let m = div_mono B (r.byteoffset + (p - r.fileoffset)) (r.byteoffset + r.bytecount - 1) (omega arith) (omega arith) in
-        omega (arith, last_fits)
+  -- the block of a position of the row
+  pub block_of_position : (p : ℕ) → in_row p r ≡ true → r.startblock + (r.byteoffset + (p - r.fileoffset)) / B ≤ 18446744073709551615
+  block_of_position p h =
+      let g = in_row_lem p r h in
+      let b = inside_block in
+      let m = div_mono B (r.byteoffset + (p - r.fileoffset)) (r.byteoffset + r.bytecount - 1) (omega arith) (omega arith) in
+      omega (arith, last_fits)
 
 -- a letter is a byte
 pub letter_fits : (b : ℕ) → is_letter b ≡ true → b < 256

@@ -1,13 +1,6 @@
 -- Rows of extents (01, Extents): five numbers each, in a list of numbers one after the other.
 use Rattle.std.specs.Prelude.{List, [], ◌∷◌, ◌++◌, ℕ}
-
--- a row: which bytes of a file stand where on a partition
-pub record Row : Type 0 where
-  pub letter : ℕ
-  pub startblock : ℕ
-  pub byteoffset : ℕ
-  pub bytecount : ℕ
-  pub fileoffset : ℕ
+pub use Rattle.extents.specs.declared.Row.{Row}
 
 -- the rows of numbers in fives; fewer than five are no row
 unfoldable pub rows_of : List ℕ → List Row

@@ -1,61 +1,50 @@
--- `extents::apart` meets its contract. Invariant: the rows from i on are apart, and none of them begins below low.
-use mathlib.Core.Path.{◌≡◌, ap, sym, ◌∙◌}
-use Prim.Native.Nat.{ℕ, ◌+◌, ◌-◌, ◌*◌, ◌<◌, ◌≤◌}
-use native.Mathlib.Omega.{arith}
-use borrow.Author.Tests.{leb-true}
-use lib.ListN.{drop}
+-- `extents::apart` meets its contract. Invariant: the rows behind are apart, and none begins below low.
+use Rattle.std.proofs.Common.{ℕ, List, ◌≡◌, ◌≤◌, ◌<◌, ◌+◌, ◌-◌, ◌*◌, sym, ◌∙◌, ap, arith, length, take, drop, leb-true}
 use Rattle.slices.specs.Slices.{every}
-use Rattle.extents.specs.Rows.{rows_of}
+use Rattle.extents.specs.Rows.{Row, rows_of}
 use Rattle.extents.specs.Steps.{row_from}
 use Rattle.extents.specs.Lawful.{row_end, clear}
+use Rattle.extents.proofs.Rows.{rows_behind}
 use Rattle.extents.proofs.Backwards.{clear_above, above_lower, above_more, apart_more, shared_before, apart_end, above_end}
 use Rattle.extents.proofs.apart.Goals as goal
 
-pub loop-i-init : goal.loop-i-init
-loop-i-init c = let s = c.args.rows.now in (omega arith, apart_end s, above_end 18446744073709551615 s)
+-- the comparison of the row before k with the rows behind it
+compared : (s : List ℕ) (k : ℕ) {r : Row} → 0 < k → r ≡ row_from s ((k - 1) * 5)
+    → every (clear r) (rows_of (take (length s - (k - 1 + 1) * 5) (drop ((k - 1 + 1) * 5) s))) ≡ every (clear (row_from s ((k - 1) * 5))) (drop k (rows_of s))
+compared s k h is = rw is (ap (every (clear (row_from s ((k - 1) * 5)))) (rows_behind s k h))
 
-pub loop-i-preserved-then-ends_by : goal.loop-i-preserved-then-ends_by
-loop-i-preserved-then-ends_by c =
+pub loop-k-init : goal.loop-k-init
+loop-k-init c = let s = c.args.rows.now in (apart_end s, above_end _ s)
+
+pub loop-k-preserved-then-ends_by : goal.loop-k-preserved-then-ends_by
+loop-k-preserved-then-ends_by c =
     let s = c.args.rows.now in
-    let l = c.loop-i in
-    let k = l.i in
-    let some : 0 < k = c.loop-i-test.true in
-    let r = row_from s ((k - 1) * 5) in
-    let h : row_end r ≤ l.low = leb-true (row_end r) l.low (sym c.ends_by.ensures ∙ c.if-ends_by.true) in (
-      omega arith,
-      apart_more s k some l.invariant.0 (clear_above r l.low (drop k (rows_of s)) h l.invariant.2) l.invariant.1,
-      above_more s k some l.invariant.0 r.fileoffset (omega arith) (above_lower l.low r.fileoffset (drop k (rows_of s)) (omega arith) l.invariant.2),
+    let l = c.loop-k in
+    let row = c.row_at-row.result in
+    let is = c.row_at-row.ensures in
+    let h : row_end row ≤ l.low = leb-true _ l.low (sym c.ends_by.ensures ∙ c.if-ends_by.true) in
+    let begins = ap (λ (r : Row). r.fileoffset) is in
+    let alone = clear_above row l.low (drop l.k (rows_of s)) h l.invariant.1 in (
+      apart_more s l.k (omega arith) (omega arith) (rw is at alone) l.invariant.0,
+      above_more s l.k (omega arith) (omega arith) row.fileoffset (omega arith)
+          (above_lower l.low row.fileoffset (drop l.k (rows_of s)) (omega arith) l.invariant.1),
     )
 
-pub returns-then-not-clear_of : goal.returns-then-not-clear_of
-returns-then-not-clear_of c =
+pub returns-then-not-is_clear_of : goal.returns-then-not-is_clear_of
+returns-then-not-is_clear_of c =
     let s = c.args.rows.now in
-    let l = c.loop-i in
-    let k = l.i in
-    let some : 0 < k = c.loop-i-test.true in
-    let e : k - 1 + 1 ≡ k = omega arith in
-    let r = row_from s ((k - 1) * 5) in
-    let z = c.clear_of.ensures ∙ ap (λ (n : ℕ). every (clear r) (drop n (rows_of s))) e in
-    sym (shared_before s k some l.invariant.0 (sym z ∙ c.if-not-clear_of.true))
+    let l = c.loop-k in
+    let z = c.is_clear_of.ensures ∙ compared s l.k (omega arith) c.row_at-row.ensures in
+    sym (shared_before s l.k (omega arith) (omega arith) (sym z ∙ c.if-not-is_clear_of.true))
 
-pub loop-i-preserved : goal.loop-i-preserved
-loop-i-preserved c =
+pub loop-k-preserved : goal.loop-k-preserved
+loop-k-preserved c =
     let s = c.args.rows.now in
-    let l = c.loop-i in
-    let k = l.i in
-    let some : 0 < k = c.loop-i-test.true in
-    let e : k - 1 + 1 ≡ k = omega arith in
-    let r = row_from s ((k - 1) * 5) in
-    let z = c.clear_of.ensures ∙ ap (λ (n : ℕ). every (clear r) (drop n (rows_of s))) e in
-    let m = c.lower-low.ensures in (
-      omega arith,
-      apart_more s k some l.invariant.0 (sym z ∙ c.if-not-clear_of.false) l.invariant.1,
-      above_more s k some l.invariant.0 c.lower-low.result (omega arith) (above_lower l.low c.lower-low.result (drop k (rows_of s)) (omega arith) l.invariant.2),
+    let l = c.loop-k in
+    let z = c.is_clear_of.ensures ∙ compared s l.k (omega arith) c.row_at-row.ensures in
+    let m = c.min-low.ensures in
+    let begins = ap (λ (r : Row). r.fileoffset) c.row_at-row.ensures in (
+      apart_more s l.k (omega arith) (omega arith) (sym z ∙ c.if-not-is_clear_of.false) l.invariant.0,
+      above_more s l.k (omega arith) (omega arith) c.min-low.result (omega arith)
+          (above_lower l.low c.min-low.result (drop l.k (rows_of s)) (omega arith) l.invariant.1),
     )
-
-pub returns : goal.returns
-returns c =
-    let s = c.args.rows.now in
-    let l = c.loop-i in
-    let e : l.i ≡ 0 = omega arith in
-    sym (rw e at l.invariant.1)

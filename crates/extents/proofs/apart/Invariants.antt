@@ -1,16 +1,10 @@
--- `extents::apart` meets its contract. Invariant: the rows from i on are apart, and none of them begins below low.
-use mathlib.Core.Path.{◌≡◌}
-use mathlib.Core.Bool.{true}
-use Prim.Native.Nat.{◌/◌, ◌≤◌}
-use lib.ListN.{length, drop}
+-- `extents::apart` meets its contract. Invariant: the rows behind are apart, and none begins below low.
+use Rattle.std.proofs.Common.{◌≡◌, true, drop}
 use Rattle.extents.specs.Rows.{rows_of}
 use Rattle.extents.specs.Lawful.{apart}
 use Rattle.extents.proofs.Backwards.{above}
 use Rattle.extents.proofs.apart.Given as goal
 
-abbrev pub invariant-loop-i : goal.invariant-loop-i
-invariant-loop-i l =
-    (l.i ≤ length l.rows / 5) × (apart (drop l.i (rows_of l.rows)) ≡ true) × (above l.low (drop l.i (rows_of l.rows)) ≡ true)
-
-abbrev pub decreases-loop-i : goal.decreases-loop-i
-decreases-loop-i l = l.i
+abbrev pub invariant-loop-k : goal.invariant-loop-k
+invariant-loop-k l =
+    (apart (drop l.k (rows_of l.rows)) ≡ true) × (above l.low (drop l.k (rows_of l.rows)) ≡ true)

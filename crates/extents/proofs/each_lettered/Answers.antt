@@ -1,32 +1,13 @@
--- `extents::each_lettered` meets its contract. Invariant: the rows passed have letters.
-use mathlib.Core.Path.{refl, sym, ◌∙◌}
-use mathlib.Core.Bool.{Bool}
-use native.Mathlib.Omega.{arith}
+-- `extents::each_lettered` meets its contract: each letter is tested.
+use Rattle.std.proofs.Common.{◌∙◌, refl, rules, tests}
+use Rattle.std.proofs.lemmas.Iterator.Consumers.{YieldsList-from_first}
+use Rattle.std.proofs.lemmas.Iterator.Search.{all_from_yields_List}
+use Rattle.slices.proofs.Every.{list_all_every}
 use Rattle.quantities.specs.Letters.{is_letter}
-use Rattle.extents.specs.Rows.{Row}
-use Rattle.extents.proofs.Rows.{each_on, each_off, each_end}
+use Rattle.extents.specs.Rows.{Row, rows_of}
 use Rattle.extents.proofs.each_lettered.Goals as goal
-
-abbrev letters : Row → Bool
-letters r = is_letter r.letter
-
-pub loop-i-init : goal.loop-i-init
-loop-i-init c = (omega arith, refl)
-
-pub returns-then-not-is_letter : goal.returns-then-not-is_letter
-returns-then-not-is_letter c =
-    let s = c.args.rows.now in
-    let l = c.loop-i in
-    sym (l.invariant.1 ∙ each_off s l.i letters (omega arith) (sym c.is_letter.ensures ∙ c.if-not-is_letter.true))
-
-pub loop-i-preserved : goal.loop-i-preserved
-loop-i-preserved c =
-    let s = c.args.rows.now in
-    let l = c.loop-i in
-    (omega arith, l.invariant.1 ∙ each_on s l.i letters (omega arith) (sym c.is_letter.ensures ∙ c.if-not-is_letter.false))
 
 pub returns : goal.returns
 returns c =
-    let s = c.args.rows.now in
-    let l = c.loop-i in
-    sym (l.invariant.1 ∙ each_end s l.i letters (omega arith))
+    all_from_yields_List (λ (r : Row). is_letter r.letter) c.all.new.self _ _ c.all.ensures.ran (YieldsList-from_first (λ x. x) (λ s. rows_of s.0.now) (rows_of c.args.rows.now) refl) (λ x b q k. search (rules, tests))
+    ∙ list_all_every (λ (r : Row). is_letter r.letter) (rows_of c.args.rows.now)

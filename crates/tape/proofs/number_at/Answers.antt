@@ -1,5 +1,5 @@
 -- `tape::number_at` meets its contract: the four bytes are the digits of the sum.
-use Rattle.std.proofs.Common.{rules, arith, ◌∙◌, sym}
+use Rattle.std.proofs.Common.{rules}
 use Rattle.tape.proofs.Entries.{number_four}
 use Rattle.tape.proofs.number_at.Goals as goal
 

@@ -1,5 +1,5 @@
 -- `tape::sum_up` meets its contract. Invariant: the totals so far and those of the rest are the whole list's.
-use Rattle.std.proofs.Common.{sym, ◌∙◌, ap, arith, rules}
+use Rattle.std.proofs.Common.{sym, ◌∙◌, ap, rules}
 use Rattle.tape.specs.WalkSteps.{passed, totals_from}
 use Rattle.tape.proofs.Entries.{passed_lies}
 use Rattle.tape.proofs.Counting.{totals_end, totals_full, left, left_all, left_passed, left_stopped, left_none}

@@ -1,6 +1,5 @@
 -- `tape::walk` meets its contract. Invariant: the walk over what is left, from here, reaches as far as the whole walk.
 use Rattle.std.proofs.Common.{◌-◌, sym, ◌∙◌, ap, arith, rules}
-use Rattle.tape.specs.ReadingSteps.{entry_at}
 use Rattle.tape.specs.WalkSteps.{passed}
 use Rattle.tape.proofs.Entries.{passed_lies}
 use Rattle.tape.proofs.Walking.{reach_done, reach_passed, reach_stopped}

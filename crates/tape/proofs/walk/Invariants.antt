@@ -1,6 +1,6 @@
 -- `tape::walk` meets its contract. Invariant: the walk over what is left, from here, reaches as far as the whole walk.
 use Rattle.std.proofs.Common.{◌≡◌, ◌≤◌, ◌*◌, ◌-◌}
-use Rattle.tape.specs.Tape.{max_elements, max_block}
+use Rattle.tape.specs.Tape.{max_block}
 use Rattle.tape.specs.WalkSteps.{reach}
 use Rattle.tape.proofs.walk.Given as goal
 
