@@ -39,7 +39,6 @@ place_found B p (r ∷ rows) =
 
 -- passes that test, and each that all rows pass
 pub found_passes : (test each : Row → Bool) (rows : List Row) {r : Row} → find test rows ≡ Some r → every each rows ≡ true → (test r ≡ true) × (each r ≡ true)
-unfolding every
 found_passes test each [] e h = cc
 found_passes test each (q ∷ rows) {r} e h =
     split (λ t. cond t (Some q) (find test rows) ≡ Some r → (test r ≡ true) × (each r ≡ true)) (test q)

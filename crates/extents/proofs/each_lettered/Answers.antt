@@ -1,8 +1,7 @@
 -- `extents::each_lettered` meets its contract: each letter is tested.
-use Rattle.std.proofs.Common.{◌∙◌, refl, rules, tests}
+use Rattle.std.proofs.Common.{refl, rules, tests}
 use Rattle.std.proofs.lemmas.Iterator.Consumers.{YieldsList-from_first}
 use Rattle.std.proofs.lemmas.Iterator.Search.{all_from_yields_List}
-use Rattle.slices.proofs.Every.{list_all_every}
 use Rattle.quantities.specs.Letters.{is_letter}
 use Rattle.extents.specs.Rows.{Row, rows_of}
 use Rattle.extents.proofs.each_lettered.Goals as goal
@@ -10,4 +9,3 @@ use Rattle.extents.proofs.each_lettered.Goals as goal
 pub returns : goal.returns
 returns c =
     all_from_yields_List (λ (r : Row). is_letter r.letter) c.all.new.self _ _ c.all.ensures.ran (YieldsList-from_first (λ x. x) (λ s. rows_of s.0.now) (rows_of c.args.rows.now) refl) (λ x b q k. search (rules, tests))
-    ∙ list_all_every (λ (r : Row). is_letter r.letter) (rows_of c.args.rows.now)
