@@ -10,10 +10,7 @@ use writing::add;
 fn add_number(out: &mut [u8], at: usize, n: usize) -> usize
     ensures { AddsAtMost 8 out.old at (big_endian 8 n) out.new result }
 {
-    match big_endian::put(out, at, 8, n as u64) {
-        Ok(end) => end,
-        Err(_) => at,
-    }
+    big_endian::put(out, at, 8, n as u64).unwrap_or(at)
 }
 
 // Adds the file with the labels HDR1 and HDR2 whose header mark element first follows.

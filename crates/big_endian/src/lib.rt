@@ -18,17 +18,12 @@ fn lowest(n: u64) -> u8
 pub fn put(out: &mut [u8], at: usize, width: usize, n: u64) -> Result<usize, Refusal>
     ensures { Puts at (big_endian width n) out.old out.new result }
 {
-    if out.len() < at {
-        return Err(Refusal::Short);
-    }
-    if out.len() - at < width {
+    if out.len() < at || out.len() - at < width {
         return Err(Refusal::Short);
     }
     let mut rest = n;
-    let mut i = width;
-    while 0 < i {
-        i -= 1;
-        out[at + i] = lowest(rest);
+    for i in (at..at + width).rev() {
+        out[i] = lowest(rest);
         rest /= 256;
     }
     Ok(at + width)

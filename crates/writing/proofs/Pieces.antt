@@ -1,6 +1,7 @@
 -- Pieces one after the other, and how long they are together.
 use Rattle.std.specs.Prelude.{Err, Ok, Result}
-use mathlib.Core.Path.{◌≡◌, subst, ◌∙◌}
+use Rattle.std.specs.Result.{result_unwrap_or}
+use mathlib.Core.Path.{◌≡◌, sym, subst, ◌∙◌}
 use mathlib.Core.List.{List, ◌++◌}
 use Prim.Native.Nat.{ℕ, ◌+◌, ◌≤◌}
 use native.Mathlib.Omega.{arith}
@@ -8,15 +9,13 @@ use lib.ListN.{length, take, drop, length-append}
 use Rattle.refusals.specs.declared.Refusal.{Refusal}
 use Rattle.slices.specs.Writers.{Puts}
 use Rattle.writing.proofs.Adding.{adds, adds_not, adds_then, composes, front_text}
-use Rattle.writing.specs.Steps.{AddsAtMost}
+use Rattle.writing.specs.Steps.{Adds, AddsAtMost}
 
 -- what a writer was asked for is added, whether it was written, or there was no room
-module _ {m at : ℕ} {w out after : List ℕ} {r : (Result ℕ Refusal)} where
-  pub piece : (end : ℕ) → length w ≤ m → Puts at w out after r → r ≡ Ok end → AddsAtMost m out at w after end
-  piece end h p e = record { added = adds end (subst (Puts at w out after) e p); few = h }
-
-  pub no_piece : (x : Refusal) (end : ℕ) → length w ≤ m → Puts at w out after r → r ≡ Err x → AddsAtMost m out at w after end
-  no_piece x end h p e = record { added = adds_not x end (subst (Puts at w out after) e p); few = h }
+module _ {m at : ℕ} {w out after : List ℕ} where
+  pub piece : (r : Result ℕ Refusal) (end : ℕ) → length w ≤ m → Puts at w out after r → end ≡ result_unwrap_or r at → AddsAtMost m out at w after end
+  piece (Ok to) end h p e = record { added = subst (Adds out at w after) (sym e) (adds to p); few = h }
+  piece (Err x) end h p e = record { added = subst (Adds out at w after) (sym e) (adds_not x at p); few = h }
 
 pub then : {m n : ℕ} {out w middle x after : List ℕ} {at to end : ℕ}
     → AddsAtMost m out at w middle to → AddsAtMost n middle to x after end → AddsAtMost (m + n) out at (w ++ x) after end
