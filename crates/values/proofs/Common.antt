@@ -1,4 +1,4 @@
--- Common characters: told by ranges of byte values; a text of them means itself, a code point each byte, and no byte of it is unlawful in a name.
+-- Common characters: a text of them means itself, a code point each byte, and no byte of it is unlawful in a name.
 use mathlib.Core.Path.{◌≡◌, refl, ap, ap₂, ◌∙◌}
 use mathlib.Core.Bool.{Bool, true, false, not, ◌&&◌, and-true, and-false}
 use mathlib.Core.List.{List, [], ◌∷◌}
@@ -12,23 +12,6 @@ use Rattle.slices.proofs.Booleans.{and_parts}
 use Rattle.texts.specs.Decoded.{meaning, decoded_behind, decoded, code_points}
 use Rattle.values.specs.Values.{is_plain, is_name}
 use Rattle.values.specs.Steps.{is_common}
-
-module _ (b : ℕ) where
-  pub below_32 : b < 32 → false ≡ is_common b
-  unfolding is_common
-  below_32 h = simp (lt-leb 32 b h)
-
-  pub ampersand : b ≡ 38 → false ≡ is_common b
-  unfolding is_common
-  ampersand e = simp (eq-eqb b 38 e, and-false)
-
-  pub below_48 : 32 ≤ b → b < 48 → (b ≡ 38 → ⊥) → not (eqb b 47) ≡ is_common b
-  unfolding is_common
-  below_48 h g e = simp (le-leb 32 b h, le-leb b 127 (omega arith), ne_eqb b 38 e)
-
-  pub from_48 : 48 ≤ b → leb b 127 ≡ is_common b
-  unfolding is_common
-  from_48 h = simp (le-leb 32 b (omega arith), ne_eqb b 38 (λ e. omega arith), ne_eqb b 47 (λ e. omega arith), and-true)
 
 -- what a common character is not
 record Common (b : ℕ) : Type 0 where

@@ -1,4 +1,4 @@
--- A letter by its one byte, and a version by its first four bytes and the rest.
+-- A letter by its one byte; and five tests in a row.
 use Rattle.std.specs.Prelude.{None, Option, Some}
 use mathlib.Core.Path.{◌≡◌, refl, ap, sym, ◌∙◌}
 use mathlib.Core.Bool.{Bool, true, false, cond, ◌&&◌}
@@ -25,22 +25,6 @@ unfolding letter
 letter_none [] h = refl
 letter_none (b ∷ []) h = absurd (h refl)
 letter_none (b ∷ c ∷ s) h = refl
-
-module _ (s : List ℕ) where
-  pub version_short : length s < 4 → version s ≡ None
-  unfolding version bytes
-  version_short h = rw (begins_short (bytes "2.0.") s h)
-
-  pub version_other : begins (bytes "2.0.") s ≡ false → version s ≡ None
-  unfolding version
-  version_other e = rw e
-
-  -- the number of the rest decides
-  pub version_rest : {o : Option ℕ} → begins (bytes "2.0.") s ≡ true → o ≡ plain_number (take (length s - 4) (drop 4 s)) → version s ≡ at_most 65535 o
-  unfolding version
-  version_rest e f =
-      rw e (ap (λ (r : List ℕ). at_most 65535 (plain_number r)) (sym (take_all (length s - 4) (drop 4 s) (omega (arith, length-drop 4 s))))
-      ∙ ap (at_most 65535) (sym f))
 
 -- five tests in a row: the first four passed, so the last decides
 pub last_of_five : (a b c d e : Bool) → a ≡ true → b ≡ true → c ≡ true → d ≡ true → e ≡ (a && b && c && d && e)

@@ -1,16 +1,14 @@
 -- A text by its pattern, along both: at each byte that is passed, at one that does not fit, at the end; a text in a pattern has its length, and
 -- passes each test that the pattern and all digits pass; its hex digits tell it.
 use mathlib.Core.Path.{◌≡◌, refl, ap, ap₂, ◌∙◌, sym}
-use mathlib.Core.Bool.{Bool, true, false, not, cond, false≢true, ◌&&◌}
+use mathlib.Core.Bool.{Bool, true, false, not, cond, false≢true, ◌&&◌, and-true, and_assoc}
 use mathlib.Core.List.{List, [], ◌∷◌, map}
-use Prim.Native.Nat.{ℕ, suc, ◌+◌, ◌<◌, ◌≤◌}
+use Prim.Native.Nat.{ℕ, suc}
 use native.Mathlib.Omega.{arith}
-use native.Mathlib.Nat.{add-zero}
-use native.Mathlib.Numerals.{add-one}
 use borrow.Author.Tests.{eqb-true, eq-eqb, leb-true, le-leb, not-true}
 use lib.Dec.{leb, eqb}
-use lib.ListN.{length, drop, get_or, drop_of_length-le}
-use lib.Seq.{drop-cons, drop-drop, get_or-drop}
+use lib.ListN.{length}
+use Rattle.std.specs.List.{list_all, fold, zip}
 use Rattle.slices.specs.Slices.{within, every}
 use Rattle.slices.specs.Words.{bytes}
 use Rattle.slices.proofs.Booleans.{split, and_left, and_right, and_both, and_parts, same_tests}
@@ -19,18 +17,13 @@ use Rattle.digits.specs.Hex.{is_hex}
 use Rattle.values.specs.Values.{by_pattern, in_pattern}
 use Rattle.values.specs.Steps.{between}
 
-module _ (p s : List ℕ) (i : ℕ) where
-  pub pattern_on : i < length p → i < length s → by_pattern (get_or p i 0) (get_or s i 0) ≡ true → in_pattern (drop i p) (drop i s) ≡ in_pattern (drop (i + 1) p) (drop (i + 1) s)
-  unfolding in_pattern
-  pattern_on h g e = rw (drop-cons p i 0, drop-cons s i 0, add-one) (rw e)
-
-  pub pattern_off : i < length p → i < length s → by_pattern (get_or p i 0) (get_or s i 0) ≡ false → in_pattern (drop i p) (drop i s) ≡ false
-  unfolding in_pattern
-  pattern_off h g e = rw (drop-cons p i 0, drop-cons s i 0) (rw e)
-
-  pub pattern_end : length p ≤ i → length s ≤ i → in_pattern (drop i p) (drop i s) ≡ true
-  unfolding in_pattern
-  pattern_end h g = rw (drop_of_length-le p h, drop_of_length-le s g)
+-- byte by byte
+pub zip_pattern : (p s : List ℕ) → length p ≡ length s → list_all (λ (x : ℕ × ℕ). by_pattern x.0 x.1) (zip p s) ≡ in_pattern p s
+unfolding in_pattern
+zip_pattern [] [] h = refl
+zip_pattern [] (b ∷ s) h = absurd (omega arith)
+zip_pattern (q ∷ p) [] h = absurd (omega arith)
+zip_pattern (q ∷ p) (b ∷ s) h = ap (λ (t : Bool). by_pattern q b && t) (zip_pattern p s (omega arith))
 
 pub pattern_length : (p s : List ℕ) → in_pattern p s ≡ true → length p ≡ length s
 unfolding in_pattern
@@ -69,15 +62,22 @@ module _ (test : ℕ → Bool) (digit : (b : ℕ) → is_digit b ≡ true → te
 
 -- ---- a text by the least and the greatest in a pattern
 
-module _ (low high s : List ℕ) (i : ℕ) where
-  pub between_step : i < length s
-      → between (drop i low) (drop i high) (drop i s) ≡ (within (get_or low i 0) (get_or high i 0) (get_or s i 0) && between (drop (i + 1) low) (drop (i + 1) high) (drop (i + 1) s))
-  unfolding between
-  between_step h = rw (drop-cons s i 0, add-one) (rw (get_or-drop i low 0 0, get_or-drop i high 0 0, drop-drop 1 i low, drop-drop 1 i high, add-one, add-zero))
+-- byte by byte
+abbrev pub lies : Bool → (ℕ × ℕ) × ℕ → Bool
+lies so x = so && within x.0.0 x.0.1 x.1
 
-  pub between_end : length s ≤ i → between (drop i low) (drop i high) (drop i s) ≡ true
-  unfolding between
-  between_end h = rw (drop_of_length-le s h)
+pub fold_between : (so : Bool) (low high s : List ℕ) → length low ≡ length s → length high ≡ length s
+    → fold lies so (zip (zip low high) s) ≡ (so && between low high s)
+unfolding between
+fold_between so [] [] [] p q = sym (and-true so)
+fold_between so (l ∷ low) (h ∷ high) (b ∷ s) p q =
+    fold_between (so && within l h b) low high s (omega arith) (omega arith) ∙ and_assoc so (within l h b) (between low high s)
+fold_between so [] [] (b ∷ s) p q = absurd (omega arith)
+fold_between so [] (h ∷ high) [] p q = absurd (omega arith)
+fold_between so [] (h ∷ high) (b ∷ s) p q = absurd (omega arith)
+fold_between so (l ∷ low) [] [] p q = absurd (omega arith)
+fold_between so (l ∷ low) [] (b ∷ s) p q = absurd (omega arith)
+fold_between so (l ∷ low) (h ∷ high) [] p q = absurd (omega arith)
 
 -- the least and the greatest byte that fit a pattern's byte, which is no star
 abbrev pub least : ℕ → ℕ

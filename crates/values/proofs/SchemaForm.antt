@@ -1,22 +1,27 @@
 -- Numbers as XML Schema spells them: texts without the white space around them, and that a text says n exactly where it spells n.
 use Rattle.std.specs.Prelude.{None, Option, Some}
-use mathlib.Core.Path.{◌≡◌, refl, ap, sym, ◌∙◌, subst}
-use mathlib.Core.Bool.{Bool, true, false, cond, not, and-false, and-true}
-use mathlib.Core.List.{List, [], ◌∷◌, ◌++◌, append-nil, append_assoc}
-use Prim.Native.Nat.{ℕ, suc, ◌-◌, ◌<◌, ◌≤◌}
+use mathlib.Core.Path.{◌≡◌, refl, ap, ap₂, sym, ◌∙◌, subst}
+use mathlib.Core.Bool.{Bool, true, false, cond, not, false≢true, and-false, and-true}
+use mathlib.Core.List.{List, [], ◌∷◌, ◌++◌, reverse, append-nil, append_assoc}
+use Prim.Native.Nat.{ℕ, suc, ◌+◌, ◌-◌, ◌<◌, ◌≤◌}
 use native.Mathlib.Omega.{arith}
-use borrow.Author.Tests.{eq-eqb, ne_eqb, eqb-true, le-leb, leb-true, not-true}
+use borrow.Author.Tests.{ne_eqb, eqb-true, le-leb, leb-true, not-true}
 use lib.Dec.{leb, eqb}
-use lib.ListN.{length, take, drop, get_or, take-append-drop, length-append, length-drop}
-use lib.Seq.{take-suc, take_all}
-use Rattle.slices.specs.Slices.{every}
+use native.Mathlib.Numerals.{one-add}
+use lib.ListN.{length, take, drop, take-append-drop, length-append, length-drop}
+use lib.Seq.{take_all}
+use Rattle.std.proofs.lemmas.List.{reverse-append, reverse-reverse, take-append-le, length-reverse}
+use Rattle.std.specs.List.{prefix_len, suffix_len}
+use Rattle.std.proofs.lemmas.Bool.Decides.{nat_tests}
+use Rattle.slices.specs.Slices.{every, same}
 use Rattle.slices.proofs.Booleans.{and_left, and_right, and_both}
 use Rattle.slices.proofs.Every.{every_append, every_weaker}
 use Rattle.slices.proofs.Ranges.{range}
 use Rattle.xml.specs.Bytes.{is_space}
 use Rattle.xml.specs.Tree.{front, behind}
-use Rattle.digits.specs.Decimal.{is_digit, largest, run, short}
-use Rattle.digits.proofs.Numbers.{run_parts, run_short}
+use Rattle.digits.specs.Decimal.{is_digit, largest, is_run, run, short}
+use Rattle.digits.specs.Steps.{of_few}
+use Rattle.digits.proofs.Numbers.{run_of_few, run_parts, run_short}
 use Rattle.values.specs.Values.{at_most, end_trimmed, trimmed, signed, number}
 use Rattle.values.specs.Spells.{Sign, unsigned, plus, minus, Spells, spells}
 
@@ -43,20 +48,31 @@ module _ (b : ℕ) where
       let h : every is_space (s ++ b ∷ []) ≡ false = every_append is_space s (b ∷ []) ∙ rw e (and-false (every is_space s)) in
       rw (h, and-false (is_space c), end_stays e s)
 
-pub end_none : (s : List ℕ) (n : ℕ) → n ≤ 0 → end_trimmed (take n s) ≡ take n s
+-- of a text from its end on: as many bytes as are white space from there on
+end_reversed : (t : List ℕ) → end_trimmed (reverse t) ≡ take (length t - prefix_len is_space t) (reverse t)
 unfolding end_trimmed
-end_none s n h = let e : n ≡ 0 = omega arith in rw e
+end_reversed [] = refl
+end_reversed (b ∷ t) = go (is_space b) refl (end_reversed t)
+  where
+    turned : reverse (b ∷ t) ≡ reverse t ++ b ∷ []
+    turned = reverse-append (b ∷ []) t
 
--- the same of the first n bytes
-module _ (s : List ℕ) (n : ℕ) (h : 0 < n) (l : n ≤ length s) where
-  first_on : take n s ≡ take (n - 1) s ++ get_or s (n - 1) 0 ∷ []
-  first_on = let e : suc (n - 1) ≡ n = omega arith in rw e at (take-suc s (n - 1) 0 (omega arith))
+    go : (e : Bool) → is_space b ≡ e → end_trimmed (reverse t) ≡ take (length t - prefix_len is_space t) (reverse t)
+        → end_trimmed (reverse (b ∷ t)) ≡ take (length (b ∷ t) - cond e (1 + prefix_len is_space t) 0) (reverse (b ∷ t))
+    go true e n =
+        let z : length (b ∷ t) - (1 + prefix_len is_space t) ≡ length t - prefix_len is_space t = omega arith in
+        rw (turned, z)
+        (end_space b e (reverse t) ∙ n
+        ∙ sym (take-append-le (length t - prefix_len is_space t) (reverse t) (b ∷ []) (omega (arith, length-reverse t))))
+    go false e n =
+        let z : length (b ∷ t) - 0 ≡ suc (length t) = omega arith in
+        rw (turned, z)
+        (end_stays b e (reverse t) ∙ sym (take_all (suc (length t)) (reverse t ++ b ∷ []) (omega (arith, length-append (reverse t) (b ∷ []), length-reverse t))))
 
-  pub end_on : is_space (get_or s (n - 1) 0) ≡ true → end_trimmed (take n s) ≡ end_trimmed (take (n - 1) s)
-  end_on e = ap end_trimmed first_on ∙ end_space (get_or s (n - 1) 0) e (take (n - 1) s)
-
-  pub end_off : is_space (get_or s (n - 1) 0) ≡ false → end_trimmed (take n s) ≡ take n s
-  end_off e = ap end_trimmed first_on ∙ end_stays (get_or s (n - 1) 0) e (take (n - 1) s) ∙ sym first_on
+pub end_taken : (s : List ℕ) → end_trimmed s ≡ take (length s - suffix_len is_space s) s
+end_taken s =
+    let n : length (reverse s) - suffix_len is_space s ≡ length s - suffix_len is_space s = omega (arith, length-reverse s) in
+    sym (ap end_trimmed (reverse-reverse s)) ∙ end_reversed (reverse s) ∙ ap₂ take n (reverse-reverse s)
 
 -- what was taken off is white space
 record Ended (s : List ℕ) : Type 0 where
@@ -94,10 +110,16 @@ module _ (test : ℕ → Bool) where
   behind_append [] t e = refl
   behind_append (b ∷ f) t e = rw (and_left (test b) (every test f) e) (behind_append f t (and_right (test b) (every test f) e))
 
--- the rest of a text behind its first i bytes, which are all that pass
-pub rest_behind : (test : ℕ → Bool) (s : List ℕ) (i : ℕ) → front test s ≡ i → behind test s ≡ take (length s - i) (drop i s)
-unfolding behind
-rest_behind test s i e = ap (λ (k : ℕ). drop k s) e ∙ sym (take_all (length s - i) (drop i s) (omega (arith, length-drop i s)))
+-- as many bytes as pass from the front on
+pub front_taken : (test : ℕ → Bool) (s : List ℕ) → behind test s ≡ take (length s - prefix_len test s) (drop (prefix_len test s) s)
+unfolding behind front
+front_taken test s =
+    ap (λ (k : ℕ). drop k s) (front_prefix s)
+    ∙ sym (take_all (length s - prefix_len test s) (drop (prefix_len test s) s) (omega (arith, length-drop (prefix_len test s) s)))
+  where
+    front_prefix : (t : List ℕ) → front test t ≡ prefix_len test t
+    front_prefix [] = refl
+    front_prefix (b ∷ t) = rw (front_prefix t, one-add)
 
 -- ---- a text without white space in it
 
@@ -124,29 +146,20 @@ trimmed_part f s t d e h g =
 -- ---- a sign and digits
 
 -- by the first byte
-pub signed_none : (s : List ℕ) → length s ≡ 0 → signed s ≡ None
+pub signed_plus : (s : List ℕ) → same (take 1 s) (43 ∷ []) ≡ true → signed s ≡ run (drop 1 s)
 unfolding signed
-signed_none [] h = refl
-signed_none (b ∷ s) h = absurd (omega arith)
+signed_plus [] e = absurd (false≢true e)
+signed_plus (b ∷ s) e = grind (arith, nat_tests)
 
--- what is behind it
-abbrev rest : List ℕ → List ℕ
-rest s = take (length s - 1) (drop 1 s)
-
-first_byte : (s : List ℕ) → 0 < length s → signed s ≡ cond (eqb (get_or s 0 0) 43) (run (rest s)) (cond (eqb (get_or s 0 0) 45) (at_most 0 (run (rest s))) (run s))
+pub signed_minus : (s : List ℕ) → same (take 1 s) (45 ∷ []) ≡ true → signed s ≡ at_most 0 (run (drop 1 s))
 unfolding signed
-first_byte [] h = absurd (omega arith)
-first_byte (b ∷ s) h = rw (take_all (length (b ∷ s) - 1) s (omega arith))
+signed_minus [] e = absurd (false≢true e)
+signed_minus (b ∷ s) e = grind (arith, nat_tests)
 
-module _ (s : List ℕ) (h : 0 < length s) where
-  pub signed_plus : get_or s 0 0 ≡ 43 → signed s ≡ run (rest s)
-  signed_plus e = first_byte s h ∙ rw (eq-eqb _ _ e)
-
-  pub signed_minus : get_or s 0 0 ≡ 45 → signed s ≡ at_most 0 (run (rest s))
-  signed_minus e = first_byte s h ∙ rw e
-
-  pub unsigned_run : (get_or s 0 0 ≡ 43 → ⊥) → (get_or s 0 0 ≡ 45 → ⊥) → signed s ≡ run s
-  unsigned_run p q = first_byte s h ∙ rw (ne_eqb _ _ p, ne_eqb _ _ q)
+pub signed_digits : (s : List ℕ) → same (take 1 s) (43 ∷ []) ≡ false → same (take 1 s) (45 ∷ []) ≡ false → signed s ≡ run s
+unfolding signed run is_run
+signed_digits [] e f = refl
+signed_digits (b ∷ s) e f = grind (arith, nat_tests)
 
 -- a digit is neither white space nor a sign
 digit_no_space : (b : ℕ) → is_digit b ≡ true → no_space b ≡ true
@@ -242,6 +255,10 @@ module _ (n : ℕ) where
   -- digits alone say what the run says
   pub number_run : (s : List ℕ) → run s ≡ Some n → number s ≡ Some n
   number_run s r = spelled_says (subst (Spells n) (append-nil s) (spells [] [] s [] refl unsigned r refl))
+
+  -- and so do a few digits
+  pub number_few : (s : List ℕ) → of_few s ≡ Some n → Some n ≡ number s
+  number_few s e = sym (number_run s (run_of_few s n e))
 
   -- the short form of a number says it
   pub number_short : n ≤ largest → number (short n) ≡ Some n

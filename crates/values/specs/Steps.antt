@@ -1,9 +1,6 @@
 -- What an answer of this crate says, and what its functions promise each other.
-use Rattle.std.specs.Prelude.{Bool, true, not, ◌&&◌, List, [], ◌∷◌, ℕ, eqb, drop, get_or, None, Option, Some}
+use Rattle.std.specs.Prelude.{Bool, true, not, ◌&&◌, List, [], ◌∷◌, ℕ, eqb, drop, get_or}
 use Rattle.slices.specs.Slices.{within}
-use Rattle.core.specs.declared.option.Option.TheVariants as a_boolean
-use Rattle.core.specs.declared.option.Option.TheVariants as a_letter
-use Rattle.core.specs.declared.option.Option.TheVariants as a_version
 
 -- each byte is from the first list's to the second's
 unfoldable pub between : List ℕ → List ℕ → List ℕ → Bool

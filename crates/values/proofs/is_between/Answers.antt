@@ -1,19 +1,16 @@
--- `values::is_between` meets its contract. Invariant: the bytes still to come decide, where none passed lies outside.
-use mathlib.Core.Path.{refl, ap, sym, ◌∙◌}
-use mathlib.Core.Bool.{Bool, and-true, and_assoc, ◌&&◌}
-use Rattle.values.proofs.Patterns.{between_step, between_end}
-use borrow.Author.Rules.{rules}
+-- `values::is_between` meets its contract: each byte by those of both at its place.
+use Rattle.std.proofs.Common.{◌∙◌, true, rules, tests}
+use Rattle.std.proofs.lemmas.Iterator.{YieldsList-from_slice, YieldsList-from_zip}
+use Rattle.std.proofs.lemmas.Iterator.Consumers.{fold_from_yields_List}
+use Rattle.values.proofs.Patterns.{lies, fold_between}
 use Rattle.values.proofs.is_between.Goals as goal
-
-pub loop-i-init : goal.loop-i-init
-loop-i-init c = (search rules, refl)
-
-pub loop-i-preserved : goal.loop-i-preserved
-loop-i-preserved c =
-    let l = c.loop-i in
-    (search rules, l.invariant.1 ∙ ap (λ (t : Bool). l.so && t) (between_step _ _ _ _ c.loop-i-test.true) ∙ sym (and_assoc l.so _ _))
 
 pub returns : goal.returns
 returns c =
-    let l = c.loop-i in
-    sym (l.invariant.1 ∙ ap (λ (t : Bool). l.so && t) (between_end _ _ _ _ c.loop-i-test.false) ∙ and-true l.so)
+    let l = c.args.low.now in
+    let h = c.args.high.now in
+    let s = c.args.raw.now in
+    fold_from_yields_List _ lies true _ c.fold.ensures.ran
+    (YieldsList-from_zip (YieldsList-from_zip (YieldsList-from_slice l cc) (YieldsList-from_slice h cc)) (YieldsList-from_slice s cc))
+    (λ a x b q k. search (rules, tests))
+    ∙ fold_between true l h s c.requires.low c.requires.high

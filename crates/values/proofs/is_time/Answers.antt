@@ -1,25 +1,24 @@
 -- `values::is_time` meets its contract: the length, the pattern by its least and its greatest text, and then the ranges.
-use mathlib.Core.Path.{sym, ◌∙◌}
-use Rattle.values.specs.Values.{is_time}
+use Rattle.std.proofs.Common.{◌∙◌, sym}
+use borrow.Author.Tests.{eqb-true}
 use Rattle.slices.specs.Words.{bytes}
+use Rattle.values.specs.Values.{is_time}
 use Rattle.values.proofs.Patterns.{pattern_differs, time_between}
+use Rattle.values.proofs.is_time.Goals.{then-raw-eq30, else-raw-eq30}
 use Rattle.values.proofs.is_time.Goals as goal
 
-pub returns-then-raw-ne30 : goal.returns-then-raw-ne30
+pub returns-then-is_between : goal.returns-then-is_between
 unfolding is_time bytes
-returns-then-raw-ne30 c = rw (pattern_differs (bytes "####-##-##T##:##:##.#########Z") _ (λ e. c.if-raw-ne30.true (sym e)))
+returns-then-is_between c =
+    elim c.if-raw-eq30.branch [
+      | then-raw-eq30 w ↦ rw (sym (time_between c.args.raw.now w.if-raw-eq30.true) ∙ sym w.is_between.ensures ∙ sym w.value-is ∙ c.if-is_between.true) c.is_in_ranges.ensures
+      | else-raw-eq30 w ↦ absurd (w.if-raw-eq30.false (eqb-true _ _ (sym w.value-is ∙ c.if-is_between.true)))
+    ]
 
-pub is_between-requires : goal.is_between-requires
-is_between-requires c = (sym c.if-raw-ne30.false, sym c.if-raw-ne30.false)
-
-pub returns-then-not-is_between : goal.returns-then-not-is_between
+pub returns-else-is_between : goal.returns-else-is_between
 unfolding is_time bytes
-returns-then-not-is_between c = rw (sym (time_between _ c.if-raw-ne30.false) ∙ sym c.is_between.ensures ∙ c.if-not-is_between.true)
-
-pub is_in_ranges-requires : goal.is_in_ranges-requires
-is_in_ranges-requires c = c.if-raw-ne30.false
-
-pub returns : goal.returns
-unfolding is_time bytes
-returns c =
-    c.is_in_ranges.ensures ∙ rw (sym (time_between _ c.if-raw-ne30.false) ∙ sym c.is_between.ensures ∙ c.if-not-is_between.false)
+returns-else-is_between c =
+    elim c.if-raw-eq30.branch [
+      | then-raw-eq30 w ↦ rw (c.if-is_between.false, sym (time_between c.args.raw.now w.if-raw-eq30.true) ∙ sym w.is_between.ensures ∙ sym w.value-is ∙ c.if-is_between.false)
+      | else-raw-eq30 w ↦ rw (c.if-is_between.false, pattern_differs (bytes "####-##-##T##:##:##.#########Z") c.args.raw.now (λ e. w.if-raw-eq30.false (sym e)))
+    ]

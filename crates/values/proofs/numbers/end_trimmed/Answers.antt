@@ -1,27 +1,18 @@
--- `values::numbers::end_trimmed` meets its contract. Invariant: white space was passed from the end on.
-use mathlib.Core.Path.{ap, sym, ◌∙◌}
-use native.Mathlib.Omega.{arith}
-use lib.ListN.{length, length-take}
-use lib.Seq.{take_all}
-use Rattle.values.specs.Values.{end_trimmed}
-use Rattle.values.proofs.SchemaForm.{end_on, end_off, end_none}
-use borrow.Author.Rules.{rules}
+-- `values::numbers::end_trimmed` meets its contract: as many bytes are left out as white space is at the end.
+use Rattle.std.proofs.Common.{◌∙◌, sym, reverse, rules, tests}
+use Rattle.std.proofs.lemmas.Iterator.Adapters.{YieldsList-from_rev_slice}
+use Rattle.std.proofs.lemmas.Iterator.Consumers.{count_from_yields_List}
+use Rattle.std.proofs.lemmas.Iterator.Search.{YieldsList-from_take_while}
+use Rattle.std.proofs.lemmas.List.Folds.{length-prefix_len}
+use Rattle.xml.specs.Bytes.{is_space}
+use Rattle.values.proofs.SchemaForm.{end_taken}
 use Rattle.values.proofs.numbers.end_trimmed.Goals as goal
 
-pub loop-n-init : goal.loop-n-init
-loop-n-init c = (search rules, ap end_trimmed (sym (take_all (length c.args.raw.now) c.args.raw.now (omega arith))))
-
-pub slice_bounds-result-end : goal.slice_bounds-result-end
-slice_bounds-result-end c = simp length-take (omega arith)
-
-pub returns-then-not-is_space : goal.returns-then-not-is_space
-returns-then-not-is_space c = sym (c.loop-n.invariant.1 ∙ end_off c.args.raw.now c.loop-n.n (search rules) (search rules) (sym c.is_space.ensures ∙ c.if-not-is_space.true))
-
-pub loop-n-preserved : goal.loop-n-preserved
-loop-n-preserved c = (search rules, c.loop-n.invariant.1 ∙ end_on c.args.raw.now c.loop-n.n (search rules) (search rules) (sym c.is_space.ensures ∙ c.if-not-is_space.false))
-
-pub slice_bounds-result-end-2 : goal.slice_bounds-result-end-2
-slice_bounds-result-end-2 c = simp length-take (omega arith)
-
 pub returns : goal.returns
-returns c = sym (c.loop-n.invariant.1 ∙ end_none c.args.raw.now c.loop-n.n (omega arith))
+returns c =
+    let s = c.args.raw.now in
+    let n =
+    count_from_yields_List c.take_while.result _ c.count-blank.ensures.ran
+    (YieldsList-from_take_while _ is_space (YieldsList-from_rev_slice s cc) c.take_while.ensures.closure c.take_while.ensures.done (λ x b q k. search (rules, tests)))
+    ∙ length-prefix_len is_space (reverse s) in
+    rw n (sym (end_taken s))
