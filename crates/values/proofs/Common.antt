@@ -1,10 +1,10 @@
 -- Common characters: a text of them means itself, a code point each byte, and no byte of it is unlawful in a name.
 use mathlib.Core.Path.{◌≡◌, refl, ap, ap₂, ◌∙◌}
-use mathlib.Core.Bool.{Bool, true, false, not, ◌&&◌, and-true, and-false}
+use mathlib.Core.Bool.{Bool, true, false, not, ◌&&◌, and-true}
 use mathlib.Core.List.{List, [], ◌∷◌}
-use Prim.Native.Nat.{ℕ, ◌<◌, ◌≤◌}
+use Prim.Native.Nat.{ℕ}
 use native.Mathlib.Omega.{arith}
-use borrow.Author.Tests.{eq-eqb, ne_eqb, le-leb, lt-leb, leb-true, not-true}
+use borrow.Author.Tests.{lt-leb, leb-true, not-true}
 use lib.Dec.{leb, eqb}
 use lib.ListN.{length}
 use Rattle.slices.specs.Slices.{within, every}

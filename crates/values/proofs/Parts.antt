@@ -1,18 +1,13 @@
 -- A letter by its one byte; and five tests in a row.
-use Rattle.std.specs.Prelude.{None, Option, Some}
-use mathlib.Core.Path.{◌≡◌, refl, ap, sym, ◌∙◌}
-use mathlib.Core.Bool.{Bool, true, false, cond, ◌&&◌}
+use Rattle.std.specs.Prelude.{None, Some}
+use mathlib.Core.Path.{◌≡◌, refl}
+use mathlib.Core.Bool.{Bool, true, cond, ◌&&◌}
 use mathlib.Core.List.{List, [], ◌∷◌}
-use Prim.Native.Nat.{ℕ, ◌-◌, ◌<◌}
+use Prim.Native.Nat.{ℕ}
 use native.Mathlib.Omega.{arith}
-use lib.ListN.{length, take, drop, get_or, length-drop}
-use lib.Seq.{take_all}
-use Rattle.slices.specs.Words.{bytes}
+use lib.ListN.{length, get_or}
 use Rattle.quantities.specs.Letters.{is_letter}
-use Rattle.digits.specs.Decimal.{plain_number}
-use Rattle.texts.specs.Decoded.{begins}
-use Rattle.texts.proofs.Meanings.{begins_short}
-use Rattle.values.specs.Values.{letter, at_most, version}
+use Rattle.values.specs.Values.{letter}
 
 pub letter_one : (s : List ℕ) → length s ≡ 1 → letter s ≡ cond (is_letter (get_or s 0 0)) (Some (get_or s 0 0)) None
 unfolding letter
