@@ -3,7 +3,7 @@ use Rattle.std.specs.Prelude.{◌≡◌, List, [], ◌∷◌, ℕ, None, Option,
 use lib.ListN.{length, take, drop, get_or}
 use Rattle.refusals.specs.Refusals.{Answer}
 use Rattle.quantities.specs.Addresses.{Address}
-use Rattle.extents.specs.Rows.{Row}
+use Rattle.extents.specs.declared.Row.{Row}
 use Rattle.index.specs.Index.{Index, Summary, summary, index_of}
 use Rattle.index.specs.Places.{update_time_place}
 use Rattle.index_files.specs.Names.{file_tag}

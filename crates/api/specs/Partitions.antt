@@ -5,7 +5,8 @@ use Rattle.refusals.specs.Refusals.{Answer, require, and_then}
 use Rattle.quantities.specs.Sizes.{is_block_size}
 use Rattle.tape.specs.declared.Front.{Front}
 use Rattle.tape.specs.Tape.{Tape}
-use Rattle.tape.specs.Answers.{tape_in, Fronts, keeping, kept_of, StorePart, place_of, block_of, Holds}
+use Rattle.tape.specs.declared.StorePart.{StorePart}
+use Rattle.tape.specs.Answers.{tape_in, Fronts, keeping, kept_of, place_of, block_of, Holds}
 use Rattle.tape.specs.Again.{fronts_of, KeepsAgain}
 use Rattle.constructs.specs.Constructs.{standing}
 use Rattle.constructs.specs.Tables.{table_after}

@@ -16,7 +16,6 @@ use Rattle.tape.proofs.Passing.{drop_next, bytes_next, bytes_within}
 use Rattle.tape.specs.Answers.{element_count, bytes_before}
 use Rattle.tape.specs.Steps.{Encoded}
 use Rattle.refusals.specs.declared.Refusal.{Refusal}
-use Rattle.std.specs.declared.result.Result.TheVariants as Scanned·is
 use Rattle.constructs.specs.declared.Phase.{Phase}
 use Rattle.constructs.specs.declared.Phase.TheVariants.{Labels}
 use Rattle.constructs.specs.Constructs.{Construct, Scan, run_after, scan_step, scan, scan_start, standing}
@@ -143,10 +142,10 @@ bytes_bound {at} m =
     omega (arith, ap length m.encodes.stores, bytes_within m.tape at)
 
 -- what a scan answers of a tape that is there, or is not
-pub scans_found : (B n : ℕ) (l s before after : List ℕ) (count : ℕ) (p : Present l s count) → FindsConstructs B l s before after n → ScansPartition B l s before after (Scanned·is.Ok n)
+pub scans_found : (B n : ℕ) (l s before after : List ℕ) (count : ℕ) (p : Present l s count) → FindsConstructs B l s before after n → ScansPartition B l s before after (Ok n)
 scans_found B n l s before after count p f =
     let r = f p.tape p.encodes in
     record { answers = rw p.read (ap Ok r.number); holds = rw p.read r.table }
 
-pub scans_refused : (B : ℕ) (l s table : List ℕ) (r : Refusal) → Err r ≡ element_count l s → ScansPartition B l s table table (Scanned·is.Err r)
+pub scans_refused : (B : ℕ) (l s table : List ℕ) (r : Refusal) → Err r ≡ element_count l s → ScansPartition B l s table table (Err r)
 scans_refused B l s table r e = let a = absent l s r e in record { answers = rw a; holds = rw a }

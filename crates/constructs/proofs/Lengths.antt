@@ -16,22 +16,22 @@ use Rattle.tape.proofs.Elements.{ElementAt, BlockAt}
 use Rattle.tape.proofs.Passing.{drop_next}
 use Rattle.tape.specs.Steps.{Encoded}
 use Rattle.constructs.specs.Constructs.{data_lengths, data_lengths_from}
-use Rattle.constructs.specs.ReachSteps.{labels_after, even_after, data_length, PutsLengths}
+use Rattle.constructs.specs.ReachSteps.{even_after, data_length, PutsLengths}
 use Rattle.constructs.proofs.Sequences.{set_next}
 
-lengths_mark : (k : ℕ) (even : Bool) (t : Tape) → data_lengths_from k even (mark ∷ t) ≡ 0 ∷ data_lengths_from (labels_after k) (even_after k even) t
+lengths_mark : (k : ℕ) (even : Bool) (t : Tape) → data_lengths_from k even (mark ∷ t) ≡ 0 ∷ data_lengths_from (k - 1) (even_after k even) t
 unfolding data_lengths_from
 lengths_mark zero even t = refl
 lengths_mark (suc k) even t = let e : suc k - 1 ≡ k = omega arith in simp (ne_eqb (suc k) 0 (λ q. omega arith), e)
 
 lengths_block : (k : ℕ) (even : Bool) (x : List ℕ) (t : Tape)
-    → data_lengths_from k even (block x ∷ t) ≡ data_length k even (length x) ∷ data_lengths_from (labels_after k) even t
+    → data_lengths_from k even (block x ∷ t) ≡ data_length k even (length x) ∷ data_lengths_from (k - 1) even t
 unfolding data_lengths_from
 lengths_block zero true x t = refl
 lengths_block zero false x t = refl
 lengths_block (suc k) even x t = let e : suc k - 1 ≡ k = omega arith in simp (ne_eqb (suc k) 0 (λ q. omega arith), e)
 
-lengths_unreadable : (k : ℕ) (even : Bool) (t : Tape) → data_lengths_from k even (unreadable ∷ t) ≡ 0 ∷ data_lengths_from (labels_after k) even t
+lengths_unreadable : (k : ℕ) (even : Bool) (t : Tape) → data_lengths_from k even (unreadable ∷ t) ≡ 0 ∷ data_lengths_from (k - 1) even t
 unfolding data_lengths_from
 lengths_unreadable zero even t = refl
 lengths_unreadable (suc k) even t = let e : suc k - 1 ≡ k = omega arith in simp (ne_eqb (suc k) 0 (λ q. omega arith), e)
@@ -69,16 +69,16 @@ module _ {l s : List ℕ} {count : ℕ} {T table : List ℕ} {place at k : ℕ} 
         holds = rw (m.holds, add-one at) (set_next T (data_lengths m.tape) at v (data_lengths_from k' even' t) r);
       }
 
-  pub lengths_past_mark : {next : ℕ} → ElementAt mark l next m.tape at → LengthsAt l s count T (set table at 0) next (at + 1) (labels_after k) (even_after k even)
-  lengths_past_mark {next} w = lengths_next next 0 (labels_after k) (even_after k even) mark w.rest w.is w.left (lengths_mark k even w.rest)
+  pub lengths_past_mark : {next : ℕ} → ElementAt mark l next m.tape at → LengthsAt l s count T (set table at 0) next (at + 1) (k - 1) (even_after k even)
+  lengths_past_mark {next} w = lengths_next next 0 (k - 1) (even_after k even) mark w.rest w.is w.left (lengths_mark k even w.rest)
 
-  pub lengths_past_block : {next n : ℕ} → BlockAt l next n m.tape at → LengthsAt l s count T (set table at (data_length k even n)) next (at + 1) (labels_after k) even
+  pub lengths_past_block : {next n : ℕ} → BlockAt l next n m.tape at → LengthsAt l s count T (set table at (data_length k even n)) next (at + 1) (k - 1) even
   lengths_past_block {next} {n} w =
       rw w.size
-      (lengths_next next (data_length k even (length w.bytes)) (labels_after k) even (block w.bytes) w.rest w.is w.left (lengths_block k even w.bytes w.rest))
+      (lengths_next next (data_length k even (length w.bytes)) (k - 1) even (block w.bytes) w.rest w.is w.left (lengths_block k even w.bytes w.rest))
 
-  pub lengths_past_unreadable : {next : ℕ} → ElementAt unreadable l next m.tape at → LengthsAt l s count T (set table at 0) next (at + 1) (labels_after k) even
-  lengths_past_unreadable {next} w = lengths_next next 0 (labels_after k) even unreadable w.rest w.is w.left (lengths_unreadable k even w.rest)
+  pub lengths_past_unreadable : {next : ℕ} → ElementAt unreadable l next m.tape at → LengthsAt l s count T (set table at 0) next (at + 1) (k - 1) even
+  lengths_past_unreadable {next} w = lengths_next next 0 (k - 1) even unreadable w.rest w.is w.left (lengths_unreadable k even w.rest)
 
 pub length_lengths : (k : ℕ) (even : Bool) (t : Tape) → length (data_lengths_from k even t) ≡ length t
 unfolding data_lengths_from

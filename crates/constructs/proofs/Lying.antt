@@ -12,7 +12,7 @@ use borrow.Author.Tests.{eqb-true, eqb-false, le-leb, lt-leb, eq-eqb, ne_eqb, lt
 use Rattle.slices.specs.Slices.{every}
 use Rattle.slices.proofs.Booleans.{split, same_leb}
 use Rattle.slices.proofs.Parts.{drop_front}
-use Rattle.extents.specs.Rows.{Row}
+use Rattle.extents.specs.declared.Row.{Row}
 use Rattle.extents.specs.Tape.{lies_on_tape}
 use Rattle.constructs.specs.ReachSteps.{reaches, lies_by}
 use Rattle.constructs.proofs.Reaching.{length_reaches}

@@ -1,5 +1,5 @@
 -- The walk back that turns lengths into how far data blocks reach.
-use Rattle.std.specs.Prelude.{Err}
+use Rattle.std.specs.Prelude.{Ok, Err}
 use mathlib.Core.Path.{◌≡◌, refl, sym, ◌∙◌, ap}
 use mathlib.Core.Bool.{Bool, true, false, not, cond}
 use mathlib.Core.List.{List, [], ◌∷◌, ◌++◌}
@@ -12,7 +12,6 @@ use borrow.Author.Tests.{eqb-true, le-leb, lt-leb}
 use Rattle.slices.proofs.Booleans.{split}
 use Rattle.refusals.specs.declared.Refusal.{Refusal}
 use Rattle.refusals.specs.declared.Refusal.TheVariants as refusal
-use Rattle.std.specs.declared.result.Result.TheVariants as checked
 use Rattle.tape.specs.Tape.{Tape, mark, block, unreadable, store, content}
 use Rattle.tape.specs.Answers.{element_count}
 use Rattle.tape.proofs.Keeping.{Present, absent}
@@ -152,15 +151,15 @@ module _ (T : List ℕ) (l s : List ℕ) (count : ℕ) (p : Present l s count) (
       let b = p.encodes.bytes in
       rw front_lengths (omega (arith, sum_lengths 4 true p.tape, ap length p.encodes.stores))
 
-  pub reaches_found : (B : ℕ) → Reaches B l s T (reaches B (take count (sets T 0 (data_lengths p.tape))) ++ drop count (sets T 0 (data_lengths p.tape))) (checked.Ok count)
+  pub reaches_found : (B : ℕ) → Reaches B l s T (reaches B (take count (sets T 0 (data_lengths p.tape))) ++ drop count (sets T 0 (data_lengths p.tape))) (Ok count)
   reaches_found B =
       let w : leb (length p.tape) (length T) ≡ true = le-leb (length p.tape) (length T) (rw p.count room) in
       record { answers = rw (p.read, w, p.count); holds = rw (p.read, w, p.count, front_lengths, back_lengths) }
 
-pub reaches_short : (B : ℕ) (T l s : List ℕ) (count : ℕ) → Present l s count → length T < count → Reaches B l s T T (checked.Err refusal.Short)
+pub reaches_short : (B : ℕ) (T l s : List ℕ) (count : ℕ) → Present l s count → length T < count → Reaches B l s T T (Err refusal.Short)
 reaches_short B T l s count p h =
     let w : leb (length p.tape) (length T) ≡ false = lt-leb (length p.tape) (length T) (rw p.count h) in
     record { answers = rw (p.read, w); holds = rw (p.read, w) }
 
-pub reaches_refused : (B : ℕ) (T l s : List ℕ) (r : Refusal) → Err r ≡ element_count l s → Reaches B l s T T (checked.Err r)
+pub reaches_refused : (B : ℕ) (T l s : List ℕ) (r : Refusal) → Err r ≡ element_count l s → Reaches B l s T T (Err r)
 reaches_refused B T l s r e = let a = absent l s r e in record { answers = rw a; holds = rw a }

@@ -22,11 +22,7 @@ unfoldable pub sum_of : List ℕ → ℕ
 sum_of [] = 0
 sum_of (x ∷ xs) = x + sum_of xs
 
--- elements of the labels that are still to come, behind an element
-abbrev pub labels_after : ℕ → ℕ
-labels_after k = cond (eqb k 0) 0 (k - 1)
-
--- whether the marks behind the labels are even in number, behind a mark
+-- with so many elements of the labels still to come: whether the marks behind the labels are even in number, behind a mark
 abbrev pub even_after : ℕ → Bool → Bool
 even_after k even = cond (eqb k 0) (not even) even
 

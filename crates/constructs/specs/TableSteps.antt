@@ -6,7 +6,6 @@ use Rattle.tape.specs.Tape.{Tape, Encodes}
 use Rattle.tape.specs.Answers.{tape_in}
 use Rattle.refusals.specs.Refusals.{Answer, and_then}
 use Rattle.constructs.specs.declared.Bounds.{Bounds}
-use Rattle.std.specs.declared.result.Result.TheVariants as scanned_is
 use Rattle.constructs.specs.Constructs.{max_constructs, standing}
 use Rattle.constructs.specs.Tables.{construct_entries, table_after}
 

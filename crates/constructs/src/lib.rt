@@ -37,98 +37,74 @@ enum Phase {
     Defect,
 }
 
-// The phase behind a mark, element at, with off bytes of blocks before it.
-fn after_mark(phase: Phase, at: usize, off: usize) -> Phase
-    requires { at < max_elements }
-    ensures { result ≡ after_mark phase at off }
-{
-    match phase {
-        Phase::Labels(k) => past_label(k),
-        Phase::Data => Phase::Index {
-            first: at + 1,
-            from: off,
-            short: false,
-            holed: false,
-        },
-        Phase::Index {
-            first,
-            from: _,
-            short: _,
-            holed: _,
-        } => {
-            if first == at {
-                Phase::Defect
-            } else {
-                Phase::Data
-            }
+impl Phase {
+    // The phase behind the next element of the labels, with so many after it.
+    fn past_label(k: usize) -> Phase
+        ensures { result ≡ past_labels k }
+    {
+        match k {
+            0 => Phase::Data,
+            _ => Phase::Labels(k - 1),
         }
-        Phase::Defect => Phase::Defect,
     }
-}
 
-fn past_label(k: usize) -> Phase
-    ensures { result ≡ past_labels k }
-{
-    if k == 0 {
-        return Phase::Data;
+    // The phase behind a mark, element at, with off bytes of blocks before it.
+    fn after_mark(self, at: usize, off: usize) -> Phase
+        requires { at < max_elements }
+        ensures { result ≡ after_mark self at off }
+    {
+        match self {
+            Phase::Labels(k) => Phase::past_label(k),
+            Phase::Data => Phase::Index {
+                first: at + 1,
+                from: off,
+                short: false,
+                holed: false,
+            },
+            Phase::Index { first, .. } if first == at => Phase::Defect,
+            Phase::Index { .. } => Phase::Data,
+            Phase::Defect => Phase::Defect,
+        }
     }
-    Phase::Labels(k - 1)
-}
 
-// The phase behind a block of n bytes.
-fn after_block(phase: Phase, size: usize, n: usize) -> Phase
-    ensures { result ≡ after_block phase size n }
-{
-    match phase {
-        Phase::Labels(k) => past_label(k),
-        Phase::Data => { if size < n { Phase::Defect } else { Phase::Data } }
-        Phase::Index {
-            first,
-            from,
-            short,
-            holed,
-        } => {
-            if short {
-                return Phase::Defect;
-            }
-            if size < n {
-                return Phase::Defect;
-            }
+    // The phase behind a block of n bytes.
+    fn after_block(self, size: usize, n: usize) -> Phase
+        ensures { result ≡ after_block self size n }
+    {
+        match self {
+            Phase::Labels(k) => Phase::past_label(k),
+            Phase::Data if n <= size => Phase::Data,
             Phase::Index {
-                first: first,
-                from: from,
+                first,
+                from,
+                short: false,
+                holed,
+            } if n <= size => Phase::Index {
+                first,
+                from,
                 short: n < size,
-                holed: holed,
-            }
+                holed,
+            },
+            _ => Phase::Defect,
         }
-        Phase::Defect => Phase::Defect,
     }
-}
 
-// The phase behind an unreadable block.
-fn after_unreadable(phase: Phase) -> Phase
-    ensures { result ≡ after_unreadable phase }
-{
-    match phase {
-        Phase::Labels(k) => past_label(k),
-        Phase::Data => Phase::Data,
-        Phase::Index {
-            first,
-            from,
-            short,
-            holed: _,
-        } => {
-            if short {
-                return Phase::Defect; // the short block was not the last
-            }
-            Phase::Index {
-                first: first,
-                from: from,
+    // The phase behind an unreadable block.
+    fn after_unreadable(self) -> Phase
+        ensures { result ≡ after_unreadable self }
+    {
+        match self {
+            Phase::Labels(k) => Phase::past_label(k),
+            Phase::Data => Phase::Data,
+            Phase::Index { short: true, .. } => Phase::Defect, // the short block was not the last
+            Phase::Index { first, from, .. } => Phase::Index {
+                first,
+                from,
                 short: false,
                 holed: true,
-            }
+            },
+            Phase::Defect => Phase::Defect,
         }
-        Phase::Defect => Phase::Defect,
     }
 }
 
@@ -158,21 +134,16 @@ fn close(table: &mut [u32; NUMBERS], n: usize, phase: Phase, at: usize, off: usi
     ensures { (result ≡ closed_count n phase at) × (table.new ≡ closed_table table.old n phase at off) }
 {
     match phase {
-        Phase::Labels(_) => n,
-        Phase::Data => n,
         Phase::Index {
             first,
             from,
-            short: _,
             holed,
-        } => {
-            if first == at {
-                return n;
-            }
+            ..
+        } if first != at => {
             enter(table, n, first, at + 1, from, text_end(holed, from, off));
             n + 1
         }
-        Phase::Defect => n,
+        _ => n,
     }
 }
 
@@ -182,33 +153,26 @@ fn fill(list: &[u8], store: &[u8], count: usize, size: usize, table: &mut [u32; 
     ensures { FindsConstructs size list.now store.now table.old table.new result }
 {
     let mut place: usize = 0;
-    let mut at: usize = 0;
     let mut off: usize = 0;
     let mut n: usize = 0;
     let mut phase = Phase::Labels(3);
-    while at < count {
+    for at in 0..count {
         match tape::entry_at(list, place) {
             Entry::Mark(next) => {
                 n = close(table, n, phase, at, off);
-                phase = after_mark(phase, at, off);
+                phase = phase.after_mark(at, off);
                 place = next;
-                at += 1;
             }
             Entry::Block(k, next) => {
-                phase = after_block(phase, size, k);
+                phase = phase.after_block(size, k);
                 off += k;
                 place = next;
-                at += 1;
             }
             Entry::Unreadable(next) => {
-                phase = after_unreadable(phase);
+                phase = phase.after_unreadable();
                 place = next;
-                at += 1;
             }
-            Entry::End => {
-                return n;
-            }
-            Entry::Bad => {
+            Entry::End | Entry::Bad => {
                 return n;
             }
         }
@@ -218,20 +182,21 @@ fn fill(list: &[u8], store: &[u8], count: usize, size: usize, table: &mut [u32; 
 
 // Puts the standing constructs of a partition into a table, four numbers for each: its first block, the elements through its closing
 // mark, and where its text begins and ends in the store, the same place where it has an unreadable block.
-pub fn scan(list: &[u8], store: &[u8], block_size: usize, table: &mut [u32; NUMBERS]) -> Result<usize, Refusal>
+pub fn scan(
+    list: &[u8],
+    store: &[u8],
+    block_size: usize,
+    table: &mut [u32; NUMBERS],
+) -> Result<usize, Refusal>
     ensures { ScansPartition block_size list.now store.now table.old table.new result }
 {
-    match tape::check(list, store) {
-        Ok(count) => Ok(fill(
-            list, store, count, block_size, table,
-        )),
-        Err(r) => Err(r),
-    }
+    let count = tape::check(list, store)?;
+    Ok(fill(list, store, count, block_size, table))
 }
 
 // Where a construct lies: its first block, the elements through its closing mark, and where its text begins and ends in the store, the
 // same place where it has an unreadable block.
-#[derive(Clone, Copy)]
+#[derive(Clone, Copy, PartialEq, Eq, Debug)]
 pub struct Bounds {
     pub first: BlockNumber,
     pub end: usize,
@@ -239,13 +204,7 @@ pub struct Bounds {
     pub to: usize,
 }
 
-fn wide(x: u32) -> usize
-    ensures { result ≡ x }
-{
-    x as usize
-}
-
-// The construct with number k of a table.
+// The construct with number k of a table, zeros past the last.
 pub fn construct(table: &[u32; NUMBERS], k: usize) -> Bounds
     ensures { result ≡ bounds_in table.now k }
 {
@@ -259,9 +218,9 @@ pub fn construct(table: &[u32; NUMBERS], k: usize) -> Bounds
     }
     let i = k * 4;
     Bounds {
-        first: BlockNumber(wide(table[i]) as u64),
-        end: wide(table[i + 1]),
-        from: wide(table[i + 2]),
-        to: wide(table[i + 3]),
+        first: BlockNumber(u64::from(table[i])),
+        end: table[i + 1] as usize,
+        from: table[i + 2] as usize,
+        to: table[i + 3] as usize,
     }
 }

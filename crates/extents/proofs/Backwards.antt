@@ -10,7 +10,8 @@ use lib.ListN.{length, drop}
 use Rattle.slices.specs.Slices.{every}
 use Rattle.slices.proofs.Booleans.{and_both}
 use Rattle.slices.proofs.Every.{every_weaker}
-use Rattle.extents.specs.Rows.{Row, rows_of}
+use Rattle.extents.specs.declared.Row.{Row}
+use Rattle.extents.specs.Rows.{rows_of}
 use Rattle.extents.specs.Steps.{row_from}
 use Rattle.extents.specs.Lawful.{row_end, clear, apart}
 use Rattle.extents.proofs.Rows.{rows_on, rows_end}

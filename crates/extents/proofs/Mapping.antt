@@ -16,7 +16,8 @@ use Rattle.slices.proofs.Booleans.{split, and_left, and_right}
 use Rattle.refusals.specs.Refusals.{require}
 use Rattle.refusals.specs.declared.Refusal.TheVariants.{Missing}
 use Rattle.quantities.specs.Sizes.{is_block_size}
-use Rattle.extents.specs.Rows.{Row, numbers_of}
+use Rattle.extents.specs.declared.Row.{Row}
+use Rattle.extents.specs.Rows.{numbers_of}
 use Rattle.extents.specs.Lawful.{in_row, lawful, holders}
 use Rattle.extents.specs.Map.{byte_in_row, byte_at, lettered, byte_map}
 use Rattle.extents.proofs.Rows.{rows_numbers, length_numbers}

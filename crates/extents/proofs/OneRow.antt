@@ -7,7 +7,7 @@ use borrow.Author.Tests.{le-leb, lt-ltb, leb-true, ltb-true}
 use lib.Dec.{leb, ltb}
 use Rattle.slices.proofs.Booleans.{and_left, and_right, and_both}
 use Rattle.quantities.specs.Letters.{is_letter}
-use Rattle.extents.specs.Rows.{Row}
+use Rattle.extents.specs.declared.Row.{Row}
 use Rattle.extents.specs.Lawful.{row_end, in_row, last_block, row_lawful}
 use Rattle.extents.proofs.Blocks.{div_mono}
 

@@ -8,7 +8,8 @@ use native.Mathlib.Numerals.{add-one}
 use Rattle.std.proofs.lemmas.Grind.{common_steps}
 use lib.ListN.{length, take, drop, get_or, drop_of_length-le}
 use lib.Seq.{drop-drop, get_or-drop, drop-cons}
-use Rattle.extents.specs.Rows.{Row, rows_of, numbers_of}
+use Rattle.extents.specs.declared.Row.{Row}
+use Rattle.extents.specs.Rows.{rows_of, numbers_of}
 use Rattle.extents.specs.Steps.{row_from}
 
 pub rows_count : (s : List ℕ) → length (rows_of s) ≡ length s / 5

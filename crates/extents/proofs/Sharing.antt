@@ -9,7 +9,7 @@ use borrow.Author.Tests.{leb-true, leb-false}
 use lib.Dec.{leb}
 use Rattle.slices.specs.Slices.{every}
 use Rattle.slices.proofs.Booleans.{split, and_left, and_right, and_both}
-use Rattle.extents.specs.Rows.{Row}
+use Rattle.extents.specs.declared.Row.{Row}
 use Rattle.extents.specs.Lawful.{row_end, in_row, row_lawful, each_lawful, clear, apart, lawful, holders, Lawful}
 use Rattle.extents.proofs.OneRow.{in_row_lem, in_row_if}
 

@@ -1,7 +1,7 @@
 -- Lawful extents for a file of length L and blocks of size B (01, Extents), in exact numbers.
 use Rattle.std.specs.Prelude.{◌≡◌, Bool, true, cond, ◌&&◌, ◌||◌, List, [], ◌∷◌, ℕ, ◌+◌, ◌-◌, ◌/◌, ◌≤◌, leb, ltb}
 use Rattle.slices.specs.Slices.{every}
-use Rattle.extents.specs.Rows.{Row}
+use Rattle.extents.specs.declared.Row.{Row}
 
 -- the file position after a row's last
 abbrev pub row_end : Row → ℕ

@@ -6,7 +6,8 @@ use Rattle.slices.specs.Slices.{every}
 use Rattle.quantities.specs.Letters.{is_letter}
 use Rattle.quantities.specs.Sizes.{is_block_size}
 use Rattle.extents.specs.declared.Stored.{Stored}
-use Rattle.extents.specs.Rows.{Row, rows_of}
+use Rattle.extents.specs.declared.Row.{Row}
+use Rattle.extents.specs.Rows.{rows_of}
 use Rattle.extents.specs.Lawful.{in_row, lawful}
 
 -- a byte of a block; none: a zero byte that is not stored

@@ -1,6 +1,6 @@
 -- Rows of extents (01, Extents): five numbers each, in a list of numbers one after the other.
 use Rattle.std.specs.Prelude.{List, [], ◌∷◌, ◌++◌, ℕ}
-pub use Rattle.extents.specs.declared.Row.{Row}
+use Rattle.extents.specs.declared.Row.{Row}
 
 -- the rows of numbers in fives; fewer than five are no row
 unfoldable pub rows_of : List ℕ → List Row

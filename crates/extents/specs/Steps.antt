@@ -1,6 +1,6 @@
 -- The row whose numbers begin at a place.
 use Rattle.std.specs.Prelude.{List, ℕ, ◌+◌, get_or}
-use Rattle.extents.specs.Rows.{Row}
+use Rattle.extents.specs.declared.Row.{Row}
 
 -- the row whose numbers begin at a place
 abbrev pub row_from : List ℕ → ℕ → Row

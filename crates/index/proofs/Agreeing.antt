@@ -11,7 +11,7 @@ use Rattle.slices.specs.Slices.{every}
 use Rattle.slices.proofs.Booleans.{and_left, and_right}
 use Rattle.xml.specs.Tree.{Head, Forest, none, node, tag_head}
 use Rattle.elements.specs.Tags.{Tags, told, heads}
-use Rattle.extents.specs.Rows.{Row}
+use Rattle.extents.specs.declared.Row.{Row}
 use Rattle.index_names.specs.Sorts.{root, directory, file, holds_elements}
 use Rattle.index_values.specs.Elements.{IndexElement, element, elements, sort_of}
 use Rattle.index_values.specs.Entries.{is_entry, uid_of, uids_of, many}

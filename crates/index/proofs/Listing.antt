@@ -13,7 +13,8 @@ use Rattle.slices.specs.Slices.{every}
 use Rattle.slices.proofs.Booleans.{and_left, and_right}
 use Rattle.xml.specs.Tree.{Head, Forest, none, node, tag_head}
 use Rattle.elements.specs.Tags.{Tags, told, heads}
-use Rattle.extents.specs.Rows.{Row, numbers_of}
+use Rattle.extents.specs.declared.Row.{Row}
+use Rattle.extents.specs.Rows.{numbers_of}
 use Rattle.extents.proofs.Rows.{length_numbers}
 use Rattle.index_names.specs.Sorts.{root, directory, file, extentinfo, extent, unknown, holds_elements}
 use Rattle.index_names.specs.Rows.{sorts_of}

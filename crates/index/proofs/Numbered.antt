@@ -13,7 +13,8 @@ use Rattle.elements.specs.Tags.{Tags, heads}
 use Rattle.elements.specs.declared.heads.Span.{Span}
 use Rattle.children.specs.Children.{text_of_first}
 use Rattle.children.specs.RowSteps.{seat}
-use Rattle.extents.specs.Rows.{Row, numbers_of}
+use Rattle.extents.specs.declared.Row.{Row}
+use Rattle.extents.specs.Rows.{numbers_of}
 use Rattle.extents.proofs.Rows.{length_numbers}
 use Rattle.index_names.specs.Sorts.{file}
 use Rattle.index_rows.specs.Steps.{Placed, TagsPlaced, TextSeated}

@@ -6,7 +6,7 @@ use Rattle.elements.specs.Tags.{Tags, heads, tags_at}
 use Rattle.elements.specs.declared.heads.Span.{Span}
 use Rattle.children.specs.Children.{children_of_first}
 use Rattle.children.specs.Places.{tags_named, first_text}
-use Rattle.extents.specs.Rows.{Row}
+use Rattle.extents.specs.declared.Row.{Row}
 use Rattle.index_names.specs.Sorts.{index, file, holds_elements}
 use Rattle.index_values.specs.Elements.{sort_of}
 use Rattle.index_values.specs.Entries.{is_entry, uid_of}

@@ -11,7 +11,7 @@ use Rattle.xml.specs.Tree.{Head, Forest, none as no_element, node}
 use Rattle.xml.specs.CheckSteps.{require_form}
 use Rattle.elements.specs.Reading.{forest_at, has_element}
 use Rattle.values.specs.Values as values
-use Rattle.extents.specs.Rows.{Row}
+use Rattle.extents.specs.declared.Row.{Row}
 use Rattle.index_names.specs.Sorts.{index, file}
 use Rattle.index_values.specs.Elements.{IndexElement, elements, text_in, children_in}
 use Rattle.index.specs.Structure.{complete, rightly}

@@ -4,7 +4,8 @@ use Rattle.std.specs.Prelude.{◌≡◌, true, false, cond, ◌&&◌, List, ℕ,
 use Rattle.std.proofs.lemmas.List.Edits.{sets}
 use Rattle.quantities.specs.declared.BlockNumber.{BlockNumber}
 use Rattle.tables.specs.Copying.{copied}
-use Rattle.extents.specs.Rows.{Row, numbers_of}
+use Rattle.extents.specs.declared.Row.{Row}
+use Rattle.extents.specs.Rows.{numbers_of}
 use Rattle.xml.specs.Tree.{Forest, none}
 use Rattle.elements.specs.Tags.{Tags, heads, tags_at, tags_in}
 use Rattle.elements.specs.declared.heads.Span.{Span}

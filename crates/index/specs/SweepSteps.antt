@@ -3,7 +3,8 @@ use Rattle.std.specs.Prelude.{Bool, cond, ◌&&◌, ◌||◌, List, ℕ, ◌+◌
 use Rattle.std.proofs.lemmas.List.Edits.{sets}
 use Rattle.xml.specs.Tree.{Head, Forest, none, node, tag_head}
 use Rattle.elements.specs.Tags.{Tags, heads}
-use Rattle.extents.specs.Rows.{Row, numbers_of}
+use Rattle.extents.specs.declared.Row.{Row}
+use Rattle.extents.specs.Rows.{numbers_of}
 use Rattle.index_names.specs.Sorts.{file, holds_elements}
 use Rattle.index_names.specs.Tables.{must, repeats}
 use Rattle.index_values.specs.Elements.{name_number, sort_of}

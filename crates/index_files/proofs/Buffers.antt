@@ -6,7 +6,8 @@ use native.Mathlib.Omega.{arith}
 use lib.ListN.{length, set, length-append}
 use Rattle.slices.specs.Slices.{written}
 use Rattle.slices.proofs.Writing.{written_set, written_snoc, written_then, written_nil, length_written}
-use Rattle.extents.specs.Rows.{Row, five, numbers_of}
+use Rattle.extents.specs.declared.Row.{Row}
+use Rattle.extents.specs.Rows.{five, numbers_of}
 use Rattle.extents.proofs.Rows.{length_numbers}
 use Rattle.index_files.specs.FillingSteps.{WritesRows}
 

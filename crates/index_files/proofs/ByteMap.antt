@@ -17,7 +17,8 @@ use Rattle.slices.proofs.Writing.{front_written}
 use Rattle.quantities.specs.Letters.{are_letters}
 use Rattle.quantities.specs.Sizes.{is_block_size}
 use Rattle.values.specs.Values as values
-use Rattle.extents.specs.Rows.{Row, rows_of, numbers_of}
+use Rattle.extents.specs.declared.Row.{Row}
+use Rattle.extents.specs.Rows.{rows_of, numbers_of}
 use Rattle.extents.specs.Lawful.{lawful}
 use Rattle.extents.specs.Map.{byte_at, lettered, byte_map}
 use Rattle.extents.proofs.Rows.{rows_numbers, length_numbers}

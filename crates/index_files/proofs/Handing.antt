@@ -21,7 +21,8 @@ use Rattle.elements.specs.Tags.{Tags, told, heads, tags_at}
 use Rattle.elements.proofs.ByTag.{row_told}
 use Rattle.elements.proofs.Roots.{root_row}
 use Rattle.children.specs.Children.{children_of_first}
-use Rattle.extents.specs.Rows.{Row, numbers_of}
+use Rattle.extents.specs.declared.Row.{Row}
+use Rattle.extents.specs.Rows.{numbers_of}
 use Rattle.extents.proofs.Rows.{length_numbers}
 use Rattle.index_names.specs.Sorts.{index}
 use Rattle.index_values.specs.Elements.{IndexElement, elements}

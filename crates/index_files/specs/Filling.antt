@@ -7,7 +7,8 @@ use Rattle.refusals.specs.declared.Refusal.TheVariants.{Short}
 use Rattle.slices.specs.Slices.{written}
 use Rattle.elements.specs.declared.heads.Span.{Span}
 use Rattle.elements.specs.Reading.{Spans}
-use Rattle.extents.specs.Rows.{Row, numbers_of}
+use Rattle.extents.specs.declared.Row.{Row}
+use Rattle.extents.specs.Rows.{numbers_of}
 use Rattle.index.specs.Index.{File}
 use Rattle.index_files.specs.Names.{name_place}
 

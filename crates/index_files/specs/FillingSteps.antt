@@ -3,7 +3,8 @@ use Rattle.refusals.specs.declared.Refusal.{Refusal}
 use Rattle.std.specs.Prelude.{◌≡◌, List, ℕ, ◌+◌, ◌*◌, length, Err, Ok, Result}
 use Rattle.refusals.specs.Refusals.{Answer, and_then}
 use Rattle.slices.specs.Slices.{written}
-use Rattle.extents.specs.Rows.{Row, numbers_of}
+use Rattle.extents.specs.declared.Row.{Row}
+use Rattle.extents.specs.Rows.{numbers_of}
 use Rattle.index_files.specs.Filling.{Stored}
 
 module _ {A : Type 0} where

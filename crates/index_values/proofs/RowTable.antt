@@ -7,7 +7,8 @@ use lib.ListN.{length, take, drop, set, length-append}
 use lib.Seq.{sets, sets-eq, take_at, length-take-le}
 use Rattle.xml.specs.Tree.{Forest, none, node}
 use Rattle.elements.specs.Reading.{forest_at, head_at, children_at}
-use Rattle.extents.specs.Rows.{Row, rows_of, five}
+use Rattle.extents.specs.declared.Row.{Row}
+use Rattle.extents.specs.Rows.{rows_of, five}
 use Rattle.extents.proofs.Rows.{rows_count}
 use Rattle.index_values.specs.Tests.{row_of, rows_in}
 use Rattle.index_values.specs.Steps.{RowsRead}

@@ -6,7 +6,7 @@ use Rattle.elements.specs.Reading.{forest_at, Spans}
 use Rattle.elements.specs.declared.heads.Span.{Span}
 use Rattle.children.specs.Places.{tags_named, first_text}
 use Rattle.extents.specs.Rows as numbers
-use Rattle.extents.specs.Rows.{Row}
+use Rattle.extents.specs.declared.Row.{Row}
 use Rattle.extents.specs.Map.{max_rows}
 use Rattle.index_rows.specs.Steps.{Placed}
 use Rattle.index_names.specs.Sorts.{file}

@@ -5,7 +5,7 @@ use Rattle.slices.specs.Words.{bytes}
 use Rattle.xml.specs.Tree.{Forest, none as no_element, node}
 use Rattle.texts.specs.Decoded.{decoded}
 use Rattle.values.specs.Values as values
-use Rattle.extents.specs.Rows.{Row}
+use Rattle.extents.specs.declared.Row.{Row}
 use Rattle.extents.specs.Lawful as extents
 use Rattle.extents.specs.Map.{max_rows}
 use Rattle.index_names.specs.Sorts.{file, creator, uuid, generation, time, boolean_sort, number_sort, letter_sort, name, root_name, uid, root_uid}

@@ -20,7 +20,8 @@ use Rattle.tape.specs.declared.Spot.{Spot}
 use Rattle.tape.specs.Tape.{Tape, Element, mark, block, unreadable, cell_of, list, store, content, is_lawful_cell, lawful_tape}
 use Rattle.tape.specs.ReadingSteps.{entry_at, tape_of}
 use Rattle.tape.specs.WalkSteps.{reach, spot_of, spot_at, spot_below}
-use Rattle.tape.specs.Answers.{or_refused, StorePart, place_of, place_on, as_block, block_on, block_of, element_count, store_of, Holds}
+use Rattle.tape.specs.declared.StorePart.{StorePart}
+use Rattle.tape.specs.Answers.{or_refused, place_of, place_on, as_block, block_on, block_of, element_count, store_of, Holds}
 use Rattle.tape.specs.Steps.{FindsBlock}
 use Rattle.slices.proofs.Booleans.{split, and_parts}
 use Rattle.tape.proofs.Walking.{entry_for, width, entry_here, entry_none, next_here, reach_done, reach_step, reach_element}

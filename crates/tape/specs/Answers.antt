@@ -4,7 +4,7 @@ use Rattle.refusals.specs.declared.Refusal.TheVariants as refusal
 use Rattle.refusals.specs.Refusals.{Answer, require, and_then}
 use Rattle.quantities.specs.Letters.{are_letters}
 use Rattle.tape.specs.declared.Front.{Front}
-pub use Rattle.tape.specs.declared.StorePart.{StorePart}
+use Rattle.tape.specs.declared.StorePart.{StorePart}
 use Rattle.tape.specs.Tape.{Tape, Element, mark, block, unreadable, list, store}
 use Rattle.tape.specs.ReadingSteps.{tape_of}
 

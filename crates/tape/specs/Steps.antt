@@ -3,7 +3,8 @@ use Rattle.std.specs.Prelude.{◌≡◌, List, ℕ, length, Ok}
 use Rattle.refusals.specs.Refusals.{Answer, and_then, Shows}
 use Rattle.tape.specs.declared.Front.{Front}
 use Rattle.tape.specs.Tape.{Tape, Encodes}
-use Rattle.tape.specs.Answers.{keeping, kept_of, Holds, StorePart, block_of, place_of}
+use Rattle.tape.specs.declared.StorePart.{StorePart}
+use Rattle.tape.specs.Answers.{keeping, kept_of, Holds, block_of, place_of}
 use Rattle.tape.specs.Again.{fronts_of, KeepsAgain}
 
 -- a list and a store of a tape with so many elements

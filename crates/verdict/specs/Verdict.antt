@@ -4,7 +4,7 @@ use Rattle.std.specs.Prelude.{◌≡◌, Bool, true, false, cond, ◌&&◌, List
 use Rattle.slices.specs.Slices.{every}
 use Rattle.quantities.specs.Addresses.{Address}
 use Rattle.tape.specs.Tape.{Tape}
-use Rattle.extents.specs.Rows.{Row}
+use Rattle.extents.specs.declared.Row.{Row}
 use Rattle.extents.specs.Tape.{lies_on_tape}
 use Rattle.constructs.specs.Constructs.{Construct, standing, data_lengths}
 

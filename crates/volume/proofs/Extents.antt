@@ -14,7 +14,7 @@ use Rattle.slices.proofs.Booleans.{and_left, and_right}
 use Rattle.quantities.specs.Letters.{are_letters}
 use Rattle.quantities.specs.Sizes.{is_block_size}
 use Rattle.values.specs.Values.{is_uuid}
-use Rattle.extents.specs.Rows.{Row}
+use Rattle.extents.specs.declared.Row.{Row}
 use Rattle.extents.specs.Lawful.{row_lawful, lawful, each_lawful, apart, row_end, last_block}
 use Rattle.constructs.specs.ReachSteps.{lies_by}
 use Rattle.constructs.proofs.Lying.{lies_by_lem}

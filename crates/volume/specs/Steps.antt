@@ -2,7 +2,7 @@
 use Rattle.std.specs.Prelude.{◌≡◌, Bool, true, false, cond, ◌&&◌, List, [], ◌∷◌, ◌++◌, ℕ, ◌-◌, ◌≤◌, ◌<◌, leb, eqb, length, get_or, take, drop, None, Option, Some, Ok}
 use Rattle.slices.specs.Slices.{every}
 use Rattle.quantities.specs.Addresses.{Address}
-use Rattle.extents.specs.Rows.{Row}
+use Rattle.extents.specs.declared.Row.{Row}
 use Rattle.index.specs.Index as text
 use Rattle.index.specs.Index.{index_of}
 use Rattle.index_values.specs.Tests.{Given}

@@ -5,7 +5,7 @@ use Rattle.refusals.specs.Refusals.{Answer, and_then}
 use Rattle.refusals.specs.declared.Refusal.TheVariants.{NoCut}
 use Rattle.tape.specs.Tape.{Tape}
 use Rattle.tape.specs.Answers.{tape_in}
-use Rattle.extents.specs.Rows.{Row}
+use Rattle.extents.specs.declared.Row.{Row}
 use Rattle.index.specs.Index as text
 use Rattle.index.specs.Index.{File, index_of}
 use Rattle.index_values.specs.Tests.{Given}

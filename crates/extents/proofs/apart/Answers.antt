@@ -1,7 +1,8 @@
 -- `extents::apart` meets its contract. Invariant: the rows behind are apart, and none begins below low.
 use Rattle.std.proofs.Common.{ℕ, List, ◌≡◌, ◌≤◌, ◌<◌, ◌+◌, ◌-◌, ◌*◌, sym, ◌∙◌, ap, arith, length, take, drop, leb-true}
 use Rattle.slices.specs.Slices.{every}
-use Rattle.extents.specs.Rows.{Row, rows_of}
+use Rattle.extents.specs.declared.Row.{Row}
+use Rattle.extents.specs.Rows.{rows_of}
 use Rattle.extents.specs.Steps.{row_from}
 use Rattle.extents.specs.Lawful.{row_end, clear}
 use Rattle.extents.proofs.Rows.{rows_behind}

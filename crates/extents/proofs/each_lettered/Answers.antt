@@ -3,7 +3,8 @@ use Rattle.std.proofs.Common.{refl, rules, tests}
 use Rattle.std.proofs.lemmas.Iterator.Consumers.{YieldsList-from_first}
 use Rattle.std.proofs.lemmas.Iterator.Search.{all_from_yields_List}
 use Rattle.quantities.specs.Letters.{is_letter}
-use Rattle.extents.specs.Rows.{Row, rows_of}
+use Rattle.extents.specs.declared.Row.{Row}
+use Rattle.extents.specs.Rows.{rows_of}
 use Rattle.extents.proofs.each_lettered.Goals as goal
 
 pub returns : goal.returns

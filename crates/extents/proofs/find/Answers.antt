@@ -4,7 +4,8 @@ use Rattle.std.specs.Option.{option_map}
 use Rattle.std.proofs.lemmas.Iterator.Consumers.{YieldsList-from_first}
 use Rattle.std.proofs.lemmas.Iterator.Search.{find_from_yields_List}
 use Rattle.quantities.specs.Letters.{is_letter}
-use Rattle.extents.specs.Rows.{Row, rows_of}
+use Rattle.extents.specs.declared.Row.{Row}
+use Rattle.extents.specs.Rows.{rows_of}
 use Rattle.extents.specs.Lawful.{in_row, row_lawful}
 use Rattle.extents.specs.Map.{byte_in_row}
 use Rattle.extents.proofs.OneRow.{in_row_lem, inside_block, block_of_position, letter_fits}

@@ -3,7 +3,8 @@ use mathlib.Core.Path.{subst}
 use mathlib.Core.List.{List}
 use Prim.Native.Nat.{ℕ}
 use Rattle.refusals.specs.Refusals.{Answer}
-use Rattle.tape.specs.Answers.{StorePart, place_of, block_of, Holds}
+use Rattle.tape.specs.declared.StorePart.{StorePart}
+use Rattle.tape.specs.Answers.{place_of, block_of, Holds}
 use Rattle.tape.specs.Steps.{FindsBlock}
 use Rattle.api.proofs.Showing.{shown, not_shown}
 use Rattle.api.proofs.partitions.klapouzen_block.Goals as goal

@@ -1,9 +1,0 @@
--- `constructs::past_label` meets its contract.
-use borrow.Author.Tests.{eq-eqb, ne_eqb}
-use Rattle.constructs.proofs.past_label.Goals as goal
-
-pub returns-then-k-eq0 : goal.returns-then-k-eq0
-returns-then-k-eq0 c = simp (eq-eqb _ _ c.if-k-eq0.true)
-
-pub returns : goal.returns
-returns c = simp (ne_eqb _ _ c.if-k-eq0.false)
