@@ -77,18 +77,8 @@ fn one(kind: u64, file: &mut File) -> bool {
     place_case(&list[..l], &store[..s], file)
 }
 
-// The cases of one file.
-fn run(rt: &HostRuntime, path: &str, kind: u64) -> io::Result<()> {
-    let mut cases = case_files::open(rt, path)?;
-    while cases.left > 0 {
-        let good = one(kind, &mut cases.file);
-        cases = case_files::judged(rt, cases, good);
-    }
-    case_files::close(rt, path, cases)
-}
-
 fn main(rt: HostRuntime) -> io::Result<()> {
-    run(&rt, "vectors", 0)?;
-    run(&rt, "places", 1)?;
-    run(&rt, "unreadable", 1)
+    case_files::run(&rt, "vectors", |file| one(0, file))?;
+    case_files::run(&rt, "places", |file| one(1, file))?;
+    case_files::run(&rt, "unreadable", |file| one(1, file))
 }

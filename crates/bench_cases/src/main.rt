@@ -30,22 +30,12 @@ fn one(file: &mut File) -> bool {
     }
 }
 
-// The cases of one file.
-fn run(rt: &HostRuntime, path: &str) -> io::Result<()> {
-    let mut cases = case_files::open(rt, path)?;
-    while cases.left > 0 {
-        let good = one(&mut cases.file);
-        cases = case_files::judged(rt, cases, good);
-    }
-    case_files::close(rt, path, cases)
-}
-
 fn main(rt: HostRuntime) -> io::Result<()> {
-    run(&rt, "examples")?;
-    run(&rt, "vectors")?;
-    run(&rt, "own")?;
-    run(&rt, "spellings")?;
-    run(&rt, "numbers")?;
-    run(&rt, "kinds")?;
-    run(&rt, "unreadable")
+    case_files::run(&rt, "examples", one)?;
+    case_files::run(&rt, "vectors", one)?;
+    case_files::run(&rt, "own", one)?;
+    case_files::run(&rt, "spellings", one)?;
+    case_files::run(&rt, "numbers", one)?;
+    case_files::run(&rt, "kinds", one)?;
+    case_files::run(&rt, "unreadable", one)
 }

@@ -10,7 +10,7 @@ fn line(rt: &impl Print, s: &[u8]) -> io::Result<()> {
 
 // The number n from the place at of a buffer of 24 dots.
 fn show_written(rt: &impl Print, n: u64, at: usize) -> io::Result<()> {
-    let mut out = [46u8; 24];
+    let mut out = [b'.'; 24];
     match digits::write(&mut out, at, n) {
         Ok(_) => line(rt, &out),
         Err(_) => {
@@ -30,14 +30,10 @@ fn show_read(rt: &impl Print, s: &[u8]) -> io::Result<()> {
 }
 
 fn show_hex(rt: &impl Print) -> io::Result<()> {
-    let mut n: usize = 0;
-    while n < 256 {
-        let b = n as u8;
+    for b in 0..=255u8 {
         if digits::hex::is_digit(b) {
-            let text = [b];
-            rt.write_all(&text)?;
+            rt.write_all(&[b])?;
         }
-        n += 1;
     }
     line(rt, b"")
 }

@@ -384,16 +384,6 @@ fn construct_case(file: &mut File) -> bool {
     chosen_as(file, &store[..s], chosen, refusal)
 }
 
-// The cases of one file.
-fn run(rt: &HostRuntime, path: &str, kind: u64) -> io::Result<()> {
-    let mut cases = case_files::open(rt, path)?;
-    while cases.left > 0 {
-        let good = one(kind, &mut cases.file);
-        cases = case_files::judged(rt, cases, good);
-    }
-    case_files::close(rt, path, cases)
-}
-
 // Writes w from at on, if there is room, and answers the place behind it.
 fn add(out: &mut [u8], at: usize, w: &[u8]) -> usize {
     match slices::put(out, at, w) {
@@ -466,16 +456,16 @@ fn entries(rt: &HostRuntime, files: u64, refusal: u64) -> u64
 }
 
 fn main(rt: HostRuntime) -> io::Result<()> {
-    run(&rt, "index", 0)?;
-    run(&rt, "rows", 1)?;
-    run(&rt, "own", 0)?;
-    run(&rt, "uuid", 0)?;
-    run(&rt, "spellings", 0)?;
-    run(&rt, "numbers", 0)?;
-    run(&rt, "number_spellings", 0)?;
-    run(&rt, "constructs", 2)?;
-    run(&rt, "construct_kinds", 2)?;
-    run(&rt, "construct_unreadable", 2)?;
+    case_files::run(&rt, "index", |file| one(0, file))?;
+    case_files::run(&rt, "rows", |file| one(1, file))?;
+    case_files::run(&rt, "own", |file| one(0, file))?;
+    case_files::run(&rt, "uuid", |file| one(0, file))?;
+    case_files::run(&rt, "spellings", |file| one(0, file))?;
+    case_files::run(&rt, "numbers", |file| one(0, file))?;
+    case_files::run(&rt, "number_spellings", |file| one(0, file))?;
+    case_files::run(&rt, "constructs", |file| one(2, file))?;
+    case_files::run(&rt, "construct_kinds", |file| one(2, file))?;
+    case_files::run(&rt, "construct_unreadable", |file| one(2, file))?;
     let good = entries(&rt, 3999, 6) + entries(&rt, 4095, 6) + entries(&rt, 4096, 15);
     case_files::report(&rt, "entries", good, 3)?;
     // A text too long is refused before its bytes are looked at.

@@ -155,34 +155,14 @@ fn block_case(file: &mut File) -> bool {
     slices::same(part, &expected[..e])
 }
 
-fn one(kind: u64, file: &mut File) -> bool {
-    if kind == 0 {
-        return check_case(file);
-    }
-    if kind == 1 {
-        return keep_case(file);
-    }
-    block_case(file)
-}
-
-// The cases of one file.
-fn run(rt: &HostRuntime, path: &str, kind: u64) -> io::Result<()> {
-    let mut cases = case_files::open(rt, path)?;
-    while cases.left > 0 {
-        let good = one(kind, &mut cases.file);
-        cases = case_files::judged(rt, cases, good);
-    }
-    case_files::close(rt, path, cases)
-}
-
 fn main(rt: HostRuntime) -> io::Result<()> {
-    run(&rt, "check", 0)?;
-    run(&rt, "keep", 1)?;
-    run(&rt, "block", 2)?;
-    run(&rt, "block_own", 2)?;
-    run(&rt, "check_unreadable", 0)?;
-    run(&rt, "keep_kinds", 1)?;
-    run(&rt, "keep_unreadable", 1)?;
-    run(&rt, "block_kinds", 2)?;
-    run(&rt, "block_unreadable", 2)
+    case_files::run(&rt, "check", check_case)?;
+    case_files::run(&rt, "keep", keep_case)?;
+    case_files::run(&rt, "block", block_case)?;
+    case_files::run(&rt, "block_own", block_case)?;
+    case_files::run(&rt, "check_unreadable", check_case)?;
+    case_files::run(&rt, "keep_kinds", keep_case)?;
+    case_files::run(&rt, "keep_unreadable", keep_case)?;
+    case_files::run(&rt, "block_kinds", block_case)?;
+    case_files::run(&rt, "block_unreadable", block_case)
 }
