@@ -9,7 +9,9 @@ use native.Mathlib.Omega.{arith}
 use lib.ListN.{length, take, drop}
 use lib.Seq.{sets, take_all}
 use Rattle.tape.specs.Tape.{Element, mark, block, unreadable, Tape, list, store, content, Encodes}
-use Rattle.tape.proofs.Elements.{ElementAt, BlockAt}
+use Rattle.tape.specs.declared.Entry.{Entry}
+use Rattle.tape.specs.ReadingSteps.{entry_at}
+use Rattle.tape.proofs.Elements.{ElementAt, BlockAt, Says, says_at}
 use Rattle.tape.proofs.Encoding.{one_tape}
 use Rattle.tape.proofs.Keeping.{Present, absent}
 use Rattle.tape.proofs.Passing.{drop_next, bytes_next, bytes_within}
@@ -53,6 +55,10 @@ matched_start B l s count T w =
 
 module _ {B : ℕ} {l s : List ℕ} {count : ℕ} {T table : List ℕ} {place at off n : ℕ} {phase : Phase}
     (m : Matched B l s count T table place at off n phase) (more : at < count) where
+  -- the entry there is the next element's
+  pub says : {e : Entry} → entry_at l place ≡ e → Says l m.tape at e
+  says q = let all = m.counted in says_at l place m.tape at m.encodes.blocks m.left (omega arith) q
+
   pub roomy_mark : {next : ℕ} → ElementAt mark l next m.tape at → Roomy n phase at off
   roomy_mark k =
       rw (m.number, m.phase_is)

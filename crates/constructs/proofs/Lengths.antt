@@ -6,13 +6,15 @@ use Prim.Native.Nat.{ℕ, zero, suc, ◌+◌, ◌-◌, ◌≤◌, ◌<◌}
 use native.Mathlib.Numerals.{add-one}
 use native.Mathlib.Omega.{arith}
 use lib.ListN.{length, take, drop, set}
-use lib.Seq.{sets, length-sets, take_all}
+use lib.Seq.{sets, take_all}
 use lib.Dec.{eqb}
 use borrow.Author.Tests.{ne_eqb}
 use Rattle.slices.proofs.Booleans.{split}
 use Rattle.tape.specs.Tape.{Element, mark, block, unreadable, Tape, list, Encodes}
 use Rattle.tape.proofs.Encoding.{one_tape}
-use Rattle.tape.proofs.Elements.{ElementAt, BlockAt}
+use Rattle.tape.specs.declared.Entry.{Entry}
+use Rattle.tape.specs.ReadingSteps.{entry_at}
+use Rattle.tape.proofs.Elements.{ElementAt, BlockAt, Says, says_at}
 use Rattle.tape.proofs.Passing.{drop_next}
 use Rattle.tape.specs.Steps.{Encoded}
 use Rattle.constructs.specs.Constructs.{data_lengths, data_lengths_from}
@@ -53,6 +55,10 @@ lengths_start l s count T w room =
 
 module _ {l s : List ℕ} {count : ℕ} {T table : List ℕ} {place at k : ℕ} {even : Bool}
     (m : LengthsAt l s count T table place at k even) (more : at < count) where
+  -- the entry there is the next element's
+  pub says : {e : Entry} → entry_at l place ≡ e → Says l m.tape at e
+  says q = let all = m.counted in says_at l place m.tape at m.encodes.blocks m.left (omega arith) q
+
   lengths_next : (next v : ℕ) (k' : ℕ) (even' : Bool) (e : Element) (t : Tape) → drop at m.tape ≡ e ∷ t → drop next l ≡ list t
       → data_lengths_from k even (e ∷ t) ≡ v ∷ data_lengths_from k' even' t → LengthsAt l s count T (set table at v) next (at + 1) k' even'
   lengths_next next v k' even' e t d h q =
@@ -97,11 +103,6 @@ lengths_end {T} {at} m done t e =
     let whole : take at (data_lengths m.tape) ≡ data_lengths m.tape
     = take_all at (data_lengths m.tape) (omega (arith, length_lengths 4 true m.tape)) in
     m.holds ∙ ap (sets T 0) (whole ∙ ap data_lengths same)
-
--- the table keeps its length
-pub lengths_kept : {l s : List ℕ} {count : ℕ} {T table : List ℕ} {place at k : ℕ} {even : Bool}
-    → LengthsAt l s count T table place at k even → length table ≡ length T
-lengths_kept {T} {at} m = ap length m.holds ∙ length-sets T 0 (take at (data_lengths m.tape))
 
 pub length_at_most : (k : ℕ) (even : Bool) (n : ℕ) → data_length k even n ≤ n
 length_at_most k even n =

@@ -1,6 +1,6 @@
 -- One number tells whether an extent lies on the tape: how far data blocks reach from its first block.
 use mathlib.Core.Path.{◌≡◌, refl, sym, ◌∙◌, ap}
-use mathlib.Core.Bool.{false, cond, ◌&&◌, and-false, and-true}
+use mathlib.Core.Bool.{cond, ◌&&◌, and-false}
 use mathlib.Core.List.{List, [], ◌∷◌, ◌++◌}
 use Prim.Native.Nat.{ℕ, zero, suc, ◌+◌, ◌-◌, ◌*◌, ◌/◌, ◌%◌, ◌≤◌, ◌<◌, min}
 use native.Mathlib.Nat.{add-zero, div-add-mod', mod-lt, suc-mul, zero-mul}
@@ -8,7 +8,7 @@ use native.Mathlib.Omega.{arith}
 use lib.Dec.{leb, ltb, eqb}
 use lib.ListN.{length, get_or, take, drop, length-take, get_or-eq_default, get_or-append}
 use lib.Seq.{get_or-drop, get_or-take, take-nil, take-take}
-use borrow.Author.Tests.{eqb-true, eqb-false, le-leb, lt-leb, eq-eqb, ne_eqb, ltb-true, ltb-false, le-ltb}
+use borrow.Author.Tests.{eqb-true, eqb-false, le-leb, lt-leb, eq-eqb, ne_eqb, ltb-true, ltb-false}
 use Rattle.slices.specs.Slices.{every}
 use Rattle.slices.proofs.Booleans.{split, same_leb}
 use Rattle.slices.proofs.Parts.{drop_front}
@@ -85,22 +85,6 @@ lies_front l B n r =
     let g : get_or (take n l) (s + q) 0 ≡ 0 = get_or-eq_default (take n l) 0 {n = s + q} (omega (arith, length-take n l)) in
     rw (g, lt-leb rem 0 (omega arith)) (and-false (every (eqb B) (take q (drop s (take n l))))))
     refl
-
-module _ (T : List ℕ) (B n first offset count : ℕ) where
-  -- data blocks don't reach that far
-  pub lies_short : get_or T first 0 < offset + count → lies_by T B n first offset count ≡ false
-  lies_short h = rw (lt-leb (offset + count) (get_or T first 0) h) (and-false (ltb (first + (offset + count - 1) / B) n))
-
-  -- the first block is not one of the first n
-  pub lies_behind : n ≤ first → lies_by T B n first offset count ≡ false
-  lies_behind h = rw (le-ltb (first + (offset + count - 1) / B) n (omega arith))
-
-  -- else the last block decides
-  pub lies_before : offset + count ≤ get_or T first 0 → first < n → lies_by T B n first offset count ≡ ltb ((offset + count - 1) / B) (n - first)
-  lies_before h w =
-      rw (le-leb (offset + count) (get_or T first 0) h)
-      (and-true (ltb (first + (offset + count - 1) / B) n)
-      ∙ same_leb (suc (first + (offset + count - 1) / B)) n (suc ((offset + count - 1) / B)) (n - first) (λ k. omega arith) (λ k. omega arith))
 
 -- the table's answer is the definition's, on a front of n elements
 pub lies_by_lem : (T lengths rest : List ℕ) (B n : ℕ) (r : Row) → T ≡ reaches B lengths ++ rest → n ≤ length lengths → 1 ≤ B → 1 ≤ r.byteoffset + r.bytecount

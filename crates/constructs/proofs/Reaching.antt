@@ -6,7 +6,7 @@ use mathlib.Core.List.{List, [], ◌∷◌, ◌++◌}
 use Prim.Native.Nat.{ℕ, zero, suc, ◌+◌, ◌-◌, ◌≤◌, ◌<◌, min}
 use native.Mathlib.Omega.{arith}
 use lib.Dec.{eqb, leb}
-use lib.ListN.{length, get_or, take, drop, set, take-append-drop, length-append, length-drop, get_or-append}
+use lib.ListN.{length, get_or, take, drop, set, take-append-drop, length-append, get_or-append}
 use lib.Seq.{sets, sets-eq, take_at, drop_at, length-take-le, take-suc, drop-cons, get_or-take, set_at, drop-length, append_snoc}
 use borrow.Author.Tests.{eqb-true, le-leb, lt-leb}
 use Rattle.slices.proofs.Booleans.{split}
@@ -53,23 +53,6 @@ reach_start B count T room small =
     let n : length (take count T) ≡ count = length-take-le count T room in
     let e : drop count (take count T) ≡ [] = ap (λ (k : ℕ). drop k (take count T)) (sym n) ∙ drop-length (take count T) in
     record { inside = omega arith; room = room; small = small; holds = rw e (sym (take-append-drop count T)); ahead = rw e }
-
-pub reach_kept : {B count : ℕ} {T table : List ℕ} {i next : ℕ} → ReachAt B count T table i next → length table ≡ length T
-reach_kept {B} {count} {T} {table} {i} m =
-    let xs : List ℕ = take count T in
-    let inside = m.inside in
-    let room = m.room in
-    let n : length (take count T) ≡ count = length-take-le count T room in
-    ap length m.holds
-    ∙ omega (
-      arith,
-      length-append (take i T) (reaches B (drop i (take count T)) ++ drop count T),
-      length-append (reaches B (drop i (take count T))) (drop count T),
-      length-take-le i T (omega arith),
-      length_reaches B (drop i (take count T)),
-      length-drop i (take count T),
-      length-drop count T,
-    )
 
 module _ {B count : ℕ} {T table : List ℕ} {i next : ℕ} (m : ReachAt B count T table i next) (more : 0 < i) where
   pub reach_value : get_or table (i - 1) 0 ≡ get_or T (i - 1) 0

@@ -1,10 +1,10 @@
 -- What scanning a list owes: the table with the constructs that stand, and a construct read from it.
 use Rattle.refusals.specs.declared.Refusal.{Refusal}
-use Rattle.std.specs.Prelude.{◌≡◌, cond, List, ℕ, ◌+◌, ◌*◌, leb, length, get_or, Result, Err, Ok}
+use Rattle.std.specs.Prelude.{◌≡◌, cond, List, ℕ, ◌+◌, ◌*◌, leb, length, get_or, Result, Ok}
 use Rattle.std.proofs.lemmas.List.Edits.{sets}
 use Rattle.tape.specs.Tape.{Tape, Encodes}
 use Rattle.tape.specs.Answers.{tape_in}
-use Rattle.refusals.specs.Refusals.{Answer, and_then}
+use Rattle.refusals.specs.Refusals.{and_then}
 use Rattle.constructs.specs.declared.Bounds.{Bounds}
 use Rattle.constructs.specs.Constructs.{max_constructs, standing}
 use Rattle.constructs.specs.Tables.{construct_entries, table_after}

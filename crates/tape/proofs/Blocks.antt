@@ -3,7 +3,7 @@ use Rattle.std.specs.Prelude.{None, Option, Some, Err, Ok, slice_get}
 use mathlib.Core.Path.{◌≡◌, refl, sym, ◌∙◌, ap, subst}
 use mathlib.Core.Bool.{Bool, true, false, cond}
 use mathlib.Core.List.{List, [], ◌∷◌, ◌++◌}
-use Prim.Native.Nat.{ℕ, zero, suc, ◌+◌, ◌-◌, ◌≤◌}
+use Prim.Native.Nat.{ℕ, zero, suc, ◌+◌, ◌≤◌}
 use native.Mathlib.Nat.{add-zero, zero-add}
 use native.Mathlib.Omega.{arith}
 use lib.ListN.{length, take, drop, length-append}
@@ -12,7 +12,7 @@ use borrow.Author.Tests.{leb-true}
 use lib.Dec.{leb, eqb}
 use Rattle.refusals.specs.declared.Refusal.{Refusal}
 use Rattle.refusals.specs.declared.Refusal.TheVariants as refusal
-use Rattle.refusals.specs.Refusals.{Answer, require, and_then, Shows}
+use Rattle.refusals.specs.Refusals.{Answer, require, and_then}
 use Rattle.quantities.specs.Letters.{are_letters}
 use Rattle.tape.specs.declared.Entry.{Entry}
 use Rattle.tape.specs.declared.Front.{Front}
@@ -161,7 +161,3 @@ module _ (i d c n : ℕ) (l s l' s' : List ℕ) (w : Bytes l) (w' : Bytes l') wh
   unfolding place_of block_of
   finds a e =
       subst (FindsBlock i d c n l s l' s') (sym e) record { place = refl; holds = holds_of (are_letters i d c) (tape_of l s) (tape_of l' s') refl refl }
-
--- a part of a store, cut out between two places, and the refusal beside it
-pub shows_part : (s : List ℕ) (from n : ℕ) {b : Answer (List ℕ)} → b ≡ Ok (take n (drop from s)) → Shows b (take ((from + n) - from) (drop from s)) 0
-shows_part s from n e = let w : (from + n) - from ≡ n = omega arith in rw (w, e) record { part = refl; refusal = refl }
