@@ -18,7 +18,6 @@ use Rattle.tape.specs.Tape.{Tape, max_elements}
 use Rattle.tape.specs.Answers.{tape_in, element_count}
 use Rattle.tape.proofs.Encoding.{Bytes, encodes_read, tape_read}
 use Rattle.tape.proofs.Keeping.{Present, absent_list}
-use Rattle.core.specs.declared.result.Result.TheVariants as read_is
 use Rattle.ansi.specs.Layout.{TapeFile, Layout, max_files}
 use Rattle.ansi.specs.Places.{LongestFront}
 use Rattle.ansi.specs.ReadingSteps.{ansi_of, front_of}
@@ -64,7 +63,7 @@ module _ (l s : List ℕ) (count : ℕ) (p : Present l s count) where
             ∙ stored_room (leb (36 * length fs) (length before)) fs before ∙ ap (λ (a : Answer (List TapeFile)). files_after a before) (sym i);
       }
 
-  pub reads_stopped : {place : ℕ} (before : List ℕ) (r : Refusal) → Stopped p.tape r place → ReadsFiles l s before before (read_is.Err r)
+  pub reads_stopped : {place : ℕ} (before : List ℕ) (r : Refusal) → Stopped p.tape r place → ReadsFiles l s before before (Err r)
   reads_stopped before r f = record { answers = rw (p.read, f.read); holds = rw (p.read, f.read) }
 
   pub place_found : {b text : List ℕ} {end : ℕ} → AllRead p.tape b text end → Ok count ≡ front_in l s
@@ -73,7 +72,7 @@ module _ (l s : List ℕ) (count : ℕ) (p : Present l s count) where
   pub place_stopped : {place : ℕ} (r : Refusal) → Stopped p.tape r place → Ok place ≡ front_in l s
   place_stopped r f = rw p.read (ap (λ (n : ℕ). Ok n) (sym f.passed))
 
-pub reads_refused : (l s before : List ℕ) (r : Refusal) → Err r ≡ element_count l s → ReadsFiles l s before before (read_is.Err BadList)
+pub reads_refused : (l s before : List ℕ) (r : Refusal) → Err r ≡ element_count l s → ReadsFiles l s before before (Err BadList)
 reads_refused l s before r e = let a = absent_list l s r e in record { answers = rw a; holds = rw a }
 
 pub place_refused : (l s : List ℕ) (r : Refusal) → Err r ≡ element_count l s → Err BadList ≡ front_in l s
@@ -88,7 +87,7 @@ by_layout room l s w t e =
     let b = tape_small l s t w e in
     record { meaning = ansi_of t; means = means t b; one = λ a m. sym (one_meaning t a b m); holds = rw e }
 
-same_answer : {A : Type 0} {x y : A} → Ok x ≡ Ok y → x ≡ y
+same_answer : {A : Type 0} {x y : A} → ◌≡◌ {A = Answer A} (Ok x) (Ok y) → x ≡ y
 same_answer e = cc
 
 -- the place that is answered is behind the longest front that begins a layout

@@ -1,4 +1,5 @@
 -- The bytes of files: how long they are, how they are put together, and how they are handed out.
+use Rattle.std.specs.Prelude.{Ok, Err}
 use Rattle.std.specs.Prelude.{Result}
 use mathlib.Core.Path.{◌≡◌, refl, sym, ap, ◌∙◌, subst}
 use mathlib.Core.List.{List, [], ◌∷◌, ◌++◌, append_assoc, append-nil}
@@ -8,14 +9,12 @@ use lib.ListN.{length, take, drop, length-append, length-take, length-drop}
 use lib.Seq.{take-add, drop-drop}
 use borrow.Author.Tests.{le-leb, lt-leb}
 use Rattle.refusals.specs.declared.Refusal.{Refusal}
-use Rattle.core.specs.declared.result.Result.TheVariants as written_is
 use Rattle.slices.specs.Writers.{Puts}
 use Rattle.slices.proofs.Writers.{reached, unreached}
 use Rattle.big_endian.specs.BigEndian.{big_endian}
 use Rattle.big_endian.proofs.Left.{length_big_endian}
 use Rattle.writing.specs.Steps.{AddsAtMost}
 use Rattle.writing.proofs.Adding.{adds_none}
-use Rattle.core.specs.declared.result.Result.TheVariants as read_is
 use Rattle.ansi.specs.Layout.{TapeFile, tape_file_of}
 use Rattle.ansi.specs.Answers.{file_bytes, all_bytes}
 use Rattle.ansi.specs.Steps.{HandsOut}
@@ -63,12 +62,12 @@ module _ (w rows before after : List ℕ) (is : rows ≡ w) {r : (Result ℕ Ref
   puts : Puts 0 w before after r
   puts = subst (λ (x : List ℕ). Puts 0 x before after r) is p
 
-  pub hands_out : (end : ℕ) → r ≡ written_is.Ok end → HandsOut w before after (read_is.Ok (length rows / 36))
+  pub hands_out : (end : ℕ) → r ≡ Ok end → HandsOut w before after (Ok (length rows / 36))
   hands_out end e =
       let h : 0 + length w ≤ length before = (reached 0 w before after end (subst (Puts 0 w before after) e puts)).0 in
       record { answers = rw (is, le-leb (length w) (length before) (omega arith)); holds = puts.holds }
 
-  pub hands_none : (q : Refusal) → r ≡ written_is.Err q → HandsOut w before after (read_is.Err q)
+  pub hands_none : (q : Refusal) → r ≡ Err q → HandsOut w before after (Err q)
   hands_none q e =
       let (h, s, k) = unreached 0 w before after q (subst (Puts 0 w before after) e puts) in
       record { answers = rw (s, lt-leb (length w) (length before) (omega arith)); holds = puts.holds }

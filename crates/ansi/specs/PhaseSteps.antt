@@ -1,9 +1,9 @@
 -- The reading in numbers, as the walk over a list does it: a label is told by where it begins in the store.
+use Rattle.std.specs.Prelude.{Ok, Err}
 use Rattle.refusals.specs.declared.Refusal.{Refusal}
 use Rattle.std.specs.Prelude.{cond, List, [], ◌∷◌, ℕ, suc, ◌<◌, take, drop, Result}
 use Rattle.ansi.specs.declared.phases.Phase.{Phase}
 use Rattle.ansi.specs.declared.phases.Phase.TheVariants as phase
-use Rattle.core.specs.declared.result.Result.TheVariants as next_is
 use Rattle.ansi_labels.specs.Labels.{is_label, is_numbered, label_number}
 use Rattle.ansi.specs.Layout.{TapeFile}
 use Rattle.ansi.specs.ReadingSteps.{Stage, start, volume, header, headers, blocks, trailer, second, trailers, between, done, Step, go, found, stop, at_mark, at_block}
@@ -26,8 +26,8 @@ stage_of s phase.Between = between
 stage_of s phase.Done = done
 
 abbrev pub step_of : List ℕ → Result Phase Refusal → Step
-step_of s (next_is.Ok p) = go (stage_of s p)
-step_of s (next_is.Err r) = stop r
+step_of s (Ok p) = go (stage_of s p)
+step_of s (Err r) = stop r
 
 -- the step without its file
 abbrev pub unfiled : Step → Step

@@ -13,7 +13,6 @@ use Rattle.ansi.specs.declared.phases.Phase.TheVariants as phase
 use Rattle.ansi.specs.Layout.{TapeFile, max_files}
 use Rattle.ansi.specs.ReadingSteps.{ansi_of, front_of}
 use Rattle.ansi.specs.Answers.{file_size, all_bytes, files_after, files_on}
-use Rattle.core.specs.declared.result.Result.TheVariants as read_is
 
 -- what reading answers, and what the buffer holds after
 pub record ReadsFiles (l s before after : List ℕ) (r : Result ℕ Refusal) : Type 0 where

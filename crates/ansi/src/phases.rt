@@ -98,7 +98,14 @@ fn in_header(store: &[u8], from: usize, len: usize, h: usize) -> Result<Phase, R
 }
 
 // A block among the header labels.
-fn in_headers(store: &[u8], from: usize, len: usize, h: usize, g: usize, k: usize) -> Result<Phase, Refusal>
+fn in_headers(
+    store: &[u8],
+    from: usize,
+    len: usize,
+    h: usize,
+    g: usize,
+    k: usize,
+) -> Result<Phase, Refusal>
     ensures { step_of store.now result ≡ block_step store.now (phase.Headers h g k) from len }
 {
     let x = slices::part(store, from, len);

@@ -7,22 +7,22 @@ use Rattle.ansi.proofs.files.Goals as goal
 
 pub returns-in_default : goal.returns-in_default
 returns-in_default c =
-    reads_refused c.args.list.now c.args.store.now c.args.out.now c.in_default.field-0 (ap (sym c.in_default.is) ∙ c.check.ensures)
+    reads_refused c.args.list.now c.args.store.now c.args.out.now c.in_default.field-0 (sym c.in_default.is ∙ c.check.ensures)
 
 pub walk-requires : goal.walk-requires
 walk-requires c =
     let a = c.args in
-    let q = present a.list.now a.store.now c.in-Ok.count (λ i. (c.type_inv.list i).fits) (ap (sym c.in-Ok.is) ∙ c.check.ensures) in
+    let q = present a.list.now a.store.now c.in-Ok.count (λ i. (c.type_inv.list i).fits) (sym c.in-Ok.is ∙ c.check.ensures) in
     (encoded a.list.now a.store.now c.in-Ok.count q, c.empty-text.ensures)
 
 pub returns-in-Files : goal.returns-in-Files
 returns-in-Files c =
     let a = c.args in
-    let q = present a.list.now a.store.now c.in-Ok.count (λ i. (c.type_inv.list i).fits) (ap (sym c.in-Ok.is) ∙ c.check.ensures) in
+    let q = present a.list.now a.store.now c.in-Ok.count (λ i. (c.type_inv.list i).fits) (sym c.in-Ok.is ∙ c.check.ensures) in
     reads_found a.list.now a.store.now c.in-Ok.count q a.out.now _ c.hand_out.result (rw c.in-Files.is at (c.walk.ensures q.tape q.encodes)) c.hand_out.ensures
 
-pub returns-in-Err : goal.returns-in-Err
-returns-in-Err c =
+pub returns-in-Refused : goal.returns-in-Refused
+returns-in-Refused c =
     let a = c.args in
-    let q = present a.list.now a.store.now c.in-Ok.count (λ i. (c.type_inv.list i).fits) (ap (sym c.in-Ok.is) ∙ c.check.ensures) in
-    reads_stopped a.list.now a.store.now c.in-Ok.count q a.out.now c.in-Err.r (rw c.in-Err.is at (c.walk.ensures q.tape q.encodes))
+    let q = present a.list.now a.store.now c.in-Ok.count (λ i. (c.type_inv.list i).fits) (sym c.in-Ok.is ∙ c.check.ensures) in
+    reads_stopped a.list.now a.store.now c.in-Ok.count q a.out.now c.in-Refused.r (rw c.in-Refused.is at (c.walk.ensures q.tape q.encodes))

@@ -7,22 +7,22 @@ use Rattle.ansi.proofs.place.Goals as goal
 
 pub returns-in_default : goal.returns-in_default
 returns-in_default c =
-    place_refused c.args.list.now c.args.store.now c.in_default.field-0 (ap (sym c.in_default.is) ∙ c.check.ensures)
+    place_refused c.args.list.now c.args.store.now c.in_default.field-0 (sym c.in_default.is ∙ c.check.ensures)
 
 pub walk-requires : goal.walk-requires
 walk-requires c =
     let a = c.args in
-    let q = present a.list.now a.store.now c.in-Ok.count (λ i. (c.type_inv.list i).fits) (ap (sym c.in-Ok.is) ∙ c.check.ensures) in
+    let q = present a.list.now a.store.now c.in-Ok.count (λ i. (c.type_inv.list i).fits) (sym c.in-Ok.is ∙ c.check.ensures) in
     (encoded a.list.now a.store.now c.in-Ok.count q, c.empty-text.ensures)
 
 pub returns-in-Files : goal.returns-in-Files
 returns-in-Files c =
     let a = c.args in
-    let q = present a.list.now a.store.now c.in-Ok.count (λ i. (c.type_inv.list i).fits) (ap (sym c.in-Ok.is) ∙ c.check.ensures) in
+    let q = present a.list.now a.store.now c.in-Ok.count (λ i. (c.type_inv.list i).fits) (sym c.in-Ok.is ∙ c.check.ensures) in
     place_found a.list.now a.store.now c.in-Ok.count q (rw c.in-Files.is at (c.walk.ensures q.tape q.encodes))
 
-pub returns-in-Err : goal.returns-in-Err
-returns-in-Err c =
+pub returns-in-Refused : goal.returns-in-Refused
+returns-in-Refused c =
     let a = c.args in
-    let q = present a.list.now a.store.now c.in-Ok.count (λ i. (c.type_inv.list i).fits) (ap (sym c.in-Ok.is) ∙ c.check.ensures) in
-    place_stopped a.list.now a.store.now c.in-Ok.count q c.in-Err.field-0 (rw c.in-Err.is at (c.walk.ensures q.tape q.encodes))
+    let q = present a.list.now a.store.now c.in-Ok.count (λ i. (c.type_inv.list i).fits) (sym c.in-Ok.is ∙ c.check.ensures) in
+    place_stopped a.list.now a.store.now c.in-Ok.count q c.in-Refused.field-0 (rw c.in-Refused.is at (c.walk.ensures q.tape q.encodes))
