@@ -2,7 +2,6 @@ pub mod Tables
 pub mod Shape
 pub mod Places
 pub mod Values
-pub mod Tests
 pub mod Derivation
 pub mod Agreed
 pub mod Fronts

@@ -1,18 +1,15 @@
 -- What the answers of the label's readers mean.
 use Rattle.refusals.specs.declared.Refusal.{Refusal}
-use Rattle.std.specs.Prelude.{◌≡◌, true, cond, List, ℕ, drop, Err, None, Ok, Option, Result, Some}
+use Rattle.std.specs.Prelude.{◌≡◌, true, false, List, ℕ, drop, Err, IfOk, None, Ok, Option, Result, Some}
 use Rattle.refusals.specs.Refusals.{Answer}
-use Rattle.elements.specs.Tags.{Tags, tags_in, text_place}
-use Rattle.elements.specs.Reading.{head_at, children_at, part_at, Inside}
+use Rattle.elements.specs.Tags.{Tags, text_place}
+use Rattle.elements.specs.Reading.{head_at, part_at, Inside}
 use Rattle.texts.specs.Decoded.{decoded}
 use Rattle.xml.specs.Tree.{Forest}
-use Rattle.label.specs.Label.{Label, Texts, is_shaped, texts_in, root_of, letters_fit}
+use Rattle.label.specs.Label.{Label, Texts, is_shaped, texts_in}
 use Rattle.label.specs.TextPlaces.{TextPlaces, places_in}
 use Rattle.label.specs.declared.reader.Places.{Places}
 use Rattle.label.specs.declared.reader.LabelFields.{LabelFields}
-use Rattle.quantities.specs.Sizes.{is_block_size}
-use Rattle.label.specs.declared.reader.Letters.{Letters}
-use Rattle.label.specs.declared.reader.Letters.TheVariants.{Fit, Nothing}
 
 -- of the elements whose tags are at the places found
 abbrev pub places_at : List ℕ → Places → TextPlaces
@@ -37,11 +34,16 @@ texts_at s p =
       compression = (head_at s p.compression).text;
     }
 
--- whether the children f, whose tags are t, are lawful, and if so where they stand
-pub record FindsTexts (s : List ℕ) (f : Forest) (t : Tags) (p : Places) : Type 0 where
-  pub shaped : p.ok ≡ is_shaped f
-  pub texts : p.ok ≡ true → texts_at s p ≡ texts_in f
-  pub places : p.ok ≡ true → places_at s p ≡ places_in s t
+-- where the children f, whose tags are t, stand, which are lawful
+pub record FoundTexts (s : List ℕ) (f : Forest) (t : Tags) (p : Places) : Type 0 where
+  pub shaped : is_shaped f ≡ true
+  pub texts : texts_at s p ≡ texts_in f
+  pub places : places_at s p ≡ places_in s t
+
+-- they are, or are not
+abbrev pub FindsTexts : List ℕ → Forest → Tags → Option Places → Type 0
+FindsTexts s f t None = is_shaped f ≡ false
+FindsTexts s f t (Some p) = FoundTexts s f t p
 
 -- the label that a reader's fields say of the text
 abbrev pub fields_in : List ℕ → LabelFields → Label
@@ -70,8 +72,7 @@ pub record LieIn (s : List ℕ) (f : LabelFields) : Type 0 where
   pub uuid : Inside s f.uuid.from f.uuid.len
 
 abbrev pub PlacesInside : List ℕ → Result LabelFields Refusal → Type 0
-PlacesInside s (Err r) = Unit {0}
-PlacesInside s (Ok f) = LieIn s f
+PlacesInside s r = IfOk r (LieIn s)
 
 -- the places in the fields
 abbrev pub places_of : LabelFields → TextPlaces
@@ -79,38 +80,10 @@ places_of f = record { creator = f.creator; time = f.time; uuid = f.uuid }
 
 -- they are the places w
 abbrev pub Stands : TextPlaces → Result LabelFields Refusal → Type 0
-Stands w (Err r) = Unit {0}
-Stands w (Ok f) = places_of f ≡ w
+Stands w r = IfOk r (λ f. places_of f ≡ w)
 
 -- the answer says what a says, of the texts at the places w
 pub record ReadsLabel (s : List ℕ) (a : Answer Label) (w : TextPlaces) (r : Result LabelFields Refusal) : Type 0 where
   pub says : means s r ≡ a
   pub inside : PlacesInside s r
   pub stands : Stands w r
-
--- the label whose root has its tag at n
-abbrev pub ReadsLabelRoot : List ℕ → ℕ → Result LabelFields Refusal → Type 0
-ReadsLabelRoot s n = ReadsLabel s (root_of (head_at s n) (children_at s n)) (places_in s (tags_in (drop n s)))
-
--- the letters of a location, of an index and of a data partition
-pub record Three : Type 0 where
-  pub location : ℕ
-  pub index_letter : ℕ
-  pub data_letter : ℕ
-
--- three letters that fit
-abbrev pub three_letters : Option ℕ → Option ℕ → Option ℕ → Option Three
-three_letters None i d = None
-three_letters (Some l) None d = None
-three_letters (Some l) (Some i) None = None
-three_letters (Some l) (Some i) (Some d) = cond (letters_fit l i d) (Some (record { location = l; index_letter = i; data_letter = d })) None
-
--- a number that is a block size
-abbrev pub sized : Option ℕ → Option ℕ
-sized None = None
-sized (Some b) = cond (is_block_size b) (Some b) None
-
--- what an answer says
-abbrev pub letters_of : Letters → Option Three
-letters_of Nothing = None
-letters_of (Fit l i d) = Some (record { location = l; index_letter = i; data_letter = d })

@@ -1,20 +1,21 @@
 // The LTFS label, read.
-ghost use Rattle.std.specs.Prelude.{◌≡◌, ◌&&◌, drop};
+ghost use Rattle.std.specs.Prelude.{◌≡◌, ◌&&◌, drop, IfOk, IfSome};
+ghost use Rattle.std.specs.Option.{ok_or};
+ghost use Rattle.refusals.specs.declared.Refusal.TheVariants.{Value};
 ghost use Rattle.elements.specs.Tags.{tags_in};
 ghost use Rattle.elements.specs.Reading.{head_at, children_at};
 ghost use Rattle.texts.specs.Decoded.{decoded};
 ghost use Rattle.values.specs.Values.{number, letter, is_creator, is_time, is_uuid};
-ghost use Rattle.label.specs.Label.{letters_fit, label_from, is_root, label_of};
-ghost use Rattle.label.specs.TextPlaces.{text_places};
-ghost use Rattle.label.specs.Steps.{places_at, sized, three_letters, letters_of, texts_at, FindsTexts, ReadsLabel, ReadsLabelRoot};
+ghost use Rattle.label.specs.Label.{letters_fit, label_from, is_root, root_of, label_of};
+ghost use Rattle.label.specs.TextPlaces.{places_in, text_places};
+ghost use Rattle.label.specs.Steps.{places_at, places_of, means, LieIn, texts_at, FindsTexts, ReadsLabel};
 
 use elements::Span;
 use refusals::Refusal;
 
-// Whether the children of the root are lawful, and the places of the elements that hold the values.
+// The places of the elements that hold the values.
 #[derive(Clone, Copy)]
 pub struct Places {
-    pub ok: bool,
     pub creator: usize,
     pub time: usize,
     pub uuid: usize,
@@ -39,42 +40,31 @@ pub struct LabelFields {
     pub compression: bool,
 }
 
-// The letters of a location, of an index and of a data partition.
-#[derive(Clone, Copy)]
-enum Letters {
-    Fit(u8, u8, u8),
-    Nothing,
-}
-
-fn all_three(a: bool, b: bool, c: bool) -> bool
-    ensures { result ≡ (a && b && c) }
-{
-    if !a {
-        return false;
-    }
-    if !b {
-        return false;
-    }
-    c
-}
-
-// The children of the root at n.
-fn find_places(text: &[u8], n: usize) -> Places
+// The children of the root at n, if they are lawful.
+fn find_places(text: &[u8], n: usize) -> Option<Places>
     ensures { FindsTexts text.now (children_at text.now n) (tags_in (drop n text.now)) result }
 {
-    let all = children::read_row(
+    let root = children::read_row(
         text,
         elements::first_child(text, n),
         b"creator=formattime=volumeuuid=location/partitions/blocksize=compression=",
         7,
     );
-    let a = all.seats;
-    let place = children::read_row(text, elements::first_child(text, a[3]), b"partition=", 1);
-    let p = place.seats;
-    let parts = children::read_row(text, elements::first_child(text, a[4]), b"index=data=", 2);
-    let q = parts.seats;
-    Places {
-        ok: all_three(all.ok, place.ok, parts.ok),
+    if !root.ok {
+        return None;
+    }
+    let a = root.seats;
+    let location = children::read_row(text, elements::first_child(text, a[3]), b"partition=", 1);
+    if !location.ok {
+        return None;
+    }
+    let p = location.seats;
+    let partitions = children::read_row(text, elements::first_child(text, a[4]), b"index=data=", 2);
+    if !partitions.ok {
+        return None;
+    }
+    let q = partitions.seats;
+    Some(Places {
         creator: a[0],
         time: a[1],
         uuid: a[2],
@@ -83,141 +73,94 @@ fn find_places(text: &[u8], n: usize) -> Places
         data_letter: q[1],
         block_size: a[5],
         compression: a[6],
-    }
+    })
 }
 
 // Whether the letters are different, and the location is one of them.
+#[tactic(auto, unfolding(crate::specs::Label::letters_fit))]
 pub fn letters_fit(location: u8, index: u8, other: u8) -> bool
     ensures { result ≡ letters_fit location index other }
 {
-    if index == other {
-        return false;
-    }
-    if location == index {
-        return true;
-    }
-    location == other
+    index != other && (location == index || location == other)
 }
 
 // The texts that stay as they are.
 fn texts_lawful(creator: &[u8], time: &[u8], uuid: &[u8]) -> bool
     ensures { result ≡ (is_creator (decoded creator.now) && is_time time.now && is_uuid uuid.now) }
 {
-    if !values::is_creator(creator) {
-        return false;
-    }
-    if !values::is_time(time) {
-        return false;
-    }
-    values::is_uuid(uuid)
+    values::is_creator(creator) && values::is_time(time) && values::is_uuid(uuid)
 }
 
-// The letters that the texts of a location, of an index and of a data partition say, if they fit.
-fn read_letters(location: &[u8], index: &[u8], other: &[u8]) -> Letters
-    ensures { letters_of result ≡ three_letters (letter location.now) (letter index.now) (letter other.now) }
-{
-    let Some(l) = values::read_letter(location) else {
-        return Letters::Nothing;
-    };
-    let Some(i) = values::read_letter(index) else {
-        return Letters::Nothing;
-    };
-    let Some(d) = values::read_letter(other) else {
-        return Letters::Nothing;
-    };
-    if !letters_fit(l, i, d) {
-        return Letters::Nothing;
-    }
-    Letters::Fit(l, i, d)
-}
-
-// The block size that a text says, if it is one.
-fn read_size(raw: &[u8]) -> Option<u64>
-    ensures { result ≡ sized (number raw.now) }
-{
-    let Some(n) = values::read_number(raw) else {
-        return None;
-    };
-    if !quantities::is_block_size(n) {
-        return None;
-    }
-    Some(n)
-}
-
-// The values at the places.
-fn read_values(text: &[u8], p: Places, release: u64) -> Result<LabelFields, Refusal>
-    ensures { ReadsLabel text.now (label_from release (texts_at text.now p)) (places_at text.now p) result }
+// The values at the places, if each is there and lawful.
+#[tactic(auto, unfolding(crate::specs::Label::label_from))]
+fn read_values(text: &[u8], p: Places, release: u64) -> Option<LabelFields>
+    ensures says { means text.now (ok_or result Value) ≡ label_from release (texts_at text.now p) }
+    ensures inside { IfSome result (LieIn text.now) }
+    ensures stands { IfSome result (λ f. places_of f ≡ places_at text.now p) }
 {
     if !texts_lawful(
         elements::text_of(text, p.creator),
         elements::text_of(text, p.time),
         elements::text_of(text, p.uuid),
     ) {
-        return Err(Refusal::Value);
+        return None;
     }
-    let Letters::Fit(location, index, other) = read_letters(
-        elements::text_of(text, p.location),
-        elements::text_of(text, p.index_letter),
-        elements::text_of(text, p.data_letter),
-    ) else {
-        return Err(Refusal::Value);
-    };
-    let Some(block_size) = read_size(elements::text_of(text, p.block_size)) else {
-        return Err(Refusal::Value);
-    };
-    let Some(compression) = values::read_boolean(elements::text_of(text, p.compression)) else {
-        return Err(Refusal::Value);
-    };
-    Ok(LabelFields {
+    let location = values::read_letter(elements::text_of(text, p.location))?;
+    let index_letter = values::read_letter(elements::text_of(text, p.index_letter))?;
+    let data_letter = values::read_letter(elements::text_of(text, p.data_letter))?;
+    if !letters_fit(location, index_letter, data_letter) {
+        return None;
+    }
+    let block_size = values::read_number(elements::text_of(text, p.block_size))?;
+    if !quantities::is_block_size(block_size) {
+        return None;
+    }
+    let compression = values::read_boolean(elements::text_of(text, p.compression))?;
+    Some(LabelFields {
         release,
         creator: elements::text_at(text, p.creator),
         time: elements::text_at(text, p.time),
         uuid: elements::text_at(text, p.uuid),
         location,
-        index_letter: index,
-        data_letter: other,
+        index_letter,
+        data_letter,
         block_size,
         compression,
     })
 }
 
 // Whether the root at n has its name and its attribute.
+#[tactic(auto, unfolding(slices::specs::Words::bytes))]
 fn is_root(text: &[u8], n: usize) -> bool
     ensures { result ≡ is_root (head_at text.now n) }
 {
-    if !elements::name_is(text, n, b"ltfslabel") {
-        return false;
-    }
-    slices::same(elements::key_of(text, n), b"version")
+    elements::name_is(text, n, b"ltfslabel") && elements::key_of(text, n) == b"version".as_slice()
 }
 
 // The root at n.
+#[tactic(auto, unfolding(crate::specs::Label::root_of))]
 fn read_root(text: &[u8], n: usize) -> Result<LabelFields, Refusal>
-    ensures { ReadsLabelRoot text.now n result }
+    ensures says { means text.now result ≡ root_of (head_at text.now n) (children_at text.now n) }
+    ensures inside { IfOk result (LieIn text.now) }
+    ensures stands { IfOk result (λ f. places_of f ≡ places_in text.now (tags_in (drop n text.now))) }
 {
     if !is_root(text, n) {
         return Err(Refusal::Structure);
     }
-    let Some(release) = values::read_version(elements::value_of(text, n)) else {
-        return Err(Refusal::Version);
-    };
-    let p = find_places(text, n);
-    if !p.ok {
-        return Err(Refusal::Structure);
-    }
-    read_values(text, p, release)
+    let version = values::read_version(elements::value_of(text, n));
+    let release = version.ok_or(Refusal::Version)?;
+    let places = find_places(text, n).ok_or(Refusal::Structure)?;
+    read_values(text, places, release).ok_or(Refusal::Value)
 }
 
 // Reads an LTFS label.
 pub fn read(text: &[u8]) -> Result<LabelFields, Refusal>
     ensures { ReadsLabel text.now (label_of text.now) (text_places text.now) result }
 {
-    if 4096 < text.len() {
+    if text.len() > 4096 {
         return Err(Refusal::TooMany);
     }
     xml::check(text)?;
-    match elements::next_child(text, 38) {
-        None => Err(Refusal::Structure),
-        Some(child) => read_root(text, child.at),
-    }
+    let root = elements::next_child(text, 38).ok_or(Refusal::Structure)?;
+    read_root(text, root.at)
 }

@@ -1,6 +1,10 @@
 -- `read` meets its contract: the length, the form, and the root.
-use mathlib.Core.Path.{◌≡◌, ap, sym, subst, ◌∙◌}
-use mathlib.Core.Bool.{true}
+use Rattle.std.proofs.Common.{◌≡◌, true, ap, sym, subst}
+use Rattle.std.proofs.lemmas.Result.{err_from_is_err_and}
+use Rattle.std.specs.Prelude.{None, Some, Err}
+use Rattle.std.proofs.Common.{arith}
+use Rattle.refusals.specs.declared.Refusal.TheVariants.{Structure}
+use Rattle.elements.specs.TagSteps.{NextChild}
 use Rattle.xml.specs.CheckSteps.{in_form}
 use Rattle.xml.proofs.Checked.{checked_good, checked_broken}
 use Rattle.elements.specs.Tags.{Tags}
@@ -15,20 +19,26 @@ returns-then-text-gt4096 c = refuses (too_long c.args.text.now c.if-text-gt4096.
 
 pub returns-in_err-check : goal.returns-in_err-check
 returns-in_err-check c =
-    let e = checked_broken c.args.text.now _ (sym c.in_err-check.was ∙ c.check.ensures) in
-    refuses (unformed c.args.text.now c.if-text-gt4096.false _ e.0 e.1)
-
-pub returns-in-None : goal.returns-in-None
-returns-in-None c =
     let s = c.args.text.now in
-    let f : in_form s ≡ true = checked_good s (sym c.in_ok-check.was ∙ c.check.ensures) in
-    let e = c.in-None.ensures in
-    refuses (no_first s c.if-text-gt4096.false f e)
+    let p = err_from_is_err_and c.from_residual.result c.from_residual.ensures.1 in
+    let e = checked_broken s c.in_err-check.field-0.0 c.in_err-check.ensures in
+    rw (p.1, p.2) (refuses (unformed s c.if-text-gt4096.false _ e.0 e.1))
 
-pub returns-in-Some : goal.returns-in-Some
+pub returns-in_err-root : goal.returns-in_err-root
+returns-in_err-root c =
+    let s = c.args.text.now in
+    let f : in_form s ≡ true = checked_good s c.in_ok-check.ensures in
+    let n : c.next_child.result ≡ None = grind arith in
+    let e : NextChild s 38 None = subst (NextChild s 38) n c.next_child.ensures in
+    let r : c.from_residual-in_err-root.result ≡ Err Structure = grind arith in
+    rw r (refuses (no_first s c.if-text-gt4096.false f e))
+
+pub returns : goal.returns
 unfolding children_of_first
-returns-in-Some c =
+returns c =
     let s = c.args.text.now in
-    let f : in_form s ≡ true = checked_good s (sym c.in_ok-check.was ∙ c.check.ensures) in
-    let q = c.in-Some.ensures in
-    reads_as (the_first s c.if-text-gt4096.false f _ _ _ q.row) (ap (λ (t : Tags). places_in s (children_of_first t)) (sym q.tags)) c.read_root.ensures
+    let f : in_form s ≡ true = checked_good s c.in_ok-check.ensures in
+    let n : c.next_child.result ≡ Some c.in_ok-root.root = grind arith in
+    let q : NextChild s 38 (Some c.in_ok-root.root) = subst (NextChild s 38) n c.next_child.ensures in
+    reads_as (the_first s c.if-text-gt4096.false f _ _ _ q.row) (ap (λ (t : Tags). places_in s (children_of_first t)) (sym q.tags))
+    (record { says = c.read_root.ensures.says; inside = c.read_root.ensures.inside; stands = c.read_root.ensures.stands })
