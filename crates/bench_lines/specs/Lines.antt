@@ -9,7 +9,7 @@ use Rattle.verdict.specs.Verdict.{Break, Cut}
 use Rattle.volume.specs.Volume.{verdict_in, rescue_in}
 
 unfoldable pub refused_line : Refusal → List ℕ
-refused_line r = bytes "Err " ++ short (number_of r) ++ (10 ∷ [])
+refused_line r = bytes "refused " ++ short (number_of r) ++ (10 ∷ [])
 
 -- a word and two numbers
 unfoldable pub pair : List ℕ → ℕ → ℕ → List ℕ
@@ -26,7 +26,7 @@ verdict_line None = consistent_line
 verdict_line (Some b) = break_line b.which b.number
 
 unfoldable pub none_line : List ℕ
-none_line = bytes "cut None" ++ (10 ∷ [])
+none_line = bytes "cut none" ++ (10 ∷ [])
 
 unfoldable pub cut_line : Cut → List ℕ
 cut_line k =

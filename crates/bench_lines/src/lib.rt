@@ -14,16 +14,10 @@ fn is_bounded(index_list: &[u8], index_store: &[u8], data_list: &[u8], data_stor
     ensures { result ≡ files_bounded index_list.now index_store.now
         data_list.now data_store.now }
 {
-    if 4096 < index_list.len() {
-        return false;
-    }
-    if 24576 < index_store.len() {
-        return false;
-    }
-    if 4096 < data_list.len() {
-        return false;
-    }
-    data_store.len() <= 24576
+    index_list.len() <= 4096
+        && index_store.len() <= 24576
+        && data_list.len() <= 4096
+        && data_store.len() <= 24576
 }
 
 // Writes the lines to the front of out.

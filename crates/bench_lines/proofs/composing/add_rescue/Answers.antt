@@ -1,6 +1,7 @@
 -- `add_rescue` meets its contract: the cut, or that there is none.
 use Rattle.refusals.specs.declared.Refusal.{Refusal}
 use Rattle.std.specs.Prelude.{Result}
+use Rattle.volume.specs.declared.search.FoundCut.{FoundCut}
 use native.Mathlib.Omega.{arith}
 use mathlib.Core.Path.{sym, ap}
 use Rattle.volume.specs.Answers.{rescued}
