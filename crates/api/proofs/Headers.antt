@@ -17,7 +17,6 @@ use Rattle.index_files.specs.AskedSteps.{FileShown as Head, shown as head_of, Re
 use Rattle.index_files.specs.Filling.{SaysFile}
 use Rattle.index_files.specs.FillingSteps.{count_of, FillsBuffer}
 use Rattle.index_files.specs.declared.asked.FileHead.{FileHead}
-use Rattle.core.specs.declared.result.Result.TheVariants as file
 use Rattle.index_files.proofs.Mapped.{mapped}
 use Rattle.volume.specs.Steps.{bounds_text}
 use Rattle.volume.specs.Chosen.{Indexed}
@@ -77,7 +76,7 @@ pub says_construct : (s : List ℕ) (a : Answer Indexed) (p : Bounds) (h : Heade
 says_construct s a p h w q =
     tells (indexed_in s p h) w.answers (subst (λ (o : List ℕ). SaysConstruct s (indexed_in s p h) (take 18 o)) (sym q) (says_place s p h w.inside))
 
-pub says_file : (s t : List ℕ) (a : Answer File) (h : FileHead) → ReadsFile s t a (file.Ok h)
+pub says_file : (s t : List ℕ) (a : Answer File) (h : FileHead) → ReadsFile s t a (Ok h)
     → ShownAs 4 (SaysFile s t) a 0 (h.length.0 ∷ h.name.from ∷ h.name.len ∷ h.rows ∷ [])
 says_file s t a h r =
     let (f, g, p) = mapped head_of a _ r.says in

@@ -147,7 +147,7 @@ Closes x t s p v b a r =
 
 -- of one that has no children
 abbrev pub ClosesEmpty : List ℕ → ℕ → ℕ → Partitions → Sums → All → All → Type 0
-ClosesEmpty x s p v b a r = (u : List ℕ) → r ≡ after_element x (given u v) s None p b (after_row s none_seen a)
+ClosesEmpty x s p v b a r = (u : List ℕ) → r ≡ after_element x (given u v) s none p b (after_row s none_seen a)
 
 -- the walk over the row at a place of the text s, in an element of that kind in directory p: what is gathered behind a, with the tables after it; where
 -- reading goes on; and the places of the row's elements

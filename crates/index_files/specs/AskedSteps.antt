@@ -13,22 +13,20 @@ use Rattle.index.specs.Index.{File, file_of}
 use Rattle.index_files.specs.Names.{name_place}
 use Rattle.index_files.specs.FileSteps.{files_left, file_tags_from}
 use Rattle.index_files.specs.Asked.{nth}
-use Rattle.core.specs.declared.result.Result.TheVariants as located
 use Rattle.index_files.specs.declared.asked.FileHead.{FileHead}
-use Rattle.core.specs.declared.result.Result.TheVariants as file
 
 -- the children of the file whose tag was found, and the file
 abbrev pub children_found : List ℕ → Result ℕ Refusal → Answer Forest
-children_found s (located.Ok n) = Ok (children_at s n)
-children_found s (located.Err r) = Err r
+children_found s (Ok n) = Ok (children_at s n)
+children_found s (Err r) = Err r
 
 abbrev pub file_found : List ℕ → Result ℕ Refusal → Answer File
 file_found s l = and_then (children_found s l) (λ c. Ok (file_of c))
 
 -- it is the tag t
 abbrev pub TagFound : List ℕ → List ℕ → Result ℕ Refusal → Type 0
-TagFound s t (located.Ok n) = drop n s ≡ t
-TagFound s t (located.Err r) = Unit {0}
+TagFound s t (Ok n) = drop n s ≡ t
+TagFound s t (Err r) = Unit {0}
 
 -- the file of number k that is read along the text
 pub record FindsFile (s : List ℕ) (k : ℕ) (l : Result ℕ Refusal) : Type 0 where
@@ -58,18 +56,18 @@ pub record HeadOf (s : List ℕ) (n : ℕ) (h : FileHead) : Type 0 where
 
 -- what reading a file says
 abbrev pub file_answered : List ℕ → Result FileHead Refusal → Answer FileShown
-file_answered s (file.Ok h) = Ok (record { length = h.length.0; name = take h.name.len (drop h.name.from s); rows = h.rows })
-file_answered s (file.Err r) = Err r
+file_answered s (Ok h) = Ok (record { length = h.length.0; name = take h.name.len (drop h.name.from s); rows = h.rows })
+file_answered s (Err r) = Err r
 
 -- the name lies in the text
 abbrev pub NameInside : List ℕ → Result FileHead Refusal → Type 0
-NameInside s (file.Ok h) = Inside s h.name.from h.name.len
-NameInside s (file.Err r) = Unit {0}
+NameInside s (Ok h) = Inside s h.name.from h.name.len
+NameInside s (Err r) = Unit {0}
 
 -- it stands at w
 abbrev pub NameStands : Span → Result FileHead Refusal → Type 0
-NameStands w (file.Ok h) = h.name ≡ w
-NameStands w (file.Err r) = Unit {0}
+NameStands w (Ok h) = h.name ≡ w
+NameStands w (Err r) = Unit {0}
 
 -- the file a, whose tag is t
 pub record ReadsFile (s t : List ℕ) (a : Answer File) (r : Result FileHead Refusal) : Type 0 where

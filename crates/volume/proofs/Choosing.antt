@@ -24,7 +24,6 @@ use Rattle.index.specs.Places.{update_time_place}
 use Rattle.index.specs.Steps.{summary_in, Definite, ReadsIndex}
 use Rattle.index_values.specs.Tests.{Given}
 use Rattle.index.specs.declared.read.Header.{Header}
-use Rattle.core.specs.declared.result.Result.TheVariants as read_is
 use Rattle.verdict.specs.Steps.{firsts}
 use Rattle.volume.specs.Steps.{bounds_text, bounds_of}
 use Rattle.volume.specs.Chosen.{Indexed, construct_at, read_at, chosen_in}
@@ -67,7 +66,7 @@ module _ (g : Given) (letter : ℕ) (s : List ℕ) (p : Bounds) (x : List ℕ) (
   index_at : (t : Tape) (c : Construct) (z : List ℕ) → p ≡ bounds_of t c → bounds_text s p ≡ z → index_of g letter p.first.0 x ≡ index_of g letter c.first z
   index_at t c z at e = ap (λ (n : ℕ). index_of g letter n x) (ap (λ (q : Bounds). q.first.0) at) ∙ ap (index_of g letter c.first) (is_text ∙ e)
 
-  pub place_found : (h : Header) → ReadsIndex x (index_of g letter p.first.0 x) (read_is.Ok h) → ReadsPlace g letter s p (chosen_is.Found p h)
+  pub place_found : (h : Header) → ReadsIndex x (index_of g letter p.first.0 x) (Ok h) → ReadsPlace g letter s p (chosen_is.Found p h)
   place_found h w t c at lies = go c.text lies
     where
       same : {first end from : ℕ} {text z : List ℕ} → first ≡ c.first → end ≡ c.end → text ≡ z → from ≡ bytes_before t c.first
@@ -92,7 +91,7 @@ module _ (g : Given) (letter : ℕ) (s : List ℕ) (p : Bounds) (x : List ℕ) (
             inside = record { text = lies.0.inside; header = subst (λ (y : List ℕ). Definite y (update_time_place y) h) is_text w.header };
           }
 
-  pub place_refused : (r : Refusal) → ReadsIndex x (index_of g letter p.first.0 x) (read_is.Err r) → ReadsPlace g letter s p (chosen_is.Refused r)
+  pub place_refused : (r : Refusal) → ReadsIndex x (index_of g letter p.first.0 x) (Err r) → ReadsPlace g letter s p (chosen_is.Refused r)
   place_refused r w t c at lies = go c.text lies
     where
       go : (o : Option (List ℕ)) → TextAt s p o → Chooses s (read_from g letter t c o) (chosen_is.Refused r)

@@ -7,7 +7,6 @@ use Rattle.tape.specs.Answers.{tape_in}
 use Rattle.verdict.specs.Verdict.{Volume, Cut}
 use Rattle.verdict.specs.Demand.{Demand3, Verdict3}
 use Rattle.volume.specs.Volume.{volume_of, rescue_in}
-use Rattle.core.specs.declared.result.Result.TheVariants as rescue_is
 use Rattle.volume.specs.declared.search.FoundCut.{FoundCut}
 
 abbrev pub cut_is : FoundCut → Cut
@@ -21,8 +20,8 @@ cut_is k =
     }
 
 abbrev pub rescued : Result FoundCut Refusal → Answer Cut
-rescued (rescue_is.Ok k) = Ok (cut_is k)
-rescued (rescue_is.Err r) = Err r
+rescued (Ok k) = Ok (cut_is k)
+rescued (Err r) = Err r
 
 -- the cut that is answered, if one is
 abbrev pub cut_of : Answer Cut → Option Cut

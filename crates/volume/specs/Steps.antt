@@ -24,9 +24,7 @@ use Rattle.volume.specs.declared.sound.Brief.{Brief}
 use Rattle.volume.specs.declared.filling.TablesFilled.{TablesFilled}
 use Rattle.volume.specs.declared.judge.Judgement.{Judgement}
 use Rattle.volume.specs.declared.judge.Judgement.TheVariants as judgement_is
-use Rattle.core.specs.declared.option.Option.TheVariants as lost_is
 use Rattle.volume.specs.declared.search.FoundCut.{FoundCut}
-use Rattle.core.specs.declared.option.Option.TheVariants as tried_is
 use Rattle.volume.specs.declared.chains.Linked.{Linked}
 use Rattle.volume.specs.Answers.{cut_is}
 
@@ -159,8 +157,8 @@ pub record Keeps (k j : ℕ) (here there : Bounds) (b : Brief) (a : FoundCut) : 
   pub generation : a.generation.0 ≡ b.generation.0
 
 abbrev pub tried_cut : Option FoundCut → Option Cut
-tried_cut (tried_is.Some k) = Some (cut_is k)
-tried_cut tried_is.None = None
+tried_cut (Some k) = Some (cut_is k)
+tried_cut None = None
 
 abbrev pub Tries : Given → Partitions → List ℕ → List ℕ → ℕ → List ℕ → List ℕ → List ℕ → List ℕ → List ℕ → Option FoundCut → Type 0
 Tries g w is ti k td gens begins ri rd r =

@@ -27,45 +27,45 @@ module _ (l s : List ℕ) (count : ℕ) (w : Bytes l) (e : Ok count ≡ element_
       laid_out n m p.encodes (h ∙ y _ _ p.encodes)
 
 pub returns-in_default : goal.returns-in_default
-returns-in_default c = refuses (no_list c.args.index_list.now c.args.index_store.now c.args.data_list.now c.args.data_store.now (absent_list _ _ c.in_default.field-0 (ap (sym c.in_default.is) ∙ c.check.ensures)))
+returns-in_default c = refuses (no_list c.args.index_list.now c.args.index_store.now c.args.data_list.now c.args.data_store.now (absent_list _ _ c.in_default.field-0 (sym c.in_default.is ∙ c.check.ensures)))
 
 pub returns-in_default-check : goal.returns-in_default-check
-returns-in_default-check c = refuses (no_data_list c.args.index_list.now c.args.index_store.now c.args.data_list.now c.args.data_store.now (ap or_refused (present c.args.index_list.now c.args.index_store.now c.in-Ok.field-0 (λ k. (c.type_inv.index_list k).fits) (ap (sym c.in-Ok.is) ∙ c.check.ensures)).read) (absent_list _ _ c.in_default-check.field-0 (ap (sym c.in_default-check.is) ∙ c.check-2.ensures)))
+returns-in_default-check c = refuses (no_data_list c.args.index_list.now c.args.index_store.now c.args.data_list.now c.args.data_store.now (ap or_refused (present c.args.index_list.now c.args.index_store.now c.in-Ok.field-0 (λ k. (c.type_inv.index_list k).fits) (sym c.in-Ok.is ∙ c.check.ensures)).read) (absent_list _ _ c.in_default-check.field-0 (sym c.in_default-check.is ∙ c.check-2.ensures)))
 
 pub returns-in_default-lay_out : goal.returns-in_default-lay_out
 returns-in_default-lay_out c =
-    let p = present c.args.index_list.now c.args.index_store.now c.in-Ok.field-0 (λ k. (c.type_inv.index_list k).fits) (ap (sym c.in-Ok.is) ∙ c.check.ensures) in
-    let q = present c.args.data_list.now c.args.data_store.now c.in-Ok-check.field-0 (λ k. (c.type_inv.data_list k).fits) (ap (sym c.in-Ok-check.is) ∙ c.check-2.ensures) in
+    let p = present c.args.index_list.now c.args.index_store.now c.in-Ok.field-0 (λ k. (c.type_inv.index_list k).fits) (sym c.in-Ok.is ∙ c.check.ensures) in
+    let q = present c.args.data_list.now c.args.data_store.now c.in-Ok-check.field-0 (λ k. (c.type_inv.data_list k).fits) (sym c.in-Ok-check.is ∙ c.check-2.ensures) in
     refuses (no_layout c.args.index_list.now c.args.index_store.now c.args.data_list.now c.args.data_store.now (ap or_refused p.read) (ap or_refused q.read) (not_laid p.tape (sym c.in_default-lay_out.is ∙ c.lay_out.ensures _ p.tape p.encodes)))
 
 pub returns-in_default-lay_out-2 : goal.returns-in_default-lay_out-2
 returns-in_default-lay_out-2 c =
-    let p = present c.args.index_list.now c.args.index_store.now c.in-Ok.field-0 (λ k. (c.type_inv.index_list k).fits) (ap (sym c.in-Ok.is) ∙ c.check.ensures) in
-    let q = present c.args.data_list.now c.args.data_store.now c.in-Ok-check.field-0 (λ k. (c.type_inv.data_list k).fits) (ap (sym c.in-Ok-check.is) ∙ c.check-2.ensures) in
-    refuses (no_data_layout c.args.index_list.now c.args.index_store.now c.args.data_list.now c.args.data_store.now (ap or_refused p.read) (ap or_refused q.read) (laid c.args.index_list.now c.args.index_store.now c.in-Ok.field-0 (λ k. (c.type_inv.index_list k).fits) (ap (sym c.in-Ok.is) ∙ c.check.ensures) c.in-Blocks.vol1 c.in-Blocks.text _ (sym c.in-Blocks.is) c.lay_out.ensures).laid
+    let p = present c.args.index_list.now c.args.index_store.now c.in-Ok.field-0 (λ k. (c.type_inv.index_list k).fits) (sym c.in-Ok.is ∙ c.check.ensures) in
+    let q = present c.args.data_list.now c.args.data_store.now c.in-Ok-check.field-0 (λ k. (c.type_inv.data_list k).fits) (sym c.in-Ok-check.is ∙ c.check-2.ensures) in
+    refuses (no_data_layout c.args.index_list.now c.args.index_store.now c.args.data_list.now c.args.data_store.now (ap or_refused p.read) (ap or_refused q.read) (laid c.args.index_list.now c.args.index_store.now c.in-Ok.field-0 (λ k. (c.type_inv.index_list k).fits) (sym c.in-Ok.is ∙ c.check.ensures) c.in-Blocks.vol1 c.in-Blocks.text _ (sym c.in-Blocks.is) c.lay_out.ensures).laid
     (not_laid q.tape (sym c.in_default-lay_out-2.is ∙ c.lay_out-2.ensures _ q.tape q.encodes)))
 
 pub overflow_add-end : goal.overflow_add-end
-overflow_add-end c = let w = (laid c.args.index_list.now c.args.index_store.now c.in-Ok.field-0 (λ k. (c.type_inv.index_list k).fits) (ap (sym c.in-Ok.is) ∙ c.check.ensures) c.in-Blocks.vol1 c.in-Blocks.text _ (sym c.in-Blocks.is) c.lay_out.ensures).within in search rules
+overflow_add-end c = let w = (laid c.args.index_list.now c.args.index_store.now c.in-Ok.field-0 (λ k. (c.type_inv.index_list k).fits) (sym c.in-Ok.is ∙ c.check.ensures) c.in-Blocks.vol1 c.in-Blocks.text _ (sym c.in-Blocks.is) c.lay_out.ensures).within in search rules
 
 pub overflow_add-data_end : goal.overflow_add-data_end
-overflow_add-data_end c = let w = (laid c.args.data_list.now c.args.data_store.now c.in-Ok-check.field-0 (λ k. (c.type_inv.data_list k).fits) (ap (sym c.in-Ok-check.is) ∙ c.check-2.ensures) c.in-Blocks-lay_out.data_vol1 c.in-Blocks-lay_out.data_text _ (sym c.in-Blocks-lay_out.is) c.lay_out-2.ensures).within in search rules
+overflow_add-data_end c = let w = (laid c.args.data_list.now c.args.data_store.now c.in-Ok-check.field-0 (λ k. (c.type_inv.data_list k).fits) (sym c.in-Ok-check.is ∙ c.check-2.ensures) c.in-Blocks-lay_out.data_vol1 c.in-Blocks-lay_out.data_text _ (sym c.in-Blocks-lay_out.is) c.lay_out-2.ensures).within in search rules
 
 pub slice_bounds-read_sides-end : goal.slice_bounds-read_sides-end
-slice_bounds-read_sides-end c = let w = (laid c.args.index_list.now c.args.index_store.now c.in-Ok.field-0 (λ k. (c.type_inv.index_list k).fits) (ap (sym c.in-Ok.is) ∙ c.check.ensures) c.in-Blocks.vol1 c.in-Blocks.text _ (sym c.in-Blocks.is) c.lay_out.ensures).within in sym (length-take-le c.in-Blocks.vol1 c.args.index_store.now (omega arith))
+slice_bounds-read_sides-end c = let w = (laid c.args.index_list.now c.args.index_store.now c.in-Ok.field-0 (λ k. (c.type_inv.index_list k).fits) (sym c.in-Ok.is ∙ c.check.ensures) c.in-Blocks.vol1 c.in-Blocks.text _ (sym c.in-Blocks.is) c.lay_out.ensures).within in sym (length-take-le c.in-Blocks.vol1 c.args.index_store.now (omega arith))
 
 pub slice_bounds-read_sides-end-2 : goal.slice_bounds-read_sides-end-2
-slice_bounds-read_sides-end-2 c = let w = (laid c.args.index_list.now c.args.index_store.now c.in-Ok.field-0 (λ k. (c.type_inv.index_list k).fits) (ap (sym c.in-Ok.is) ∙ c.check.ensures) c.in-Blocks.vol1 c.in-Blocks.text _ (sym c.in-Blocks.is) c.lay_out.ensures).within in search rules
+slice_bounds-read_sides-end-2 c = let w = (laid c.args.index_list.now c.args.index_store.now c.in-Ok.field-0 (λ k. (c.type_inv.index_list k).fits) (sym c.in-Ok.is ∙ c.check.ensures) c.in-Blocks.vol1 c.in-Blocks.text _ (sym c.in-Blocks.is) c.lay_out.ensures).within in search rules
 
 pub slice_bounds-read_sides-end-3 : goal.slice_bounds-read_sides-end-3
-slice_bounds-read_sides-end-3 c = let w = (laid c.args.data_list.now c.args.data_store.now c.in-Ok-check.field-0 (λ k. (c.type_inv.data_list k).fits) (ap (sym c.in-Ok-check.is) ∙ c.check-2.ensures) c.in-Blocks-lay_out.data_vol1 c.in-Blocks-lay_out.data_text _ (sym c.in-Blocks-lay_out.is) c.lay_out-2.ensures).within in sym (length-take-le c.in-Blocks-lay_out.data_vol1 c.args.data_store.now (omega arith))
+slice_bounds-read_sides-end-3 c = let w = (laid c.args.data_list.now c.args.data_store.now c.in-Ok-check.field-0 (λ k. (c.type_inv.data_list k).fits) (sym c.in-Ok-check.is ∙ c.check-2.ensures) c.in-Blocks-lay_out.data_vol1 c.in-Blocks-lay_out.data_text _ (sym c.in-Blocks-lay_out.is) c.lay_out-2.ensures).within in sym (length-take-le c.in-Blocks-lay_out.data_vol1 c.args.data_store.now (omega arith))
 
 pub slice_bounds-read_sides-end-4 : goal.slice_bounds-read_sides-end-4
-slice_bounds-read_sides-end-4 c = let w = (laid c.args.data_list.now c.args.data_store.now c.in-Ok-check.field-0 (λ k. (c.type_inv.data_list k).fits) (ap (sym c.in-Ok-check.is) ∙ c.check-2.ensures) c.in-Blocks-lay_out.data_vol1 c.in-Blocks-lay_out.data_text _ (sym c.in-Blocks-lay_out.is) c.lay_out-2.ensures).within in search rules
+slice_bounds-read_sides-end-4 c = let w = (laid c.args.data_list.now c.args.data_store.now c.in-Ok-check.field-0 (λ k. (c.type_inv.data_list k).fits) (sym c.in-Ok-check.is ∙ c.check-2.ensures) c.in-Blocks-lay_out.data_vol1 c.in-Blocks-lay_out.data_text _ (sym c.in-Blocks-lay_out.is) c.lay_out-2.ensures).within in search rules
 
 pub in_store-requires : goal.in_store-requires
 in_store-requires c =
-    let w = (laid c.args.index_list.now c.args.index_store.now c.in-Ok.field-0 (λ k. (c.type_inv.index_list k).fits) (ap (sym c.in-Ok.is) ∙ c.check.ensures) c.in-Blocks.vol1 c.in-Blocks.text _ (sym c.in-Blocks.is) c.lay_out.ensures).within in
+    let w = (laid c.args.index_list.now c.args.index_store.now c.in-Ok.field-0 (λ k. (c.type_inv.index_list k).fits) (sym c.in-Ok.is ∙ c.check.ensures) c.in-Blocks.vol1 c.in-Blocks.text _ (sym c.in-Blocks.is) c.lay_out.ensures).within in
     let n = c.in-Blocks.vol1 in
     let m = c.in-Blocks.text in
     let z : n + m - n ≡ m = omega arith in
@@ -74,10 +74,10 @@ in_store-requires c =
 pub returns : goal.returns
 returns c =
     let a = c.args in
-    let p = present c.args.index_list.now c.args.index_store.now c.in-Ok.field-0 (λ k. (c.type_inv.index_list k).fits) (ap (sym c.in-Ok.is) ∙ c.check.ensures) in
-    let q = present c.args.data_list.now c.args.data_store.now c.in-Ok-check.field-0 (λ k. (c.type_inv.data_list k).fits) (ap (sym c.in-Ok-check.is) ∙ c.check-2.ensures) in
-    let l = laid c.args.index_list.now c.args.index_store.now c.in-Ok.field-0 (λ k. (c.type_inv.index_list k).fits) (ap (sym c.in-Ok.is) ∙ c.check.ensures) c.in-Blocks.vol1 c.in-Blocks.text _ (sym c.in-Blocks.is) c.lay_out.ensures in
-    let d = laid c.args.data_list.now c.args.data_store.now c.in-Ok-check.field-0 (λ k. (c.type_inv.data_list k).fits) (ap (sym c.in-Ok-check.is) ∙ c.check-2.ensures) c.in-Blocks-lay_out.data_vol1 c.in-Blocks-lay_out.data_text _ (sym c.in-Blocks-lay_out.is) c.lay_out-2.ensures in
+    let p = present c.args.index_list.now c.args.index_store.now c.in-Ok.field-0 (λ k. (c.type_inv.index_list k).fits) (sym c.in-Ok.is ∙ c.check.ensures) in
+    let q = present c.args.data_list.now c.args.data_store.now c.in-Ok-check.field-0 (λ k. (c.type_inv.data_list k).fits) (sym c.in-Ok-check.is ∙ c.check-2.ensures) in
+    let l = laid c.args.index_list.now c.args.index_store.now c.in-Ok.field-0 (λ k. (c.type_inv.index_list k).fits) (sym c.in-Ok.is ∙ c.check.ensures) c.in-Blocks.vol1 c.in-Blocks.text _ (sym c.in-Blocks.is) c.lay_out.ensures in
+    let d = laid c.args.data_list.now c.args.data_store.now c.in-Ok-check.field-0 (λ k. (c.type_inv.data_list k).fits) (sym c.in-Ok-check.is ∙ c.check-2.ensures) c.in-Blocks-lay_out.data_vol1 c.in-Blocks-lay_out.data_text _ (sym c.in-Blocks-lay_out.is) c.lay_out-2.ensures in
     let n = c.in-Blocks.vol1 in
     let m = c.in-Blocks.text in
     subst (ChecksLabels a.index_list.now a.index_store.now a.data_list.now a.data_store.now) (sym c.in_store.ensures)

@@ -12,17 +12,17 @@ pub returns-in-Files : goal.returns-in-Files
 returns-in-Files c =
     let a = c.args in
     record {
-      answers = shown_counted (files_on (length a.buffer.now) a.list.now a.store.now) (shown c.in-Files.n (ap (sym c.in-Files.is) ∙ c.files.ensures.answers));
+      answers = shown_counted (files_on (length a.buffer.now) a.list.now a.store.now) (shown c.in-Files.n (sym c.in-Files.is ∙ c.files.ensures.answers));
       holds = c.files.ensures.holds;
       layout = by_layout (length a.buffer.now) a.list.now a.store.now (λ i. (c.type_inv.list i).fits);
-      few = few_told (length a.buffer.now) a.list.now a.store.now c.in-Files.n (λ i. (c.type_inv.list i).fits) (ap (sym c.in-Files.is) ∙ c.files.ensures.answers);
+      few = few_told (length a.buffer.now) a.list.now a.store.now c.in-Files.n (λ i. (c.type_inv.list i).fits) (sym c.in-Files.is ∙ c.files.ensures.answers);
     }
 
 pub returns-in-Refused : goal.returns-in-Refused
 returns-in-Refused c =
     let a = c.args in
     record {
-      answers = shown_counted (files_on (length a.buffer.now) a.list.now a.store.now) (not_shown c.in-Refused.r (ap (sym c.in-Refused.is) ∙ c.files.ensures.answers) c.from.ensures);
+      answers = shown_counted (files_on (length a.buffer.now) a.list.now a.store.now) (not_shown c.in-Refused.r (sym c.in-Refused.is ∙ c.files.ensures.answers) c.from.ensures);
       holds = c.files.ensures.holds;
       layout = by_layout (length a.buffer.now) a.list.now a.store.now (λ i. (c.type_inv.list i).fits);
       few = omega arith;

@@ -15,10 +15,10 @@ pub returns-in-Constructs : goal.returns-in-Constructs
 returns-in-Constructs c =
     let a = c.args in
     let e = sym c.is_block_size.ensures ∙ c.if-not-is_block_size.false in
-    record { answers = shown c.in-Constructs.n (ap (sym c.in-Constructs.is) ∙ c.scan.ensures.answers ∙ sized_count a.block_size a.list.now a.store.now e); table = c.scan.ensures.holds ∙ sized_table a.block_size a.list.now a.store.now a.table.now e }
+    record { answers = shown c.in-Constructs.n (sym c.in-Constructs.is ∙ c.scan.ensures.answers ∙ sized_count a.block_size a.list.now a.store.now e); table = c.scan.ensures.holds ∙ sized_table a.block_size a.list.now a.store.now a.table.now e }
 
 pub returns-in-Refused : goal.returns-in-Refused
 returns-in-Refused c =
     let a = c.args in
     let e = sym c.is_block_size.ensures ∙ c.if-not-is_block_size.false in
-    record { answers = not_shown c.in-Refused.r (ap (sym c.in-Refused.is) ∙ c.scan.ensures.answers ∙ sized_count a.block_size a.list.now a.store.now e) c.number-in-Refused.ensures; table = c.scan.ensures.holds ∙ sized_table a.block_size a.list.now a.store.now a.table.now e }
+    record { answers = not_shown c.in-Refused.r (sym c.in-Refused.is ∙ c.scan.ensures.answers ∙ sized_count a.block_size a.list.now a.store.now e) c.number-in-Refused.ensures; table = c.scan.ensures.holds ∙ sized_table a.block_size a.list.now a.store.now a.table.now e }

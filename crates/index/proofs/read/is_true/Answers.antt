@@ -4,7 +4,7 @@ use Rattle.index.specs.Index.{is_true}
 use Rattle.index.proofs.read.is_true.Goals as goal
 
 pub returns-in-Some : goal.returns-in-Some
-returns-in-Some c = ap is_true (ap (sym c.in-Some.is) ∙ c.read_boolean.ensures)
+returns-in-Some c = ap is_true (sym c.in-Some.is ∙ c.read_boolean.ensures)
 
 pub returns-in-None : goal.returns-in-None
-returns-in-None c = ap is_true (ap (sym c.in-None.is) ∙ c.read_boolean.ensures)
+returns-in-None c = ap is_true (sym c.in-None.is ∙ c.read_boolean.ensures)

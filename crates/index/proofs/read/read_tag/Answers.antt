@@ -32,20 +32,20 @@ returns-then-not-same c =
 pub read_children-requires : goal.read_children-requires
 read_children-requires c = (c.first_child-at.ensures.inside, subst (λ (k : Forest). height k ≤ 64) (sym c.first_child-at.ensures.row) c.requires)
 
-pub returns-in-Nothing : goal.returns-in-Nothing
+pub returns-in-None : goal.returns-in-None
 unfolding bytes
-returns-in-Nothing c =
+returns-in-None c =
     let s = c.args.text.now in
     let g = given c.args.uuid.now c.args.volume in
     let n = c.args.n in
-    into_refused (root_version g c.args.letter c.args.block.0 (head_at s n) (children_at s n) (sym c.name_is.ensures ∙ c.if-not-name_is.false) (ap (λ (k : List ℕ). same k (bytes "version")) (sym c.key_of.ensures) ∙ sym c.same.ensures ∙ c.if-not-same.false) (ap values.version (sym c.value_of.ensures) ∙ sym c.read_version.ensures ∙ ap c.in-Nothing.is))
+    into_refused (root_version g c.args.letter c.args.block.0 (head_at s n) (children_at s n) (sym c.name_is.ensures ∙ c.if-not-name_is.false) (ap (λ (k : List ℕ). same k (bytes "version")) (sym c.key_of.ensures) ∙ sym c.same.ensures ∙ c.if-not-same.false) (ap values.version (sym c.value_of.ensures) ∙ sym c.read_version.ensures ∙ c.in-None.is))
 
-pub returns-in-Release : goal.returns-in-Release
+pub returns-in-Some : goal.returns-in-Some
 unfolding bytes
-returns-in-Release c =
+returns-in-Some c =
     let s = c.args.text.now in
     let g = given c.args.uuid.now c.args.volume in
     let n = c.args.n in
     same_tags c.first_child-at.ensures.tags (same_into c.read_children.ensures
-    (ap (λ (k : Forest). children_read g c.args.letter c.args.block.0 c.in-Release.release k) c.first_child-at.ensures.row
-    ∙ root_read_lem g c.args.letter c.args.block.0 (head_at s n) (children_at s n) (sym c.name_is.ensures ∙ c.if-not-name_is.false) (ap (λ (k : List ℕ). same k (bytes "version")) (sym c.key_of.ensures) ∙ sym c.same.ensures ∙ c.if-not-same.false) c.in-Release.release (ap values.version (sym c.value_of.ensures) ∙ sym c.read_version.ensures ∙ ap c.in-Release.is)))
+    (ap (λ (k : Forest). children_read g c.args.letter c.args.block.0 c.in-Some.release k) c.first_child-at.ensures.row
+    ∙ root_read_lem g c.args.letter c.args.block.0 (head_at s n) (children_at s n) (sym c.name_is.ensures ∙ c.if-not-name_is.false) (ap (λ (k : List ℕ). same k (bytes "version")) (sym c.key_of.ensures) ∙ sym c.same.ensures ∙ c.if-not-same.false) c.in-Some.release (ap values.version (sym c.value_of.ensures) ∙ sym c.read_version.ensures ∙ c.in-Some.is)))
