@@ -56,10 +56,10 @@ module _ (g : Given) (letter block : ℕ) (x : Index) where
       let p3 = passed Foreign a4 x (all_own g l) p2.1 in
       let p4 = passed Extents a5 x (all_lawful g l) p3.1 in
       let p5 = passed Location a6 x (stands_at letter block (location_in k)) p4.1 in
-      let z : Ok (index_with release k) ≡ Ok x = p5.1 in
+      let z : ◌≡◌ {A = Answer Index} (Ok (index_with release k)) (Ok x) = p5.1 in
       (p0.0, p2.0, p4.0, same_answer z)
     where
-      same_answer : {y : Index} → Ok y ≡ Ok x → x ≡ y
+      same_answer : {y : Index} → ◌≡◌ {A = Answer Index} (Ok y) (Ok x) → x ≡ y
       same_answer e = cc
 
   root_accepted : (text : List ℕ) (h : Head) (k : Forest) → caller_right g letter ≡ true → Reads text h k → root_read g letter block (node h k none) ≡ Ok x → Accepted g letter text x

@@ -14,7 +14,7 @@ use Rattle.xml.specs.Tree.{Forest, none}
 use Rattle.elements.specs.Reading.{forest_at, head_at, children_at}
 use Rattle.elements.specs.TagSteps.{FirstOf}
 use Rattle.elements.proofs.Rows.{row_past}
-use Rattle.extents.specs.Rows as extents
+use Rattle.extents.specs.declared.Row as extents
 use Rattle.index_values.specs.Elements.{text_in}
 use Rattle.index_values.specs.Entries.{number_or_zero}
 use Rattle.index_values.specs.Tests.{letter_or_zero, row_of, rows_in}

@@ -2,7 +2,7 @@
 use Rattle.std.specs.Prelude.{◌≡◌, List, [], ◌∷◌, ℕ, ◌<◌, ◌≤◌, length, None, Option, Some}
 use Rattle.slices.specs.Words.{bytes}
 use Rattle.elements.specs.Reading.{forest_at, children_at}
-use Rattle.extents.specs.Rows as extents
+use Rattle.extents.specs.declared.Row as extents
 use Rattle.index_values.specs.Elements.{children_in}
 use Rattle.index_values.specs.Tests.{rows_in}
 use Rattle.index_files.specs.declared.extent_rows.Row.{Row}

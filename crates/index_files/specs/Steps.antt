@@ -3,6 +3,7 @@ use Rattle.refusals.specs.declared.Refusal.{Refusal}
 use Rattle.std.specs.Prelude.{List, ℕ, length, Result}
 use Rattle.quantities.specs.declared.BlockNumber.{BlockNumber}
 use Rattle.extents.specs.declared.Row.{Row}
+use Rattle.index_files.specs.declared.asked.FileHead.{FileHead}
 use Rattle.index.specs.Index.{index_of}
 use Rattle.index_values.specs.Tests.{Given}
 use Rattle.index_files.specs.Names.{file_tag}

@@ -16,7 +16,7 @@ pub returns : goal.returns
 returns c =
     let s = c.args.text.now in
     let l = c.loop-found in
-    let e : FileFrom s l.i None = subst (FileFrom s l.i) c.in-None.is c.next_file.ensures in
+    let e : FileFrom s l.i None = subst (FileFrom s l.i) c.in_default.is c.next_file.ensures in
     record { children = nth_none l.left (files_left (left_at s l.i)) e.left ∙ sym l.invariant.0; tag = tt }
 
 pub returns-then-left-eq0 : goal.returns-then-left-eq0

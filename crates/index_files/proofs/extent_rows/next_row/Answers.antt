@@ -3,7 +3,7 @@ use mathlib.Core.Path.{ap, sym, ◌∙◌, subst}
 use mathlib.Core.List.{◌∷◌}
 use native.Mathlib.Omega.{arith}
 use Rattle.elements.specs.Reading.{forest_at}
-use Rattle.extents.specs.Rows as extents
+use Rattle.extents.specs.declared.Row as extents
 use Rattle.index_values.specs.Tests.{row_of, rows_in}
 use Rattle.index_files.proofs.Meeting.{rows_over, rows_first}
 use Rattle.index_files.proofs.extent_rows.next_row.Goals as goal

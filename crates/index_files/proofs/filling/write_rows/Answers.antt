@@ -19,7 +19,7 @@ pub returns : goal.returns
 returns c =
     let s = c.args.text.now in
     let l = c.loop-found in
-    let e : RowAhead s l.i None = subst (RowAhead s l.i) c.in-None.is c.next_row.ensures in
+    let e : RowAhead s l.i None = subst (RowAhead s l.i) c.in_default.is c.next_row.ensures in
     let (h, z) = writing_done l.invariant e in
     record { holds = h; up_to = z }
 
