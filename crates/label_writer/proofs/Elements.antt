@@ -88,7 +88,9 @@ module _ (f : Label) (ok : Rules f) where
   rest_read =
       texts_read _ (escaped f.creator) f.time f.uuid (escaped_closed f.creator) (plain_closed _ (time_plain f.time ok.time)) (plain_closed _ (uuid_plain f.uuid ok.uuid))
       ∙ ap (λ (fs : List Forest). alone (named (bytes "creator") (escaped f.creator)) (alone (named (bytes "formattime") f.time) (alone (named (bytes "volumeuuid") f.uuid) fs)))
-      (letters_read _ f.location f.index_letter f.data_letter (plain_closed _ (letter_plain _ ok.location)) (plain_closed _ (letter_plain _ ok.index_letter)) (plain_closed _ (letter_plain _ ok.data_letter))
+      (letters_read _ f.location f.index_letter f.data_letter
+      (plain_closed (f.location ∷ []) (letter_plain f.location ok.location)) (plain_closed (f.index_letter ∷ []) (letter_plain f.index_letter ok.index_letter))
+      (plain_closed (f.data_letter ∷ []) (letter_plain f.data_letter ok.data_letter))
       ∙ ap (λ (fs : List Forest). opened (named (bytes "location") []) (alone (named (bytes "partition") (f.location ∷ [])) (closed
       (opened (named (bytes "partitions") []) (alone (named (bytes "index") (f.index_letter ∷ [])) (alone (named (bytes "data") (f.data_letter ∷ [])) (closed fs)))))))
       (numbers_read text_end (short f.block_size) (boolean_word f.compression) (plain_closed _ (short_plain f.block_size)) (plain_closed _ (word_plain f.compression))

@@ -15,17 +15,9 @@ module _ (f : Label) where
   abbrev numbers : Bool
   numbers = are_numbers f.location f.index_letter f.data_letter f.block_size
 
-  pub unlawful_texts : texts ≡ false → is_given f ≡ false
-  unfolding is_given is_lawful_label
-  unlawful_texts e = rw e
-
-  pub unlawful_numbers : texts ≡ true → numbers ≡ false → is_given f ≡ false
-  unfolding is_given is_lawful_label
-  unlawful_numbers e g = rw (e, g)
-
-  pub lawful : texts ≡ true → numbers ≡ true → is_lawful_label f ≡ true
-  unfolding is_lawful_label
-  lawful e g = rw (e, g)
+pub unlawful : (f : Label) → is_lawful_label f ≡ false → is_given f ≡ false
+unfolding is_given
+unlawful f e = rw e
 
 -- each field in its rule
 pub record Rules (f : Label) : Type 0 where

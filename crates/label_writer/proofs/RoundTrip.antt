@@ -2,13 +2,12 @@
 -- were given.
 use Rattle.std.specs.Prelude.{Ok, Some}
 use mathlib.Core.Path.{◌≡◌, refl, ap, ◌∙◌, sym}
-use mathlib.Core.Bool.{Bool, true, false, ◌&&◌}
+use mathlib.Core.Bool.{Bool, true, false}
 use mathlib.Core.List.{List, [], ◌∷◌}
 use Prim.Native.Nat.{ℕ, ◌≤◌}
 use native.Mathlib.Omega.{arith}
 use borrow.Author.Tests.{leb-true}
 use lib.Dec.{leb}
-use Rattle.slices.specs.Slices.{every, same}
 use Rattle.slices.specs.Words.{bytes}
 use Rattle.slices.proofs.Booleans.{and_left, and_right}
 use Rattle.quantities.specs.Letters.{is_letter}
@@ -16,14 +15,13 @@ use Rattle.digits.specs.Runs as runs
 use Rattle.digits.specs.Decimal as decimal
 use Rattle.xml.specs.Tree.{none}
 use Rattle.elements.specs.Reading.{has_element}
-use Rattle.texts.specs.Decoded.{decoded}
 use Rattle.children.specs.Rules.{rule_number, mark_of}
 use Rattle.children.specs.Children.{may_hold, matching, all_known, at_most_one, below, lawful_children, text_of_first as text_of_first, children_of_first}
-use Rattle.values.specs.Values.{number, boolean, letter, version, is_creator, is_time, is_uuid}
+use Rattle.values.specs.Values.{boolean, letter, version}
 use Rattle.values.proofs.SchemaForm.{number_short}
 use Rattle.label_writer.specs.declared.Given.{Given}
 use Rattle.label.specs.Label.{Label, Texts, is_shaped, texts_in, label_from, label_of}
-use Rattle.label.specs.Steps.{three_letters, sized, means}
+use Rattle.label.specs.Steps.{means}
 use Rattle.label_writer.specs.Characters.{is_characters}
 use Rattle.label_writer.specs.Text.{escaped, boolean_word, label_text, label_of_given, is_lawful_label, is_given}
 use Rattle.writing.specs.Writing.{Writes}
@@ -32,7 +30,7 @@ use Rattle.label_writer.proofs.Escaping.{decoded_escaped}
 use Rattle.label_writer.proofs.Lengths.{text_length}
 use Rattle.label_writer.proofs.Fields.{Rules, in_rules}
 use Rattle.label_writer.proofs.Creators.{given_formed}
-use Rattle.label.proofs.Values.{the_label, the_root, the_first}
+use Rattle.label.proofs.Values.{the_root, the_first}
 use Rattle.label_writer.proofs.Elements.{root_head, children, text_row}
 
 -- ---- the definitions: the label that a label's text is
@@ -88,16 +86,22 @@ released n f =
     }
 
 values_read : (f : Label) → Rules f → label_from 1 (shown f) ≡ Ok (released 1 f)
+unfolding label_from
 values_read f ok =
     let h : f.block_size ≤ 1048576 = leb-true f.block_size 1048576 (and_right (leb 4096 f.block_size) (leb f.block_size 1048576) ok.block_size) in
-    let d = decoded_escaped f.creator in
-    let e : (is_creator (decoded (escaped f.creator)) && is_time f.time && is_uuid f.uuid) ≡ true = rw (d, ok.creator, ok.time, ok.uuid) in
-    let letters : three_letters (letter (f.location ∷ [])) (letter (f.index_letter ∷ [])) (letter (f.data_letter ∷ []))
-    ≡ Some (record { location = f.location; index_letter = f.index_letter; data_letter = f.data_letter })
-    = rw (letter_alone f.location ok.location, letter_alone f.index_letter ok.index_letter, letter_alone f.data_letter ok.data_letter, ok.fit) in
-    let size : sized (number (decimal.short f.block_size)) ≡ Some f.block_size = rw (number_short f.block_size (omega arith)) (rw ok.block_size) in
-    sym (the_label 1 (shown f) e letters size (word_says f.compression) _ _ _ refl refl refl)
-    ∙ rw d
+    rw (
+      decoded_escaped f.creator,
+      ok.creator,
+      ok.time,
+      ok.uuid,
+      letter_alone f.location ok.location,
+      letter_alone f.index_letter ok.index_letter,
+      letter_alone f.data_letter ok.data_letter,
+      ok.fit,
+      number_short f.block_size (omega arith),
+      ok.block_size,
+      word_says f.compression,
+    )
 
 -- the text of a label of version 2.0.1 that may be written is that label
 pub text_reads : (f : Label) → is_given f ≡ true → f.release ≡ 1 → label_of (label_text f) ≡ Ok f
@@ -105,7 +109,7 @@ unfolding is_given bytes
 text_reads f given e =
     let l : is_lawful_label f ≡ true = and_left (is_lawful_label f) (is_characters f.creator) given in
     let ok = in_rules f l in
-    sym (the_first (label_text f) (text_length f l) (sym (given_formed f l) ∙ given) root_head (children f) None (text_row f ok))
+    sym (the_first (label_text f) (text_length f l) (sym (given_formed f l) ∙ given) root_head (children f) none (text_row f ok))
     ∙ sym (the_root root_head (children f) refl version_says (children_shaped f))
     ∙ ap (label_from 1) (children_texts f)
     ∙ values_read f ok

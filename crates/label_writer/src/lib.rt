@@ -1,13 +1,12 @@
 // The LTFS label, written.
 #![tactic(auto)]
 
-ghost use Rattle.std.specs.Prelude.{◌≡◌, ◌&&◌, [], ◌∷◌, ◌≤◌, length, take};
+ghost use Rattle.std.specs.Prelude.{◌≡◌, ◌&&◌, ◌≤◌, length, take};
 ghost use Rattle.xml.specs.CheckSteps.{in_form};
-ghost use Rattle.quantities.specs.Letters.{is_letter};
 ghost use Rattle.values.specs.Values.{is_creator, is_time, is_uuid};
 ghost use Rattle.writing.specs.Writing.{Writes};
 ghost use Rattle.writing.specs.Steps.{Adds};
-ghost use Rattle.label_writer.specs.Text.{escape, escaped, boolean_word, texts, letters, size_and_compression, label_of_given, are_numbers};
+ghost use Rattle.label_writer.specs.Text.{escape, escaped, boolean_word, texts, letters, size_and_compression, label_of_given, are_numbers, is_lawful_label};
 ghost use Rattle.label_writer.specs.Steps.{ComposesText, WritesText};
 
 use label::letters_fit;
@@ -25,20 +24,16 @@ pub struct Given {
 }
 
 // Adds a byte of a creator.
+#[tactic(auto, unfolding(crate::specs::Text::escape, slices::specs::Words::bytes), using(writing::proofs::Adding::adds_as))]
 fn add_escape(out: &mut [u8], at: usize, b: u8) -> usize
     ensures { Adds out.old at (escape b) out.new result }
 {
-    if b == b'&' {
-        return add(out, at, b"&amp;");
+    match b {
+        b'&' => add(out, at, b"&amp;"),
+        b'<' => add(out, at, b"&lt;"),
+        b'>' => add(out, at, b"&gt;"),
+        _ => add(out, at, &[b]),
     }
-    if b == b'<' {
-        return add(out, at, b"&lt;");
-    }
-    if b == b'>' {
-        return add(out, at, b"&gt;");
-    }
-    let plain = [b];
-    add(out, at, &plain)
 }
 
 // Adds a creator.
@@ -46,30 +41,19 @@ fn add_escaped(out: &mut [u8], at: usize, s: &[u8]) -> usize
     ensures { Adds out.old at (escaped s.now) out.new result }
 {
     let mut end = at;
-    let mut i: usize = 0;
-    while i < s.len() {
-        end = add_escape(out, end, s[i]);
-        i += 1;
+    for b in s {
+        end = add_escape(out, end, *b);
     }
     end
 }
 
-// Adds a letter.
-fn add_letter(out: &mut [u8], at: usize, b: u8) -> usize
-    ensures { Adds out.old at (b ∷ []) out.new result }
-{
-    let letter = [b];
-    add(out, at, &letter)
-}
-
 // Adds a boolean.
+#[tactic(auto, unfolding(crate::specs::Text::boolean_word, slices::specs::Words::bytes))]
 fn add_word(out: &mut [u8], at: usize, c: bool) -> usize
     ensures { Adds out.old at (boolean_word c) out.new result }
 {
-    if c {
-        return add(out, at, b"true");
-    }
-    add(out, at, b"false")
+    let word: &[u8] = if c { b"true" } else { b"false" };
+    add(out, at, word)
 }
 
 // Adds the creator, the time and the UUID.
@@ -90,11 +74,11 @@ fn add_letters(out: &mut [u8], from: usize, location: u8, index: u8, other: u8) 
     ensures { Adds out.old from (letters location index other) out.new result }
 {
     let mut at = add(out, from, b"<location><partition>");
-    at = add_letter(out, at, location);
+    at = add(out, at, &[location]);
     at = add(out, at, b"</partition></location><partitions><index>");
-    at = add_letter(out, at, index);
+    at = add(out, at, &[index]);
     at = add(out, at, b"</index><data>");
-    at = add_letter(out, at, other);
+    at = add(out, at, &[other]);
     add(out, at, b"</data></partitions>")
 }
 
@@ -109,7 +93,7 @@ fn add_numbers(out: &mut [u8], from: usize, size: u64, compression: bool) -> usi
     add(out, at, b"</compression>")
 }
 
-// Writes the text of a label to the front of a buffer that has room for it.
+// Writes the text of a label to the front of a buffer that has room for it. A buffer and a place in it, since no heap is used.
 fn compose(out: &mut [u8], creator: &[u8], time: &[u8], uuid: &[u8], g: Given) -> usize
     ensures { ComposesText (label_of_given creator.now time.now uuid.now g) out.old out.new result }
 {
@@ -125,61 +109,38 @@ fn compose(out: &mut [u8], creator: &[u8], time: &[u8], uuid: &[u8], g: Given) -
 }
 
 // Whether bytes are a creator.
+#[tactic(auto, unfolding(values::specs::Values::is_creator))]
 fn is_creator(s: &[u8]) -> bool
     ensures { result ≡ is_creator s.now }
 {
-    if s.len() < 1 {
-        return false;
-    }
-    if 255 < s.len() {
-        return false;
-    }
-    let mut i: usize = 0;
-    while i < s.len() {
-        if s[i] < 32 {
-            return false;
-        }
-        i += 1;
-    }
-    true
+    (1..=255).contains(&s.len()) && s.iter().all(|b| *b >= b' ')
 }
 
 // Whether the texts of a label are in their rules.
 fn are_texts(creator: &[u8], time: &[u8], uuid: &[u8]) -> bool
     ensures { result ≡ (is_creator creator.now && is_time time.now && is_uuid uuid.now) }
 {
-    if !is_creator(creator) {
-        return false;
-    }
-    if !values::is_time(time) {
-        return false;
-    }
-    values::is_uuid(uuid)
-}
-
-fn letter(b: u8) -> bool
-    ensures { result ≡ is_letter b }
-{
-    quantities::is_letter(b as u64)
+    is_creator(creator) && values::is_time(time) && values::is_uuid(uuid)
 }
 
 // Whether the numbers of a label are in their rules.
+#[tactic(auto, unfolding(crate::specs::Text::are_numbers))]
 fn are_numbers(g: Given) -> bool
     ensures { result ≡ are_numbers g.location g.index_letter g.data_letter g.block_size }
 {
-    if !letter(g.location) {
-        return false;
-    }
-    if !letter(g.index_letter) {
-        return false;
-    }
-    if !letter(g.data_letter) {
-        return false;
-    }
-    if !letters_fit(g.location, g.index_letter, g.data_letter) {
-        return false;
-    }
-    quantities::is_block_size(g.block_size)
+    quantities::is_letter(u64::from(g.location))
+        && quantities::is_letter(u64::from(g.index_letter))
+        && quantities::is_letter(u64::from(g.data_letter))
+        && letters_fit(g.location, g.index_letter, g.data_letter)
+        && quantities::is_block_size(g.block_size)
+}
+
+// Whether the fields of a label are in their rules.
+#[tactic(auto, unfolding(crate::specs::Text::is_lawful_label))]
+fn is_lawful(creator: &[u8], time: &[u8], uuid: &[u8], g: Given) -> bool
+    ensures { result ≡ is_lawful_label (label_of_given creator.now time.now uuid.now g) }
+{
+    are_texts(creator, time, uuid) && are_numbers(g)
 }
 
 // Writes the first n bytes of a text that is in the XML form to the front of out.
@@ -187,21 +148,24 @@ fn deliver(out: &mut [u8], text: &[u8], n: usize) -> Result<usize, Refusal>
     requires { n ≤ length text.now }
     ensures { Writes (in_form (take n text.now)) (take n text.now) out.old out.new result }
 {
-    let part = &text[0..n];
-    let Ok(()) = xml::check(part) else {
+    let part = &text[..n];
+    if xml::check(part).is_err() {
         return Err(Refusal::Caller);
-    };
+    }
     slices::put(out, 0, part)
 }
 
 // Writes an LTFS label of version 2.0.1 to the front of out.
-pub fn write(out: &mut [u8], creator: &[u8], time: &[u8], uuid: &[u8], g: Given) -> Result<usize, Refusal>
+pub fn write(
+    out: &mut [u8],
+    creator: &[u8],
+    time: &[u8],
+    uuid: &[u8],
+    g: Given,
+) -> Result<usize, Refusal>
     ensures { WritesText (label_of_given creator.now time.now uuid.now g) out.old out.new result }
 {
-    if !are_texts(creator, time, uuid) {
-        return Err(Refusal::Caller);
-    }
-    if !are_numbers(g) {
+    if !is_lawful(creator, time, uuid, g) {
         return Err(Refusal::Caller);
     }
     let mut text = [0u8; 4096];

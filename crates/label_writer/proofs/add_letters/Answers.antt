@@ -6,4 +6,4 @@ use Rattle.label_writer.proofs.add_letters.Goals as goal
 
 pub returns : goal.returns
 unfolding letters bytes
-returns c = adds_then (adds_then (adds_then (adds_then (adds_then (adds_then c.add-at.ensures.added c.add_letter-at.ensures) c.add-at-2.ensures.added) c.add_letter-at-2.ensures) c.add-at-3.ensures.added) c.add_letter-at-3.ensures) c.add.ensures.added
+returns c = adds_then (adds_then (adds_then (adds_then (adds_then (adds_then c.add-at.ensures.added c.add-at-2.ensures.added) c.add-at-3.ensures.added) c.add-at-4.ensures.added) c.add-at-5.ensures.added) c.add-at-6.ensures.added) c.add.ensures.added

@@ -10,28 +10,21 @@ use Rattle.writing.specs.Writing.{Writes}
 use Rattle.label_writer.specs.Text.{label_text, label_of_given, is_lawful_label, is_given}
 use Rattle.writing.proofs.Given.{writes_not}
 use Rattle.label_writer.proofs.Lengths.{text_length}
-use Rattle.label_writer.proofs.Fields.{unlawful_texts, unlawful_numbers, lawful}
+use Rattle.label_writer.proofs.Fields.{unlawful}
 use Rattle.label_writer.proofs.Creators.{given_formed}
 use Rattle.writing.proofs.Adding.{front_text}
 use borrow.Author.Rules.{rules}
 use Rattle.label_writer.proofs.write.Goals as goal
 
-pub returns-then-not-are_texts : goal.returns-then-not-are_texts
-returns-then-not-are_texts c =
+pub returns-then-not-is_lawful : goal.returns-then-not-is_lawful
+returns-then-not-is_lawful c =
     let f = label_of_given c.args.creator.now c.args.time.now c.args.uuid.now c.args.g in
-    writes_not (is_given f) (label_text f) c.args.out.now (unlawful_texts f (sym c.are_texts.ensures ∙ c.if-not-are_texts.true))
-
-pub returns-then-not-are_numbers : goal.returns-then-not-are_numbers
-returns-then-not-are_numbers c =
-    let f = label_of_given c.args.creator.now c.args.time.now c.args.uuid.now c.args.g in
-    writes_not (is_given f) (label_text f) c.args.out.now (unlawful_numbers f (sym c.are_texts.ensures ∙ c.if-not-are_texts.false) (sym c.are_numbers.ensures ∙ c.if-not-are_numbers.true))
+    writes_not (is_given f) (label_text f) c.args.out.now (unlawful f (sym c.is_lawful.ensures ∙ c.if-not-is_lawful.true))
 
 pub deliver-requires : goal.deliver-requires
 deliver-requires c =
     let f = label_of_given c.args.creator.now c.args.time.now c.args.uuid.now c.args.g in
-    let t = sym c.are_texts.ensures ∙ c.if-not-are_texts.false in
-    let n = sym c.are_numbers.ensures ∙ c.if-not-are_numbers.false in
-    let ok : is_lawful_label f ≡ true = lawful f t n in
+    let ok : is_lawful_label f ≡ true = sym c.is_lawful.ensures ∙ c.if-not-is_lawful.false in
     let b : List ℕ = replicate 4096 0 in
     let (h, e) = c.compose-n.ensures (text_length f ok) in
     let fits : length (label_text f) ≤ 4096 = text_length f ok in
@@ -41,9 +34,7 @@ deliver-requires c =
 pub returns : goal.returns
 returns c =
     let f = label_of_given c.args.creator.now c.args.time.now c.args.uuid.now c.args.g in
-    let t = sym c.are_texts.ensures ∙ c.if-not-are_texts.false in
-    let n = sym c.are_numbers.ensures ∙ c.if-not-are_numbers.false in
-    let ok : is_lawful_label f ≡ true = lawful f t n in
+    let ok : is_lawful_label f ≡ true = sym c.is_lawful.ensures ∙ c.if-not-is_lawful.false in
     let b : List ℕ = replicate 4096 0 in
     let (h, e) = c.compose-n.ensures (text_length f ok) in
     let fits : length (label_text f) ≤ 4096 = text_length f ok in
