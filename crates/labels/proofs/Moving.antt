@@ -1,4 +1,5 @@
 -- A part of a part of a store is a part of the store: what the label of a text says, as what it says of the store that the text lies in.
+use Rattle.label.specs.declared.reader.LabelFields.{LabelFields}
 use Rattle.refusals.specs.declared.Refusal.{Refusal}
 use Rattle.std.specs.Prelude.{Err, Ok, Result}
 use mathlib.Core.Path.{◌≡◌, sym, ◌∙◌, ap}

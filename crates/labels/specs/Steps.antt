@@ -1,4 +1,5 @@
 -- What the steps of the check answer.
+use Rattle.label.specs.declared.reader.LabelFields.{LabelFields}
 use Rattle.refusals.specs.declared.Refusal.{Refusal}
 use Rattle.std.specs.Prelude.{◌≡◌, cond, List, ℕ, ◌≤◌, length, Err, Ok, Result}
 use Rattle.tape.specs.Tape.{Tape, Encodes}

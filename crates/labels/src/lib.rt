@@ -125,7 +125,12 @@ fn read_sides(v: &[u8], s: &[u8], w: &[u8], t: &[u8]) -> Result<LabelFields, Ref
 }
 
 // The labels of a volume: what the index side's label says, its spans being places in the index store.
-pub fn check(index_list: &[u8], index_store: &[u8], data_list: &[u8], data_store: &[u8]) -> Result<LabelFields, Refusal>
+pub fn check(
+    index_list: &[u8],
+    index_store: &[u8],
+    data_list: &[u8],
+    data_store: &[u8],
+) -> Result<LabelFields, Refusal>
     ensures { ChecksLabels index_list.now index_store.now data_list.now data_store.now result }
 {
     let Ok(_) = tape::check(index_list, index_store) else {

@@ -16,15 +16,15 @@ pub returns-in-Err : goal.returns-in-Err
 returns-in-Err c = refuses (no_label c.args.v.now c.args.s.now c.args.w.now c.args.t.now (sym c.read_vol1.ensures ∙ ap (means_vol1 c.args.v.now) c.in-Ok.is) (sym c.read_vol1-2.ensures ∙ ap (means_vol1 c.args.w.now) c.in-Ok-read_vol1.is) (sym c.read.ensures.says ∙ ap (means c.args.s.now) c.in-Err.is))
 
 pub returns-in-Err-read : goal.returns-in-Err-read
-returns-in-Err-read c = refuses (no_data_label c.args.v.now c.args.s.now c.args.w.now c.args.t.now (sym c.read_vol1.ensures ∙ ap (means_vol1 c.args.v.now) c.in-Ok.is) (sym c.read_vol1-2.ensures ∙ ap (means_vol1 c.args.w.now) c.in-Ok-read_vol1.is) (sym c.read.ensures.says ∙ ap (means c.args.s.now) c.in-Says.is) (sym c.read-in-Says.ensures.says ∙ ap (means c.args.t.now) c.in-Err-read.is) c.on_data_side.ensures)
+returns-in-Err-read c = refuses (no_data_label c.args.v.now c.args.s.now c.args.w.now c.args.t.now (sym c.read_vol1.ensures ∙ ap (means_vol1 c.args.v.now) c.in-Ok.is) (sym c.read_vol1-2.ensures ∙ ap (means_vol1 c.args.w.now) c.in-Ok-read_vol1.is) (sym c.read.ensures.says ∙ ap (means c.args.s.now) c.in-Ok-read.is) (sym c.read-in-Ok-read.ensures.says ∙ ap (means c.args.t.now) c.in-Err-read.is) c.on_data_side.ensures)
 
 pub returns-then-labels_agree : goal.returns-then-labels_agree
 returns-then-labels_agree c =
     record {
-      says = agreed c.args.v.now c.args.s.now c.args.w.now c.args.t.now (sym c.read_vol1.ensures ∙ ap (means_vol1 c.args.v.now) c.in-Ok.is) (sym c.read_vol1-2.ensures ∙ ap (means_vol1 c.args.w.now) c.in-Ok-read_vol1.is) (sym c.read.ensures.says ∙ ap (means c.args.s.now) c.in-Says.is) (sym c.read-in-Says.ensures.says ∙ ap (means c.args.t.now) c.in-Says-read.is) (sym c.labels_agree.ensures ∙ c.if-labels_agree.true);
-      inside = said_inside c.in-Says.is c.read.ensures;
-      stands = said_places c.in-Says.is c.read.ensures;
+      says = agreed c.args.v.now c.args.s.now c.args.w.now c.args.t.now (sym c.read_vol1.ensures ∙ ap (means_vol1 c.args.v.now) c.in-Ok.is) (sym c.read_vol1-2.ensures ∙ ap (means_vol1 c.args.w.now) c.in-Ok-read_vol1.is) (sym c.read.ensures.says ∙ ap (means c.args.s.now) c.in-Ok-read.is) (sym c.read-in-Ok-read.ensures.says ∙ ap (means c.args.t.now) c.in-Ok-read-2.is) (sym c.labels_agree.ensures ∙ c.if-labels_agree.true);
+      inside = said_inside c.in-Ok-read.is c.read.ensures;
+      stands = said_places c.in-Ok-read.is c.read.ensures;
     }
 
 pub returns-else-labels_agree : goal.returns-else-labels_agree
-returns-else-labels_agree c = refuses (disagreed c.args.v.now c.args.s.now c.args.w.now c.args.t.now (sym c.read_vol1.ensures ∙ ap (means_vol1 c.args.v.now) c.in-Ok.is) (sym c.read_vol1-2.ensures ∙ ap (means_vol1 c.args.w.now) c.in-Ok-read_vol1.is) (sym c.read.ensures.says ∙ ap (means c.args.s.now) c.in-Says.is) (sym c.read-in-Says.ensures.says ∙ ap (means c.args.t.now) c.in-Says-read.is) (sym c.labels_agree.ensures ∙ c.if-labels_agree.false))
+returns-else-labels_agree c = refuses (disagreed c.args.v.now c.args.s.now c.args.w.now c.args.t.now (sym c.read_vol1.ensures ∙ ap (means_vol1 c.args.v.now) c.in-Ok.is) (sym c.read_vol1-2.ensures ∙ ap (means_vol1 c.args.w.now) c.in-Ok-read_vol1.is) (sym c.read.ensures.says ∙ ap (means c.args.s.now) c.in-Ok-read.is) (sym c.read-in-Ok-read.ensures.says ∙ ap (means c.args.t.now) c.in-Ok-read-2.is) (sym c.labels_agree.ensures ∙ c.if-labels_agree.false))
