@@ -6,11 +6,10 @@ use mathlib.Core.List.{List, [], ◌∷◌}
 use Prim.Native.Nat.{ℕ, suc, ◌-◌}
 use lib.Dec.{eqb, leb}
 use lib.ListN.{length, drop}
-use native.Mathlib.Omega.{arith}
+use mathlib.Core.Logic.{◌⊎◌, inl, inr}
 use Rattle.refusals.specs.declared.Refusal.{Refusal}
-use Rattle.refusals.specs.Refusals.{Answer, left_at}
+use Rattle.refusals.specs.Refusals.{Answer, require, left_at}
 use Rattle.refusals.specs.declared.Refusal.TheVariants.{Caller, TooMany, Form, Structure, Version, Value, Foreign, Extents, Location}
-use Rattle.slices.specs.Slices.{same}
 use Rattle.slices.specs.Words.{bytes}
 use Rattle.quantities.specs.Letters.{is_letter}
 use Rattle.quantities.specs.Sizes.{is_block_size}
@@ -18,11 +17,12 @@ use Rattle.quantities.specs.Addresses.{Address}
 use Rattle.xml.specs.Tree.{Head, Forest, none as no_element, node, top, opened}
 use Rattle.xml.specs.CheckSteps.{in_form, front}
 use Rattle.elements.specs.Tags.{Tags, tags_at, tags_in}
-use Rattle.elements.specs.TagSteps.{NextTag}
-use Rattle.elements.specs.declared.tags.Tag.TheVariants.{Open, Empty}
-use Rattle.elements.proofs.Rows.{first_empty}
+use Rattle.elements.specs.TagSteps.{NextTag, around_at}
+use Rattle.elements.specs.declared.tags.Tag.{Tag}
+use Rattle.elements.specs.declared.tags.Tag.TheVariants.{End, Close, Open, Empty}
+use Rattle.elements.proofs.Rows.{row_end, row_close, node_open, node_empty, first_empty}
 use Rattle.children.specs.Children.{children_of_first}
-use Rattle.elements.specs.Reading.{forest_at}
+use Rattle.elements.specs.Reading.{forest_at, head_at, children_at}
 use Rattle.values.specs.Values as values
 use Rattle.index_names.specs.Sorts.{index, file}
 use Rattle.index_values.specs.Elements.{IndexElement, elements, text_in}
@@ -30,7 +30,8 @@ use Rattle.index_values.specs.Entries.{number_or_zero, many, entries_of}
 use Rattle.index_values.specs.Tests.{Given}
 use Rattle.index_rows.specs.Steps.{Placed, TagsPlaced}
 use Rattle.index.specs.declared.read.Header.{Header}
-use Rattle.index.specs.Index.{Index, Summary, heading_of, index_with, summary_of, is_true, structured, bounded, all_valued, all_own, all_lawful, stands_at, location_in, back_in, files_of, file_of, file_count, children_read, tag_read, root_read, caller_right, index_of}
+use Rattle.index.specs.declared.survey.Gathered.{Gathered}
+use Rattle.index.specs.Index.{Index, Summary, heading_of, index_with, summary_of, is_true, is_root, structured, bounded, all_valued, all_own, all_lawful, stands_at, location_in, back_in, files_of, file_of, file_count, children_read, tag_read, root_read, caller_right, index_of}
 use Rattle.index.specs.Places.{update_time_in}
 use Rattle.index.specs.Steps.{ReadsAs, HeaderOf, ReadsInto, row_count}
 
@@ -66,14 +67,9 @@ module _ (g : Given) (letter block release : ℕ) (k : Forest) where
           children_11 e = rw (a, b, c, d, e)
 
           module _ (e : all_lawful g (elements index k) ≡ true) where
-            pub children_12 : stands_at letter block (location_in k) ≡ false → children_read g letter block release k ≡ Err Location
+            pub children_sound : children_read g letter block release k ≡ require (stands_at letter block (location_in k)) Location (Ok (index_with release k))
             unfolding children_read
-            children_12 f = rw (a, b, c, d, e, f)
-
-            pub children_read_lem : stands_at letter block (location_in k) ≡ true
-                → children_read g letter block release k ≡ Ok (index_with release k)
-            unfolding children_read
-            children_read_lem f = rw (a, b, c, d, e, f)
+            children_sound = rw (a, b, c, d, e)
 
 pub files_length : (l : List IndexElement) → length (files_of l) ≡ file_count l
 unfolding files_of many
@@ -96,15 +92,15 @@ module _ {s : List ℕ} {t : Tags} {a : Answer Index} {e e' o o' : List ℕ} whe
   same_tags {r = r} q p = subst (λ (x : Tags). ReadsInto s x a e e' o o' r) q p
 
 -- an index whose children are those of the header
-pub reads_children : {s t : List ℕ} {a : Answer Index} {h : Header} (release entries files rows : ℕ) (k : Forest) (c : Tags) → HeaderOf s t release entries files rows h
-    → Placed s index k t → TagsPlaced s index c t → entries ≡ entries_of (elements index k) → files ≡ file_count (elements index k) → rows ≡ row_count (elements index k)
-    → a ≡ Ok (index_with release k) → ReadsAs s (update_time_in s c) a (Ok h)
-reads_children release entries files rows k c w p r e f o q =
+pub reads_children : {s : List ℕ} {a : Answer Index} {h : Header} (release : ℕ) (k : Forest) (c : Tags) (r : Gathered) → HeaderOf s release r h
+    → Placed s index k r.places → TagsPlaced s index c r.places → r.entries ≡ entries_of (elements index k) → r.files ≡ file_count (elements index k)
+    → r.rows ≡ row_count (elements index k) → a ≡ Ok (index_with release k) → ReadsAs s (update_time_in s c) a (Ok h)
+reads_children release k c r w p t e f o q =
     record {
       answers =
           ap Ok (w.heading k p e f o ∙ ap (λ (n : ℕ). record { heading = heading_of release k; files = n; rows = row_count (elements index k) }) (sym (files_length (elements index k))))
           ∙ ap summary_of (sym q);
-      header = w.definite c r;
+      header = w.definite c t;
     }
 
 module _ (g : Given) (letter block : ℕ) (f : Forest) where
@@ -126,24 +122,34 @@ module _ {s : List ℕ} {i n : ℕ} where
   unfolding children_of_first
   tags_empty t = sym (ap children_of_first (first_empty t).tags)
 
+-- the root of a text whose first tag is a start tag, at n
+pub record RootAt (s : List ℕ) (n : ℕ) : Type 0 where
+  pub rest : Forest
+  pub row : forest_at s 38 ≡ node (head_at s n) (children_at s n) rest
+  pub tags : tags_in (drop n s) ≡ children_of_first (tags_at s 38)
+
+module _ {s : List ℕ} {tag : Tag} (t : NextTag s 38 tag) where
+  pub root_at : (n : ℕ) → (tag ≡ Open n) ⊎ (tag ≡ Empty n) → RootAt s n
+  root_at n (inl e) = let o = subst (NextTag s 38) e t in record { rest = top (around_at s n); row = node_open o; tags = tags_open o }
+  root_at n (inr e) = let o = subst (NextTag s 38) e t in record { rest = forest_at s n; row = node_empty o; tags = tags_empty o }
+
+  pub no_root : (tag ≡ End) ⊎ ((n : ℕ) × (tag ≡ Close n)) → forest_at s 38 ≡ no_element
+  no_root (inl e) = row_end (subst (NextTag s 38) e t)
+  no_root (inr p) = row_close (subst (NextTag s 38) p.1 t)
+
 module _ (g : Given) (letter block : ℕ) (h : Head) (k : Forest) where
-  pub root_name : same h.name (bytes "ltfsindex") ≡ false → tag_read g letter block h k ≡ Err Structure
+  pub root_refused : is_root h ≡ false → tag_read g letter block h k ≡ Err Structure
   unfolding tag_read
-  root_name a = rw a
+  root_refused a = rw a
 
-  module _ (a : same h.name (bytes "ltfsindex") ≡ true) where
-    pub root_key : same h.key (bytes "version") ≡ false → tag_read g letter block h k ≡ Err Structure
+  module _ (a : is_root h ≡ true) where
+    pub root_version : values.version h.value ≡ None → tag_read g letter block h k ≡ Err Version
     unfolding tag_read
-    root_key b = rw (a, b)
+    root_version c = rw (a, c)
 
-    module _ (b : same h.key (bytes "version") ≡ true) where
-      pub root_version : values.version h.value ≡ None → tag_read g letter block h k ≡ Err Version
-      unfolding tag_read
-      root_version c = rw (a, b, c)
-
-      pub root_read_lem : (release : ℕ) → values.version h.value ≡ Some release → children_read g letter block release k ≡ tag_read g letter block h k
-      unfolding tag_read
-      root_read_lem release c = sym (rw (a, b, c))
+    pub root_read_lem : (release : ℕ) → values.version h.value ≡ Some release → children_read g letter block release k ≡ tag_read g letter block h k
+    unfolding tag_read
+    root_read_lem release c = sym (rw (a, c))
 
 module _ (g : Given) (letter block : ℕ) (text : List ℕ) where
   pub index_14 : caller_right g letter ≡ false → index_of g letter block text ≡ Err Caller

@@ -1,6 +1,9 @@
 -- How often each name was seen in a row, against how often it is there: a count up to the limit tells once from twice.
 use mathlib.Core.Path.{◌≡◌, refl, ap, sym, ◌∙◌}
 use mathlib.Core.Bool.{Bool, true, false, cond, ◌&&◌, ◌||◌}
+use Rattle.std.specs.Prelude.{◌↔◌, IsTrue}
+use Rattle.children.proofs.Below.{below_all}
+use Rattle.children.proofs.Found.{below_at}
 use mathlib.Core.List.{List}
 use Prim.Native.Nat.{ℕ, zero, suc, ◌+◌, ◌<◌}
 use native.Mathlib.Nat.{add-zero, zero-add}
@@ -80,6 +83,15 @@ pub below_ext : (t u : ℕ → Bool) (n : ℕ) → ((j : ℕ) → j < n → t j 
 unfolding below
 below_ext t u zero e = refl
 below_ext t u (suc n) e = ap (λ (b : Bool). b && below n t) (e n (omega arith)) ∙ ap (λ (b : Bool). u n && b) (below_ext t u n (λ j h. e j (omega arith)))
+
+-- what all of the first n pass
+pub below_told : (t : ℕ → Bool) (n : ℕ) (r : Bool) → (IsTrue r ↔ ((k : ℕ) → k < n → IsTrue (t k))) → r ≡ below n t
+below_told t n true w = sym (below_ext t (λ (k : ℕ). true) n (w.0 refl) ∙ below_all (λ (k : ℕ). true) n (λ k. refl))
+below_told t n false w = go (below n t) refl
+  where
+    go : (b : Bool) → below n t ≡ b → false ≡ b
+    go true e = w.1 (λ k h. below_at t n k e h)
+    go false e = refl
 
 sat_zero : 0 ≡ sat 0
 unfolding sat

@@ -2,13 +2,13 @@
 use mathlib.Core.Path.{◌≡◌, refl, ap, sym, ◌∙◌}
 use mathlib.Core.Bool.{Bool, true, false, cond}
 use mathlib.Core.List.{List}
-use Prim.Native.Nat.{ℕ}
+use Prim.Native.Nat.{ℕ, ◌≤◌}
 use native.Mathlib.Omega.{arith}
 use borrow.Author.Tests.{eqb-true}
 use lib.Dec.{eqb}
-use lib.ListN.{drop}
+use lib.ListN.{length, drop}
 use Rattle.xml.specs.Tree.{Forest, none}
-use Rattle.elements.specs.Tags.{Tags, heads, tags_at, tags_in}
+use Rattle.elements.specs.Tags.{Tags, heads, tags_at, tags_around, tags_in}
 use Rattle.elements.specs.declared.tags.Tag.TheVariants.{Open, Empty}
 use Rattle.elements.proofs.ByTag.{row_told, children_told}
 use Rattle.elements.specs.Reading.{forest_at, head_at, children_at}
@@ -19,7 +19,12 @@ use Rattle.index_values.specs.Entries.{is_entry}
 use Rattle.index_values.specs.Tests.{Given}
 use Rattle.index.specs.SweepSteps.{All, with_sums, none_seen, marked, after_row, begun, after_element, sweep}
 use Rattle.index.specs.Entries.{holder}
+use Rattle.index.specs.declared.walk.Source.{Source}
 use Rattle.index.specs.declared.walk.Sums.{Sums}
+use Rattle.index.specs.declared.walk.Walk.{Walk}
+use Rattle.index.specs.Steps.{asked, all_of, SameTables}
+use Rattle.index_rows.proofs.Placing.{Noting}
+use Rattle.xml.specs.FormSteps.{height}
 use Rattle.index.proofs.Gathering.{closed_other}
 
 -- the elements in an element of sort s are swept, if it holds elements
@@ -84,3 +89,14 @@ module _ (x : List ℕ) (g : Given) (kind p : ℕ) (m : List ℕ) (a : All) wher
         told
         ∙ ap (λ (o : Bool). sweep x g kind p m' (tags_at x j) (after_element x g srt k p a.sums (cond o (sweep x g srt (holder srt p a.sums.entries) none_seen k (with_sums b a)) (with_sums b a)))) h
         ∙ ap (sweep x g kind p m' (tags_at x j)) (closed_other x g srt k p (no_entry srt h) a.sums (with_sums b a))
+
+-- a walk over the row at a place, in an element of that kind in directory p, that has come to i: sweeping the whole row comes to the same as sweeping the
+-- rest of it, of which m is seen and the places t are noted, with what is gathered so far
+pub record Sweeping (x : Source) (kind at p depth : ℕ) (first w : Walk) (i : ℕ) (m t : List ℕ) : Type 0 where
+  pub ahead : at ≤ i
+  pub inside : i ≤ length x.text.now
+  pub deep : height (forest_at x.text.now i) ≤ depth
+  pub around : tags_around x.text.now at ≡ tags_around x.text.now i
+  pub sweeps : sweep x.text.now (asked x) kind p none_seen (tags_at x.text.now at) (all_of first) ≡ sweep x.text.now (asked x) kind p m (tags_at x.text.now i) (all_of w)
+  pub places : Noting x.text.now kind at i t
+  pub same : SameTables first w

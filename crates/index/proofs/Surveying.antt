@@ -1,12 +1,12 @@
 -- What a sweep of an index's children from the start says of the classes.
 use mathlib.Core.Path.{◌≡◌, refl, ap, sym, ◌∙◌, subst}
-use mathlib.Core.Bool.{Bool, true, false, cond, ◌&&◌, ◌||◌, false≢true}
+use mathlib.Core.Bool.{Bool, true, false, cond, ◌&&◌, ◌||◌, and-false}
 use mathlib.Core.List.{List, [], ◌∷◌}
 use Prim.Native.Nat.{ℕ, suc, ◌+◌, ◌≤◌, ◌<◌}
 use native.Mathlib.Nat.{zero-add}
 use native.Mathlib.Omega.{arith}
 use borrow.Author.Tests.{ltb-false, le-leb, lt-leb}
-use lib.Dec.{eqb, ltb}
+use lib.Dec.{eqb, leb, ltb}
 use lib.ListN.{length, take, drop}
 use lib.Seq.{sets, sets-eq, length-sets, take-append_seam}
 use Rattle.elements.specs.Tags.{Tags, heads}
@@ -15,12 +15,14 @@ use Rattle.index_names.specs.Sorts.{index, root, directory, file}
 use Rattle.index_values.specs.Elements.{IndexElement, elements}
 use Rattle.index.specs.Structure.{rightly}
 use Rattle.index_values.specs.Entries.{is_entry, many, uids_of, uid_of, entries_of}
-use Rattle.index_values.specs.Tests.{Given, few}
+use Rattle.index_values.specs.Tests.{Given, few, valued}
 use Rattle.index_values.specs.Different.{different}
 use Rattle.index.specs.SweepSteps.{All, gathered, none_seen, sweep, begun, settled, ended_sums}
-use Rattle.index.specs.Index.{structured, bounded, all_valued, file_count}
+use Rattle.index.specs.Index.{structured, bounded, all_valued, all_own, all_lawful, file_count}
 use Rattle.index.specs.Entries.{Entry, entries_in, entry_rows}
-use Rattle.index.specs.Steps.{Surveyed, nothing_yet, row_count, Listed}
+use Rattle.index.specs.Steps.{Counted, Refuses, nothing_yet, Listed}
+use Rattle.index.proofs.Answers.{children_5, children_15, children_6, children_8, children_11, children_sound}
+use Rattle.refusals.specs.declared.Refusal.TheVariants.{TooMany, Structure, Value, Foreign, Extents}
 use Rattle.index.specs.declared.walk.Sums.{Sums}
 use Rattle.index.proofs.Counted.{sat, sat_below, done_counts}
 use Rattle.index.proofs.Swept.{structure_law, few_law, values_law, own_law, lawful_law, count_law}
@@ -95,81 +97,104 @@ module _ (s : List ℕ) (g : Given) (k : Tags) (table e e' o o' : List ℕ) (a :
   few_is : a.few ≡ every (λ e. few e.sort e.kids) l
   few_is = ap (λ (x : All). x.sums.few) swept ∙ few_law s g index 0 k none_seen start
 
-  pub surveyed_many : 4096 < a.entries
-      → Surveyed g (heads k) (record { structure = a.structure; few = false; values = false; own = false; lawful = false; entries = 0; files = 0; rows = 0 })
-      × (◌≡◌ {A = Bool} false true → Listed es e e' o o')
-  unfolding bounded
-  surveyed_many h =
-      let w : 4096 < entries_of l = sat_many (entries_of l) (rw counted at h) in (
-        record {
-          right = right;
-          small = sym (simp (lt-leb (entries_of l) 4096 w));
-          values = λ z. absurd (false≢true z);
-          owned = λ z. absurd (false≢true z);
-          lawful = λ z. absurd (false≢true z);
-          entries = λ z. absurd (false≢true z);
-          files = λ z. absurd (false≢true z);
-          rows = λ z. absurd (false≢true z);
-        },
-        λ z. absurd (false≢true z),
-      )
+  values_are : a.values ≡ every (λ e. valued e.sort e.head.text) l
+  values_are = ap (λ (x : All). x.sums.values) swept ∙ values_law s g index 0 k none_seen start
 
-  module _ (h : a.entries ≤ 4096) where
-    small : entries_of l ≤ 4096
-    small = (sat_few (entries_of l) (rw counted at h)).0
+  pub refused_structure : a.structure ≡ false → Refuses g (heads k) Structure
+  refused_structure c letter block release = children_5 g letter block release (heads k) (sym right ∙ c)
 
-    exact : a.entries ≡ entries_of l
-    exact = counted ∙ (sat_few (entries_of l) (rw counted at h)).1
+  module _ (c5 : a.structure ≡ true) where
+    pub refused_few : a.few ≡ false → Refuses g (heads k) TooMany
+    unfolding bounded
+    refused_few c letter block release =
+        children_15 g letter block release (heads k) (sym right ∙ c5) (rw (sym few_is ∙ c) (and-false (leb (entries_of l) 4096)))
 
-    entries_long : length es ≡ entries_of l
-    entries_long = sym (uids_length es) ∙ ap length (uids_agree s index 0 0 k) ∙ uids_many l
+    pub refused_many : 4096 < a.entries → Refuses g (heads k) TooMany
+    unfolding bounded
+    refused_many h letter block release =
+        children_15 g letter block release (heads k) (sym right ∙ c5) (simp (lt-leb (entries_of l) 4096 (sat_many (entries_of l) (rw counted at h))))
 
-    module _ (fits : a.few ≡ true) where
+    -- not too many entries
+    module _ (c15 : a.few ≡ true) (h : a.entries ≤ 4096) where
+      small : entries_of l ≤ 4096
+      small = (sat_few (entries_of l) (rw counted at h)).0
+
+      bounded_so : bounded l ≡ true
+      unfolding bounded
+      bounded_so = rw (le-leb (entries_of l) 4096 small, sym few_is ∙ c15)
+
+      exact : a.entries ≡ entries_of l
+      exact = counted ∙ (sat_few (entries_of l) (rw counted at h)).1
+
+      entries_long : length es ≡ entries_of l
+      entries_long = sym (uids_length es) ∙ ap length (uids_agree s index 0 0 k) ∙ uids_many l
+
       rows_long : length (entry_rows es) ≤ 8388608
       rows_long =
-          omega (arith, ap length (rows_agree s index 0 0 k), rows_bounded l (sym few_is ∙ fits), files_few l, small)
+          omega (arith, ap length (rows_agree s index 0 0 k), rows_bounded l (sym few_is ∙ c15), files_few l, small)
 
       listed_all : Lists 0 0 0 start es (gathered a u e' o')
       listed_all =
           subst (Lists 0 0 0 start es) (sym swept)
-          (lists_law s g index 0 k none_seen start 0 0 0 refl refl refl (omega arith) (omega (arith, entries_long, small)) (omega (arith, rows_long)) (sym few_is ∙ fits))
+          (lists_law s g index 0 k none_seen start 0 0 0 refl refl refl (omega arith) (omega (arith, entries_long, small)) (omega (arith, rows_long)) (sym few_is ∙ c15))
 
       uids_are : u ≡ sets table 0 (uids_of l)
       uids_are = listed_all.uids ∙ ap (sets table 0) (uids_agree s index 0 0 k)
 
-      table_length : length u ≡ 4096 → length table ≡ 4096
-      table_length q = sym (length-sets table 0 (uids_of l)) ∙ sym (ap length uids_are) ∙ q
+      pub refused_values : a.values ≡ false → Refuses g (heads k) Value
+      unfolding all_valued
+      refused_values c letter block release =
+          children_6 g letter block release (heads k) (sym right ∙ c5) bounded_so (rw (sym values_are ∙ c))
 
-      table_is : length u ≡ 4096 → take a.entries u ≡ uids_of l
-      table_is q =
-          ap (λ (n : ℕ). take n u) (exact ∙ sym (uids_many l)) ∙ ap (take (length (uids_of l))) uids_are
-          ∙ ap (take (length (uids_of l))) (sets-eq (uids_of l) table 0 (omega (arith, uids_many l, small, table_length q, zero-add (length (uids_of l)))))
-          ∙ take-append_seam (uids_of l) (drop (0 + length (uids_of l)) table)
+      -- whether all fileuids in the table are different
+      module _ (q : length u ≡ 4096) {distinct : Bool} (ed : distinct ≡ different (take a.entries u)) where
+        table_length : length table ≡ 4096
+        table_length = sym (length-sets table 0 (uids_of l)) ∙ sym (ap length uids_are) ∙ q
 
-      rows_are : a.rows ≡ row_count l
-      rows_are = listed_all.rows ∙ zero-add (length (entry_rows es)) ∙ ap length (rows_agree s index 0 0 k)
+        table_is : take a.entries u ≡ uids_of l
+        table_is =
+            ap (λ (n : ℕ). take n u) (exact ∙ sym (uids_many l)) ∙ ap (take (length (uids_of l))) uids_are
+            ∙ ap (take (length (uids_of l))) (sets-eq (uids_of l) table 0 (omega (arith, uids_many l, small, table_length, zero-add (length (uids_of l)))))
+            ∙ take-append_seam (uids_of l) (drop (0 + length (uids_of l)) table)
 
-      tables_are : Listed es e e' o o'
-      tables_are =
-          record {
-            entries = λ q. listed_all.entry_table (omega (arith, q));
-            rows = λ q. listed_all.row_table (omega (arith, q));
-          }
+        different_so : different (uids_of l) ≡ distinct
+        different_so = sym (ed ∙ ap different table_is)
 
-    pub surveyed_few : length u ≡ 4096 → (distinct both : Bool) → distinct ≡ different (take a.entries u) → both ≡ (a.values && distinct)
-        → Surveyed g (heads k) (record { structure = a.structure; few = a.few; values = both; own = a.own; lawful = a.lawful; entries = a.entries; files = a.files; rows = a.rows })
-        × (a.few ≡ true → Listed es e e' o o')
-    unfolding bounded all_valued
-    surveyed_few q distinct both ed eb = (
-      record {
-        right = right;
-        small = few_is ∙ sym (simp (le-leb (entries_of l) 4096 small));
-        values = λ z. eb ∙ ap (λ (b : Bool). a.values && b) (ed ∙ ap different (table_is z q)) ∙ ap (λ (b : Bool). b && different (uids_of l)) (ap (λ (x : All). x.sums.values) swept ∙ values_law s g index 0 k none_seen start);
-        owned = λ z. ap (λ (x : All). x.sums.own) swept ∙ own_law s g index 0 k none_seen start;
-        lawful = λ z. ap (λ (x : All). x.sums.lawful) swept ∙ lawful_law s g index 0 k none_seen start;
-        entries = λ z. exact;
-        files = λ z. files_counted ∙ sat_below (file_count l) (omega (arith, files_few l, small));
-        rows = rows_are;
-      },
-      tables_are,
-    )
+        pub refused_repeated : distinct ≡ false → Refuses g (heads k) Value
+        unfolding all_valued
+        refused_repeated c letter block release =
+            children_6 g letter block release (heads k) (sym right ∙ c5) bounded_so (rw (different_so ∙ c) (and-false (every (λ e. valued e.sort e.head.text) l)))
+
+        module _ (c6 : a.values ≡ true) (d : distinct ≡ true) where
+          valued_so : all_valued l ≡ true
+          unfolding all_valued
+          valued_so = rw (sym values_are ∙ c6, different_so ∙ d)
+
+          own_is : a.own ≡ all_own g l
+          own_is = ap (λ (x : All). x.sums.own) swept ∙ own_law s g index 0 k none_seen start
+
+          lawful_is : a.lawful ≡ all_lawful g l
+          lawful_is = ap (λ (x : All). x.sums.lawful) swept ∙ lawful_law s g index 0 k none_seen start
+
+          pub refused_foreign : a.own ≡ false → Refuses g (heads k) Foreign
+          refused_foreign c letter block release =
+              children_8 g letter block release (heads k) (sym right ∙ c5) bounded_so valued_so (sym own_is ∙ c)
+
+          module _ (c8 : a.own ≡ true) where
+            pub refused_extents : a.lawful ≡ false → Refuses g (heads k) Extents
+            refused_extents c letter block release =
+                children_11 g letter block release (heads k) (sym right ∙ c5) bounded_so valued_so (sym own_is ∙ c8) (sym lawful_is ∙ c)
+
+            pub all_sound : a.lawful ≡ true → Counted g (heads k) a.entries a.files a.rows × Listed es e e' o o'
+            all_sound c = (
+              record {
+                sound = λ letter block release. children_sound g letter block release (heads k) (sym right ∙ c5) bounded_so valued_so (sym own_is ∙ c8) (sym lawful_is ∙ c);
+                entries = exact;
+                files = files_counted ∙ sat_below (file_count l) (omega (arith, files_few l, small));
+                rows = listed_all.rows ∙ zero-add (length (entry_rows es)) ∙ ap length (rows_agree s index 0 0 k);
+              },
+              record {
+                entries = λ z. listed_all.entry_table (omega (arith, z));
+                rows = λ z. listed_all.row_table (omega (arith, z));
+              },
+            )

@@ -121,10 +121,14 @@ children_read g letter block release k =
     (require (stands_at letter block (location_in k)) Location
     (Ok (index_with release k)))))))
 
--- 5 for the root's name and its one attribute, then 7 for its value, then the rest
+-- the root's name and its one attribute
+abbrev pub is_root : Head → Bool
+is_root h = same h.name (bytes "ltfsindex") && same h.key (bytes "version")
+
+-- 5 for them, then 7 for the attribute's value, then the rest
 unfoldable pub tag_read : Given → ℕ → ℕ → Head → Forest → Answer Index
 tag_read g letter block h k =
-    require (same h.name (bytes "ltfsindex") && same h.key (bytes "version")) Structure
+    require (is_root h) Structure
     (require (is_some (values.version h.value)) Version
     (children_read g letter block (or_zero (values.version h.value)) k))
 

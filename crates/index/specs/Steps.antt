@@ -1,8 +1,8 @@
 -- What this crate's functions owe each other.
 use Rattle.refusals.specs.declared.Refusal.{Refusal}
-use Rattle.std.specs.Prelude.{◌≡◌, true, false, cond, ◌&&◌, List, ℕ, ◌*◌, ◌/◌, ◌≤◌, leb, length, set, drop, Err, None, Ok, Option, Result, Some}
+use Rattle.refusals.specs.declared.Refusal.TheVariants as refusal
+use Rattle.std.specs.Prelude.{◌≡◌, true, cond, ◌&&◌, List, ℕ, ◌*◌, ◌/◌, ◌≤◌, leb, length, set, drop, Err, None, Ok, Option, Result, Some}
 use Rattle.std.proofs.lemmas.List.Edits.{sets}
-use Rattle.quantities.specs.declared.BlockNumber.{BlockNumber}
 use Rattle.tables.specs.Copying.{copied}
 use Rattle.extents.specs.declared.Row.{Row}
 use Rattle.extents.specs.Rows.{numbers_of}
@@ -20,15 +20,16 @@ use Rattle.index_values.specs.Elements.{IndexElement, name_number, sort_of, elem
 use Rattle.index_values.specs.Entries.{is_entry, uid_of, entries_of}
 use Rattle.index_values.specs.Tests.{Given}
 use Rattle.index_values.specs.Steps.{given}
-use Rattle.index_values.specs.declared.tests.Partitions.{Partitions}
-use Rattle.index.specs.Index.{children_read, tag_read, root_read, Index, Summary, all_lawful, all_own, all_valued, bounded, all_rows, file_count, files_of, heading_of, structured, summary_of}
+use Rattle.index.specs.Index.{children_read, tag_read, root_read, Index, Summary, all_rows, file_count, files_of, heading_of, index_with, location_in, stands_at, summary_of}
 use Rattle.index.specs.Entries.{Entry, entry_with, entries_in, entry_rows, nine, nines}
 use Rattle.index.specs.Places.{update_time_in, update_time_place}
-use Rattle.index.specs.SweepSteps.{All, gathered, none_seen, marked, after_row, ended_sums, entry_put, after_element, sweep}
+use Rattle.index.specs.SweepSteps.{All, gathered, none_seen, marked, after_row, entry_put, after_element, sweep}
 use Rattle.index.specs.declared.survey.Gathered.{Gathered}
 use Rattle.index.specs.declared.walk.Sums.{Sums}
 use Rattle.index.specs.declared.walk.Left.{Left}
-use Rattle.refusals.specs.Refusals.{Answer}
+use Rattle.index.specs.declared.walk.Source.{Source}
+use Rattle.index.specs.declared.walk.Walk.{Walk}
+use Rattle.refusals.specs.Refusals.{Answer, require}
 use Rattle.quantities.specs.Addresses.{Address}
 use Rattle.index.specs.declared.read.Header.{Header}
 use Rattle.index.specs.declared.read.Location.{Location}
@@ -37,16 +38,9 @@ use Rattle.index.specs.declared.read.Location.{Location}
 abbrev pub row_count : List IndexElement → ℕ
 row_count l = length (all_rows (files_of l))
 
--- what the survey of an index's children tells; of more than 4,096 entries or 1,024 extents only that
-pub record Surveyed (g : Given) (k : Forest) (sums : Sums) : Type 0 where
-  pub right : sums.structure ≡ structured k
-  pub small : sums.few ≡ bounded (elements index k)
-  pub values : sums.few ≡ true → sums.values ≡ all_valued (elements index k)
-  pub owned : sums.few ≡ true → sums.own ≡ all_own g (elements index k)
-  pub lawful : sums.few ≡ true → sums.lawful ≡ all_lawful g (elements index k)
-  pub entries : sums.few ≡ true → sums.entries ≡ entries_of (elements index k)
-  pub files : sums.few ≡ true → sums.files ≡ file_count (elements index k)
-  pub rows : sums.few ≡ true → sums.rows ≡ row_count (elements index k)
+-- the volume that a source is of
+abbrev pub asked : Source → Given
+asked x = given x.uuid.now x.volume
 
 -- a location, and a back pointer, as places on the volume
 abbrev pub address_of : Location → Address
@@ -96,18 +90,12 @@ pub record ReadsAs (s : List ℕ) (w : Span) (a : Answer Index) (r : Result Head
 abbrev pub ReadsIndex : List ℕ → Answer Index → Result Header Refusal → Type 0
 ReadsIndex s = ReadsAs s (update_time_place s)
 
--- the header of any index whose children stand at places t of the text s, with so many entries, so many of them files, and so many rows
-pub record HeaderOf (s t : List ℕ) (release entries files rows : ℕ) (h : Header) : Type 0 where
-  pub heading : (k : Forest) → Placed s index k t → entries ≡ entries_of (elements index k) → files ≡ file_count (elements index k)
-      → rows ≡ row_count (elements index k)
+-- the header of any index of whose children that was gathered in the text s
+pub record HeaderOf (s : List ℕ) (release : ℕ) (r : Gathered) (h : Header) : Type 0 where
+  pub heading : (k : Forest) → Placed s index k r.places → r.entries ≡ entries_of (elements index k) → r.files ≡ file_count (elements index k)
+      → r.rows ≡ row_count (elements index k)
       → summary_in s h ≡ record { heading = heading_of release k; files = file_count (elements index k); rows = row_count (elements index k) }
-  pub definite : (f : Tags) → TagsPlaced s index f t → Definite s (update_time_in s f) h
-
--- a row in an element of that kind is over, of which m is seen and the places t are noted; reading goes on at n
-pub record Ends (n kind : ℕ) (m : List ℕ) (a : Sums) (t : List ℕ) (r : Left) : Type 0 where
-  pub at : r.at ≡ n
-  pub sums : r.sums ≡ ended_sums kind m a
-  pub places : r.places ≡ t
+  pub definite : (f : Tags) → TagsPlaced s index f r.places → Definite s (update_time_in s f) h
 
 -- the element whose tag is at n of the text s is met in such a row: what is seen then, and the places; and its sort
 pub record Meets (s : List ℕ) (kind n : ℕ) (m t m' t' : List ℕ) (sort : ℕ) : Type 0 where
@@ -139,23 +127,36 @@ EntryListed x t sort p b count u u' e e' =
     (k : Tags) (l : List Row) → (is_entry sort ≡ true → Placed x sort (heads k) t) → (is_entry sort ≡ true → TagsPlaced x sort k t) → count ≡ length l
     → PutsEntry x sort p b k l u u' e e'
 
--- the end of an element of sort s in directory p, where b was gathered before it, and whose children stand at places t of the text x
-abbrev pub Closes : List ℕ → List ℕ → ℕ → ℕ → Partitions → Sums → All → All → Type 0
-Closes x t s p v b a r =
-    (k : Tags) (u : List ℕ) → (is_entry s ≡ true → Placed x s (heads k) t) → (is_entry s ≡ true → TagsPlaced x s k t)
-    → r ≡ after_element x (given u v) s k p b a
+-- what a walk has gathered
+abbrev pub all_of : Walk → All
+all_of w = gathered w.sums w.uids.now w.entry_table.now w.row_table.now
+
+-- the tables that a walk fills are the same after, whatever is in them
+pub record SameTables (before after : Walk) : Type 0 where
+  pub entry_table : after.entry_table.ghost_name ≡ before.entry_table.ghost_name
+  pub row_table : after.row_table.ghost_name ≡ before.row_table.ghost_name
+  pub entry_room : length after.entry_table.now ≡ length before.entry_table.now
+  pub row_room : length after.row_table.now ≡ length before.row_table.now
+
+-- the end of an element of sort s in directory p, where b was gathered before it, and whose children stand at places t of the text
+pub record Closes (x : Source) (t : List ℕ) (s p : ℕ) (b : Sums) (before after : Walk) : Type 0 where
+  pub same : SameTables before after
+  pub gathers : (k : Tags) → (is_entry s ≡ true → Placed x.text.now s (heads k) t) → (is_entry s ≡ true → TagsPlaced x.text.now s k t)
+      → all_of after ≡ after_element x.text.now (asked x) s k p b (all_of before)
 
 -- of one that has no children
-abbrev pub ClosesEmpty : List ℕ → ℕ → ℕ → Partitions → Sums → All → All → Type 0
-ClosesEmpty x s p v b a r = (u : List ℕ) → r ≡ after_element x (given u v) s none p b (after_row s none_seen a)
+pub record ClosesEmpty (x : Source) (s p : ℕ) (b : Sums) (before after : Walk) : Type 0 where
+  pub same : SameTables before after
+  pub gathers : all_of after ≡ after_element x.text.now (asked x) s none p b (after_row s none_seen (all_of before))
 
--- the walk over the row at a place of the text s, in an element of that kind in directory p: what is gathered behind a, with the tables after it; where
--- reading goes on; and the places of the row's elements
-pub record WalksRow (g : Given) (s : List ℕ) (kind at p : ℕ) (a : All) (uids entry_table row_table : List ℕ) (r : Left) : Type 0 where
-  pub gathers : gathered r.sums uids entry_table row_table ≡ sweep s g kind p none_seen (tags_at s at) a
-  pub behind : Behind s at r.at
-  pub places : Placed s kind (forest_at s at) r.places
-  pub tags : TagsPlaced s kind (tags_at s at) r.places
+-- the walk over the row at a place of the text, in an element of that kind in directory p: what is gathered after it; where reading goes on; and the
+-- places of the row's elements
+pub record WalksRow (x : Source) (kind at p : ℕ) (before after : Walk) (r : Left) : Type 0 where
+  pub same : SameTables before after
+  pub gathers : all_of after ≡ sweep x.text.now (asked x) kind p none_seen (tags_at x.text.now at) (all_of before)
+  pub behind : Behind x.text.now at r.at
+  pub places : Placed x.text.now kind (forest_at x.text.now at) r.places
+  pub tags : TagsPlaced x.text.now kind (tags_at x.text.now at) r.places
 
 -- nothing gathered yet
 abbrev pub nothing_yet : Sums
@@ -166,18 +167,38 @@ pub record Listed (es : List Entry) (e e' r r' : List ℕ) : Type 0 where
   pub entries : length es * 9 ≤ length e → e' ≡ sets e 0 (nines es)
   pub rows : length (entry_rows es) * 5 ≤ length r → r' ≡ sets r 0 (numbers_of (entry_rows es))
 
--- the survey's sums, by what the walk over an index's children gathered, u the table with the fileuids
-abbrev pub SumsUp : List ℕ → Sums → Sums → Type 0
+-- nothing in an index's children k is refused but for the place of the index; so many entries, files and rows are in it
+pub record Counted (g : Given) (k : Forest) (e f r : ℕ) : Type 0 where
+  pub sound : (letter block release : ℕ) → children_read g letter block release k ≡ require (stands_at letter block (location_in k)) refusal.Location (Ok (index_with release k))
+  pub entries : e ≡ entries_of (elements index k)
+  pub files : f ≡ file_count (elements index k)
+  pub rows : r ≡ row_count (elements index k)
+
+-- they are refused, wherever the index is to stand
+abbrev pub Refuses : Given → Forest → Refusal → Type 0
+Refuses g k r = (letter block release : ℕ) → children_read g letter block release k ≡ Err r
+
+-- what the sums a of the walk over an index's children k refuse
+abbrev pub Summed : Given → Tags → Sums → List Entry → List ℕ → List ℕ → List ℕ → List ℕ → Result Unit Refusal → Type 0
+Summed g k a es e e' o o' (Ok u) = Counted g (heads k) a.entries a.files a.rows × Listed es e e' o o'
+Summed g k a es e e' o o' (Err r) = Refuses g (heads k) r
+
+-- the same of any index, u the table with the fileuids
+abbrev pub SumsUp : List ℕ → Sums → Result Unit Refusal → Type 0
 SumsUp u a r =
     (s : List ℕ) (g : Given) (k : Tags) (u₀ e e' o o' : List ℕ) → gathered a u e' o' ≡ sweep s g index 0 none_seen k (gathered nothing_yet u₀ e o)
-    → Surveyed g (heads k) r × (r.few ≡ true → Listed (entries_in s index 0 0 k) e e' o o')
+    → Summed g k a (entries_in s index 0 0 k) e e' o o' r
 
 -- the survey of an index whose children are that row, with its tables before and after
-pub record Surveys (g : Given) (s : List ℕ) (at : ℕ) (e e' o o' : List ℕ) (r : Gathered) : Type 0 where
-  pub sums : Surveyed g (forest_at s at) r.sums
+pub record Surveyed (g : Given) (s : List ℕ) (at : ℕ) (e e' o o' : List ℕ) (r : Gathered) : Type 0 where
+  pub counted : Counted g (forest_at s at) r.entries r.files r.rows
   pub places : Placed s index (forest_at s at) r.places
   pub tags : TagsPlaced s index (tags_at s at) r.places
-  pub tables : r.sums.few ≡ true → Listed (entries_in s index 0 0 (tags_at s at)) e e' o o'
+  pub tables : Listed (entries_in s index 0 0 (tags_at s at)) e e' o o'
+
+abbrev pub Surveys : Source → ℕ → List ℕ → List ℕ → List ℕ → List ℕ → Result Gathered Refusal → Type 0
+Surveys x at e e' o o' (Ok r) = Surveyed (asked x) x.text.now at e e' o o' r
+Surveys x at e e' o o' (Err r) = Refuses (asked x) (forest_at x.text.now at) r
 
 -- where an index is answered, its entries and rows are in their tables
 abbrev pub IsListed : List Entry → List ℕ → List ℕ → List ℕ → List ℕ → Result Header Refusal → Type 0
@@ -192,15 +213,17 @@ pub record ReadsInto (s : List ℕ) (t : Tags) (a : Answer Index) (e e' o o' : L
 abbrev pub ReadsAll : List ℕ → Answer Index → List ℕ → List ℕ → List ℕ → List ℕ → Result Header Refusal → Type 0
 ReadsAll s = ReadsInto s (children_of_first (tags_at s 38))
 
-module _ (s : List ℕ) (g : Given) (letter : ℕ) (block : BlockNumber) where
-  -- what is read of an index at that partition letter and block: by its release and the row of its children
+module _ (x : Source) (p : Location) where
+  -- what is read of an index at that place: by its release and the row of its children
   abbrev pub ReadsChildren : ℕ → ℕ → List ℕ → List ℕ → List ℕ → List ℕ → Result Header Refusal → Type 0
-  ReadsChildren release at = ReadsInto s (tags_at s at) (children_read g letter block.0 release (forest_at s at))
+  ReadsChildren release at =
+      ReadsInto x.text.now (tags_at x.text.now at) (children_read (asked x) p.letter p.block.0 release (forest_at x.text.now at))
 
   -- by its root's tag
   abbrev pub ReadsTag : ℕ → List ℕ → List ℕ → List ℕ → List ℕ → Result Header Refusal → Type 0
-  ReadsTag n = ReadsInto s (tags_in (drop n s)) (tag_read g letter block.0 (head_at s n) (children_at s n))
+  ReadsTag n =
+      ReadsInto x.text.now (tags_in (drop n x.text.now)) (tag_read (asked x) p.letter p.block.0 (head_at x.text.now n) (children_at x.text.now n))
 
   -- by its text in the XML form
   abbrev pub ReadsRoot : List ℕ → List ℕ → List ℕ → List ℕ → Result Header Refusal → Type 0
-  ReadsRoot = ReadsAll s (root_read g letter block.0 (forest_at s 38))
+  ReadsRoot = ReadsAll x.text.now (root_read (asked x) p.letter p.block.0 (forest_at x.text.now 38))

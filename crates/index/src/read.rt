@@ -3,12 +3,14 @@ ghost use Rattle.std.specs.Prelude.{◌≡◌, ◌≤◌, length};
 ghost use Rattle.values.specs.Values as values;
 ghost use Rattle.xml.specs.FormSteps.{height};
 ghost use Rattle.xml.specs.CheckSteps.{good, form};
-ghost use Rattle.elements.specs.Reading.{forest_at, children_at, has_element};
+ghost use Rattle.elements.specs.Reading.{forest_at, head_at, children_at};
 ghost use Rattle.index_values.specs.Steps.{given};
-ghost use Rattle.index.specs.Index.{is_true, location_of, back_at, stands_at, caller_right, index_of};
+ghost use Rattle.index.specs.Index.{is_true, is_root, location_of, back_at, stands_at, caller_right, index_of};
 ghost use Rattle.index.specs.Steps.{address_of, back_of, HeaderOf, ReadsIndex, ReadsAll, ReadsChildren, ReadsTag, ReadsRoot};
 
 use crate::survey;
+use crate::survey::Gathered;
+use crate::walk::Source;
 use elements::{Span, Tag};
 use index_values::Partitions;
 use quantities::{BlockNumber, Generation};
@@ -38,28 +40,16 @@ pub struct Header {
 }
 
 // Whether the caller's letters, block size, UUID and place are in their rules.
+#[tactic(auto, unfolding(crate::specs::Index::caller_right))]
 pub fn is_caller_right(uuid: &[u8], volume: Partitions, letter: u8) -> bool
     ensures { result ≡ caller_right (given uuid.now volume) letter }
 {
-    if !quantities::is_letter(volume.index_letter as u64) {
-        return false;
-    }
-    if !quantities::is_letter(volume.data_letter as u64) {
-        return false;
-    }
-    if volume.index_letter == volume.data_letter {
-        return false;
-    }
-    if !quantities::is_block_size(volume.block_size) {
-        return false;
-    }
-    if !values::is_uuid(uuid) {
-        return false;
-    }
-    if letter == volume.index_letter {
-        return true;
-    }
-    letter == volume.data_letter
+    quantities::is_letter(u64::from(volume.index_letter))
+        && quantities::is_letter(u64::from(volume.data_letter))
+        && volume.index_letter != volume.data_letter
+        && (letter == volume.index_letter || letter == volume.data_letter)
+        && quantities::is_block_size(volume.block_size)
+        && values::is_uuid(uuid)
 }
 
 // The location whose row is at at.
@@ -73,57 +63,33 @@ fn location_at(text: &[u8], at: usize) -> Location
 }
 
 // Whether the location whose row is at at is that place.
-fn is_place(text: &[u8], at: usize, letter: u8, block: BlockNumber) -> bool
-    ensures { result ≡ stands_at letter block.0 (location_of (forest_at text.now at)) }
+fn is_place(text: &[u8], at: usize, place: Location) -> bool
+    ensures { result ≡ stands_at place.letter place.block.0 (location_of (forest_at text.now at)) }
 {
     let found = location_at(text, at);
-    found.letter == letter && found.block.0 == block.0
+    found.letter == place.letter && found.block.0 == place.block.0
 }
 
 fn is_true(raw: &[u8]) -> bool
     ensures { result ≡ is_true (values.boolean raw.now) }
 {
-    match values::read_boolean(raw) {
-        Some(b) => b,
-        None => false,
-    }
-}
-
-// Whether a row has an element.
-fn has_row(text: &[u8], at: usize) -> bool
-    ensures { result ≡ has_element (forest_at text.now at) }
-{
-    match elements::next_tag(text, at) {
-        Tag::End => false,
-        Tag::Close(_) => false,
-        Tag::Open(_) => true,
-        Tag::Empty(_) => true,
-    }
+    values::read_boolean(raw).unwrap_or(false)
 }
 
 // The location whose row is at at, if there is one.
 fn back_at(text: &[u8], at: usize) -> Option<Location>
     ensures { back_of result ≡ back_at (forest_at text.now at) }
 {
-    if has_row(text, at) {
-        Some(location_at(text, at))
-    } else {
-        None
-    }
+    elements::next_child(text, at)?;
+    Some(location_at(text, at))
 }
 
-// The header of an index whose children have those places.
-fn head_from(
-    text: &[u8],
-    places: &[usize; 16],
-    release: u64,
-    entries: u64,
-    files: u64,
-    rows: u64,
-) -> Header
-    requires { files ≤ entries }
-    ensures { HeaderOf text.now places.now release entries files rows result }
+// The header of an index of which that was gathered.
+fn head_from(text: &[u8], release: u64, found: &Gathered) -> Header
+    requires { found.now.files ≤ found.now.entries }
+    ensures { HeaderOf text.now release found.now result }
 {
+    let places = &found.places;
     Header {
         release,
         generation: Generation(index_values::number_placed(text, places[2])),
@@ -132,111 +98,79 @@ fn head_from(
         back: back_at(text, index_rows::row_at(text, places[9])),
         allow: is_true(index_rows::text_at(text, places[5])),
         highest: index_values::number_placed(text, places[6]),
-        directories: entries - files,
-        files,
-        rows,
+        directories: found.entries - found.files,
+        files: found.files,
+        rows: found.rows,
     }
 }
 
 // The index whose children are the row at at. The numbers of its entries and all rows go into their tables, as far as these have room.
 fn read_children(
-    text: &[u8],
-    uuid: &[u8],
+    source: Source<'_>,
+    place: Location,
+    release: u64,
+    at: usize,
     entry_table: &mut [u64],
     row_table: &mut [u64],
-    at: usize,
-    volume: Partitions,
-    release: u64,
-    letter: u8,
-    block: BlockNumber,
 ) -> Result<Header, Refusal>
-    requires { (at ≤ length text.now) × (height (forest_at text.now at) ≤ 64) }
-    ensures { ReadsChildren text.now (given uuid.now volume) letter block release at
+    requires { (at ≤ length source.text.now) × (height (forest_at source.text.now at) ≤ 64) }
+    ensures { ReadsChildren source.entry place release at
         entry_table.old entry_table.new row_table.old row_table.new result }
 {
-    let found = survey::survey(text, uuid, entry_table, row_table, at, volume);
-    let s = found.sums;
-    let places = found.places;
-    if !s.structure {
-        return Err(Refusal::Structure);
-    }
-    if !s.few {
-        return Err(Refusal::TooMany);
-    }
-    if !s.values {
-        return Err(Refusal::Value);
-    }
-    if !s.own {
-        return Err(Refusal::Foreign);
-    }
-    if !s.lawful {
-        return Err(Refusal::Extents);
-    }
-    if !is_place(text, index_rows::row_at(text, places[4]), letter, block) {
+    let found = survey::survey(source, at, entry_table, row_table)?;
+    if !is_place(
+        source.text,
+        index_rows::row_at(source.text, found.places[4]),
+        place,
+    ) {
         return Err(Refusal::Location);
     }
-    Ok(head_from(text, &places, release, s.entries, s.files, s.rows))
+    Ok(head_from(source.text, release, &found))
+}
+
+// Whether the tag at n has the root's name and its one attribute.
+#[tactic(auto, unfolding(slices::specs::Words::bytes))]
+fn is_root(text: &[u8], n: usize) -> bool
+    ensures { result ≡ is_root (head_at text.now n) }
+{
+    elements::name_is(text, n, b"ltfsindex") && elements::key_of(text, n) == b"version".as_slice()
 }
 
 // The index whose root's tag is at n.
 fn read_tag(
-    text: &[u8],
-    uuid: &[u8],
+    source: Source<'_>,
+    place: Location,
+    n: usize,
     entry_table: &mut [u64],
     row_table: &mut [u64],
-    n: usize,
-    volume: Partitions,
-    letter: u8,
-    block: BlockNumber,
 ) -> Result<Header, Refusal>
-    requires { height (children_at text.now n) ≤ 64 }
-    ensures { ReadsTag text.now (given uuid.now volume) letter block n
+    requires { height (children_at source.text.now n) ≤ 64 }
+    ensures { ReadsTag source.entry place n
         entry_table.old entry_table.new row_table.old row_table.new result }
 {
-    if !elements::name_is(text, n, b"ltfsindex") {
+    let text = source.text;
+    if !is_root(text, n) {
         return Err(Refusal::Structure);
     }
-    if !slices::same(elements::key_of(text, n), b"version") {
-        return Err(Refusal::Structure);
-    }
-    match values::read_version(elements::value_of(text, n)) {
-        None => Err(Refusal::Version),
-        Some(release) => {
-            let at = elements::first_child(text, n);
-            read_children(
-                text,
-                uuid,
-                entry_table,
-                row_table,
-                at,
-                volume,
-                release,
-                letter,
-                block,
-            )
-        }
-    }
+    let release = values::read_version(elements::value_of(text, n)).ok_or(Refusal::Version)?;
+    let at = elements::first_child(text, n);
+    read_children(source, place, release, at, entry_table, row_table)
 }
 
 // The index whose text is in the XML form.
 fn read_root(
-    text: &[u8],
-    uuid: &[u8],
+    source: Source<'_>,
+    place: Location,
     entry_table: &mut [u64],
     row_table: &mut [u64],
-    volume: Partitions,
-    letter: u8,
-    block: BlockNumber,
 ) -> Result<Header, Refusal>
-    requires { form text.now ≡ good }
-    ensures { ReadsRoot text.now (given uuid.now volume) letter block
+    requires { form source.text.now ≡ good }
+    ensures { ReadsRoot source.entry place
         entry_table.old entry_table.new row_table.old row_table.new result }
 {
-    match elements::next_tag(text, 38) {
-        Tag::End => Err(Refusal::Structure),
-        Tag::Close(_) => Err(Refusal::Structure),
-        Tag::Empty(n) => read_tag(text, uuid, entry_table, row_table, n, volume, letter, block),
-        Tag::Open(n) => read_tag(text, uuid, entry_table, row_table, n, volume, letter, block),
+    match elements::next_tag(source.text, 38) {
+        Tag::Open(n) | Tag::Empty(n) => read_tag(source, place, n, entry_table, row_table),
+        Tag::End | Tag::Close(_) => Err(Refusal::Structure),
     }
 }
 
@@ -261,7 +195,8 @@ pub fn read_into(
         return Err(Refusal::TooMany);
     }
     xml::check(text)?;
-    read_root(text, uuid, entry_table, row_table, volume, letter, block)
+    let source = Source { text, uuid, volume };
+    read_root(source, Location { letter, block }, entry_table, row_table)
 }
 
 // The same without the tables.
@@ -274,15 +209,5 @@ pub fn read_index(
 ) -> Result<Header, Refusal>
     ensures { ReadsIndex text.now (index_of (given uuid.now volume) letter block.0 text.now) result }
 {
-    let mut no_entries = [0u64; 1];
-    let mut no_rows = [0u64; 1];
-    read_into(
-        text,
-        uuid,
-        volume,
-        letter,
-        block,
-        &mut no_entries,
-        &mut no_rows,
-    )
+    read_into(text, uuid, volume, letter, block, &mut [], &mut [])
 }

@@ -18,10 +18,10 @@ returns c =
     record {
       heading = λ k p e f o.
           let s = c.args.text.now in
-          let t = c.args.places.now in
+          let t = c.args.found.now.places in
           let here = c.row_at.ensures.0 ∙ sym (location_placed s k t p) in
           let back = c.row_at-2.ensures.0 ∙ sym (back_placed s k t p) in
-          same_heading c.args.release k c.args.entries c.args.files c.args.rows c.number_placed.result c.number_placed-2.result _ _ _ _ c.is_true.result
+          same_heading c.args.release k c.args.found.now.entries c.args.found.now.files c.args.found.now.rows c.number_placed.result c.number_placed-2.result _ _ _ _ c.is_true.result
           e f o
           (c.number_placed.ensures ∙ ap number_or_zero (sym (generation_placed s k t p)))
           (c.span_at.ensures.spans.part ∙ sym (updatetime_placed s k t p))
@@ -31,7 +31,7 @@ returns c =
           (c.number_placed-2.ensures ∙ ap number_or_zero (sym (highest_placed s k t p))) refl;
       definite = λ f q.
           record {
-            time = c.span_at.ensures.place ∙ sym (updatetime_stands c.args.text.now f c.args.places.now q);
+            time = c.span_at.ensures.place ∙ sym (updatetime_stands c.args.text.now f c.args.found.now.places q);
             inside = c.span_at.ensures.spans.inside;
           };
     }

@@ -1,51 +1,47 @@
--- `read_tag` meets its contract: the root's name, its attribute, its version, then its children.
+-- `read_tag` meets its contract: the root's name and attribute, its version, then its children.
 use mathlib.Core.Path.{ap, sym, ◌∙◌, subst}
-use mathlib.Core.List.{List}
-use Prim.Native.Nat.{ℕ, ◌≤◌}
-use Rattle.slices.specs.Slices.{same}
-use Rattle.slices.specs.Words.{bytes}
+use Prim.Native.Nat.{◌≤◌}
+use Rattle.std.proofs.Common.{arith}
+use Rattle.std.specs.Prelude.{◌≡◌, Err, ℕ, Result, Some}
+use Rattle.refusals.specs.declared.Refusal.{Refusal}
+use Rattle.refusals.specs.declared.Refusal.TheVariants.{Version}
+use Rattle.std.proofs.lemmas.Result.{err_from_is_err_and}
 use Rattle.xml.specs.FormSteps.{height}
 use Rattle.xml.specs.Tree.{Forest}
 use Rattle.elements.specs.Reading.{head_at, children_at}
 use Rattle.values.specs.Values as values
-use Rattle.index_values.specs.Steps.{given}
 use Rattle.index.specs.Index.{children_read}
-use Rattle.index.proofs.Answers.{into_refused, same_into, same_tags, root_name, root_key, root_version, root_read_lem}
+use Rattle.index.specs.Steps.{asked}
+use Rattle.index.proofs.Answers.{into_refused, same_into, same_tags, root_refused, root_version, root_read_lem}
 use Rattle.index.proofs.read.read_tag.Goals as goal
 
-pub returns-then-not-name_is : goal.returns-then-not-name_is
-unfolding bytes
-returns-then-not-name_is c =
-    let s = c.args.text.now in
-    let g = given c.args.uuid.now c.args.volume in
-    let n = c.args.n in
-    into_refused (root_name g c.args.letter c.args.block.0 (head_at s n) (children_at s n) (sym c.name_is.ensures ∙ c.if-not-name_is.true))
+pub returns-then-not-is_root : goal.returns-then-not-is_root
+returns-then-not-is_root c =
+    let a = c.args in
+    let s = a.source.text.now in
+    into_refused (root_refused (asked a.source) a.place.letter a.place.block.0 (head_at s a.n) (children_at s a.n) (sym c.is_root.ensures ∙ c.if-not-is_root.true))
 
-pub returns-then-not-same : goal.returns-then-not-same
-unfolding bytes
-returns-then-not-same c =
-    let s = c.args.text.now in
-    let g = given c.args.uuid.now c.args.volume in
-    let n = c.args.n in
-    into_refused (root_key g c.args.letter c.args.block.0 (head_at s n) (children_at s n) (sym c.name_is.ensures ∙ c.if-not-name_is.false) (ap (λ (k : List ℕ). same k (bytes "version")) (sym c.key_of.ensures) ∙ sym c.same.ensures ∙ c.if-not-same.true))
+pub returns-in_err-release : goal.returns-in_err-release
+returns-in_err-release c =
+    let a = c.args in
+    let s = a.source.text.now in
+    let p = err_from_is_err_and c.from_residual.result c.from_residual.ensures.1 in
+    let h = c.in_err-release.ensures {u = tt} in
+    let q : ◌≡◌ {A = Result ℕ Refusal} (Err c.in_err-release.field-0.0) (Err Version) = rw h.ok_part at h.value in
+    let e : c.in_err-release.field-0.0 ≡ Version = cc in
+    rw (p.1, p.2, e)
+    (into_refused (root_version (asked a.source) a.place.letter a.place.block.0 (head_at s a.n) (children_at s a.n) (sym c.is_root.ensures ∙ c.if-not-is_root.false) (ap values.version (sym c.value_of.ensures) ∙ sym c.read_version.ensures ∙ h.ok_part)))
 
 pub read_children-requires : goal.read_children-requires
 read_children-requires c = (c.first_child-at.ensures.inside, subst (λ (k : Forest). height k ≤ 64) (sym c.first_child-at.ensures.row) c.requires)
 
-pub returns-in-None : goal.returns-in-None
-unfolding bytes
-returns-in-None c =
-    let s = c.args.text.now in
-    let g = given c.args.uuid.now c.args.volume in
-    let n = c.args.n in
-    into_refused (root_version g c.args.letter c.args.block.0 (head_at s n) (children_at s n) (sym c.name_is.ensures ∙ c.if-not-name_is.false) (ap (λ (k : List ℕ). same k (bytes "version")) (sym c.key_of.ensures) ∙ sym c.same.ensures ∙ c.if-not-same.false) (ap values.version (sym c.value_of.ensures) ∙ sym c.read_version.ensures ∙ c.in-None.is))
-
-pub returns-in-Some : goal.returns-in-Some
-unfolding bytes
-returns-in-Some c =
-    let s = c.args.text.now in
-    let g = given c.args.uuid.now c.args.volume in
-    let n = c.args.n in
+pub returns : goal.returns
+returns c =
+    let a = c.args in
+    let s = a.source.text.now in
+    let g = asked a.source in
+    let release = c.in_ok-release.release in
+    let said : c.read_version.result ≡ Some release = grind arith in
     same_tags c.first_child-at.ensures.tags (same_into c.read_children.ensures
-    (ap (λ (k : Forest). children_read g c.args.letter c.args.block.0 c.in-Some.release k) c.first_child-at.ensures.row
-    ∙ root_read_lem g c.args.letter c.args.block.0 (head_at s n) (children_at s n) (sym c.name_is.ensures ∙ c.if-not-name_is.false) (ap (λ (k : List ℕ). same k (bytes "version")) (sym c.key_of.ensures) ∙ sym c.same.ensures ∙ c.if-not-same.false) c.in-Some.release (ap values.version (sym c.value_of.ensures) ∙ sym c.read_version.ensures ∙ c.in-Some.is)))
+    (ap (λ (k : Forest). children_read g a.place.letter a.place.block.0 release k) c.first_child-at.ensures.row
+    ∙ root_read_lem g a.place.letter a.place.block.0 (head_at s a.n) (children_at s a.n) (sym c.is_root.ensures ∙ c.if-not-is_root.false) release (ap values.version (sym c.value_of.ensures) ∙ sym c.read_version.ensures ∙ said)))

@@ -5,5 +5,5 @@ use Rattle.index.proofs.walk.behind.Goals as goal
 pub returns-then-h : goal.returns-then-h
 returns-then-h c i o = o.next c.if-h.true
 
-pub returns : goal.returns
-returns c i o = inner_first o c.if-h.false c.leave.ensures
+pub returns-else-h : goal.returns-else-h
+returns-else-h c i o = inner_first o c.if-h.false c.leave.ensures

@@ -9,16 +9,16 @@ use Rattle.index.proofs.walk.list_entry.Goals as goal
 pub returns-then-not-is_entry : goal.returns-then-not-is_entry
 returns-then-not-is_entry c k l placed tags count = puts_none c.args.text.now c.args.sort c.args.parent c.args.prior k l c.args.uids.now c.args.entry_table.now (sym c.is_entry.ensures ∙ c.if-not-is_entry.true)
 
-pub returns-then-entry_table-n : goal.returns-then-entry_table-n
-returns-then-entry_table-n c k l placed tags count =
+pub returns-else-n-entry_table : goal.returns-else-n-entry_table
+returns-else-n-entry_table c k l placed tags count =
     let a = c.args in
     let is = sym c.is_entry.ensures ∙ c.if-not-is_entry.false in
     let uid = c.number_placed-uid.ensures ∙ sym (fileuid_placed a.sort is a.text.now (heads k) a.places.now (placed is)) in
-    puts_full a.text.now a.sort a.parent a.prior k l a.uids.now a.entry_table.now is _ _ c.put.ensures uid (omega (arith, c.if-entry_table-n.true))
+    puts_full a.text.now a.sort a.parent a.prior k l a.uids.now a.entry_table.now is _ _ c.put.ensures uid (omega (arith, c.if-n-entry_table.false))
 
-pub returns : goal.returns
-returns c k l placed tags count =
+pub returns-then-n-entry_table : goal.returns-then-n-entry_table
+returns-then-n-entry_table c k l placed tags count =
     let a = c.args in
     let is = sym c.is_entry.ensures ∙ c.if-not-is_entry.false in
     let uid = c.number_placed-uid.ensures ∙ sym (fileuid_placed a.sort is a.text.now (heads k) a.places.now (placed is)) in
-    puts_room a.text.now a.sort a.parent a.prior k l a.uids.now a.entry_table.now is _ _ c.put.ensures uid (omega (arith, c.if-entry_table-n.false)) _ _ (c.entry_numbers-numbers.ensures k l is (placed is) (tags is) uid count) c.copy.ensures
+    puts_room a.text.now a.sort a.parent a.prior k l a.uids.now a.entry_table.now is _ _ c.put.ensures uid (omega (arith, c.if-n-entry_table.true)) _ _ (c.entry_numbers-numbers.ensures k l is (placed is) (tags is) uid count) c.copy.ensures
