@@ -31,29 +31,11 @@ fn keep_case(file: &mut File) -> bool {
     let a = case_files::bytes(file, &mut list_front);
     let mut store_front = [0u8; 24576];
     let b = case_files::bytes(file, &mut store_front);
-    if !lengths_as(&list[..l], &store[..s], n, refusal, a, b) {
-        return false;
-    }
-    if !fronts_as(
-        &list[..l],
-        &store[..s],
-        n,
-        refusal,
-        &list_front[..a],
-        &store_front[..b],
-    ) {
-        return false;
-    }
-    if refusal != 0 {
-        return true;
-    }
-    twice_as(
-        &list[..l],
-        &store[..s],
-        n,
-        &list_front[..a],
-        &store_front[..b],
-    )
+    let (list, store) = (&list[..l], &store[..s]);
+    let (list_front, store_front) = (&list_front[..a], &store_front[..b]);
+    lengths_as(list, store, n, refusal, a, b)
+        && fronts_as(list, store, n, refusal, list_front, store_front)
+        && (refusal != 0 || twice_as(list, store, n, list_front, store_front))
 }
 
 fn fronts_as(
@@ -64,36 +46,19 @@ fn fronts_as(
     list_front: &[u8],
     store_front: &[u8],
 ) -> bool {
-    let mut told: u64 = 99;
-    let list_kept = tape::kept_list(list, store, n, &mut told);
-    if !slices::same(list_kept, list_front) {
-        return false;
-    }
-    if told != refusal {
-        return false;
-    }
-    told = 99;
-    let store_kept = tape::kept_store(list, store, n, &mut told);
-    if !slices::same(store_kept, store_front) {
-        return false;
-    }
-    told == refusal
+    let mut of_list: u64 = 99;
+    let mut of_store: u64 = 99;
+    tape::kept_list(list, store, n, &mut of_list) == list_front
+        && of_list == refusal
+        && tape::kept_store(list, store, n, &mut of_store) == store_front
+        && of_store == refusal
 }
 
 // The same fronts where more elements are kept first, and where more are kept of the fronts.
 fn twice_as(list: &[u8], store: &[u8], n: usize, list_front: &[u8], store_front: &[u8]) -> bool {
-    if !through_as(
-        list,
-        store,
-        18446744073709551615,
-        n,
-        list_front,
-        store_front,
-    ) {
-        return false;
-    }
     let more = if n < 65536 { n + 1 } else { n };
-    through_as(list, store, more, n, list_front, store_front)
+    through_as(list, store, usize::MAX, n, list_front, store_front)
+        && through_as(list, store, more, n, list_front, store_front)
 }
 
 fn through_as(
@@ -107,10 +72,8 @@ fn through_as(
     let mut told: u64 = 99;
     let l = tape::kept_list(list, store, more, &mut told);
     let s = tape::kept_store(list, store, more, &mut told);
-    if !fronts_as(l, s, n, 0, list_front, store_front) {
-        return false;
-    }
-    fronts_as(list_front, store_front, more, 0, list_front, store_front)
+    fronts_as(l, s, n, 0, list_front, store_front)
+        && fronts_as(list_front, store_front, more, 0, list_front, store_front)
 }
 
 fn lengths_as(list: &[u8], store: &[u8], n: usize, refusal: u64, a: usize, b: usize) -> bool {
@@ -149,10 +112,7 @@ fn block_case(file: &mut File) -> bool {
         BlockNumber(number),
         &mut shown,
     );
-    if shown != refusal {
-        return false;
-    }
-    slices::same(part, &expected[..e])
+    shown == refusal && part == &expected[..e]
 }
 
 fn main(rt: HostRuntime) -> io::Result<()> {
