@@ -7,7 +7,8 @@ use Prim.Native.Nat.{ℕ, ◌+◌}
 use native.Mathlib.Omega.{arith}
 use lib.ListN.{length, drop}
 use Rattle.slices.proofs.Booleans.{and_left, and_right}
-use Rattle.tape.specs.Tape.{mark, block, unreadable, content, Tape, mark_cell, block_cell, unreadable_cell, list, lawful_tape, is_block_length, Encodes}
+use Rattle.tape.specs.declared.Cell.TheVariants.{Mark as mark_cell, Block as block_cell, Unreadable as unreadable_cell}
+use Rattle.tape.specs.Tape.{mark, block, unreadable, content, Tape, list, lawful_tape, is_block_length, Encodes}
 use Rattle.tape.specs.ReadingSteps.{entry_at}
 use Rattle.tape.specs.declared.Entry.TheVariants.{Mark, Block, Unreadable, End}
 use Rattle.tape.proofs.Walking.{entry_here, entry_none, next_here}

@@ -19,12 +19,12 @@ use Rattle.tape.specs.declared.Front.{Front}
 use Rattle.tape.specs.declared.Spot.{Spot}
 use Rattle.tape.specs.Tape.{Tape, Element, mark, block, unreadable, cell_of, list, store, content, is_lawful_cell, lawful_tape}
 use Rattle.tape.specs.ReadingSteps.{entry_at, tape_of}
-use Rattle.tape.specs.WalkSteps.{reach, spot_of, spot_at, spot_below}
+use Rattle.tape.specs.WalkSteps.{passed, reach, spot_of, spot_at, spot_below}
 use Rattle.tape.specs.declared.StorePart.{StorePart}
 use Rattle.tape.specs.Answers.{or_refused, place_of, place_on, as_block, block_on, block_of, element_count, store_of, Holds}
 use Rattle.tape.specs.Steps.{FindsBlock}
 use Rattle.slices.proofs.Booleans.{split, and_parts}
-use Rattle.tape.proofs.Walking.{entry_for, width, entry_here, entry_none, next_here, reach_done, reach_step, reach_element}
+use Rattle.tape.proofs.Walking.{entry_for, width, entry_here, entry_none, next_here, reach_done, reach_stopped, reach_element}
 use Rattle.tape.proofs.Entries.{Bytes}
 use Rattle.tape.proofs.Encoding.{encodes_read}
 use Rattle.tape.proofs.Keeping.{Present, absent}
@@ -52,7 +52,7 @@ spot_from zero l at v (e ∷ t) h d =
     let (ok, rest) = and_parts (is_lawful_cell (cell_of e)) (lawful_tape t) h in
     rw (reach_done l at v zero (omega arith), entry_here l at (cell_of e) (list t) ok d)
     (spot_element v at e ∙ ap (λ x. spot_for x (Some e)) (sym (add-zero v)))
-spot_from (suc n) l at v [] h d = rw (reach_step l at v (suc n) (omega arith) (entry_none l at d), entry_none l at d)
+spot_from (suc n) l at v [] h d = rw (reach_stopped l at v (suc n) (omega arith) (ap passed (entry_none l at d)), entry_none l at d)
 spot_from (suc n) l at v (e ∷ t) h d =
     let (ok, rest) = and_parts (is_lawful_cell (cell_of e)) (lawful_tape t) h in
     let f : (v + length (content e)) + length (store (take n t)) ≡ v + length (content e ++ store (take n t))

@@ -12,7 +12,9 @@ use Rattle.refusals.specs.Refusals.{and_then}
 use Rattle.big_endian.specs.BigEndian.{bytes_say}
 use Rattle.tape.specs.declared.Entry.{Entry}
 use Rattle.tape.specs.declared.Entry.TheVariants.{Mark, Block, Unreadable, End, Bad}
-use Rattle.tape.specs.Tape.{Tape, Cell, mark_cell, block_cell, unreadable_cell, cell_of, entry, content, list, store, Encodes}
+use Rattle.tape.specs.declared.Cell.{Cell}
+use Rattle.tape.specs.declared.Cell.TheVariants.{Mark as mark_cell, Block as block_cell, Unreadable as unreadable_cell}
+use Rattle.tape.specs.Tape.{Tape, cell_of, entry, content, list, store, Encodes}
 use Rattle.tape.specs.ReadingSteps.{entry_at, number_at, and_behind, cells_from, cells, added, size, total, filled, tape_of}
 use Rattle.tape.specs.Answers.{or_refused, tape_in, Fronts, kept, keeping}
 use Rattle.tape.specs.Continued.{Continued}

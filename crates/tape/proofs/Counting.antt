@@ -15,7 +15,9 @@ use Rattle.refusals.specs.Refusals.{Answer, and_then}
 use Rattle.tape.specs.declared.Entry.{Entry}
 use Rattle.tape.specs.declared.Entry.TheVariants as entry
 use Rattle.tape.specs.declared.Totals.{Totals}
-use Rattle.tape.specs.Tape.{Tape, Cell, mark_cell, block_cell, unreadable_cell, max_store}
+use Rattle.tape.specs.declared.Cell.{Cell}
+use Rattle.tape.specs.declared.Cell.TheVariants.{Mark as mark_cell, Block as block_cell, Unreadable as unreadable_cell}
+use Rattle.tape.specs.Tape.{Tape, max_store}
 use Rattle.tape.specs.ReadingSteps.{and_behind, cells_from, cells, added, size, total, entry_at, filled, filled_with, tape_of}
 use Rattle.tape.specs.WalkSteps.{passed, totals_from}
 use Rattle.tape.specs.Answers.{or_refused, element_count}
@@ -64,15 +66,15 @@ pub left_on : (l : List ℕ) (n at : ℕ) {e : Entry} → n < length l → entry
 unfolding cells_from
 left_on l n at h q = let k : length l - n ≡ suc (length l - (n + 1)) = omega arith in rw (q, k)
 
--- an element counted by what it takes, or the place of none before the list's end
-pub left_passed : (l : List ℕ) (n at v : ℕ) {x : ℕ × ℕ} → n < length l → passed (entry_at l at) ≡ Some x
-    → totals_from n v (left l n at) ≡ totals_from (n + 1) (v + x.0) (left l (n + 1) x.1)
+-- an element counted, or the place of none before the list's end
+pub left_passed : (l : List ℕ) (n at v : ℕ) {x : Cell × ℕ} → n < length l → passed (entry_at l at) ≡ Some x
+    → totals_from n v (left l n at) ≡ totals_from (n + 1) (v + size x.0) (left l (n + 1) x.1)
 left_passed l n at v {x} h q = go (entry_at l at) refl q
   where
-    go : (e : Entry) → entry_at l at ≡ e → passed e ≡ Some x → totals_from n v (left l n at) ≡ totals_from (n + 1) (v + x.0) (left l (n + 1) x.1)
-    go (entry.Mark to) e p = let z : (0, to) ≡ x = cc in rw (← z, left_on l n at h e) (totals_more n v mark_cell _)
-    go (entry.Block k to) e p = let z : (k, to) ≡ x = cc in rw (← z, left_on l n at h e) (totals_more n v (block_cell k) _)
-    go (entry.Unreadable to) e p = let z : (0, to) ≡ x = cc in rw (← z, left_on l n at h e) (totals_more n v unreadable_cell _)
+    go : (e : Entry) → entry_at l at ≡ e → passed e ≡ Some x → totals_from n v (left l n at) ≡ totals_from (n + 1) (v + size x.0) (left l (n + 1) x.1)
+    go (entry.Mark to) e p = let z : (mark_cell, to) ≡ x = cc in rw (← z, left_on l n at h e) (totals_more n v mark_cell _)
+    go (entry.Block k to) e p = let z : (block_cell k, to) ≡ x = cc in rw (← z, left_on l n at h e) (totals_more n v (block_cell k) _)
+    go (entry.Unreadable to) e p = let z : (unreadable_cell, to) ≡ x = cc in rw (← z, left_on l n at h e) (totals_more n v unreadable_cell _)
     go entry.End e p = cc
     go entry.Bad e p = cc
 

@@ -8,7 +8,8 @@ use lib.ListN.{length, drop}
 use Rattle.slices.proofs.Booleans.{and_left, and_right}
 use Rattle.tape.specs.declared.Entry.{Entry}
 use Rattle.tape.specs.declared.Entry.TheVariants.{Mark, Block, Unreadable, End, Bad}
-use Rattle.tape.specs.Tape.{Element, mark, block, unreadable, Tape, mark_cell, block_cell, unreadable_cell, cell_of, entry, list, is_lawful_cell, lawful_tape}
+use Rattle.tape.specs.declared.Cell.TheVariants.{Mark as mark_cell, Block as block_cell, Unreadable as unreadable_cell}
+use Rattle.tape.specs.Tape.{Element, mark, block, unreadable, Tape, cell_of, entry, list, is_lawful_cell, lawful_tape}
 use Rattle.tape.specs.ReadingSteps.{entry_at}
 use Rattle.tape.proofs.Walking.{entry_here, next_here, entry_for}
 

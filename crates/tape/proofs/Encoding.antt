@@ -13,7 +13,9 @@ use borrow.Author.Tests.{leb-true, eqb-true, le-leb, eq-eqb}
 use Rattle.slices.proofs.Booleans.{split, and_parts}
 use Rattle.tape.specs.declared.Entry.{Entry}
 use Rattle.tape.specs.declared.Entry.TheVariants.{Mark, Block, Unreadable, End, Bad}
-use Rattle.tape.specs.Tape.{Element, mark, block, unreadable, Tape, Cell, mark_cell, block_cell, unreadable_cell, cell_of, entry, content, list, store, is_block_length, is_lawful_cell, lawful_tape, max_elements, max_store, Encodes}
+use Rattle.tape.specs.declared.Cell.{Cell}
+use Rattle.tape.specs.declared.Cell.TheVariants.{Mark as mark_cell, Block as block_cell, Unreadable as unreadable_cell}
+use Rattle.tape.specs.Tape.{Element, mark, block, unreadable, Tape, cell_of, entry, content, list, store, is_block_length, is_lawful_cell, lawful_tape, max_elements, max_store, Encodes}
 use Rattle.tape.specs.ReadingSteps.{entry_at, and_behind, cells_from, cells, added, size, total, element_of, filled, within_bounds, filled_with, tape_of}
 use Rattle.tape.specs.Answers.{or_refused, tape_in}
 pub use Rattle.tape.proofs.Entries.{Bytes}

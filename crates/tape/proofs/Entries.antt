@@ -17,8 +17,10 @@ use Rattle.big_endian.specs.BigEndian.{big_endian}
 use Rattle.big_endian.proofs.Said.{bytes_said}
 use Rattle.tape.specs.declared.Entry.{Entry}
 use Rattle.tape.specs.declared.Entry.TheVariants.{Mark, Block, Unreadable, End, Bad}
-use Rattle.tape.specs.Tape.{mark_cell, block_cell, unreadable_cell, entry, mark_kind, block_kind, unreadable_kind, is_block_length, max_block}
-use Rattle.tape.specs.ReadingSteps.{entry_at, number_at}
+use Rattle.tape.specs.declared.Cell.{Cell}
+use Rattle.tape.specs.declared.Cell.TheVariants.{Mark as mark_cell, Block as block_cell, Unreadable as unreadable_cell}
+use Rattle.tape.specs.Tape.{entry, mark_kind, block_kind, unreadable_kind, is_block_length, max_block}
+use Rattle.tape.specs.ReadingSteps.{entry_at, number_at, size}
 use Rattle.tape.specs.WalkSteps.{passed}
 
 -- numbers that are bytes
@@ -102,13 +104,13 @@ entry_lies l at =
     (λ h k y. let (lo, hi) = length_between (number_at l (at + 1)) y in (lo, hi, omega arith, h)) (λ h. h) (λ h. h)
 
 -- so does an element that is passed
-pub passed_lies : (l : List ℕ) (at : ℕ) {x : ℕ × ℕ} → passed (entry_at l at) ≡ Some x → (x.0 ≤ max_block) × (at < x.1) × (x.1 ≤ length l)
+pub passed_lies : (l : List ℕ) (at : ℕ) {x : Cell × ℕ} → passed (entry_at l at) ≡ Some x → (size x.0 ≤ max_block) × (at < x.1) × (x.1 ≤ length l)
 passed_lies l at {x} q = go (entry_at l at) (entry_lies l at) q
   where
-    go : (e : Entry) → Lies l at e → passed e ≡ Some x → (x.0 ≤ max_block) × (at < x.1) × (x.1 ≤ length l)
-    go (Mark to) i p = let z : (0, to) ≡ x = cc in rw (← z) (omega arith, i.0, i.1)
-    go (Block k to) i p = let z : (k, to) ≡ x = cc in rw (← z) (i.1, i.2, i.3)
-    go (Unreadable to) i p = let z : (0, to) ≡ x = cc in rw (← z) (omega arith, i.0, i.1)
+    go : (e : Entry) → Lies l at e → passed e ≡ Some x → (size x.0 ≤ max_block) × (at < x.1) × (x.1 ≤ length l)
+    go (Mark to) i p = let z : (mark_cell, to) ≡ x = cc in rw (← z) (omega arith, i.0, i.1)
+    go (Block k to) i p = let z : (block_cell k, to) ≡ x = cc in rw (← z) (i.1, i.2, i.3)
+    go (Unreadable to) i p = let z : (unreadable_cell, to) ≡ x = cc in rw (← z) (omega arith, i.0, i.1)
     go End i p = cc
     go Bad i p = cc
 

@@ -2,6 +2,7 @@ pub mod Entries
 pub mod Counting
 pub mod Walking
 pub mod Encoding
+pub mod Left
 pub mod Elements
 pub mod Keeping
 pub mod Again

@@ -16,10 +16,12 @@ use Rattle.tape.specs.declared.Entry.TheVariants.{Mark, Block, Unreadable, End, 
 use Rattle.big_endian.specs.BigEndian.{bytes_say}
 use Rattle.big_endian.proofs.Left.{length_big_endian}
 use Rattle.big_endian.proofs.Said.{said_bytes}
-use Rattle.tape.specs.Tape.{Element, mark, block, unreadable, Tape, Cell, mark_cell, block_cell, unreadable_cell, cell_of, four_bytes, entry, content, list, store, is_block_length, is_lawful_cell, lawful_tape}
+use Rattle.tape.specs.declared.Cell.{Cell}
+use Rattle.tape.specs.declared.Cell.TheVariants.{Mark as mark_cell, Block as block_cell, Unreadable as unreadable_cell}
+use Rattle.tape.specs.Tape.{Element, mark, block, unreadable, Tape, cell_of, four_bytes, entry, content, list, store, is_block_length, is_lawful_cell, lawful_tape}
 use Rattle.tape.specs.ReadingSteps.{entry_at, number_at, size}
 use Rattle.tape.specs.declared.Front.{Front}
-use Rattle.tape.specs.WalkSteps.{passed, reach, past_entry}
+use Rattle.tape.specs.WalkSteps.{passed, reach}
 use Rattle.tape.proofs.Entries.{length_between}
 
 -- what a cell's entry is read as
@@ -91,52 +93,35 @@ unfolding reach
 reach_done l at v zero h = refl
 reach_done l at v (suc left) h = absurd (omega arith)
 
--- one entry of the walk
-pub reach_step : (l : List ℕ) (at v left : ℕ) {e : Entry} → 0 < left → entry_at l at ≡ e
-    → reach left l at v ≡ past_entry (reach (left - 1) l) (record { list = at; store = v }) e
+-- an element passed, or the end of the walk
+pub reach_passed : (l : List ℕ) (at v left : ℕ) {x : Cell × ℕ} → 0 < left → passed (entry_at l at) ≡ Some x → reach left l at v ≡ reach (left - 1) l x.1 (v + size x.0)
 unfolding reach
-reach_step l at v zero h q = absurd (omega arith)
-reach_step l at v (suc left) h q = let e : suc left - 1 ≡ left = omega arith in rw (q, e)
-
--- an element passed by what it takes, or the end of the walk
-pub reach_passed : (l : List ℕ) (at v left : ℕ) {x : ℕ × ℕ} → 0 < left → passed (entry_at l at) ≡ Some x → reach left l at v ≡ reach (left - 1) l x.1 (v + x.0)
-reach_passed l at v left {x} h q = go (entry_at l at) refl q
-  where
-    go : (e : Entry) → entry_at l at ≡ e → passed e ≡ Some x → reach left l at v ≡ reach (left - 1) l x.1 (v + x.0)
-    go (Mark to) e p = let z : (0, to) ≡ x = cc in rw (← z, add-zero v) (reach_step l at v left h e)
-    go (Block k to) e p = let z : (k, to) ≡ x = cc in rw (← z) (reach_step l at v left h e)
-    go (Unreadable to) e p = let z : (0, to) ≡ x = cc in rw (← z, add-zero v) (reach_step l at v left h e)
-    go End e p = cc
-    go Bad e p = cc
+reach_passed l at v zero h q = absurd (omega arith)
+reach_passed l at v (suc left) h q = let e : suc left - 1 ≡ left = omega arith in rw (q, e)
 
 pub reach_stopped : (l : List ℕ) (at v left : ℕ) → 0 < left → passed (entry_at l at) ≡ None → reach left l at v ≡ record { list = at; store = v }
-reach_stopped l at v left h q = go (entry_at l at) refl q
-  where
-    go : (e : Entry) → entry_at l at ≡ e → passed e ≡ None → reach left l at v ≡ record { list = at; store = v }
-    go (Mark to) e p = cc
-    go (Block k to) e p = cc
-    go (Unreadable to) e p = cc
-    go End e p = reach_step l at v left h e
-    go Bad e p = reach_step l at v left h e
+unfolding reach
+reach_stopped l at v zero h q = absurd (omega arith)
+reach_stopped l at v (suc left) h q = rw q
 
--- past a cell's entry: by its width in the list, by its size in the store
-past_cell : (walk : ℕ → ℕ → Front) (at v : ℕ) (c : Cell) → past_entry walk (record { list = at; store = v }) (entry_for c at) ≡ walk (at + width c) (v + size c)
-past_cell walk at v mark_cell = rw (add-zero v)
-past_cell walk at v (block_cell n) = refl
-past_cell walk at v unreadable_cell = rw (add-zero v)
+-- a cell's entry is passed by its width
+pub passed_cell : (c : Cell) (at : ℕ) → passed (entry_for c at) ≡ Some (c, at + width c)
+passed_cell mark_cell at = refl
+passed_cell (block_cell n) at = refl
+passed_cell unreadable_cell at = refl
 
 -- the walk over an element
 pub reach_element : (n : ℕ) (l : List ℕ) (at v : ℕ) (e : Element) (s : List ℕ) → is_lawful_cell (cell_of e) ≡ true → drop at l ≡ entry (cell_of e) ++ s
     → reach (suc n) l at v ≡ reach n l (at + width (cell_of e)) (v + length (content e))
 unfolding reach
-reach_element n l at v e s h d = rw (entry_here l at (cell_of e) s h d) (past_cell (reach n l) at v (cell_of e) ∙ rw (size_content e))
+reach_element n l at v e s h d = rw (entry_here l at (cell_of e) s h d, passed_cell (cell_of e) at, size_content e)
 
 -- the walk over n entries of a tape reaches behind its first n elements
 pub reach_tape : (n : ℕ) (l : List ℕ) (at v : ℕ) (t : Tape) → lawful_tape t ≡ true → drop at l ≡ list t
     → reach n l at v ≡ record { list = at + length (list (take n t)); store = v + length (store (take n t)) }
 unfolding list store lawful_tape
 reach_tape zero l at v t h d = reach_done l at v zero (omega arith) ∙ rw (add-zero at, add-zero v)
-reach_tape (suc n) l at v [] h d = reach_step l at v (suc n) (omega arith) (entry_none l at d) ∙ rw (add-zero at, add-zero v)
+reach_tape (suc n) l at v [] h d = reach_stopped l at v (suc n) (omega arith) (ap passed (entry_none l at d)) ∙ rw (add-zero at, add-zero v)
 reach_tape (suc n) l at v (e ∷ t) h d =
     let c : Cell = cell_of e in
     let (ok, rest) = and_parts (is_lawful_cell (cell_of e)) (lawful_tape t) h in

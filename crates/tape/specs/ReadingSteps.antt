@@ -4,7 +4,9 @@ use Rattle.std.specs.Prelude.{Bool, cond, ◌&&◌, List, [], ◌∷◌, ℕ, ze
 use Rattle.big_endian.specs.BigEndian.{bytes_say}
 use Rattle.tape.specs.declared.Entry.{Entry}
 use Rattle.tape.specs.declared.Entry.TheVariants.{Mark, Block, Unreadable, End, Bad}
-use Rattle.tape.specs.Tape.{Element, mark, block, unreadable, Tape, Cell, mark_cell, block_cell, unreadable_cell, mark_kind, block_kind, unreadable_kind, is_block_length, max_elements, max_store}
+use Rattle.tape.specs.declared.Cell.{Cell}
+use Rattle.tape.specs.declared.Cell.TheVariants.{Mark as mark_cell, Block as block_cell, Unreadable as unreadable_cell}
+use Rattle.tape.specs.Tape.{Element, mark, block, unreadable, Tape, mark_kind, block_kind, unreadable_kind, is_block_length, max_elements, max_store}
 
 -- the number in the four bytes at a place, high byte first
 abbrev pub number_at : List ℕ → ℕ → ℕ

@@ -1,6 +1,8 @@
 -- A partition's tape, and the list and the store that encode it (01, The block list and Bounds; 02, Item 7, for unreadable blocks).
 use Rattle.std.specs.Prelude.{◌≡◌, Bool, true, ◌&&◌, List, [], ◌∷◌, ◌++◌, ℕ, ◌≤◌, length}
 use Rattle.slices.specs.Slices.{within}
+use Rattle.tape.specs.declared.Cell.{Cell}
+use Rattle.tape.specs.declared.Cell.TheVariants.{Mark as mark_cell, Block as block_cell, Unreadable as unreadable_cell}
 pub use Rattle.quantities.specs.Sizes.{max_block}
 use Rattle.big_endian.specs.BigEndian.{big_endian}
 
@@ -15,11 +17,6 @@ abbrev pub Tape : Type 0
 Tape = List Element
 
 -- what the list says of an element: that it is a mark, a block of so many bytes, or an unreadable block
-pub data Cell : Type 0 where
-  mark_cell : Cell
-  block_cell : ℕ → Cell
-  unreadable_cell : Cell
-
 abbrev pub cell_of : Element → Cell
 cell_of mark = mark_cell
 cell_of (block x) = block_cell (length x)

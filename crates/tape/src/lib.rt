@@ -5,8 +5,10 @@ ghost use Rattle.std.specs.Prelude.{◌≡◌, ◌+◌, ◌≤◌, Ok, length};
 ghost use Rattle.refusals.specs.Refusals.{and_then, Shows};
 ghost use Rattle.quantities.specs.Letters.{are_letters};
 ghost use Rattle.tape.specs.Tape.{max_elements};
-ghost use Rattle.tape.specs.ReadingSteps.{number_at, entry_at, cells};
-ghost use Rattle.tape.specs.WalkSteps.{passed, totals_from, reach, spot_at, spot_below};
+ghost use Rattle.std.specs.Iterator.{YieldsFirst, item_count};
+ghost use Rattle.tape.specs.ReadingSteps.{number_at, entry_at, size, cells};
+ghost use Rattle.tape.specs.CellSteps.{cells_rest};
+ghost use Rattle.tape.specs.WalkSteps.{passed, cells_left, totals_from, reach, spot_at, spot_below};
 ghost use Rattle.tape.specs.Answers.{element_count, block_of};
 ghost use Rattle.tape.specs.Steps.{Keeps, ShowsList, ShowsStore, FindsBlock};
 
@@ -24,16 +26,66 @@ pub enum Entry {
     Bad,
 }
 
+// What a list says of an element: that it is a file mark, a block of so many bytes, or an unreadable block.
+#[derive(Clone, Copy, PartialEq, Eq, Debug)]
+pub enum Cell {
+    Mark,
+    Block(usize),
+    Unreadable,
+}
+
+impl Cell {
+    // The bytes that the element has in the store.
+    fn size(self) -> usize
+        ensures { result ≡ size self }
+    {
+        match self {
+            Cell::Block(n) => n,
+            Cell::Mark | Cell::Unreadable => 0,
+        }
+    }
+}
+
 impl Entry {
-    // The bytes that the element has in the store, and the place of the next entry; none where no element stands.
-    fn passed(self) -> Option<(usize, usize)>
+    // What the entry says of its element, and the place of the next entry; none where no element stands.
+    fn passed(self) -> Option<(Cell, usize)>
         ensures { result ≡ passed self }
     {
         match self {
-            Entry::Mark(next) | Entry::Unreadable(next) => Some((0, next)),
-            Entry::Block(n, next) => Some((n, next)),
+            Entry::Mark(next) => Some((Cell::Mark, next)),
+            Entry::Block(n, next) => Some((Cell::Block(n), next)),
+            Entry::Unreadable(next) => Some((Cell::Unreadable, next)),
             Entry::End | Entry::Bad => None,
         }
+    }
+}
+
+// The elements of a list, one after the other, as far as there are entries.
+#[derive(Clone, Drop)]
+pub struct Cells<'a> {
+    list: &'a [u8],
+    at: usize,
+}
+
+impl<'a> Cells<'a> {
+    pub fn new(list: &'a [u8]) -> Cells<'a>
+        ensures { cells_rest result ≡ cells_left list.now 0 }
+    {
+        Cells { list, at: 0 }
+    }
+}
+
+impl<'a> Iterator for Cells<'a> {
+    type Item = Cell;
+
+    ghost next_gives = { YieldsFirst cells_rest };
+
+    ghost remaining = { item_count cells_rest };
+
+    fn next(&mut self) -> Option<Cell> {
+        let (cell, next) = entry_at(self.list, self.at).passed()?;
+        self.at = next;
+        Some(cell)
     }
 }
 
@@ -82,9 +134,9 @@ fn sum_up(list: &[u8]) -> Option<Totals>
         if elements == 65536 {
             return None;
         }
-        let (n, next) = entry_at(list, at).passed()?;
+        let (cell, next) = entry_at(list, at).passed()?;
         elements += 1; // marks count too
-        bytes += n;
+        bytes += cell.size();
         at = next;
     }
     Some(Totals { elements, bytes })
@@ -117,11 +169,11 @@ fn walk(list: &[u8], n: usize) -> Front
     let mut at: usize = 0;
     let mut store: usize = 0;
     for _ in 0..n {
-        let Some((size, next)) = entry_at(list, at).passed() else {
+        let Some((cell, next)) = entry_at(list, at).passed() else {
             return Front { list: at, store };
         };
         at = next;
-        store += size;
+        store += cell.size();
     }
     Front { list: at, store }
 }

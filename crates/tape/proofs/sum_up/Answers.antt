@@ -14,36 +14,36 @@ returns-then-elements-eq65536 c =
     let list = c.args.list.now in
     sym (l.invariant.4 ∙ ap (λ n. totals_from n l.bytes (left list l.elements l.at)) c.if-elements-eq65536.true ∙ totals_full list l.elements l.at l.bytes (search rules))
 
-pub returns-in_err-n : goal.returns-in_err-n
-returns-in_err-n c =
+pub returns-in_err-cell : goal.returns-in_err-cell
+returns-in_err-cell c =
     let l = c.loop-at in
-    let q = ap passed (sym c.entry_at.ensures) ∙ sym c.passed.ensures ∙ c.in_err-n.was in
+    let q = ap passed (sym c.entry_at.ensures) ∙ sym c.passed.ensures ∙ c.in_err-cell.was in
     rw c.from_residual.ensures (sym (l.invariant.4 ∙ left_stopped c.args.list.now l.elements l.at l.bytes (search rules) (search rules) q))
 
 pub overflow_add-bytes : goal.overflow_add-bytes
 overflow_add-bytes c =
     let l = c.loop-at in
-    let q = ap passed (sym c.entry_at.ensures) ∙ sym c.passed.ensures ∙ c.in_ok-n.was in
+    let q = ap passed (sym c.entry_at.ensures) ∙ sym c.passed.ensures ∙ c.in_ok-cell.was in
     let b = passed_lies c.args.list.now l.at q in
     search rules
 
 pub loop-at-smaller : goal.loop-at-smaller
 loop-at-smaller c =
     let l = c.loop-at in
-    let q = ap passed (sym c.entry_at.ensures) ∙ sym c.passed.ensures ∙ c.in_ok-n.was in
+    let q = ap passed (sym c.entry_at.ensures) ∙ sym c.passed.ensures ∙ c.in_ok-cell.was in
     let b = passed_lies c.args.list.now l.at q in
     search rules
 
 pub loop-at-preserved : goal.loop-at-preserved
 loop-at-preserved c =
     let l = c.loop-at in
-    let q = ap passed (sym c.entry_at.ensures) ∙ sym c.passed.ensures ∙ c.in_ok-n.was in
+    let q = ap passed (sym c.entry_at.ensures) ∙ sym c.passed.ensures ∙ c.in_ok-cell.was in
     let b = passed_lies c.args.list.now l.at q in (
       search rules,
       search rules,
       search rules,
       search rules,
-      l.invariant.4 ∙ left_passed c.args.list.now l.elements l.at l.bytes (search rules) q,
+      rw c.size-bytes.ensures (l.invariant.4 ∙ left_passed c.args.list.now l.elements l.at l.bytes (search rules) q),
     )
 
 pub returns : goal.returns
