@@ -1,7 +1,7 @@
 // Constructs of a partition (01, Constructs, verdict and cut): where each standing construct lies, and how far data blocks reach.
 #![tactic(auto)]
 
-ghost use Rattle.std.specs.Prelude.{◌≡◌, ◌+◌, ◌*◌, ◌<◌, [], ◌∷◌};
+ghost use Rattle.std.specs.Prelude.{◌≡◌, ℕ, ◌+◌, ◌*◌, ◌<◌, [], ◌∷◌};
 ghost use Rattle.std.proofs.lemmas.List.Edits.{sets};
 
 pub mod reach;
@@ -14,7 +14,7 @@ ghost use Rattle.constructs.specs.PhaseSteps.{past_labels, after_mark, after_blo
 
 use quantities::BlockNumber;
 use refusals::Refusal;
-use tape::Entry;
+use tape::{Cell, Cells};
 
 // The most standing constructs of a partition, and the numbers of a table of them, four for each.
 pub const CONSTRUCTS: usize = 21845;
@@ -147,33 +147,26 @@ fn close(table: &mut [u32; NUMBERS], n: usize, phase: Phase, at: usize, off: usi
     }
 }
 
-// Puts the standing constructs of a list of so many elements into the table; their number.
-fn fill(list: &[u8], store: &[u8], count: usize, size: usize, table: &mut [u32; NUMBERS]) -> usize
-    requires { Encoded list.now store.now count }
+// Puts the standing constructs of a list into the table; their number.
+fn fill(list: &[u8], store: &[u8], size: usize, table: &mut [u32; NUMBERS]) -> usize
+    requires { (count : ℕ) × Encoded list.now store.now count }
     ensures { FindsConstructs size list.now store.now table.old table.new result }
 {
-    let mut place: usize = 0;
     let mut off: usize = 0;
     let mut n: usize = 0;
     let mut phase = Phase::Labels(3);
-    for at in 0..count {
-        match tape::entry_at(list, place) {
-            Entry::Mark(next) => {
+    for (at, cell) in Cells::new(list).enumerate() {
+        match cell {
+            Cell::Mark => {
                 n = close(table, n, phase, at, off);
                 phase = phase.after_mark(at, off);
-                place = next;
             }
-            Entry::Block(k, next) => {
+            Cell::Block(k) => {
                 phase = phase.after_block(size, k);
                 off += k;
-                place = next;
             }
-            Entry::Unreadable(next) => {
+            Cell::Unreadable => {
                 phase = phase.after_unreadable();
-                place = next;
-            }
-            Entry::End | Entry::Bad => {
-                return n;
             }
         }
     }
@@ -190,8 +183,8 @@ pub fn scan(
 ) -> Result<usize, Refusal>
     ensures { ScansPartition block_size list.now store.now table.old table.new result }
 {
-    let count = tape::check(list, store)?;
-    Ok(fill(list, store, count, block_size, table))
+    tape::check(list, store)?;
+    Ok(fill(list, store, block_size, table))
 }
 
 // Where a construct lies: its first block, the elements through its closing mark, and where its text begins and ends in the store, the

@@ -1,12 +1,12 @@
 // How far data blocks reach from each element of a partition on.
-ghost use Rattle.std.specs.Prelude.{◌≡◌, ◌+◌, ◌≤◌, ◌<◌, ◌/◌, ◌-◌, ◌++◌, take, drop, length, get_or};
+ghost use Rattle.std.specs.Prelude.{◌≡◌, ℕ, ◌+◌, ◌≤◌, ◌<◌, ◌/◌, ◌-◌, ◌++◌, take, drop, length, get_or};
 ghost use Rattle.constructs.specs.ReachSteps.{reach_one, even_after, data_length, PutsLengths, reaches, sum_of, Reaches, lies_by};
 ghost use Rattle.tape.specs.Tape.{max_store};
 ghost use Rattle.tape.specs.Steps.{Encoded};
 
 use quantities::{BlockNumber, ByteCount};
 use refusals::Refusal;
-use tape::Entry;
+use tape::{Cell, Cells};
 
 // Whether the marks behind the labels are even in number, behind a mark, with so many elements of the labels still to come.
 fn even_after(k: usize, even: bool) -> bool
@@ -31,31 +31,20 @@ fn reach_one(size: usize, x: usize, next: usize) -> usize
 }
 
 // Puts the lengths of a partition's data blocks into the table, 0 for any other element.
-fn put_lengths(list: &[u8], store: &[u8], count: usize, table: &mut [u32])
-    requires { Encoded list.now store.now count × (count ≤ length table.old) }
+fn put_lengths(list: &[u8], store: &[u8], table: &mut [u32])
+    requires { (count : ℕ) × Encoded list.now store.now count × (count ≤ length table.old) }
     ensures { PutsLengths list.now store.now table.old table.new }
 {
-    let mut place: usize = 0;
     let mut labels: usize = 4;
     let mut even = true;
-    for at in 0..count {
-        match tape::entry_at(list, place) {
-            Entry::Mark(next) => {
+    for (at, cell) in Cells::new(list).enumerate() {
+        match cell {
+            Cell::Mark => {
                 table[at] = 0;
                 even = even_after(labels, even);
-                place = next;
             }
-            Entry::Block(n, next) => {
-                table[at] = data_length(labels, even, n) as u32;
-                place = next;
-            }
-            Entry::Unreadable(next) => {
-                table[at] = 0;
-                place = next;
-            }
-            Entry::End | Entry::Bad => {
-                return;
-            }
+            Cell::Block(n) => table[at] = data_length(labels, even, n) as u32,
+            Cell::Unreadable => table[at] = 0,
         }
         labels = labels.saturating_sub(1);
     }
@@ -86,7 +75,7 @@ pub fn reach(
     if table.len() < count {
         return Err(Refusal::Short);
     }
-    put_lengths(list, store, count, table);
+    put_lengths(list, store, table);
     extend(count, block_size, table);
     Ok(count)
 }

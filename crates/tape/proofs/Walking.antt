@@ -12,7 +12,7 @@ use lib.Seq.{get_or-drop, drop-drop, drop-append_seam, take-append_seam}
 use borrow.Author.Tests.{lt-ltb, le-ltb, le-leb}
 use Rattle.slices.proofs.Booleans.{and_parts}
 use Rattle.tape.specs.declared.Entry.{Entry}
-use Rattle.tape.specs.declared.Entry.TheVariants.{Mark, Block, Unreadable, End, Bad}
+use Rattle.tape.specs.declared.Entry.TheVariants.{Mark, Block, Unreadable, End}
 use Rattle.big_endian.specs.BigEndian.{bytes_say}
 use Rattle.big_endian.proofs.Left.{length_big_endian}
 use Rattle.big_endian.proofs.Said.{said_bytes}
@@ -20,7 +20,6 @@ use Rattle.tape.specs.declared.Cell.{Cell}
 use Rattle.tape.specs.declared.Cell.TheVariants.{Mark as mark_cell, Block as block_cell, Unreadable as unreadable_cell}
 use Rattle.tape.specs.Tape.{Element, mark, block, unreadable, Tape, cell_of, four_bytes, entry, content, list, store, is_block_length, is_lawful_cell, lawful_tape}
 use Rattle.tape.specs.ReadingSteps.{entry_at, number_at, size}
-use Rattle.tape.specs.declared.Front.{Front}
 use Rattle.tape.specs.WalkSteps.{passed, reach}
 use Rattle.tape.proofs.Entries.{length_between}
 

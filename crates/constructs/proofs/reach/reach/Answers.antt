@@ -22,7 +22,7 @@ pub put_lengths-requires : goal.put_lengths-requires
 put_lengths-requires c =
     let a = c.args in
     let p = present a.list.now a.store.now _ (λ i. (c.type_inv.list i).fits) (sym c.in_ok-count.was ∙ c.check.ensures) in
-    (encoded a.list.now a.store.now _ p, c.if-table-count.false)
+    (_, encoded a.list.now a.store.now _ p, c.if-table-count.false)
 
 pub extend-requires : goal.extend-requires
 extend-requires c =
