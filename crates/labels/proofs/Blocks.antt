@@ -1,6 +1,7 @@
 -- A tape that is laid out: its elements 0 to 3, and its blocks 0 and 2 as parts of the store.
 use mathlib.Core.Path.{◌≡◌, refl, ◌∙◌, ap}
-use mathlib.Core.Bool.{true, false, cond, false≢true}
+use Rattle.std.specs.Prelude.{None, Option, Some}
+use mathlib.Core.Bool.{Bool, true, false, cond, false≢true}
 use mathlib.Core.List.{List, [], ◌∷◌, ◌++◌}
 use Prim.Native.Nat.{ℕ, ◌+◌, ◌≤◌}
 use native.Mathlib.Omega.{arith}
@@ -8,7 +9,7 @@ use lib.ListN.{length, take, drop, length-append}
 use lib.Seq.{take-append_seam, drop-append_seam}
 use Rattle.slices.proofs.Booleans.{split}
 use Rattle.tape.specs.Tape.{mark, block, unreadable, Tape, store, content, Encodes}
-use Rattle.labels.specs.declared.Laid.TheVariants.{Blocks, Otherwise}
+use Rattle.labels.specs.declared.Layout.{Layout}
 use Rattle.labels.specs.Labels.{is_laid, bytes_at}
 use Rattle.labels.specs.Steps.{layout_of}
 
@@ -53,19 +54,20 @@ parts_of t f =
       within = omega (arith, length-append x (y ++ r), length-append y r);
     }
 
-pub laid_out : {l s : List ℕ} {t : Tape} (n m : ℕ) → Encodes l s t → Blocks n m ≡ layout_of t → LaidOut s t n m
-laid_out {l} {s} {t} n m e q =
-    split (λ b. is_laid t ≡ b → Blocks n m ≡ cond b (Blocks (length (bytes_at t 0)) (length (bytes_at t 2))) Otherwise → LaidOut s t n m) (is_laid t)
-    (λ h z y.
-    let a : n ≡ length (bytes_at t 0) = cc in
-    let b : m ≡ length (bytes_at t 2) = cc in
-    rw (a, b, e.stores) (parts_of t (four_elements t h)))
-    (λ h z y. let w : ◌≡◌ {A = ℕ} 0 1 = cc in absurd (omega arith))
-    refl q
+module _ (t : Tape) where
+  -- what is told of a tape tells whether it is laid out
+  told : (b : Bool) → is_laid t ≡ b → {o : Option Layout} → o ≡ layout_of t → o ≡ cond b (Some (record { vol1 = length (bytes_at t 0); text = length (bytes_at t 2) })) None
+  told b h q = q ∙ rw h
 
-pub not_laid : (t : Tape) → Otherwise ≡ layout_of t → is_laid t ≡ false
-not_laid t q =
-    split (λ b. Otherwise ≡ cond b (Blocks (length (bytes_at t 0)) (length (bytes_at t 2))) Otherwise → b ≡ false) (is_laid t)
-    (λ h z. let w : ◌≡◌ {A = ℕ} 0 1 = cc in absurd (omega arith))
-    (λ h z. refl)
-    q
+  pub not_laid : None ≡ layout_of t → is_laid t ≡ false
+  not_laid q = split (λ b. is_laid t ≡ b → b ≡ false) (is_laid t) (λ h z. let w = told true z q in cc) (λ h z. refl) refl
+
+  pub laid_out : {l s : List ℕ} (x : Layout) → Encodes l s t → Some x ≡ layout_of t → LaidOut s t x.vol1 x.text
+  laid_out {l} {s} x e q =
+      split (λ b. is_laid t ≡ b → LaidOut s t x.vol1 x.text) (is_laid t)
+      (λ h z.
+      let w = told true z q in
+      let y : x ≡ record { vol1 = length (bytes_at t 0); text = length (bytes_at t 2) } = cc in
+      rw (y, e.stores) (parts_of t (four_elements t z)))
+      (λ h z. let w = told false z q in cc)
+      refl

@@ -1,7 +1,5 @@
 -- A part of a part of a store is a part of the store: what the label of a text says, as what it says of the store that the text lies in.
-use Rattle.label.specs.declared.reader.LabelFields.{LabelFields}
-use Rattle.refusals.specs.declared.Refusal.{Refusal}
-use Rattle.std.specs.Prelude.{Err, Ok, Result}
+use Rattle.std.specs.Prelude.{Ok}
 use mathlib.Core.Path.{◌≡◌, sym, ◌∙◌, ap}
 use mathlib.Core.List.{List}
 use Prim.Native.Nat.{ℕ, ◌+◌, ◌-◌, ◌≤◌}
@@ -13,8 +11,9 @@ use Rattle.refusals.specs.Refusals.{Answer}
 use Rattle.elements.specs.Reading.{Inside}
 use Rattle.label.specs.Label.{Label as Values}
 use Rattle.label.specs.TextPlaces.{TextPlaces}
-use Rattle.label.specs.Steps.{ReadsLabel}
-use Rattle.labels.specs.Steps.{label_moved, BeginWithin}
+use Rattle.label.specs.declared.reader.LabelFields.{LabelFields}
+use Rattle.label.specs.Steps.{means, LieIn, places_of, ReadsLabel}
+use Rattle.labels.specs.Steps.{fields_moved}
 use Rattle.labels.specs.Places.{places_moved}
 
 -- the n bytes from `by` on in the store s
@@ -33,25 +32,23 @@ module _ (s : List ℕ) (n by : ℕ) (k : Inside s by n) where
   within : (from len : ℕ) → Inside (take n (drop by s)) from len → from + len ≤ n
   within from len h = omega (arith, part_long)
 
-  pub reads_moved : {a : Answer Values} {w : TextPlaces} (r : Result LabelFields Refusal) → ReadsLabel (take n (drop by s)) a w r → ReadsLabel s a (places_moved by w) (label_moved by r)
-  reads_moved (Err r) p = record { says = p.says; inside = tt; stands = tt }
-  reads_moved (Ok f) p =
-      let i = p.inside in
+  pub reads_moved : {a : Answer Values} {w : TextPlaces} (f : LabelFields) → means (take n (drop by s)) (Ok f) ≡ a → LieIn (take n (drop by s)) f → places_of f ≡ w
+      → ReadsLabel s a (places_moved by w) (Ok (fields_moved by f))
+  reads_moved f e i p =
       record {
         says = rw (
           part_moved f.creator.from f.creator.len (within _ _ i.creator),
           part_moved f.time.from f.time.len (within _ _ i.time),
           part_moved f.uuid.from f.uuid.len (within _ _ i.uuid),
         )
-            p.says;
+            e;
         inside = record { creator = span_inside _ _ i.creator; time = span_inside _ _ i.time; uuid = span_inside _ _ i.uuid };
-        stands = ap (places_moved by) p.stands;
+        stands = ap (places_moved by) p;
       }
 
-  pub begins : {a : Answer Values} {w : TextPlaces} (r : Result LabelFields Refusal) → ReadsLabel (take n (drop by s)) a w r → BeginWithin n r
-  begins (Err r) p = tt
-  begins (Ok f) p =
-      let i = p.inside in
+  -- they begin in the store
+  pub begins : (f : LabelFields) → LieIn (take n (drop by s)) f → (by + f.creator.from ≤ length s) × (by + f.time.from ≤ length s) × (by + f.uuid.from ≤ length s)
+  begins f i =
       let c = within _ _ i.creator in
       let t = within _ _ i.time in
       let u = within _ _ i.uuid in

@@ -1,74 +1,33 @@
--- The labels of two sides, check by check: what follows from each that fails, and what where none does.
-use Rattle.std.specs.Prelude.{Err, Ok}
-use mathlib.Core.Path.{◌≡◌, refl, sym, ap, ◌∙◌}
-use mathlib.Core.Bool.{Bool, true, false, ◌&&◌}
+-- The labels of two partitions, check by check: what follows from each that fails, and what where none does; a side of them.
+use Rattle.std.specs.Prelude.{Err, None, Ok, Option, Some}
+use mathlib.Core.Path.{◌≡◌, sym, ap, ◌∙◌}
+use mathlib.Core.Bool.{true, false}
 use mathlib.Core.List.{List}
 use Prim.Native.Nat.{ℕ, ◌+◌, ◌-◌}
 use native.Mathlib.Omega.{arith}
-use lib.Dec.{eqb}
 use lib.ListN.{length, take, drop}
 use lib.Seq.{length-take-le}
 use Rattle.refusals.specs.declared.Refusal.{Refusal}
 use Rattle.refusals.specs.declared.Refusal.TheVariants as refusal
-use Rattle.refusals.specs.Refusals.{require, on_data_side}
-use Rattle.slices.specs.Slices.{same}
 use Rattle.tape.specs.Tape.{Tape}
-use Rattle.tape.specs.Answers.{tape_in}
-use Rattle.label.specs.Label.{Label, label_of}
-use Rattle.vol1.specs.Vol1.{Vol1Fields, vol1, vol1_of, identifier_in, owner_in, is_printed}
-use Rattle.label.specs.Agreement.{agree}
+use Rattle.tape.specs.Answers.{tape_in, or_refused, element_count}
 use Rattle.label.specs.TextPlaces.{text_places}
 use Rattle.labels.specs.Labels.{is_laid, bytes_at, labels_from, labels_of, labels_in}
 use Rattle.labels.specs.Places.{places_moved, places_on}
-use Rattle.labels.proofs.Blocks.{LaidOut}
-
--- a test that refuses with one number refuses with that number
-required : {A : Type 0} (b : Bool) (r q : Refusal) (a : A) → Err r ≡ require b q (Ok a) → require b q (Ok a) ≡ Err q
-required true r q a e = let z : ◌≡◌ {A = ℕ} 0 1 = cc in absurd (omega arith)
-required false r q a e = refl
-
-pub vol1_refused : (v : List ℕ) (r : Refusal) → Err r ≡ vol1_of v → vol1_of v ≡ Err refusal.Vol1
-unfolding vol1_of
-vol1_refused v r e =
-    required (eqb (length v) 80 && same v (vol1 (identifier_in v) (owner_in v)) && is_printed (identifier_in v) && is_printed (owner_in v)) r refusal.Vol1 _ e
-
-module _ (v s w t : List ℕ) where
-  pub no_vol1 : vol1_of v ≡ Err refusal.Vol1 → Err refusal.Vol1 ≡ labels_from v s w t
-  unfolding labels_from
-  no_vol1 e = rw e
-
-  module _ {x : Vol1Fields} (e₀ : vol1_of v ≡ Ok x) where
-    pub no_data_vol1 : vol1_of w ≡ Err refusal.Vol1 → Err refusal.Vol1 ≡ labels_from v s w t
-    unfolding labels_from
-    no_data_vol1 e = rw (e₀, e)
-
-    module _ {y : Vol1Fields} (e₁ : vol1_of w ≡ Ok y) where
-      pub no_label : {r : Refusal} → label_of s ≡ Err r → Err r ≡ labels_from v s w t
-      unfolding labels_from
-      no_label e = rw (e₀, e₁, e)
-
-      module _ {f : Label} (e₂ : label_of s ≡ Ok f) where
-        pub no_data_label : {r q : Refusal} → label_of t ≡ Err r → q ≡ on_data_side r → Err q ≡ labels_from v s w t
-        unfolding labels_from
-        no_data_label e z = rw (e₀, e₁, e₂, e, z)
-
-        module _ {g : Label} (e₃ : label_of t ≡ Ok g) where
-          pub disagreed : agree v f w g ≡ false → Err refusal.Foreign ≡ labels_from v s w t
-          unfolding labels_from
-          disagreed e = rw (e₀, e₁, e₂, e₃, e)
-
-          pub agreed : agree v f w g ≡ true → Ok f ≡ labels_from v s w t
-          unfolding labels_from
-          agreed e = rw (e₀, e₁, e₂, e₃, e)
+use Rattle.labels.specs.declared.Layout.{Layout}
+use Rattle.labels.specs.Steps.{LaysOut}
+use Rattle.labels.proofs.Blocks.{LaidOut, laid_out, not_laid}
+use Rattle.tape.proofs.Entries.{Bytes}
+use Rattle.tape.proofs.Keeping.{present}
 
 -- from the lists and the stores
 module _ (il il' dl dl' : List ℕ) where
-  pub no_list : tape_in il il' ≡ Err refusal.List → Err refusal.List ≡ labels_in il il' dl dl'
+  pub no_list : {r : Refusal} → tape_in il il' ≡ Err r → Err r ≡ labels_in il il' dl dl'
   unfolding labels_in
   no_list e = rw e
 
   module _ {i : Tape} (e₀ : tape_in il il' ≡ Ok i) where
-    pub no_data_list : tape_in dl dl' ≡ Err refusal.List → Err refusal.List ≡ labels_in il il' dl dl'
+    pub no_data_list : {r : Refusal} → tape_in dl dl' ≡ Err r → Err r ≡ labels_in il il' dl dl'
     unfolding labels_in
     no_data_list e = rw (e₀, e)
 
@@ -96,3 +55,34 @@ places_laid il il' {i} {n} {m} e p =
     let a : n + m - n ≡ m = omega arith in
     let b : n ≡ length (bytes_at i 0) = sym (length-take-le n il' (omega (arith, p.within))) ∙ ap length p.vol1 in
     rw (e, a, p.text) (ap (λ (k : ℕ). places_moved k (text_places (bytes_at i 2))) b)
+
+-- the list l and the store s of one side, whose elements were found and whose blocks were laid out
+pub record Side (l s : List ℕ) (x : Layout) : Type 0 where
+  pub tape : Tape
+  pub read : tape_in l s ≡ Ok tape
+  pub blocks : LaidOut s tape x.vol1 x.text
+
+module _ (l s : List ℕ) {n : ℕ} (w : Bytes l) (e : Ok n ≡ element_count l s) where
+  pub side : {o : Option Layout} (x : Layout) → LaysOut l o → o ≡ Some x → Side l s x
+  side x y h =
+      let p = present l s n w e in
+      record { tape = p.tape; read = ap or_refused p.read; blocks = laid_out p.tape x p.encodes (sym h ∙ y _ _ p.encodes) }
+
+  -- or were not
+  pub record NoSide : Type 0 where
+    pub tape : Tape
+    pub read : tape_in l s ≡ Ok tape
+    pub blocks : is_laid tape ≡ false
+
+  pub no_side : {o : Option Layout} → LaysOut l o → o ≡ None → NoSide
+  no_side y h =
+      let p = present l s n w e in
+      record { tape = p.tape; read = ap or_refused p.read; blocks = not_laid p.tape (sym h ∙ y _ _ p.encodes) }
+
+  -- a tape was found
+  pub record Found : Type 0 where
+    pub tape : Tape
+    pub read : tape_in l s ≡ Ok tape
+
+  pub found : Found
+  found = let p = present l s n w e in record { tape = p.tape; read = ap or_refused p.read }

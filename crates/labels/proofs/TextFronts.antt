@@ -1,7 +1,7 @@
 -- The labels of a volume are refused 4 with the front of the text that is refused, and its side; and for nothing else (02, Item 6).
-use Rattle.std.specs.Prelude.{None, Option, Some, Err, Ok}
+use Rattle.std.specs.Prelude.{None, Option, Some, Err, Ok, length}
 use mathlib.Core.Path.{◌≡◌, refl, sym, ap, ◌∙◌, subst}
-use mathlib.Core.Bool.{true, false, false≢true}
+use mathlib.Core.Bool.{true, false, false≢true, ◌&&◌}
 use mathlib.Core.List.{List, []}
 use mathlib.Core.Logic.{◌⊎◌, inl, inr}
 use Prim.Native.Nat.{ℕ}
@@ -18,13 +18,13 @@ use Rattle.xml.proofs.Checked.{OfText}
 use Rattle.tape.specs.Tape.{Tape}
 use Rattle.tape.specs.ReadingSteps.{tape_of}
 use Rattle.tape.specs.Answers.{tape_in, or_refused}
-use Rattle.vol1.specs.Vol1.{Vol1Fields, vol1_of}
+use Rattle.slices.specs.Slices.{same}
+use Rattle.vol1.specs.Vol1.{vol1, vol1_of, identifier_in, owner_in, is_printed}
 use Rattle.label.specs.Label.{Label, label_of}
 use Rattle.label.specs.Agreement.{agree}
 use Rattle.label.proofs.Fronts.{label_front, label_formed}
 use Rattle.labels.specs.Labels.{is_laid, bytes_at, on_data, labels_from, labels_of, labels_in}
 use Rattle.labels.specs.Places.{text_on}
-use Rattle.labels.proofs.Sides.{vol1_refused}
 
 -- the label text s of the index side, or else t of the data side, leaves the form at the place p
 module _ (s t : List ℕ) where
@@ -40,11 +40,10 @@ module _ (s t : List ℕ) where
   another r e h = absurd (false≢true (sym e ∙ eq-eqb (number_of r) 4 h))
 
   vol1_of_lem : (v : List ℕ) → Refuses OfLabels (vol1_of v)
-  vol1_of_lem v = go (vol1_of v) refl
-    where
-      go : (a : Answer Vol1Fields) → vol1_of v ≡ a → Refuses OfLabels a
-      go (Err r) e = subst (λ (a : Answer Vol1Fields). Refuses OfLabels a) (sym (vol1_refused v r (sym e)) ∙ e) record { only = another refusal.Vol1 refl }
-      go (Ok x) e = refuses_answer OfLabels x
+  unfolding vol1_of
+  vol1_of_lem v =
+      refuses_require OfLabels (eqb (length v) 80 && same v (vol1 (identifier_in v) (owner_in v)) && is_printed (identifier_in v) && is_printed (owner_in v)) refusal.Vol1 _
+      (another refusal.Vol1 refl) (refuses_answer OfLabels _)
 
   -- the data side's label, where the index side's is in the form
   module _ (formed : in_form s ≡ true) where

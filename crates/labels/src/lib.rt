@@ -1,9 +1,12 @@
 // The labels of two partitions (01, Refusal numbers, the volume order): read and compared.
 #![tactic(auto)]
 
-ghost use Rattle.std.specs.Prelude.{◌≡◌, ◌+◌, ◌≤◌};
+ghost use Rattle.std.specs.Prelude.{◌≡◌, ◌+◌, ◌≤◌, IfOk};
+ghost use Rattle.label.specs.Steps.{means, LieIn, places_of};
+ghost use Rattle.label.specs.TextPlaces.{text_places};
+ghost use Rattle.labels.specs.Labels.{labels_from};
 ghost use Rattle.tape.specs.ReadingSteps.{entry_at};
-ghost use Rattle.labels.specs.Steps.{past_block, past_mark, LaysOut, label_moved, BeginWithin, ReadsSides, ChecksLabels};
+ghost use Rattle.labels.specs.Steps.{past_block, past_mark, LaysOut, fields_moved, ChecksLabels};
 ghost use Rattle.labels.specs.Places.{span_moved};
 
 use elements::Span;
@@ -11,65 +14,47 @@ use label::LabelFields;
 use refusals::Refusal;
 use tape::Entry;
 
-// The element asked for: its bytes, and the place of the next entry; or another one.
-#[derive(Clone, Copy)]
-enum Step {
-    Past(usize, usize),
-    Other,
-}
-
-fn past_block(list: &[u8], at: usize) -> Step
+// The length of the block at a place of a list, and the place of the next entry; none where no block stands.
+fn past_block(list: &[u8], at: usize) -> Option<(usize, usize)>
     ensures { result ≡ past_block (entry_at list.now at) }
 {
     match tape::entry_at(list, at) {
-        Entry::Mark(_) => Step::Other,
-        Entry::Block(n, next) => Step::Past(n, next),
-        Entry::Unreadable(_) => Step::Other,
-        Entry::End => Step::Other,
-        Entry::Bad => Step::Other,
+        Entry::Block(n, next) => Some((n, next)),
+        _ => None,
     }
 }
 
-fn past_mark(list: &[u8], at: usize) -> Step
+// The place behind the mark at a place of a list; none where no mark stands.
+fn past_mark(list: &[u8], at: usize) -> Option<usize>
     ensures { result ≡ past_mark (entry_at list.now at) }
 {
     match tape::entry_at(list, at) {
-        Entry::Mark(next) => Step::Past(0, next),
-        Entry::Block(_, _) => Step::Other,
-        Entry::Unreadable(_) => Step::Other,
-        Entry::End => Step::Other,
-        Entry::Bad => Step::Other,
+        Entry::Mark(next) => Some(next),
+        _ => None,
     }
 }
 
-// The lengths of blocks 0 and 2 of a partition whose elements 0 to 3 are block, mark, block, mark.
+// The lengths of blocks 0 and 2 of a partition.
 #[derive(Clone, Copy)]
-enum Laid {
-    Blocks(usize, usize),
-    Otherwise,
+struct Layout {
+    vol1: usize,
+    text: usize,
 }
 
-fn lay_out(list: &[u8]) -> Laid
+// The lengths, if elements 0 to 3 are block, mark, block, mark.
+fn lay_out(list: &[u8]) -> Option<Layout>
     ensures { LaysOut list.now result }
 {
-    let Step::Past(vol1, a) = past_block(list, 0) else {
-        return Laid::Otherwise;
-    };
-    let Step::Past(_, b) = past_mark(list, a) else {
-        return Laid::Otherwise;
-    };
-    let Step::Past(text, c) = past_block(list, b) else {
-        return Laid::Otherwise;
-    };
-    let Step::Past(_, _) = past_mark(list, c) else {
-        return Laid::Otherwise;
-    };
-    Laid::Blocks(vol1, text)
+    let (vol1, next) = past_block(list, 0)?;
+    let third = past_mark(list, next)?;
+    let (text, next) = past_block(list, third)?;
+    past_mark(list, next)?;
+    Some(Layout { vol1, text })
 }
 
 // A span of a text that begins at a place of a store, as a span of the store.
 fn moved(w: Span, by: usize) -> Span
-    requires { by + w.from ≤ 18446744073709551615 }
+    requires { by + w.from ≤ usize.MAX }
     ensures { result ≡ span_moved by w }
 {
     Span {
@@ -78,49 +63,36 @@ fn moved(w: Span, by: usize) -> Span
     }
 }
 
-// What the label of a text of n bytes says, with its spans moved.
-fn in_store(said: Result<LabelFields, Refusal>, n: usize, by: usize) -> Result<LabelFields, Refusal>
-    requires { BeginWithin n said × (by + n ≤ 18446744073709551615) }
-    ensures { result ≡ label_moved by said }
+// What the label of a text says, with its spans moved.
+fn in_store(f: LabelFields, by: usize) -> LabelFields
+    requires creator { by + f.creator.from ≤ usize.MAX }
+    requires time { by + f.time.from ≤ usize.MAX }
+    requires uuid { by + f.uuid.from ≤ usize.MAX }
+    ensures { result ≡ fields_moved by f }
 {
-    match said {
-        Err(r) => Err(r),
-        Ok(f) => Ok(LabelFields {
-            release: f.release,
-            creator: moved(f.creator, by),
-            time: moved(f.time, by),
-            uuid: moved(f.uuid, by),
-            location: f.location,
-            index_letter: f.index_letter,
-            data_letter: f.data_letter,
-            block_size: f.block_size,
-            compression: f.compression,
-        }),
+    LabelFields {
+        creator: moved(f.creator, by),
+        time: moved(f.time, by),
+        uuid: moved(f.uuid, by),
+        ..f
     }
 }
 
 // The VOL1 label v and the label text s of the index side, w and t of the data side.
+#[tactic(auto, unfolding(crate::specs::Labels::labels_from))]
 fn read_sides(v: &[u8], s: &[u8], w: &[u8], t: &[u8]) -> Result<LabelFields, Refusal>
-    ensures { ReadsSides v.now s.now w.now t.now result }
+    ensures says { means s.now result ≡ labels_from v.now s.now w.now t.now }
+    ensures inside { IfOk result (LieIn s.now) }
+    ensures stands { IfOk result (λ f. places_of f ≡ text_places s.now) }
 {
-    let Ok(()) = vol1::read_vol1(v) else {
-        return Err(Refusal::Vol1);
-    };
-    let Ok(()) = vol1::read_vol1(w) else {
-        return Err(Refusal::Vol1);
-    };
-    match label::read(s) {
-        Err(r) => Err(r),
-        Ok(f) => match label::read(t) {
-            Err(r) => Err(refusals::on_data_side(r)),
-            Ok(g) => {
-                if label::labels_agree(v, s, f, w, t, g) {
-                    Ok(f)
-                } else {
-                    Err(Refusal::Foreign)
-                }
-            }
-        },
+    vol1::read_vol1(v)?;
+    vol1::read_vol1(w)?;
+    let f = label::read(s)?;
+    let g = label::read(t).map_err(|r| refusals::on_data_side(r))?;
+    if label::labels_agree(v, s, f, w, t, g) {
+        Ok(f)
+    } else {
+        Err(Refusal::Foreign)
     }
 }
 
@@ -133,25 +105,17 @@ pub fn check(
 ) -> Result<LabelFields, Refusal>
     ensures { ChecksLabels index_list.now index_store.now data_list.now data_store.now result }
 {
-    let Ok(_) = tape::check(index_list, index_store) else {
-        return Err(Refusal::List);
-    };
-    let Ok(_) = tape::check(data_list, data_store) else {
-        return Err(Refusal::List);
-    };
-    let Laid::Blocks(vol1, text) = lay_out(index_list) else {
-        return Err(Refusal::Layout);
-    };
-    let Laid::Blocks(data_vol1, data_text) = lay_out(data_list) else {
-        return Err(Refusal::Layout);
-    };
-    let end = vol1 + text;
-    let data_end = data_vol1 + data_text;
+    tape::check(index_list, index_store)?;
+    tape::check(data_list, data_store)?;
+    let index = lay_out(index_list).ok_or(Refusal::Layout)?;
+    let other = lay_out(data_list).ok_or(Refusal::Layout)?;
+    let index_end = index.vol1 + index.text;
+    let other_end = other.vol1 + other.text;
     let said = read_sides(
-        &index_store[..vol1],
-        &index_store[vol1..end],
-        &data_store[..data_vol1],
-        &data_store[data_vol1..data_end],
-    );
-    in_store(said, text, vol1)
+        &index_store[..index.vol1],
+        &index_store[index.vol1..index_end],
+        &data_store[..other.vol1],
+        &data_store[other.vol1..other_end],
+    )?;
+    Ok(in_store(said, index.vol1))
 }

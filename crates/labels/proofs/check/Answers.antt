@@ -1,85 +1,108 @@
 -- `check` meets its contract: a check at each return; where all pass, the labels are read from parts of the stores.
-use Rattle.std.specs.Prelude.{Ok}
-use mathlib.Core.Path.{◌≡◌, sym, ◌∙◌, ap, subst}
-use mathlib.Core.List.{List}
-use Prim.Native.Nat.{ℕ, ◌+◌, ◌-◌}
-use native.Mathlib.Omega.{arith}
-use lib.Seq.{length-take-le}
-use Rattle.tape.specs.Answers.{or_refused, element_count}
-use Rattle.tape.proofs.Entries.{Bytes}
-use Rattle.tape.proofs.Keeping.{present, absent_list}
+use Rattle.std.specs.Prelude.{None, Some, Err}
+use Rattle.std.proofs.Common.{◌≡◌, ◌+◌, ◌-◌, arith, rules, sym, ◌∙◌}
+use Rattle.std.proofs.lemmas.List.{length-take-le}
+use Rattle.std.proofs.lemmas.Result.{err_from_is_err_and}
+use Rattle.refusals.specs.declared.Refusal.TheVariants.{Layout}
+use Rattle.tape.proofs.Keeping.{absent}
 use Rattle.label.proofs.Places.{refuses, reads_as}
-use Rattle.labels.specs.declared.Laid.{Laid}
-use Rattle.labels.specs.declared.Laid.TheVariants.{Blocks}
-use Rattle.labels.specs.Steps.{LaysOut, BeginWithin, ChecksLabels}
 use Rattle.labels.proofs.Moving.{reads_moved, begins}
-use Rattle.labels.proofs.Blocks.{LaidOut, laid_out, not_laid}
-use Rattle.labels.proofs.Sides.{no_list, no_data_list, no_layout, no_data_layout, in_parts, places_laid}
-use borrow.Author.Rules.{rules}
+use Rattle.labels.proofs.Sides.{Side, side, no_side, found, no_list, no_data_list, no_layout, no_data_layout, in_parts, places_laid}
+use Rattle.labels.proofs.check.Goals.{In_ok-other}
 use Rattle.labels.proofs.check.Goals as goal
 
--- the list l and the store s of one side, where `check` found its elements and `lay_out` its blocks
-module _ (l s : List ℕ) (count : ℕ) (w : Bytes l) (e : Ok count ≡ element_count l s) where
-  -- their labels as parts of the store
-  laid : (n m : ℕ) (x : Laid) → Blocks n m ≡ x → LaysOut l x → LaidOut s (present l s count w e).tape n m
-  laid n m x h y =
-      let p = present l s count w e in
-      laid_out n m p.encodes (h ∙ y _ _ p.encodes)
+pub returns-in_err-check : goal.returns-in_err-check
+returns-in_err-check c =
+    let a = c.args in
+    let p = err_from_is_err_and c.from_residual.result c.from_residual.ensures.1 in
+    rw (p.1, p.2) (refuses (no_list a.index_list.now a.index_store.now a.data_list.now a.data_store.now (absent _ _ _ c.in_err-check.ensures)))
 
-pub returns-in_default : goal.returns-in_default
-returns-in_default c = refuses (no_list c.args.index_list.now c.args.index_store.now c.args.data_list.now c.args.data_store.now (absent_list _ _ c.in_default.field-0 (sym c.in_default.is ∙ c.check.ensures)))
+pub returns-in_err-check-2 : goal.returns-in_err-check-2
+returns-in_err-check-2 c =
+    let a = c.args in
+    let i = found a.index_list.now a.index_store.now (λ k. (c.type_inv.index_list k).fits) c.in_ok-check.ensures in
+    let p = err_from_is_err_and c.from_residual-in_err-check-2.result c.from_residual-in_err-check-2.ensures.1 in
+    rw (p.1, p.2) (refuses (no_data_list a.index_list.now a.index_store.now a.data_list.now a.data_store.now i.read (absent _ _ _ c.in_err-check-2.ensures)))
 
-pub returns-in_default-check : goal.returns-in_default-check
-returns-in_default-check c = refuses (no_data_list c.args.index_list.now c.args.index_store.now c.args.data_list.now c.args.data_store.now (ap or_refused (present c.args.index_list.now c.args.index_store.now c.in-Ok.field-0 (λ k. (c.type_inv.index_list k).fits) (sym c.in-Ok.is ∙ c.check.ensures)).read) (absent_list _ _ c.in_default-check.field-0 (sym c.in_default-check.is ∙ c.check-2.ensures)))
+pub returns-in_err-index : goal.returns-in_err-index
+returns-in_err-index c =
+    let a = c.args in
+    let n : c.lay_out.result ≡ None = grind arith in
+    let i = no_side a.index_list.now a.index_store.now (λ k. (c.type_inv.index_list k).fits) c.in_ok-check.ensures c.lay_out.ensures n in
+    let d = found a.data_list.now a.data_store.now (λ k. (c.type_inv.data_list k).fits) c.in_ok-check-2.ensures in
+    let r : c.from_residual-in_err-index.result ≡ Err Layout = grind arith in
+    rw r (refuses (no_layout a.index_list.now a.index_store.now a.data_list.now a.data_store.now i.read d.read i.blocks))
 
-pub returns-in_default-lay_out : goal.returns-in_default-lay_out
-returns-in_default-lay_out c =
-    let p = present c.args.index_list.now c.args.index_store.now c.in-Ok.field-0 (λ k. (c.type_inv.index_list k).fits) (sym c.in-Ok.is ∙ c.check.ensures) in
-    let q = present c.args.data_list.now c.args.data_store.now c.in-Ok-check.field-0 (λ k. (c.type_inv.data_list k).fits) (sym c.in-Ok-check.is ∙ c.check-2.ensures) in
-    refuses (no_layout c.args.index_list.now c.args.index_store.now c.args.data_list.now c.args.data_store.now (ap or_refused p.read) (ap or_refused q.read) (not_laid p.tape (sym c.in_default-lay_out.is ∙ c.lay_out.ensures _ p.tape p.encodes)))
+pub returns-in_err-other : goal.returns-in_err-other
+returns-in_err-other c =
+    let a = c.args in
+    let m : c.lay_out.result ≡ Some c.in_ok-index.index = grind arith in
+    let n : c.lay_out-2.result ≡ None = grind arith in
+    let i = side a.index_list.now a.index_store.now (λ k. (c.type_inv.index_list k).fits) c.in_ok-check.ensures _ c.lay_out.ensures m in
+    let d = no_side a.data_list.now a.data_store.now (λ k. (c.type_inv.data_list k).fits) c.in_ok-check-2.ensures c.lay_out-2.ensures n in
+    let r : c.from_residual-in_err-other.result ≡ Err Layout = grind arith in
+    rw r (refuses (no_data_layout a.index_list.now a.index_store.now a.data_list.now a.data_store.now i.read d.read i.blocks.laid d.blocks))
 
-pub returns-in_default-lay_out-2 : goal.returns-in_default-lay_out-2
-returns-in_default-lay_out-2 c =
-    let p = present c.args.index_list.now c.args.index_store.now c.in-Ok.field-0 (λ k. (c.type_inv.index_list k).fits) (sym c.in-Ok.is ∙ c.check.ensures) in
-    let q = present c.args.data_list.now c.args.data_store.now c.in-Ok-check.field-0 (λ k. (c.type_inv.data_list k).fits) (sym c.in-Ok-check.is ∙ c.check-2.ensures) in
-    refuses (no_data_layout c.args.index_list.now c.args.index_store.now c.args.data_list.now c.args.data_store.now (ap or_refused p.read) (ap or_refused q.read) (laid c.args.index_list.now c.args.index_store.now c.in-Ok.field-0 (λ k. (c.type_inv.index_list k).fits) (sym c.in-Ok.is ∙ c.check.ensures) c.in-Blocks.vol1 c.in-Blocks.text _ (sym c.in-Blocks.is) c.lay_out.ensures).laid
-    (not_laid q.tape (sym c.in_default-lay_out-2.is ∙ c.lay_out-2.ensures _ q.tape q.encodes)))
+-- the two sides, laid out
+index_side : (c : In_ok-other) → Side c.args.index_list.now c.args.index_store.now c.in_ok-index.index
+index_side c =
+    let m : c.lay_out.result ≡ Some c.in_ok-index.index = grind arith in
+    side c.args.index_list.now c.args.index_store.now (λ k. (c.type_inv.index_list k).fits) c.in_ok-check.ensures _ c.lay_out.ensures m
 
-pub overflow_add-end : goal.overflow_add-end
-overflow_add-end c = let w = (laid c.args.index_list.now c.args.index_store.now c.in-Ok.field-0 (λ k. (c.type_inv.index_list k).fits) (sym c.in-Ok.is ∙ c.check.ensures) c.in-Blocks.vol1 c.in-Blocks.text _ (sym c.in-Blocks.is) c.lay_out.ensures).within in search rules
+data_side : (c : In_ok-other) → Side c.args.data_list.now c.args.data_store.now c.in_ok-other.other
+data_side c =
+    let m : c.lay_out-2.result ≡ Some c.in_ok-other.other = grind arith in
+    side c.args.data_list.now c.args.data_store.now (λ k. (c.type_inv.data_list k).fits) c.in_ok-check-2.ensures _ c.lay_out-2.ensures m
 
-pub overflow_add-data_end : goal.overflow_add-data_end
-overflow_add-data_end c = let w = (laid c.args.data_list.now c.args.data_store.now c.in-Ok-check.field-0 (λ k. (c.type_inv.data_list k).fits) (sym c.in-Ok-check.is ∙ c.check-2.ensures) c.in-Blocks-lay_out.data_vol1 c.in-Blocks-lay_out.data_text _ (sym c.in-Blocks-lay_out.is) c.lay_out-2.ensures).within in search rules
+pub overflow_add-index_end : goal.overflow_add-index_end
+overflow_add-index_end c = let w = (index_side (goal.at.overflow_add-index_end c).In_ok-other).blocks.within in search rules
+
+pub overflow_add-other_end : goal.overflow_add-other_end
+overflow_add-other_end c = let w = (data_side (goal.at.overflow_add-other_end c).In_ok-other).blocks.within in search rules
 
 pub slice_bounds-read_sides-end : goal.slice_bounds-read_sides-end
-slice_bounds-read_sides-end c = let w = (laid c.args.index_list.now c.args.index_store.now c.in-Ok.field-0 (λ k. (c.type_inv.index_list k).fits) (sym c.in-Ok.is ∙ c.check.ensures) c.in-Blocks.vol1 c.in-Blocks.text _ (sym c.in-Blocks.is) c.lay_out.ensures).within in sym (length-take-le c.in-Blocks.vol1 c.args.index_store.now (omega arith))
+slice_bounds-read_sides-end c =
+    let w = (index_side (goal.at.slice_bounds-read_sides-end c).In_ok-other).blocks.within in
+    sym (length-take-le c.in_ok-index.index.vol1 c.args.index_store.now (omega arith))
 
 pub slice_bounds-read_sides-end-2 : goal.slice_bounds-read_sides-end-2
-slice_bounds-read_sides-end-2 c = let w = (laid c.args.index_list.now c.args.index_store.now c.in-Ok.field-0 (λ k. (c.type_inv.index_list k).fits) (sym c.in-Ok.is ∙ c.check.ensures) c.in-Blocks.vol1 c.in-Blocks.text _ (sym c.in-Blocks.is) c.lay_out.ensures).within in search rules
+slice_bounds-read_sides-end-2 c = let w = (index_side (goal.at.slice_bounds-read_sides-end-2 c).In_ok-other).blocks.within in search rules
 
 pub slice_bounds-read_sides-end-3 : goal.slice_bounds-read_sides-end-3
-slice_bounds-read_sides-end-3 c = let w = (laid c.args.data_list.now c.args.data_store.now c.in-Ok-check.field-0 (λ k. (c.type_inv.data_list k).fits) (sym c.in-Ok-check.is ∙ c.check-2.ensures) c.in-Blocks-lay_out.data_vol1 c.in-Blocks-lay_out.data_text _ (sym c.in-Blocks-lay_out.is) c.lay_out-2.ensures).within in sym (length-take-le c.in-Blocks-lay_out.data_vol1 c.args.data_store.now (omega arith))
+slice_bounds-read_sides-end-3 c =
+    let w = (data_side (goal.at.slice_bounds-read_sides-end-3 c).In_ok-other).blocks.within in
+    sym (length-take-le c.in_ok-other.other.vol1 c.args.data_store.now (omega arith))
 
 pub slice_bounds-read_sides-end-4 : goal.slice_bounds-read_sides-end-4
-slice_bounds-read_sides-end-4 c = let w = (laid c.args.data_list.now c.args.data_store.now c.in-Ok-check.field-0 (λ k. (c.type_inv.data_list k).fits) (sym c.in-Ok-check.is ∙ c.check-2.ensures) c.in-Blocks-lay_out.data_vol1 c.in-Blocks-lay_out.data_text _ (sym c.in-Blocks-lay_out.is) c.lay_out-2.ensures).within in search rules
+slice_bounds-read_sides-end-4 c = let w = (data_side (goal.at.slice_bounds-read_sides-end-4 c).In_ok-other).blocks.within in search rules
+
+pub returns-in_err-said : goal.returns-in_err-said
+returns-in_err-said c =
+    let a = c.args in
+    let i = index_side (goal.at.returns-in_err-said c).In_ok-other in
+    let d = data_side (goal.at.returns-in_err-said c).In_ok-other in
+    let p = err_from_is_err_and c.from_residual-in_err-said.result c.from_residual-in_err-said.ensures.1 in
+    rw (p.1, p.2)
+    (refuses (c.in_err-said.ensures.says ∙ in_parts a.index_list.now a.index_store.now a.data_list.now a.data_store.now i.read d.read i.blocks d.blocks))
 
 pub in_store-requires : goal.in_store-requires
 in_store-requires c =
-    let w = (laid c.args.index_list.now c.args.index_store.now c.in-Ok.field-0 (λ k. (c.type_inv.index_list k).fits) (sym c.in-Ok.is ∙ c.check.ensures) c.in-Blocks.vol1 c.in-Blocks.text _ (sym c.in-Blocks.is) c.lay_out.ensures).within in
-    let n = c.in-Blocks.vol1 in
-    let m = c.in-Blocks.text in
-    let z : n + m - n ≡ m = omega arith in
-    (subst (λ (k : ℕ). BeginWithin k c.read_sides-said.result) z (begins c.args.index_store.now (n + m - n) n (omega arith) c.read_sides-said.result c.read_sides-said.ensures), search rules)
+    let n = c.in_ok-index.index.vol1 in
+    let m = c.in_ok-index.index.text in
+    let w = (index_side (goal.at.in_store-requires c).In_ok-other).blocks.within in
+    let b = begins c.args.index_store.now (n + m - n) n (omega arith) c.in_ok-said.said c.in_ok-said.ensures.inside in
+    record { creator = search rules; time = search rules; uuid = search rules }
 
 pub returns : goal.returns
 returns c =
     let a = c.args in
-    let p = present c.args.index_list.now c.args.index_store.now c.in-Ok.field-0 (λ k. (c.type_inv.index_list k).fits) (sym c.in-Ok.is ∙ c.check.ensures) in
-    let q = present c.args.data_list.now c.args.data_store.now c.in-Ok-check.field-0 (λ k. (c.type_inv.data_list k).fits) (sym c.in-Ok-check.is ∙ c.check-2.ensures) in
-    let l = laid c.args.index_list.now c.args.index_store.now c.in-Ok.field-0 (λ k. (c.type_inv.index_list k).fits) (sym c.in-Ok.is ∙ c.check.ensures) c.in-Blocks.vol1 c.in-Blocks.text _ (sym c.in-Blocks.is) c.lay_out.ensures in
-    let d = laid c.args.data_list.now c.args.data_store.now c.in-Ok-check.field-0 (λ k. (c.type_inv.data_list k).fits) (sym c.in-Ok-check.is ∙ c.check-2.ensures) c.in-Blocks-lay_out.data_vol1 c.in-Blocks-lay_out.data_text _ (sym c.in-Blocks-lay_out.is) c.lay_out-2.ensures in
-    let n = c.in-Blocks.vol1 in
-    let m = c.in-Blocks.text in
-    subst (ChecksLabels a.index_list.now a.index_store.now a.data_list.now a.data_store.now) (sym c.in_store.ensures)
-    (reads_as (in_parts a.index_list.now a.index_store.now a.data_list.now a.data_store.now (ap or_refused p.read) (ap or_refused q.read) l d) (places_laid a.index_list.now a.index_store.now (ap or_refused p.read) l)
-    (reads_moved a.index_store.now (n + m - n) n (omega (arith, l.within)) c.read_sides-said.result c.read_sides-said.ensures))
+    let i = index_side (goal.at.returns c).In_ok-other in
+    let d = data_side (goal.at.returns c).In_ok-other in
+    let n = c.in_ok-index.index.vol1 in
+    let m = c.in_ok-index.index.text in
+    let f = c.in_ok-said.said in
+    let w = i.blocks.within in
+    rw c.in_store.ensures
+    (reads_as (in_parts a.index_list.now a.index_store.now a.data_list.now a.data_store.now i.read d.read i.blocks d.blocks)
+    (places_laid a.index_list.now a.index_store.now i.read i.blocks)
+    (reads_moved a.index_store.now (n + m - n) n (omega arith) f c.in_ok-said.ensures.says c.in_ok-said.ensures.inside c.in_ok-said.ensures.stands))
