@@ -9,15 +9,15 @@ use native.Mathlib.Omega.{arith}
 use lib.Dec.{leb}
 use lib.ListN.{length, take}
 use Rattle.refusals.specs.declared.Refusal.{Refusal}
-use Rattle.refusals.specs.declared.Refusal.TheVariants.{List as BadList, Short}
+use Rattle.refusals.specs.declared.Refusal.TheVariants.{Short}
 use Rattle.refusals.specs.Refusals.{Answer, require, and_then}
 use Rattle.slices.specs.Slices.{written}
 use Rattle.slices.specs.Writers.{held_after, room}
 use Rattle.slices.proofs.Writing.{front_written}
 use Rattle.tape.specs.Tape.{Tape, max_elements}
-use Rattle.tape.specs.Answers.{tape_in, element_count}
+use Rattle.tape.specs.Answers.{tape_in}
 use Rattle.tape.proofs.Encoding.{Bytes, encodes_read, tape_read}
-use Rattle.tape.proofs.Keeping.{Present, absent_list}
+use Rattle.tape.proofs.Keeping.{Present}
 use Rattle.ansi.specs.Layout.{TapeFile, Layout, max_files}
 use Rattle.ansi.specs.Places.{LongestFront}
 use Rattle.ansi.specs.ReadingSteps.{ansi_of, front_of}
@@ -71,12 +71,6 @@ module _ (l s : List ℕ) (count : ℕ) (p : Present l s count) where
 
   pub place_stopped : {place : ℕ} (r : Refusal) → Stopped p.tape r place → Ok place ≡ front_in l s
   place_stopped r f = rw p.read (ap (λ (n : ℕ). Ok n) (sym f.passed))
-
-pub reads_refused : (l s before : List ℕ) (r : Refusal) → Err r ≡ element_count l s → ReadsFiles l s before before (Err BadList)
-reads_refused l s before r e = let a = absent_list l s r e in record { answers = rw a; holds = rw a }
-
-pub place_refused : (l s : List ℕ) (r : Refusal) → Err r ≡ element_count l s → Err BadList ≡ front_in l s
-place_refused l s r e = rw (absent_list l s r e)
 
 -- a tape that was read from a list is within the bounds
 tape_small : (l s : List ℕ) (t : Tape) → Bytes l → tape_in l s ≡ Ok t → length t ≤ max_elements

@@ -16,6 +16,10 @@ use Rattle.big_endian.proofs.Left.{length_big_endian}
 use Rattle.writing.specs.Steps.{AddsAtMost}
 use Rattle.writing.proofs.Adding.{adds_none}
 use Rattle.ansi.specs.Layout.{TapeFile, tape_file_of}
+use Rattle.ansi.specs.declared.phases.Phase.{Phase}
+use Rattle.ansi.specs.declared.phases.Phase.TheVariants.{Headers}
+use Rattle.ansi.specs.ReadingSteps.{at_mark}
+use Rattle.ansi.specs.PhaseSteps.{known_at}
 use Rattle.ansi.specs.Answers.{file_bytes, all_bytes}
 use Rattle.ansi.specs.Steps.{HandsOut}
 
@@ -76,3 +80,9 @@ module _ (w rows before after : List ℕ) (is : rows ≡ w) {r : (Result ℕ Ref
 pub none_added : (out : List ℕ) (at : ℕ) → AddsAtMost 36 out at (all_bytes []) out at
 unfolding all_bytes
 none_added out at = record { added = adds_none; few = omega arith }
+
+-- and only a mark behind header labels makes one known
+pub none_known : (s : List ℕ) (n : ℕ) (p : Phase) (out : List ℕ) (at : ℕ) → ((h g k : ℕ) → p ≡ Headers h g k → ⊥) → AddsAtMost 36 out at (all_bytes (known_at s n p)) out at
+unfolding at_mark
+none_known s n (Headers h g k) out at e = absurd (e h g k refl)
+none_known s n _ out at e = none_added out at

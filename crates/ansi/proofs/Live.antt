@@ -10,7 +10,7 @@ use lib.ListN.{length, replicate}
 use borrow.Author.Tests.{eq-eqb, leb-true}
 use Rattle.refusals.specs.declared.Refusal.{Refusal}
 use Rattle.refusals.specs.declared.Refusal.TheVariants.{Labels, EndOfVolume, BlockCount}
-use Rattle.slices.specs.Slices.{within, every, same}
+use Rattle.slices.specs.Slices.{within}
 use Rattle.slices.specs.Words.{bytes}
 use Rattle.slices.proofs.Booleans.{and_left, and_right}
 use Rattle.tape.specs.Tape.{Tape, Element, mark, block, unreadable}

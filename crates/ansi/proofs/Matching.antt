@@ -1,5 +1,5 @@
 -- The walk over a list: at each place what was read so far is what a reading comes to there, and the rows hold the files made known.
-use Rattle.std.specs.Prelude.{Err, Ok}
+use Rattle.std.specs.Prelude.{Err, Ok, Result}
 use mathlib.Core.Path.{◌≡◌, refl, sym, ap, ◌∙◌}
 use mathlib.Core.Bool.{Bool, true, false, cond}
 use mathlib.Core.List.{List, [], ◌∷◌, ◌++◌, append-nil}
@@ -24,7 +24,7 @@ use Rattle.tape.specs.ReadingSteps.{entry_at}
 use Rattle.tape.proofs.Elements.{ElementAt, BlockAt, Says, says_at}
 use Rattle.tape.proofs.Encoding.{one_tape}
 use Rattle.tape.proofs.Passing.{take_next, drop_next, bytes_next, bytes_within, drop_store}
-use Rattle.ansi.specs.declared.Walked.{Walked}
+use Rattle.ansi.specs.declared.Stop.{Stop}
 use Rattle.ansi.specs.declared.phases.Phase.{Phase}
 use Rattle.ansi.specs.declared.phases.Phase.TheVariants as phase
 use Rattle.ansi_labels.specs.Labels.{is_label, is_numbered, label_number, is_volume, is_header2, is_trailer, block_count, is_data}
@@ -285,16 +285,8 @@ module _ {l s : List ℕ} {count : ℕ} {b rows : List ℕ} {place at off end : 
   small = by p m.live
     where
       by : (q : Phase) → Live at (stage_of s q) → Small q
-      by phase.Start v = tt
-      by (phase.Volume k) v = tt
-      by (phase.Header h) v = tt
-      by (phase.Headers h g k) v = tt
       by (phase.Blocks h k) v = omega (arith, v.1, m.counted, m.encodes.elements)
-      by (phase.Trailer h k) v = tt
-      by phase.Second v = tt
-      by (phase.Trailers k) v = tt
-      by phase.Between v = tt
-      by phase.Done v = tt
+      by _ v = tt
 
 -- the bytes passed are within the store
 pub bytes_bound : {l s : List ℕ} {count : ℕ} {b rows : List ℕ} {place at off end : ℕ} {p : Phase} → Matched l s count b rows place at off end p → off ≤ 16777216
@@ -342,17 +334,9 @@ module _ {l s : List ℕ} {count : ℕ} {b rows : List ℕ} {place at off end : 
 walked_end : {l s : List ℕ} {count : ℕ} {b rows : List ℕ} {place at off end : ℕ} (p : Phase) (m : Matched l s count b rows place at off end p) → count ≤ at
     → WalkedAs m.tape b rows (at_end p end count)
 unfolding ending
-walked_end phase.Start m o = unfinished m o refl
-walked_end (phase.Volume k) m o = unfinished m o refl
-walked_end (phase.Header h) m o = unfinished m o refl
-walked_end (phase.Headers h g k) m o = unfinished m o refl
-walked_end (phase.Blocks h k) m o = unfinished m o refl
-walked_end (phase.Trailer h k) m o = unfinished m o refl
-walked_end phase.Second m o = unfinished m o refl
-walked_end (phase.Trailers k) m o = unfinished m o refl
-walked_end phase.Between m o = unfinished m o refl
 walked_end phase.Done m o = finished m o refl
+walked_end _ m o = unfinished m o refl
 
-pub matched_end : {l s : List ℕ} {count : ℕ} {b rows : List ℕ} {place at off end : ℕ} {p : Phase} (r : Walked) → Matched l s count b rows place at off end p → count ≤ at
+pub matched_end : {l s : List ℕ} {count : ℕ} {b rows : List ℕ} {place at off end : ℕ} {p : Phase} (r : Result ℕ Stop) → Matched l s count b rows place at off end p → count ≤ at
     → r ≡ at_end p end count → Walks l s b rows r
 matched_end {p} r m o e t w = rw (e, sym (one_tape m.encodes w)) (walked_end p m o)

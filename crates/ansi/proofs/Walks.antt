@@ -1,4 +1,5 @@
 -- The steps of the reading in numbers against its steps in labels.
+use Rattle.std.specs.Prelude.{None, Some}
 use mathlib.Core.Path.{◌≡◌, refl, sym, ap, ◌∙◌}
 use mathlib.Core.Bool.{Bool, true, false, cond, ◌&&◌}
 use mathlib.Core.List.{List}
@@ -41,23 +42,23 @@ module _ (s : List ℕ) (at len : ℕ) where
   header_at h e = rw e (ap (λ (x : List ℕ). go (headers h x 3)) (label_there s at len (header2_length (take len (drop at s)) e)))
 
 module _ (w u : List ℕ) (k : ℕ) (x : List ℕ) (next : ℕ → Stage) (other : Step) where
-  pub passing_none : passed_to w u k x ≡ 0 → other ≡ passing w u k x next other
+  pub passing_none : passed_to w u k x ≡ None → other ≡ passing w u k x next other
   unfolding passed_to passing
   passing_none e = by (is_numbered w k x) (is_label u x) e
     where
-      by : (a b : Bool) → cond a (suc (label_number x)) (cond b 10 0) ≡ 0 → other ≡ cond a (go (next (suc (label_number x)))) (cond b (go (next 10)) other)
-      by true b z = absurd (omega arith)
-      by false true z = absurd (omega arith)
+      by : (a b : Bool) → cond a (Some (suc (label_number x))) (cond b (Some 10) None) ≡ None → other ≡ cond a (go (next (suc (label_number x)))) (cond b (go (next 10)) other)
+      by true b z = cc
+      by false true z = cc
       by false false z = refl
 
-  pub passing_some : (n : ℕ) → passed_to w u k x ≡ n → (n ≡ 0 → ⊥) → go (next n) ≡ passing w u k x next other
+  pub passing_some : (n : ℕ) → passed_to w u k x ≡ Some n → go (next n) ≡ passing w u k x next other
   unfolding passed_to passing
-  passing_some n e h = by (is_numbered w k x) (is_label u x) e
+  passing_some n e = by (is_numbered w k x) (is_label u x) e
     where
-      by : (a b : Bool) → cond a (suc (label_number x)) (cond b 10 0) ≡ n → go (next n) ≡ cond a (go (next (suc (label_number x)))) (cond b (go (next 10)) other)
-      by true b z = rw z
-      by false true z = rw z
-      by false false z = absurd (h (sym z))
+      by : (a b : Bool) → cond a (Some (suc (label_number x))) (cond b (Some 10) None) ≡ Some n → go (next n) ≡ cond a (go (next (suc (label_number x)))) (cond b (go (next 10)) other)
+      by true b z = cc
+      by false true z = cc
+      by false false z = cc
 
 trailer_length : (h x : List ℕ) → is_trailer h x ≡ true → length x ≡ 80
 trailer_length h x e = label_length (bytes "EOF1") x (trailer_parts h x e).0

@@ -1,7 +1,7 @@
 -- The reading in numbers, as the walk over a list does it: a label is told by where it begins in the store.
 use Rattle.std.specs.Prelude.{Ok, Err}
 use Rattle.refusals.specs.declared.Refusal.{Refusal}
-use Rattle.std.specs.Prelude.{cond, List, [], ◌∷◌, ℕ, suc, ◌<◌, take, drop, Result}
+use Rattle.std.specs.Prelude.{cond, List, [], ◌∷◌, ℕ, suc, ◌<◌, take, drop, None, Option, Some, Result}
 use Rattle.ansi.specs.declared.phases.Phase.{Phase}
 use Rattle.ansi.specs.declared.phases.Phase.TheVariants as phase
 use Rattle.ansi_labels.specs.Labels.{is_label, is_numbered, label_number}
@@ -43,9 +43,9 @@ block_step s p from len = at_block (stage_of s p) (take len (drop from s))
 abbrev pub mark_step : List ℕ → Phase → Step
 mark_step s p = unfiled (at_mark 0 (stage_of s p))
 
--- the number from which on optional labels may follow behind the block x; 0 where it is none of them
-unfoldable pub passed_to : List ℕ → List ℕ → ℕ → List ℕ → ℕ
-passed_to w u k x = cond (is_numbered w k x) (suc (label_number x)) (cond (is_label u x) 10 0)
+-- the number from which on optional labels may follow behind the block x, if it is one of them
+unfoldable pub passed_to : List ℕ → List ℕ → ℕ → List ℕ → Option ℕ
+passed_to w u k x = cond (is_numbered w k x) (Some (suc (label_number x))) (cond (is_label u x) (Some 10) None)
 
 -- the file that a step makes known, if it does
 abbrev pub known : Step → List TapeFile
@@ -59,13 +59,5 @@ known_at s n p = known (at_mark n (stage_of s p))
 
 -- the data blocks counted so far leave room for one more
 abbrev pub Small : Phase → Type 0
-Small phase.Start = Unit {0}
-Small (phase.Volume k) = Unit {0}
-Small (phase.Header h) = Unit {0}
-Small (phase.Headers h g k) = Unit {0}
 Small (phase.Blocks h m) = m < 65536
-Small (phase.Trailer h m) = Unit {0}
-Small phase.Second = Unit {0}
-Small (phase.Trailers k) = Unit {0}
-Small phase.Between = Unit {0}
-Small phase.Done = Unit {0}
+Small _ = Unit {0}

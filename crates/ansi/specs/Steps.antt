@@ -2,12 +2,11 @@
 use Rattle.std.specs.Prelude.{◌≡◌, List, ℕ, ◌+◌, ◌*◌, ◌/◌, ◌≤◌, leb, length, Result, Err, Ok}
 use Rattle.refusals.specs.declared.Refusal.{Refusal}
 use Rattle.refusals.specs.declared.Refusal.TheVariants.{Labels, Short}
-use Rattle.refusals.specs.Refusals.{require, Answer, and_then}
+use Rattle.refusals.specs.Refusals.{require, and_then}
 use Rattle.slices.specs.Slices.{written}
 use Rattle.slices.specs.Writers.{held_after}
 use Rattle.tape.specs.Tape.{Tape, Encodes}
-use Rattle.ansi.specs.declared.Walked.{Walked}
-use Rattle.ansi.specs.declared.Walked.TheVariants as walked_is
+use Rattle.ansi.specs.declared.Stop.{Stop}
 use Rattle.ansi.specs.declared.phases.Phase.{Phase}
 use Rattle.ansi.specs.declared.phases.Phase.TheVariants as phase
 use Rattle.ansi.specs.Layout.{TapeFile, max_files}
@@ -34,25 +33,17 @@ pub record Stopped (t : Tape) (r : Refusal) (place : ℕ) : Type 0 where
   pub read : ansi_of t ≡ Err r
   pub passed : front_of t ≡ place
 
-abbrev pub WalkedAs : Tape → List ℕ → List ℕ → Walked → Type 0
-WalkedAs t before after (walked_is.Files end) = AllRead t before after end
-WalkedAs t before after (walked_is.Refused r place) = Stopped t r place
+abbrev pub WalkedAs : Tape → List ℕ → List ℕ → Result ℕ Stop → Type 0
+WalkedAs t before after (Ok end) = AllRead t before after end
+WalkedAs t before after (Err r) = Stopped t r.refusal r.at
 
-abbrev pub Walks : List ℕ → List ℕ → List ℕ → List ℕ → Walked → Type 0
+abbrev pub Walks : List ℕ → List ℕ → List ℕ → List ℕ → Result ℕ Stop → Type 0
 Walks l s before after r = (t : Tape) → Encodes l s t → WalkedAs t before after r
 
 -- where the tape ends, behind so many elements
-abbrev pub at_end : Phase → ℕ → ℕ → Walked
-at_end phase.Done end count = walked_is.Files end
-at_end phase.Start end count = walked_is.Refused Labels count
-at_end (phase.Volume k) end count = walked_is.Refused Labels count
-at_end (phase.Header h) end count = walked_is.Refused Labels count
-at_end (phase.Headers h g k) end count = walked_is.Refused Labels count
-at_end (phase.Blocks h m) end count = walked_is.Refused Labels count
-at_end (phase.Trailer h m) end count = walked_is.Refused Labels count
-at_end phase.Second end count = walked_is.Refused Labels count
-at_end (phase.Trailers k) end count = walked_is.Refused Labels count
-at_end phase.Between end count = walked_is.Refused Labels count
+abbrev pub at_end : Phase → ℕ → ℕ → Result ℕ Stop
+at_end phase.Done end count = Ok end
+at_end _ end count = Err (record { refusal = Labels; at = count })
 
 -- the rows w put to the front of a lent buffer
 pub record HandsOut (w before after : List ℕ) (r : Result ℕ Refusal) : Type 0 where

@@ -21,9 +21,6 @@ fn note(out: &mut [u8], end: usize, phase: Phase, store: &[u8], at: usize) -> us
     ensures { AddsAtMost 36 out.old end (all_bytes (known_at store.now at phase)) out.new result }
 {
     match phase {
-        Phase::Start => end,
-        Phase::Volume(_) => end,
-        Phase::Header(_) => end,
         Phase::Headers(h, g, _) => rows::add_file(
             out,
             end,
@@ -31,51 +28,40 @@ fn note(out: &mut [u8], end: usize, phase: Phase, store: &[u8], at: usize) -> us
             slices::part(store, g, 80),
             at + 1,
         ),
-        Phase::Blocks(_, _) => end,
-        Phase::Trailer(_, _) => end,
-        Phase::Second => end,
-        Phase::Trailers(_) => end,
-        Phase::Between => end,
-        Phase::Done => end,
+        _ => end,
     }
 }
 
-// Where a walk ends: with so many bytes of rows, or with a refusal at an element.
-#[derive(Clone, Copy)]
-enum Walked {
-    Files(usize),
-    Refused(Refusal, usize),
+// Why a walk stops, and how many elements were passed before.
+#[derive(Clone, Copy, PartialEq, Eq, Debug)]
+struct Stop {
+    refusal: Refusal,
+    at: usize,
 }
 
-// The answer where the tape ends, behind so many elements.
-fn at_end(phase: Phase, end: usize, count: usize) -> Walked
+// The answer where the tape ends, behind so many elements: with so many bytes of rows.
+fn at_end(phase: Phase, end: usize, count: usize) -> Result<usize, Stop>
     ensures { result ≡ at_end phase end count }
 {
     match phase {
-        Phase::Start => Walked::Refused(Refusal::Labels, count),
-        Phase::Volume(_) => Walked::Refused(Refusal::Labels, count),
-        Phase::Header(_) => Walked::Refused(Refusal::Labels, count),
-        Phase::Headers(_, _, _) => Walked::Refused(Refusal::Labels, count),
-        Phase::Blocks(_, _) => Walked::Refused(Refusal::Labels, count),
-        Phase::Trailer(_, _) => Walked::Refused(Refusal::Labels, count),
-        Phase::Second => Walked::Refused(Refusal::Labels, count),
-        Phase::Trailers(_) => Walked::Refused(Refusal::Labels, count),
-        Phase::Between => Walked::Refused(Refusal::Labels, count),
-        Phase::Done => Walked::Files(end),
+        Phase::Done => Ok(end),
+        _ => Err(Stop {
+            refusal: Refusal::Labels,
+            at: count,
+        }),
     }
 }
 
-// Reads a list of so many elements, its files' rows to the front of out.
-fn walk(list: &[u8], store: &[u8], count: usize, out: &mut [u8]) -> Walked
+// Reads a list of so many elements, its files' rows to the front of out, and answers how many bytes of rows there are.
+fn walk(list: &[u8], store: &[u8], count: usize, out: &mut [u8]) -> Result<usize, Stop>
     requires { Encoded list.now store.now count × (length out.old ≡ rows_length) }
     ensures { Walks list.now store.now out.old out.new result }
 {
     let mut place: usize = 0;
-    let mut at: usize = 0;
     let mut off: usize = 0;
     let mut end: usize = 0;
     let mut phase = Phase::Start;
-    while at < count {
+    for at in 0..count {
         match tape::entry_at(list, place) {
             Entry::Mark(next) => {
                 end = note(out, end, phase, store, at);
@@ -83,25 +69,30 @@ fn walk(list: &[u8], store: &[u8], count: usize, out: &mut [u8]) -> Walked
                     Ok(p) => {
                         phase = p;
                         place = next;
-                        at += 1;
                     }
-                    Err(r) => return Walked::Refused(r, at),
+                    Err(refusal) => return Err(Stop { refusal, at }),
                 }
             }
-            Entry::Block(k, next) => {
-                match phases::after_block(phase, store, off, k) {
-                    Ok(p) => {
-                        phase = p;
-                        off += k;
-                        place = next;
-                        at += 1;
-                    }
-                    Err(r) => return Walked::Refused(r, at),
+            Entry::Block(k, next) => match phases::after_block(phase, store, off, k) {
+                Ok(p) => {
+                    phase = p;
+                    off += k;
+                    place = next;
                 }
+                Err(refusal) => return Err(Stop { refusal, at }),
+            },
+            Entry::Unreadable(_) => {
+                return Err(Stop {
+                    refusal: Refusal::Labels,
+                    at,
+                });
             }
-            Entry::Unreadable(_) => return Walked::Refused(Refusal::Labels, at),
-            Entry::End => return Walked::Refused(Refusal::List, at),
-            Entry::Bad => return Walked::Refused(Refusal::List, at),
+            Entry::End | Entry::Bad => {
+                return Err(Stop {
+                    refusal: Refusal::List,
+                    at,
+                });
+            }
         }
     }
     at_end(phase, end, count)
@@ -114,28 +105,24 @@ fn empty() -> [u8; 337068]
     [0; 337068]
 }
 
-// Puts the rows that stand in so many bytes of a text to the front of out.
+// Puts the rows that stand in so many bytes of a text to the front of out, and answers how many they are.
 fn hand_out(text: &[u8], end: usize, out: &mut [u8]) -> Result<usize, Refusal>
     ensures { HandsOut (take end text.now) out.old out.new result }
 {
     let rows = slices::part(text, 0, end);
-    match slices::put(out, 0, rows) {
-        Ok(_) => Ok(rows.len() / 36),
-        Err(r) => Err(r),
-    }
+    slices::put(out, 0, rows)?;
+    Ok(rows.len() / 36)
 }
 
 // Reads the files of an ANSI labelled tape to the front of out, 36 bytes each.
 pub fn files(list: &[u8], store: &[u8], out: &mut [u8]) -> Result<usize, Refusal>
     ensures { ReadsFiles list.now store.now out.old out.new result }
 {
-    let Ok(count) = tape::check(list, store) else {
-        return Err(Refusal::List);
-    };
+    let count = tape::check(list, store)?;
     let mut text = empty();
     match walk(list, store, count, &mut text) {
-        Walked::Files(end) => hand_out(&text, end, out),
-        Walked::Refused(r, _) => Err(r),
+        Ok(end) => hand_out(&text, end, out),
+        Err(stop) => Err(stop.refusal),
     }
 }
 
@@ -143,12 +130,10 @@ pub fn files(list: &[u8], store: &[u8], out: &mut [u8]) -> Result<usize, Refusal
 pub fn place(list: &[u8], store: &[u8]) -> Result<usize, Refusal>
     ensures { result ≡ front_in list.now store.now }
 {
-    let Ok(count) = tape::check(list, store) else {
-        return Err(Refusal::List);
-    };
+    let count = tape::check(list, store)?;
     let mut text = empty();
     match walk(list, store, count, &mut text) {
-        Walked::Files(_) => Ok(count),
-        Walked::Refused(_, at) => Ok(at),
+        Ok(_) => Ok(count),
+        Err(stop) => Ok(stop.at),
     }
 }

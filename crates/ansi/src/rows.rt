@@ -17,7 +17,7 @@ fn add_number(out: &mut [u8], at: usize, n: usize) -> usize
 pub fn add_file(out: &mut [u8], from: usize, h: &[u8], g: &[u8], first: usize) -> usize
     ensures { AddsAtMost 36 out.old from (file_bytes (tape_file_of h.now g.now first)) out.new result }
 {
-    let mut at = add(out, from, slices::part(h, 4, 17));
-    at = add(out, at, slices::part(g, 4, 11));
+    let at = add(out, from, slices::part(h, 4, 17));
+    let at = add(out, at, slices::part(g, 4, 11));
     add_number(out, at, first)
 }
