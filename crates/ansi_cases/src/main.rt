@@ -1,40 +1,28 @@
 // Cases of ANSI labelled tapes (02, Item 1), read from files beside the program: the files of a tape, and where it leaves the layout.
 #![tactic(auto)]
 
+use refusals::Refusal;
 use std::fs::File;
 use std::io;
 
-// The number of a refusal, or 0, and the number of files, or 0.
-#[derive(Clone, Copy)]
-struct Answer {
-    refusal: u64,
-    files: usize,
-}
-
-fn read(list: &[u8], store: &[u8], out: &mut [u8]) -> Answer {
-    match ansi::files(list, store, out) {
-        Ok(files) => Answer { refusal: 0, files },
-        Err(r) => Answer {
-            refusal: u64::from(r),
-            files: 0,
-        },
+// The number of the refusal expected, or 0, and the number of files, or 0: whether reading answered so.
+fn is_answer(told: Result<usize, Refusal>, refusal: u64, files: usize) -> bool {
+    match told {
+        Ok(n) => refusal == 0 && n == files,
+        Err(r) => refusal == u64::from(r) && files == 0,
     }
 }
 
 // The refusal, the number of files and the whole of out expected.
 fn files_as(list: &[u8], store: &[u8], out: &mut [u8], file: &mut File) -> bool {
-    let told = read(list, store, out);
+    let told = ansi::files(list, store, out);
     let refusal = case_files::number(file);
     let files = case_files::number(file) as usize;
     let mut after = [0u8; 4096];
     let a = case_files::bytes(file, &mut after);
-    if told.refusal != refusal {
-        return false;
-    }
-    if told.files != files {
-        return false;
-    }
-    slices::same(out, &after[..a])
+    let told = is_answer(told, refusal, files);
+    let held: &[u8] = out;
+    told && held == &after[..a]
 }
 
 // A lent buffer, and what is expected of it.
@@ -49,20 +37,16 @@ fn place_case(list: &[u8], store: &[u8], file: &mut File) -> bool {
     let refusal = case_files::number(file);
     let place = case_files::number(file) as usize;
     let mut room = [0u8; 4096];
-    let told = read(list, store, &mut room);
-    if told.refusal != refusal {
-        return false;
-    }
-    match ansi::place(list, store) {
-        Ok(n) => {
+    let told = match ansi::files(list, store, &mut room) {
+        Ok(_) => 0,
+        Err(r) => u64::from(r),
+    };
+    told == refusal
+        && match ansi::place(list, store) {
             // Only a bad list or store has no place.
-            if refusal == 1 {
-                return false;
-            }
-            n == place
+            Ok(n) => refusal != 1 && n == place,
+            Err(r) => u64::from(r) == refusal,
         }
-        Err(r) => u64::from(r) == refusal,
-    }
 }
 
 // A list and a store, and what is expected of them.
@@ -72,9 +56,10 @@ fn one(kind: u64, file: &mut File) -> bool {
     let mut store = [0u8; 24576];
     let s = case_files::bytes(file, &mut store);
     if kind == 0 {
-        return files_case(&list[..l], &store[..s], file);
+        files_case(&list[..l], &store[..s], file)
+    } else {
+        place_case(&list[..l], &store[..s], file)
     }
-    place_case(&list[..l], &store[..s], file)
 }
 
 fn main(rt: HostRuntime) -> io::Result<()> {
