@@ -15,26 +15,24 @@ pub fn lying(text: &[u8], span: Span) -> &[u8]
     requires { Inside text.now span.from span.len }
     ensures { result.now ≡ part_at text.now span }
 {
-    let from = span.from;
-    let end = from + span.len;
-    &text[from..end]
+    &text[span.from..span.from + span.len]
 }
 
-// Where the first element of each number stands, 0 where there is none, and where reading goes on behind the row.
-#[derive(Clone, Copy)]
+// Where the first element of each number stands, 0 where there is none, and where reading goes on behind the row. No element stands at 0, where a text's
+// declaration is; an Option would take twice the room for each number.
+#[derive(Clone, Copy, PartialEq, Eq, Debug)]
 pub struct RowPlaces {
     pub places: [usize; 16],
     pub at: usize,
 }
 
 // The element of number j stands at at, if none of that number came before.
+#[tactic(auto, using(std::proofs::lemmas::Bool::Decides::nat_tests), unfolding(crate::specs::Steps::noted))]
 pub fn note(places: &mut [usize; 16], j: usize, at: usize)
     ensures { places.new ≡ noted j at places.old }
 {
-    if j < 16 {
-        if places[j] == 0 {
-            places[j] = at;
-        }
+    if j < 16 && places[j] == 0 {
+        places[j] = at;
     }
 }
 
@@ -58,11 +56,11 @@ pub fn read_row(text: &[u8], at: usize, kind: usize) -> RowPlaces
             Next::Opens(h) => {
                 let j = index_names::number_in(kind, lying(text, h.name));
                 note(&mut places, j, h.at);
-                if h.leaf {
-                    i = h.next;
+                i = if h.leaf {
+                    h.next
                 } else {
-                    i = elements::leave(text, h.at);
-                }
+                    elements::leave(text, h.at)
+                };
             }
         }
     }
@@ -73,9 +71,10 @@ pub fn span_at(text: &[u8], n: usize) -> Span
     ensures { TextSeated text.now n result }
 {
     if n == 0 {
-        return Span { from: 0, len: 0 };
+        Span { from: 0, len: 0 }
+    } else {
+        elements::text_at(text, n)
     }
-    elements::text_at(text, n)
 }
 
 // The text of the element at a place, empty for the place 0.
@@ -83,9 +82,10 @@ pub fn text_at(text: &[u8], n: usize) -> &[u8]
     ensures { result.now ≡ text_of_first (seat text.now n) }
 {
     if n == 0 {
-        return &text[0..0];
+        &[]
+    } else {
+        elements::text_of(text, n)
     }
-    elements::text_of(text, n)
 }
 
 // Where the row of its children begins.
@@ -93,7 +93,8 @@ pub fn row_at(text: &[u8], n: usize) -> usize
     ensures { (forest_at text.now result ≡ children_of_first (seat text.now n)) × (result ≤ length text.now) }
 {
     if n == 0 {
-        return text.len();
+        text.len()
+    } else {
+        elements::first_child(text, n)
     }
-    elements::first_child(text, n)
 }

@@ -13,8 +13,8 @@ returns-then-n-eq0 c =
     let s = c.args.text.now in
     (row_past s (length s) (omega arith) ∙ sym (ap children_of_first (seat_none s c.args.n c.if-n-eq0.true)), omega arith)
 
-pub returns : goal.returns
+pub returns-else-n-eq0 : goal.returns-else-n-eq0
 unfolding children_of_first
-returns c =
+returns-else-n-eq0 c =
     let s = c.args.text.now in
     (c.first_child.ensures.row ∙ sym (ap children_of_first (seat_some s c.args.n c.if-n-eq0.false)), c.first_child.ensures.inside)

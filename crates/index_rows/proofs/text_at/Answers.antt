@@ -8,6 +8,6 @@ pub returns-then-n-eq0 : goal.returns-then-n-eq0
 unfolding text_of_first
 returns-then-n-eq0 c = sym (ap text_of_first (seat_none c.args.text.now c.args.n c.if-n-eq0.true))
 
-pub returns : goal.returns
+pub returns-else-n-eq0 : goal.returns-else-n-eq0
 unfolding text_of_first
-returns c = c.text_of.ensures ∙ sym (ap text_of_first (seat_some c.args.text.now c.args.n c.if-n-eq0.false))
+returns-else-n-eq0 c = c.text_of.ensures ∙ sym (ap text_of_first (seat_some c.args.text.now c.args.n c.if-n-eq0.false))
