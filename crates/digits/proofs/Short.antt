@@ -1,11 +1,11 @@
 -- The short form of a number: that it says the number, that no other plain run does, and how long it is.
 use mathlib.Core.Path.{◌≡◌, refl, ap, ap₂, sym, ◌∙◌}
-use mathlib.Core.Bool.{Bool, true, false, not, and-false, false≢true}
+use mathlib.Core.Bool.{Bool, true, false, not, false≢true}
 use mathlib.Core.List.{List, [], ◌∷◌, map, map-append}
 use Prim.Native.Nat.{ℕ, zero, suc, ◌+◌, ◌*◌, ◌-◌, ◌/◌, ◌%◌, ◌^◌, ◌<◌, ◌≤◌}
 use native.Mathlib.Nat.{zero-add, one-mul, mul-le-mul_right, pow-le-pow_right, le_trans}
 use native.Mathlib.Omega.{arith}
-use borrow.Author.Tests.{le-leb, lt-leb, ltb-true, ltb-false, leb-true, eqb-true, eqb-false, not-true}
+use borrow.Author.Tests.{le-leb, ltb-true, ltb-false, leb-true, eqb-true, eqb-false, not-true}
 use lib.Dec.{leb, ltb, eqb}
 use lib.ListN.{length, get_or, length-map}
 use Rattle.slices.specs.Slices.{every}
@@ -20,12 +20,6 @@ use Rattle.digits.proofs.Widths.{Width, width_of, width_is}
 
 pub digit_between : (b : ℕ) → 48 ≤ b → b ≤ 57 → is_digit b ≡ true
 digit_between b lo hi = rw (le-leb _ _ lo) (le-leb _ _ hi)
-
-pub digit_below : (b : ℕ) → b < 48 → is_digit b ≡ false
-digit_below b h = rw (lt-leb 48 b h)
-
-pub digit_above : (b : ℕ) → 57 < b → is_digit b ≡ false
-digit_above b h = rw (lt-leb b 57 h) (and-false (leb 48 b))
 
 -- a digit's byte, and what it counts
 digit_bounds : (b : ℕ) → is_digit b ≡ true → (48 ≤ b) × (b ≤ 57)

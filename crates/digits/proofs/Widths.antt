@@ -79,6 +79,3 @@ module _ (base : ℕ) (h : 1 < base) where
 
   pub width_one : (n : ℕ) → n < base → width base n ≡ 1
   width_one n g = width_is n 1 (one_digit n g)
-
-  pub width_more : (n : ℕ) → base ≤ n → width base n ≡ suc (width base (n / base))
-  width_more n g = width_is n (suc (width base (n / base))) (one_more n (width base (n / base)) g (width_of (n / base)))

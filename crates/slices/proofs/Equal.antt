@@ -1,12 +1,9 @@
--- Two runs are the same exactly where they are equal lists; and what their rests say at each place along them.
+-- Two runs are the same exactly where they are equal lists.
 use mathlib.Core.Path.{◌≡◌, refl, ap, sym, ◌∙◌}
 use mathlib.Core.Bool.{Bool, true, false, false≢true}
 use mathlib.Core.List.{List}
-use Prim.Native.Nat.{ℕ, ◌+◌, ◌<◌, ◌≤◌}
-use native.Mathlib.Numerals.{add-one}
-use borrow.Author.Tests.{eq-eqb, ne_eqb}
-use lib.ListN.{length, drop, get_or, drop_of_length-le}
-use lib.Seq.{drop-cons}
+use Prim.Native.Nat.{ℕ}
+use lib.ListN.{length}
 use Rattle.std.proofs.lemmas.Slice.Eq.{bytes_eq-Decides}
 use Rattle.slices.specs.Slices.{same}
 use Rattle.slices.proofs.Booleans.{same_tests}
@@ -36,14 +33,3 @@ same_both a b c d f g = same_tests (same a b) (same c d) (λ e. eq_same c d (f (
 
 pub lengths_differ : (a b : List ℕ) → (length a ≡ length b → ⊥) → same a b ≡ false
 lengths_differ a b n = ne_same a b (λ e. n (ap length e))
-
--- along two runs of which i bytes were passed
-module _ (a b : List ℕ) (i : ℕ) where
-  pub same_on : i < length a → i < length b → get_or a i 0 ≡ get_or b i 0 → same (drop i a) (drop i b) ≡ same (drop (i + 1) a) (drop (i + 1) b)
-  same_on h g e = rw (drop-cons a i 0, drop-cons b i 0, add-one) (rw (eq-eqb _ _ e))
-
-  pub same_off : i < length a → i < length b → (get_or a i 0 ≡ get_or b i 0 → ⊥) → same (drop i a) (drop i b) ≡ false
-  same_off h g n = rw (drop-cons a i 0, drop-cons b i 0) (rw (ne_eqb _ _ n))
-
-  pub same_end : length a ≤ i → length b ≤ i → same (drop i a) (drop i b) ≡ true
-  same_end h g = eq_same (drop i a) (drop i b) (drop_of_length-le a h ∙ sym (drop_of_length-le b g))
