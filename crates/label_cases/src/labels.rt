@@ -7,82 +7,39 @@ use std::io;
 
 // The part of a text, or nothing where the text has no such part.
 fn part(text: &[u8], w: Span) -> &[u8] {
-    let from = w.from;
-    let len = w.len;
-    if text.len() < from {
-        return &text[..0];
-    }
-    if text.len() - from < len {
-        return &text[..0];
-    }
-    let to = from + len;
-    &text[from..to]
+    text.get(w.from..w.from.saturating_add(w.len))
+        .unwrap_or(&[])
 }
 
 // Whether raw means the bytes expected.
 fn means(raw: &[u8], expected: &[u8]) -> bool {
     let mut out = [0u8; 4096];
-    match texts::decode(raw, &mut out, 0) {
-        Ok(n) => front_is(&out, n, expected),
-        Err(_) => false,
-    }
-}
-
-fn front_is(s: &[u8], n: usize, expected: &[u8]) -> bool {
-    if s.len() < n {
-        return false;
-    }
-    let first: usize = 0;
-    slices::same(&s[first..n], expected)
+    let decoded = texts::decode(raw, &mut out, 0);
+    decoded.is_ok_and(|n| out.get(..n) == Some(expected))
 }
 
 // Whether the numbers of a label are those expected.
 fn numbers_as(f: LabelFields, release: u64, g: Given) -> bool {
-    if f.release != release {
-        return false;
-    }
-    if f.location != g.location {
-        return false;
-    }
-    if f.index_letter != g.index_letter {
-        return false;
-    }
-    if f.data_letter != g.data_letter {
-        return false;
-    }
-    if f.block_size != g.block_size {
-        return false;
-    }
-    if f.compression {
-        return g.compression;
-    }
-    !g.compression
+    f.release == release
+        && f.location == g.location
+        && f.index_letter == g.index_letter
+        && f.data_letter == g.data_letter
+        && f.block_size == g.block_size
+        && f.compression == g.compression
 }
 
 // Whether a text reads as the values expected.
 fn says(text: &[u8], release: u64, creator: &[u8], time: &[u8], uuid: &[u8], g: Given) -> bool {
-    match label::read(text) {
-        Ok(f) => {
-            if !means(part(text, f.creator), creator) {
-                return false;
-            }
-            if !slices::same(part(text, f.time), time) {
-                return false;
-            }
-            if !slices::same(part(text, f.uuid), uuid) {
-                return false;
-            }
-            numbers_as(f, release, g)
-        }
-        Err(_) => false,
-    }
+    label::read(text).is_ok_and(|f| {
+        means(part(text, f.creator), creator)
+            && part(text, f.time) == time
+            && part(text, f.uuid) == uuid
+            && numbers_as(f, release, g)
+    })
 }
 
 fn is_refused(text: &[u8], refusal: u64) -> bool {
-    match label::read(text) {
-        Ok(_) => false,
-        Err(r) => u64::from(r) == refusal,
-    }
+    label::read(text).is_err_and(|r| u64::from(r) == refusal)
 }
 
 fn byte(file: &mut File) -> u8 {
@@ -133,11 +90,8 @@ pub fn read_case(file: &mut File) -> bool {
 
 // Whether the first n bytes read as the values that were given, version 2.0.1.
 fn reads_back(out: &[u8], n: usize, creator: &[u8], time: &[u8], uuid: &[u8], g: Given) -> bool {
-    if out.len() < n {
-        return false;
-    }
-    let first: usize = 0;
-    says(&out[first..n], 1, creator, time, uuid, g)
+    out.get(..n)
+        .is_some_and(|text| says(text, 1, creator, time, uuid, g))
 }
 
 // Whether a label is written to out as expected, and reads back; out is compared whole.
@@ -150,22 +104,11 @@ fn written_as(
     refusal: u64,
     after: &[u8],
 ) -> bool {
-    match label_writer::write(out, creator, time, uuid, g) {
-        Ok(n) => {
-            if refusal != 0 {
-                return false;
-            }
-            if !reads_back(out, n, creator, time, uuid, g) {
-                return false;
-            }
-        }
-        Err(r) => {
-            if u64::from(r) != refusal {
-                return false;
-            }
-        }
-    }
-    slices::same(out, after)
+    let as_expected = match label_writer::write(out, creator, time, uuid, g) {
+        Ok(n) => refusal == 0 && reads_back(out, n, creator, time, uuid, g),
+        Err(r) => u64::from(r) == refusal,
+    };
+    as_expected && &*out == after
 }
 
 // The fields of a label and a buffer; the refusal and the buffer's content expected.
@@ -195,13 +138,10 @@ pub fn write_case(file: &mut File) -> bool {
 
 // Whether the labels agree; no where one of the texts is no label.
 fn agree(v: &[u8], s: &[u8], w: &[u8], t: &[u8]) -> bool {
-    let Ok(f) = label::read(s) else {
-        return false;
-    };
-    let Ok(g) = label::read(t) else {
-        return false;
-    };
-    label::labels_agree(v, s, f, w, t, g)
+    match (label::read(s), label::read(t)) {
+        (Ok(f), Ok(g)) => label::labels_agree(v, s, f, w, t, g),
+        _ => false,
+    }
 }
 
 // VOL1 and label text of the index side, and of the data side; whether they agree.
@@ -215,8 +155,5 @@ pub fn agreement_case(file: &mut File) -> bool {
     let mut t = [0u8; 4096];
     let d = case_files::bytes(file, &mut t);
     let expected = case_files::number(file);
-    if agree(&v[..a], &s[..b], &w[..c], &t[..d]) {
-        return expected == 1;
-    }
-    expected == 0
+    u64::from(agree(&v[..a], &s[..b], &w[..c], &t[..d])) == expected
 }

@@ -2,23 +2,14 @@
 use std::fs::File;
 use std::io;
 
-fn is_one(b: bool, expected: u64) -> bool {
-    if b {
-        return expected == 1;
-    }
-    expected == 0
-}
-
 // A text; whether it is a name, and whether it is the root directory's.
 pub fn name_case(file: &mut File) -> bool {
     let mut raw = [0u8; 2048];
     let n = case_files::bytes(file, &mut raw);
     let name = case_files::number(file);
     let root = case_files::number(file);
-    if !is_one(values::is_name(&raw[..n]), name) {
-        return false;
-    }
-    is_one(values::is_root_name(&raw[..n]), root)
+    u64::from(values::is_name(&raw[..n])) == name
+        && u64::from(values::is_root_name(&raw[..n])) == root
 }
 
 // A text; whether it is a number, and which.
@@ -28,12 +19,7 @@ pub fn number_case(file: &mut File) -> bool {
     let said = case_files::number(file);
     let value = case_files::number(file);
     match values::read_number(&raw[..n]) {
-        Some(m) => {
-            if said != 1 {
-                return false;
-            }
-            m == value
-        }
+        Some(m) => said == 1 && m == value,
         None => said == 0,
     }
 }
@@ -41,10 +27,8 @@ pub fn number_case(file: &mut File) -> bool {
 // Whether the next 16 numbers of a file are the seats.
 fn seats_as(file: &mut File, seats: &[usize; 16]) -> bool {
     let mut good = true;
-    for i in 0..16 {
-        if case_files::number(file) as usize != seats[i] {
-            good = false;
-        }
+    for seat in seats {
+        good &= case_files::number(file) as usize == *seat;
     }
     good
 }
@@ -59,13 +43,6 @@ pub fn row_case(file: &mut File) -> bool {
     let must = case_files::number(file) as usize;
     let lawful = case_files::number(file);
     let row = children::read_row(&text[..n], at, &table[..t], must);
-    let found = row.seats;
-    let seated = seats_as(file, &found);
-    if !is_one(row.ok, lawful) {
-        return false;
-    }
-    if lawful == 0 {
-        return true;
-    }
-    seated
+    let seated = seats_as(file, &row.seats);
+    u64::from(row.ok) == lawful && (lawful == 0 || seated)
 }

@@ -15,22 +15,11 @@ pub fn read_case(file: &mut File) -> bool {
 
 // Whether the label is written to out as expected; out is compared whole.
 fn written_as(out: &mut [u8], identifier: &[u8], owner: &[u8], refusal: u64, after: &[u8]) -> bool {
-    match vol1::write_vol1(out, identifier, owner) {
-        Ok(n) => {
-            if refusal != 0 {
-                return false;
-            }
-            if n != 80 {
-                return false;
-            }
-        }
-        Err(r) => {
-            if u64::from(r) != refusal {
-                return false;
-            }
-        }
-    }
-    slices::same(out, after)
+    let as_expected = match vol1::write_vol1(out, identifier, owner) {
+        Ok(n) => refusal == 0 && n == 80,
+        Err(r) => u64::from(r) == refusal,
+    };
+    as_expected && &*out == after
 }
 
 // An identifier, an owner and a buffer; the refusal and the buffer's content expected.
