@@ -10,66 +10,7 @@ ghost use Rattle.elements.specs.ScanSteps.{EndsInside, Onward, Looked, Nearby};
 pub fn inside(text: &[u8], at: usize) -> usize
     ensures { (result ≡ min at (length text.now)) × (drop result text.now ≡ drop at text.now) }
 {
-    if text.len() < at {
-        return text.len();
-    }
-    at
-}
-
-// The first b from at on, or the end, byte by byte.
-fn find_one(text: &[u8], at: usize, b: u8) -> usize
-    requires { at ≤ length text.now }
-    ensures { Past (is_not b) text.now at result }
-{
-    let mut i = at;
-    while i < text.len() {
-        if text[i] == b {
-            return i;
-        }
-        i += 1;
-    }
-    i
-}
-
-// Whether b is among the eight bytes from i on. None of them ends the look at the others, so that the compiler compares them at once.
-fn is_near(text: &[u8], i: usize, b: u8) -> bool
-    requires { i + 8 ≤ length text.now }
-    ensures { Looked (is_not b) text.now i 8 result }
-{
-    let mut near = false;
-    let mut k: usize = 0;
-    while k < 8 {
-        near = near | (text[i + k] == b);
-        k += 1;
-    }
-    near
-}
-
-// Past bytes from at on that are not b, eight at a turn, to eight that b is among, or to fewer.
-fn others_end(text: &[u8], at: usize, b: u8) -> usize
-    requires { at ≤ length text.now }
-    ensures { Nearby (is_not b) text.now at result }
-{
-    let mut i = at;
-    while 8 <= text.len() - i {
-        if is_near(text, i, b) {
-            return i;
-        }
-        i += 8;
-    }
-    i
-}
-
-// The first b from at on, where there is one.
-fn find_ahead(text: &[u8], at: usize, b: u8) -> usize
-    requires { EndsInside (is_not b) text.now at }
-    ensures { Past (is_not b) text.now at result }
-{
-    let mut i = at;
-    while text[i] != b {
-        i += 1;
-    }
-    i
+    at.min(text.len())
 }
 
 // The first b from at on, or the end.
@@ -77,98 +18,36 @@ pub fn find(text: &[u8], at: usize, b: u8) -> usize
     requires { at ≤ length text.now }
     ensures { Past (is_not b) text.now at result }
 {
-    let i = others_end(text, at, b);
-    if text.len() - i < 8 {
-        return find_one(text, i, b);
-    }
-    find_ahead(text, i, b)
+    let rest = &text[at..];
+    at + rest.iter().position(|x| *x == b).unwrap_or(rest.len())
 }
 
 // A letter, a digit, `_`, `-` or `.`.
+#[tactic(auto, unfolding(xml::specs::Bytes::is_name_byte, xml::specs::Bytes::is_ascii_letter))]
 fn is_name_byte(b: u8) -> bool
     ensures { result ≡ is_name_byte b }
 {
-    if 97 <= b {
-        return b <= 122;
-    }
-    if 65 <= b {
-        if b <= 90 {
-            return true;
-        }
-        return b == 95;
-    }
-    if 48 <= b {
-        return b <= 57;
-    }
-    if b == 45 {
-        return true;
-    }
-    b == 46
+    b.is_ascii_alphanumeric() || matches!(b, b'_' | b'-' | b'.')
 }
 
 // Space, tab, CR or LF.
+#[tactic(auto, unfolding(xml::specs::Bytes::is_space))]
 pub fn is_space(b: u8) -> bool
     ensures { result ≡ is_space b }
 {
-    if b == 32 {
-        return true;
-    }
-    if b == 9 {
-        return true;
-    }
-    if b == 13 {
-        return true;
-    }
-    b == 10
+    matches!(b, b' ' | b'\t' | b'\r' | b'\n')
 }
 
-// A small letter.
-fn is_small(b: u8) -> bool
-    ensures { result ≡ within 97 122 b }
-{
-    if b < 97 {
-        return false;
-    }
-    b <= 122
-}
-
-// Past small letters from at on, four at a turn.
+// Past small letters from at on, of which most names are made.
 pub fn letters_end(text: &[u8], at: usize) -> usize
     requires { at ≤ length text.now }
     ensures { Onward is_name_byte text.now at result }
 {
-    let mut i = at;
-    while 4 <= text.len() - i {
-        if !is_small(text[i]) {
-            return i;
-        }
-        if !is_small(text[i + 1]) {
-            return i + 1;
-        }
-        if !is_small(text[i + 2]) {
-            return i + 2;
-        }
-        if !is_small(text[i + 3]) {
-            return i + 3;
-        }
-        i += 4;
-    }
-    i
-}
-
-// The end of the name that begins at at, byte by byte.
-fn run_end(text: &[u8], at: usize) -> usize
-    requires { at ≤ length text.now }
-    ensures { Past is_name_byte text.now at result }
-{
-    let mut i = at;
-    while i < text.len() {
-        if !is_name_byte(text[i]) {
-            return i;
-        }
-        i += 1;
-    }
-    i
+    let rest = &text[at..];
+    at + rest
+        .iter()
+        .position(|b| !b.is_ascii_lowercase())
+        .unwrap_or(rest.len())
 }
 
 // The end of the name that begins at at.
@@ -176,7 +55,12 @@ pub fn name_end(text: &[u8], at: usize) -> usize
     requires { at ≤ length text.now }
     ensures { Past is_name_byte text.now at result }
 {
-    run_end(text, letters_end(text, at))
+    let from = letters_end(text, at);
+    let rest = &text[from..];
+    from + rest
+        .iter()
+        .position(|b| !is_name_byte(*b))
+        .unwrap_or(rest.len())
 }
 
 // The end of the white space that begins at at.
@@ -184,14 +68,11 @@ pub fn space_end(text: &[u8], at: usize) -> usize
     requires { at ≤ length text.now }
     ensures { Past is_space text.now at result }
 {
-    let mut i = at;
-    while i < text.len() {
-        if !is_space(text[i]) {
-            return i;
-        }
-        i += 1;
-    }
-    i
+    let rest = &text[at..];
+    at + rest
+        .iter()
+        .position(|b| !is_space(*b))
+        .unwrap_or(rest.len())
 }
 
 // The quote that is open after b, where q was; 0 is none.

@@ -1,13 +1,14 @@
--- `find` meets its contract: b is found from the place on that the bytes before it were passed to.
-use native.Mathlib.Omega.{arith}
-use Rattle.elements.proofs.Finding.{onward_end}
+-- `find` meets its contract: the place of the first b is told by `position`.
+use Rattle.std.proofs.Common.{eqb, refl, rules, tests}
+use Rattle.std.proofs.lemmas.Iterator.Search.{position_from_yields_List}
+use Rattle.xml.specs.Tree.{is_not}
+use Rattle.elements.proofs.Finding.{yields_rest, past_position}
 use Rattle.elements.proofs.scan.find.Goals as goal
 
-pub returns-then-text-i-lt8 : goal.returns-then-text-i-lt8
-returns-then-text-i-lt8 c = onward_end c.others_end-i.ensures.onward c.find_one.ensures
-
-pub find_ahead-requires : goal.find_ahead-requires
-find_ahead-requires c = c.others_end-i.ensures.ends (omega (arith, c.others_end-i.ensures.onward.inside))
-
 pub returns : goal.returns
-returns c = onward_end c.others_end-i.ensures.onward c.find_ahead.ensures
+unfolding is_not
+returns c =
+    let a = c.args in
+    past_position (is_not a.b) (λ x. eqb x a.b) a.text.now a.at c.requires c.position.result c.unwrap_or.result
+    (position_from_yields_List (λ x. eqb x a.b) c.position.new.self _ _ c.position.ensures.ran (yields_rest a.text.now a.at c.iter.ensures.rest) (λ x b q k. search (rules, tests)))
+    c.unwrap_or.ensures (λ b. refl)
