@@ -8,7 +8,7 @@ use native.Mathlib.Nat.{zero-add}
 use borrow.Author.Tests.{ltb-false}
 use lib.Dec.{ltb}
 use lib.ListN.{length, take, drop, get_or, length-drop}
-use lib.Seq.{drop-drop}
+use lib.Seq.{drop-drop, get_or-drop}
 use Rattle.std.specs.Prelude.{Option, None, Some}
 use Rattle.std.specs.Option.{unwrap_or}
 use Rattle.std.specs.List.{position_or_len, prefix_len}
@@ -63,6 +63,9 @@ unwrapped p l h = go (ltb p l) refl
 -- the bytes from a place on, as a slice and its iterator show them
 abbrev pub rest_at : List ℕ → ℕ → List ℕ
 rest_at t at = take (length t - at) (drop at t)
+
+pub item_at : (t : List ℕ) (at k : ℕ) → get_or (rest_at t at) k 0 ≡ get_or t (at + k) 0
+item_at t at k = ap (λ s. get_or s k 0) (take_rest t at) ∙ get_or-drop at t k 0
 
 pub yields_rest : {i : Iter ℕ} (t : List ℕ) (at : ℕ) → iter_rest i ≡ rest_at t at → YieldsList fronts (λ y. y.now) i (drop at t)
 yields_rest t at e = YieldsList-from_slice (drop at t) (e ∙ take_rest t at)

@@ -1,6 +1,6 @@
 -- Tags along a slice: where a tag ends from a byte of it on, and what is left to read before the next `<`, at it, and at a tag.
 use mathlib.Core.Path.{◌≡◌, refl, ap, ◌∙◌, sym}
-use mathlib.Core.Bool.{Bool, true, false}
+use mathlib.Core.Bool.{Bool, true, false, false≢true}
 use mathlib.Core.List.{List, [], ◌∷◌}
 use Prim.Native.Nat.{ℕ, zero, suc, ◌+◌, ◌<◌, ◌≤◌}
 use native.Mathlib.Omega.{arith}
@@ -11,6 +11,9 @@ use lib.Dec.{eqb}
 use lib.ListN.{length, drop, get_or, drop_of_length-le, get_or-eq_default}
 use lib.Seq.{drop-cons, drop-drop, get_or-drop}
 use Rattle.xml.specs.Tree.{Tree, front, past, quote_after, put, not_open, tag_head, closed, alone, opened, pop, trees}
+use Rattle.std.specs.Prelude.{Option, None, Some}
+use Rattle.std.specs.Option.{is_some, unwrap_or}
+use Rattle.elements.specs.ScanSteps.{IsQuote}
 use Rattle.elements.specs.Reading.{empty_at}
 use Rattle.elements.specs.TagSteps.{Next, NextTag}
 use Rattle.elements.specs.declared.tags.Tag.TheVariants.{End, Close, Open, Empty}
@@ -18,22 +21,27 @@ use Rattle.xml.specs.ScanSteps.{Past}
 use Rattle.xml.proofs.Past.{past_stop}
 
 -- a tag, from its byte at i on
-module _ (s : List ℕ) (i q l : ℕ) where
-  pub past_shut : i < length s → q ≡ 0 → get_or s i 0 ≡ 62 → past q l (drop i s) ≡ record { empty = eqb l 47; rest = drop (i + 1) s }
+module _ (s : List ℕ) (i l : ℕ) where
+  pub past_shut :
+      (quote : Option ℕ) → is_some quote ≡ false → i < length s → get_or s i 0 ≡ 62
+      → past (unwrap_or quote 0) l (drop i s) ≡ record { empty = eqb l 47; rest = drop (i + 1) s }
   unfolding past
-  past_shut h e g = rw (drop-cons s i 0, add-one) (simp (eq-eqb _ _ e, eq-eqb _ _ g))
+  past_shut None e h g = rw (drop-cons s i 0, add-one) (simp (eq-eqb _ _ g))
+  past_shut (Some q) e h g = absurd (false≢true (sym e))
 
-  pub past_on : i < length s → q ≡ 0 → (get_or s i 0 ≡ 62 → ⊥) → past q l (drop i s) ≡ past (quote_after q (get_or s i 0)) (get_or s i 0) (drop (i + 1) s)
+  -- a byte that does not end it
+  pub past_byte :
+      (quote : Option ℕ) → IsQuote quote → i < length s → (is_some quote ≡ false → get_or s i 0 ≡ 62 → ⊥)
+      → past (unwrap_or quote 0) l (drop i s) ≡ past (quote_after (unwrap_or quote 0) (get_or s i 0)) (get_or s i 0) (drop (i + 1) s)
   unfolding past
-  past_on h e g = rw (drop-cons s i 0, add-one) (simp (eq-eqb _ _ e, ne_eqb _ _ g))
+  past_byte None k h g = rw (drop-cons s i 0, add-one) (simp (ne_eqb _ _ (g refl)))
+  past_byte (Some q) k h g =
+      let z : q ≡ 0 → ⊥ = λ e. omega arith in
+      rw (drop-cons s i 0, add-one) (simp (ne_eqb _ _ z))
 
-  pub past_quoted : i < length s → (q ≡ 0 → ⊥) → past q l (drop i s) ≡ past (quote_after q (get_or s i 0)) (get_or s i 0) (drop (i + 1) s)
+  pub past_end : (q : ℕ) → length s ≤ i → past q l (drop i s) ≡ record { empty = false; rest = drop i s }
   unfolding past
-  past_quoted h e = rw (drop-cons s i 0, add-one) (simp (ne_eqb _ _ e))
-
-  pub past_end : length s ≤ i → past q l (drop i s) ≡ record { empty = false; rest = drop i s }
-  unfolding past
-  past_end h = rw (drop_of_length-le s h)
+  past_end q h = rw (drop_of_length-le s h)
 
 -- what is left to read, by whatever elements are told
 module _ {A : Type 0} (tell : List ℕ → A) where

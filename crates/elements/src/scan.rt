@@ -4,7 +4,8 @@ ghost use Rattle.slices.specs.Slices.{within};
 ghost use Rattle.xml.specs.Bytes.{is_name_byte, is_space};
 ghost use Rattle.xml.specs.ScanSteps.{Past};
 ghost use Rattle.xml.specs.Tree.{is_not, past, quote_after};
-ghost use Rattle.elements.specs.ScanSteps.{EndsInside, Onward, Looked, Nearby};
+ghost use Rattle.elements.specs.ScanSteps.{Onward, IsQuote};
+ghost use Rattle.std.specs.Option.{unwrap_or};
 
 // The place at, or the text's end where that comes first.
 pub fn inside(text: &[u8], at: usize) -> usize
@@ -75,23 +76,18 @@ pub fn space_end(text: &[u8], at: usize) -> usize
         .unwrap_or(rest.len())
 }
 
-// The quote that is open after b, where q was; 0 is none.
-fn quote_after(q: u8, b: u8) -> u8
-    ensures { result ≡ quote_after q b }
+// The quote that is open after b.
+#[tactic(auto, unfolding(xml::specs::Tree::quote_after))]
+fn quote_after(quote: Option<u8>, b: u8) -> Option<u8>
+    requires { IsQuote quote }
+    ensures after { unwrap_or result 0 ≡ quote_after (unwrap_or quote 0) b }
+    ensures kept { IsQuote result }
 {
-    if q == 0 {
-        if b == 34 {
-            return b;
-        }
-        if b == 39 {
-            return b;
-        }
-        return 0;
+    match quote {
+        None if b == b'"' || b == b'\'' => Some(b),
+        Some(q) if b != q => quote,
+        _ => None,
     }
-    if b == q {
-        return 0;
-    }
-    q
 }
 
 // How a tag ends: with `/>` or not, and where what follows it begins.
@@ -108,33 +104,26 @@ pub fn tag_end(text: &[u8], n: usize) -> TagEnd
         × (n ≤ result.at) × (result.at ≤ length text.now) }
 {
     let e = letters_end(text, n);
-    if e < text.len() {
-        if text[e] == 62 {
+    if e < text.len() && text[e] == b'>' {
+        return TagEnd {
+            empty: false,
+            at: e + 1,
+        };
+    }
+    let mut quote = None;
+    let mut last = 0;
+    for (k, b) in text[n..].iter().enumerate() {
+        if quote.is_none() && *b == b'>' {
             return TagEnd {
-                empty: false,
-                at: e + 1,
+                empty: last == b'/',
+                at: n + k + 1,
             };
         }
-    }
-    let mut i = n;
-    let mut q: u8 = 0;
-    let mut last: u8 = 0;
-    while i < text.len() {
-        let b = text[i];
-        if q == 0 {
-            if b == 62 {
-                return TagEnd {
-                    empty: last == 47,
-                    at: i + 1,
-                };
-            }
-        }
-        last = b;
-        q = quote_after(q, b);
-        i += 1;
+        last = *b;
+        quote = quote_after(quote, *b);
     }
     TagEnd {
         empty: false,
-        at: i,
+        at: text.len(),
     }
 }

@@ -1,16 +1,15 @@
--- `tag_end` meets its contract: a name with `>` behind it at once; for any other, invariant: the tag ends from i on as it does from n on.
-use Prim.Native.Nat.{ℕ, ◌+◌}
-use mathlib.Core.Path.{◌≡◌, refl, sym, ap, ◌∙◌}
-use native.Mathlib.Omega.{arith}
-use lib.ListN.{drop, get_or}
-use Rattle.xml.specs.Tree.{past, quote_after}
+-- `tag_end` meets its contract: a name with `>` behind it at once; for any other, invariant: the tag ends from here on as it does from n on.
+use Rattle.std.proofs.Common.{◌+◌, ◌≡◌, ap, sym, ◌∙◌, length, drop, get_or, false, arith}
+use Rattle.std.specs.Prelude.{None}
+use Rattle.std.specs.Option.{is_some, unwrap_or}
+use Rattle.xml.specs.Tree.{past}
 use Rattle.xml.proofs.Past.{past_ahead}
-use Rattle.elements.proofs.Finding.{onward_shut}
+use mathlib.Core.Bool.{false≢true}
+use Rattle.elements.proofs.Left.{past_shut, past_byte, past_end}
+use Rattle.elements.proofs.Finding.{item_at, onward_shut}
 use Rattle.elements.proofs.Plain.{named_past}
-use Rattle.elements.proofs.Left.{past_shut, past_on, past_quoted, past_end}
-use borrow.Author.Rules.{rules}
 use Rattle.elements.proofs.scan.tag_end.Goals as goal
-use Rattle.elements.proofs.scan.tag_end.Goals.{then-q-eq0+else-b-eq62, else-q-eq0}
+use Rattle.elements.proofs.scan.tag_end.Goals.{else-is_none-via-then-is_none+else-b-eq62, else-is_none-via-else-is_none}
 
 pub returns-then-text-e-eq62 : goal.returns-then-text-e-eq62
 returns-then-text-e-eq62 c =
@@ -21,33 +20,34 @@ returns-then-text-e-eq62 c =
       omega arith,
     )
 
-pub loop-i-init : goal.loop-i-init
-loop-i-init c = (search rules, search rules, refl)
-
 pub returns-then-b-eq62 : goal.returns-then-b-eq62
 returns-then-b-eq62 c =
-    let l = c.loop-i in
     let t = c.args.text.now in
-    (l.invariant.2 ∙ past_shut t l.i l.q l.last (search rules) c.if-q-eq0.true c.if-b-eq62.true, search rules, search rules)
+    let n = c.args.n in
+    let l = c.loop-k in
+    (l.invariant.1 ∙ past_shut t (n + l.k) l.last l.quote c.if-is_none.ensures (omega arith) (sym (item_at t n l.k) ∙ c.if-b-eq62.true), omega arith, omega arith)
 
-pub loop-i-preserved : goal.loop-i-preserved
-loop-i-preserved c =
-    let l = c.loop-i in
+pub loop-k-preserved : goal.loop-k-preserved
+loop-k-preserved c =
     let t = c.args.text.now in
-    let step : past l.q l.last (drop l.i t) ≡ past (quote_after l.q (get_or t l.i 0)) (get_or t l.i 0) (drop (l.i + 1) t) =
-    elim c.if-q-eq0.branch [
-      | then-q-eq0+else-b-eq62 w ↦ past_on t l.i l.q l.last (search rules) w.if-q-eq0.true w.if-b-eq62.false
-      | else-q-eq0 w ↦ past_quoted t l.i l.q l.last (search rules) w.if-q-eq0.false
+    let n = c.args.n in
+    let l = c.loop-k in
+    let b = get_or t (n + l.k) 0 in
+    let next : n + l.k + 1 ≡ n + (l.k + 1) = omega arith in
+    let ends : is_some l.quote ≡ false → b ≡ 62 → ⊥ =
+    elim c.else-is_none.branch [
+      | else-is_none-via-then-is_none+else-b-eq62 w ↦ λ e z. w.if-b-eq62.false (item_at t n l.k ∙ z)
+      | else-is_none-via-else-is_none w ↦ λ e z. false≢true (sym e ∙ w.if-is_none.ensures)
     ] in (
-      search rules,
-      search rules,
-      l.invariant.2
-          ∙ step
-          ∙ ap (λ (q : ℕ). past q (get_or t l.i 0) (drop (l.i + 1) t)) (sym c.quote_after-q.ensures),
+      c.quote_after-quote.ensures.kept,
+      l.invariant.1 ∙ past_byte t (n + l.k) l.last l.quote l.invariant.0 (omega arith) ends ∙ rw (c.quote_after-quote.ensures.after, item_at t n l.k, next),
     )
 
 pub returns : goal.returns
 returns c =
-    let l = c.loop-i in
     let t = c.args.text.now in
-    (l.invariant.2 ∙ past_end t l.i l.q l.last (search rules), search rules, search rules)
+    let n = c.args.n in
+    let l = c.loop-k in
+    let z : n + l.k ≡ length t = omega arith in
+    let e = l.invariant.1 ∙ past_end t (n + l.k) l.last (unwrap_or l.quote 0) (omega arith) in
+    (rw (← z) e, omega arith, omega arith)
