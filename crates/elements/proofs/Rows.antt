@@ -1,13 +1,15 @@
 -- How the elements at a place unfold. A row is none, or its first element and the row behind that; what is left around a row does not change
 -- along it.
-use mathlib.Core.Path.{◌≡◌, ap, ◌∙◌, sym}
+use mathlib.Core.Path.{◌≡◌, refl, ap, ◌∙◌, sym}
+use mathlib.Core.Bool.{true, false}
 use mathlib.Core.List.{List, []}
 use Prim.Native.Nat.{ℕ, ◌≤◌, min}
 use native.Mathlib.Omega.{arith}
 use lib.ListN.{length, drop}
 use Rattle.xml.specs.Tree.{Forest, none, node, tag_head, closed, opened, alone, top, pop}
+use Rattle.elements.specs.declared.tags.Tag.{Tag}
 use Rattle.elements.specs.declared.tags.Tag.TheVariants.{End, Close, Open, Empty}
-use Rattle.elements.specs.Reading.{left_at, forest_at, head_at, children_at}
+use Rattle.elements.specs.Reading.{left_at, forest_at, head_at, children_at, has_element}
 use Rattle.elements.specs.TagSteps.{around_at, NextTag, Behind, FirstOf}
 use Rattle.elements.specs.Tags.{tags_left, tags_at, tags_around, tags_in}
 use Rattle.elements.proofs.ByTag.{left_kept}
@@ -130,3 +132,20 @@ module _ {s : List ℕ} {i : ℕ} where
   -- what is left behind an element is the same from anywhere along its row
   pub behind_along : {k j : ℕ} → min k (length s) ≤ i → tags_around s k ≡ tags_around s i → Behind s i j → Behind s k j
   behind_along {k} {j} h e l = behind s k j (l.tags ∙ sym e) (omega (arith, l.ahead, l.inside)) l.inside
+
+-- whether an element comes next
+module _ {s : List ℕ} {i : ℕ} where
+  pub one_open : (n : ℕ) → NextTag s i (Open n) → has_element (forest_at s i) ≡ true
+  unfolding has_element top opened
+  one_open n t = ap (λ f. has_element (top f)) t.left
+
+  pub one_empty : (n : ℕ) → NextTag s i (Empty n) → has_element (forest_at s i) ≡ true
+  unfolding has_element top alone
+  one_empty n t = ap (λ f. has_element (top f)) t.left
+
+  pub none_more : (tag : Tag) → NextTag s i tag → ((n : ℕ) → tag ≡ Open n → ⊥) → ((n : ℕ) → tag ≡ Empty n → ⊥) → has_element (forest_at s i) ≡ false
+  unfolding has_element
+  none_more End t a b = ap has_element (row_end t)
+  none_more (Close n) t a b = ap has_element (row_close t)
+  none_more (Open n) t a b = absurd (a n refl)
+  none_more (Empty n) t a b = absurd (b n refl)

@@ -22,7 +22,7 @@ pub fn name_of(text: &[u8], n: usize) -> &[u8]
 pub fn name_is(text: &[u8], n: usize, name: &[u8]) -> bool
     ensures { result ≡ slices.same (head_at text.now n).name name.now }
 {
-    slices::same(name_of(text, n), name)
+    name_of(text, n) == name
 }
 
 // The name of its attribute, empty where it has none.
@@ -39,10 +39,7 @@ pub fn key_of(text: &[u8], n: usize) -> &[u8]
 fn is_quote(b: u8) -> bool
     ensures { result ≡ (eqb b 34 || eqb b 39) }
 {
-    if b == 34 {
-        return true;
-    }
-    b == 39
+    matches!(b, b'"' | b'\'')
 }
 
 // What stands between the first quotes from at on, if they come before the tag's end.
@@ -50,20 +47,16 @@ fn quoted_from(text: &[u8], at: usize) -> &[u8]
     requires { at ≤ length text.now }
     ensures { result.now ≡ quoted (drop at text.now) }
 {
-    let mut i = at;
-    while i < text.len() {
-        let b = text[i];
-        if b == 62 {
-            return &text[i..i];
+    for (k, b) in text[at..].iter().enumerate() {
+        if *b == b'>' {
+            return &[];
         }
-        if is_quote(b) {
-            let v = i + 1;
-            let e = scan::find(text, v, b);
-            return &text[v..e];
+        if is_quote(*b) {
+            let from = at + k + 1;
+            return &text[from..scan::find(text, from, *b)];
         }
-        i += 1;
     }
-    &text[i..i]
+    &[]
 }
 
 // The value of its attribute, as spelled; empty where it has none.
@@ -74,19 +67,6 @@ pub fn value_of(text: &[u8], n: usize) -> &[u8]
     quoted_from(text, scan::name_end(text, a))
 }
 
-// Its text up to the next tag, as spelled; empty for an empty-element tag.
-pub fn text_of(text: &[u8], n: usize) -> &[u8]
-    ensures { result.now ≡ (head_at text.now n).text }
-{
-    let tag = scan::tag_end(text, scan::inside(text, n));
-    let a = tag.at;
-    let e = scan::find(text, a, 60);
-    if tag.empty {
-        return &text[a..a];
-    }
-    &text[a..e]
-}
-
 // A part of a text: where it begins, and how many bytes it has.
 #[derive(Clone, Copy, Debug, PartialEq, Eq)]
 pub struct Span {
@@ -94,34 +74,34 @@ pub struct Span {
     pub len: usize,
 }
 
-// Where its text stands.
+// Where its text up to the next tag stands.
 pub fn text_at(text: &[u8], n: usize) -> Span
     ensures { TextAt text.now n result }
 {
     let tag = scan::tag_end(text, scan::inside(text, n));
-    let a = tag.at;
-    let e = scan::find(text, a, 60);
+    let from = tag.at;
     if tag.empty {
-        return Span { from: a, len: 0 };
+        return Span { from, len: 0 };
     }
     Span {
-        from: a,
-        len: e - a,
+        from,
+        len: scan::find(text, from, b'<') - from,
     }
+}
+
+// That text, as spelled; empty for an empty-element tag.
+pub fn text_of(text: &[u8], n: usize) -> &[u8]
+    ensures { result.now ≡ (head_at text.now n).text }
+{
+    let span = text_at(text, n);
+    slices::part(text, span.from, span.len)
 }
 
 // Whether a text is white space alone.
 pub fn is_blank(raw: &[u8]) -> bool
     ensures { result ≡ slices.every is_space raw.now }
 {
-    let mut i: usize = 0;
-    while i < raw.len() {
-        if !scan::is_space(raw[i]) {
-            return false;
-        }
-        i += 1;
-    }
-    true
+    raw.iter().all(|b| scan::is_space(*b))
 }
 
 // Where the row of its children begins.
@@ -129,21 +109,19 @@ pub fn first_child(text: &[u8], n: usize) -> usize
     ensures { ChildrenFrom text.now n result }
 {
     let a = scan::inside(text, n);
-    let tag = scan::tag_end(text, a);
-    if tag.empty {
-        return text.len();
+    if scan::tag_end(text, a).empty {
+        text.len()
+    } else {
+        a
     }
-    a
 }
 
 // Whether it has children.
 pub fn has_children(text: &[u8], n: usize) -> bool
     ensures { result ≡ has_element (children_at text.now n) }
 {
-    match tags::next_tag(text, first_child(text, n)) {
-        Tag::End => false,
-        Tag::Close(_) => false,
-        Tag::Open(_) => true,
-        Tag::Empty(_) => true,
-    }
+    matches!(
+        tags::next_tag(text, first_child(text, n)),
+        Tag::Open(_) | Tag::Empty(_)
+    )
 }

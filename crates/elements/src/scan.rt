@@ -1,5 +1,5 @@
 // Where runs of bytes and tags end.
-ghost use Rattle.std.specs.Prelude.{◌≡◌, ◌+◌, ◌≤◌, min, length, drop};
+ghost use Rattle.std.specs.Prelude.{◌≡◌, ◌+◌, ◌≤◌, min, length, drop, get_or};
 ghost use Rattle.slices.specs.Slices.{within};
 ghost use Rattle.xml.specs.Bytes.{is_name_byte, is_space};
 ghost use Rattle.xml.specs.ScanSteps.{Past};
@@ -12,6 +12,13 @@ pub fn inside(text: &[u8], at: usize) -> usize
     ensures { (result ≡ min at (length text.now)) × (drop result text.now ≡ drop at text.now) }
 {
     at.min(text.len())
+}
+
+// The byte at i, 0 past the end.
+pub fn byte(text: &[u8], i: usize) -> u8
+    ensures { result ≡ get_or text.now i 0 }
+{
+    text.get(i).copied().unwrap_or(0)
 }
 
 // The first b from at on, or the end.

@@ -1,5 +1,5 @@
 // Start tags, each looked at once with what follows it up to the next tag.
-ghost use Rattle.std.specs.Prelude.{◌≡◌, ◌<◌, ◌≤◌, length, get_or};
+ghost use Rattle.std.specs.Prelude.{◌≡◌, ◌<◌, length, get_or};
 ghost use Rattle.xml.specs.Bytes.{is_name_byte};
 ghost use Rattle.xml.specs.ScanSteps.{Past};
 ghost use Rattle.elements.specs.Reading.{part_at};
@@ -43,41 +43,18 @@ pub fn part(text: &[u8], span: Span) -> &[u8]
     slices::part(text, span.from, span.len)
 }
 
-// The byte at i, 0 past the end.
-fn byte(text: &[u8], i: usize) -> u8
-    ensures { result ≡ get_or text.now i 0 }
-{
-    if i < text.len() {
-        return text[i];
-    }
-    0
-}
-
 // The element whose tag is at n, where `>` follows its name, which ends at e.
 fn plain_start(text: &[u8], n: usize, e: usize) -> Start
     requires { Past is_name_byte text.now n e × (e < length text.now) × (get_or text.now e 0 ≡ 62) }
     ensures { Opening text.now n result }
 {
     let from = e + 1;
-    let end = scan::find(text, from, 60);
-    if text.len() <= end {
-        return Start {
-            at: n,
-            name: Span {
-                from: n,
-                len: e - n,
-            },
-            plain: true,
-            empty: false,
-            text: Span {
-                from,
-                len: end - from,
-            },
-            leaf: true,
-            next: text.len(),
-        };
-    }
-    let next = end + 1;
+    let end = scan::find(text, from, b'<');
+    let (leaf, next) = if end < text.len() {
+        (scan::byte(text, end + 1) == b'/', end + 1)
+    } else {
+        (true, text.len())
+    };
     Start {
         at: n,
         name: Span {
@@ -90,7 +67,7 @@ fn plain_start(text: &[u8], n: usize, e: usize) -> Start
             from,
             len: end - from,
         },
-        leaf: byte(text, next) == 47,
+        leaf,
         next,
     }
 }
@@ -99,13 +76,11 @@ fn plain_start(text: &[u8], n: usize, e: usize) -> Start
 fn next_of(text: &[u8], n: usize, empty: bool, leaf: bool) -> usize
     ensures { GoesOnAt text.now n empty leaf result }
 {
-    if empty {
-        return n;
+    if leaf && !empty {
+        tags::leave(text, n)
+    } else {
+        n
     }
-    if leaf {
-        return tags::leave(text, n);
-    }
-    n
 }
 
 // The element whose tag is at n, of any form; its name ends at e.
@@ -139,19 +114,16 @@ pub fn next_start(text: &[u8], at: usize) -> Next
     if text.len() <= at {
         return Next::End;
     }
-    let j = scan::find(text, at, 60);
+    let j = scan::find(text, at, b'<');
     if text.len() <= j {
         return Next::End;
     }
     let n = j + 1;
-    if byte(text, n) == 47 {
+    if scan::byte(text, n) == b'/' {
         return Next::Close(n);
     }
     let e = scan::letters_end(text, n);
-    if text.len() <= e {
-        return Next::Opens(other_start(text, n, e));
-    }
-    if text[e] == 62 {
+    if e < text.len() && text[e] == b'>' {
         return Next::Opens(plain_start(text, n, e));
     }
     Next::Opens(other_start(text, n, scan::name_end(text, n)))

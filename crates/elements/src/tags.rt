@@ -26,21 +26,19 @@ pub fn next_tag(text: &[u8], at: usize) -> Tag
     if text.len() <= at {
         return Tag::End;
     }
-    let j = scan::find(text, at, 60);
+    let j = scan::find(text, at, b'<');
     if text.len() <= j {
         return Tag::End;
     }
     let n = j + 1;
-    if n < text.len() {
-        if text[n] == 47 {
-            return Tag::Close(n);
-        }
+    if scan::byte(text, n) == b'/' {
+        return Tag::Close(n);
     }
-    let e = scan::tag_end(text, n);
-    if e.empty {
-        return Tag::Empty(n);
+    if scan::tag_end(text, n).empty {
+        Tag::Empty(n)
+    } else {
+        Tag::Open(n)
     }
-    Tag::Open(n)
 }
 
 // Where reading goes on behind the element that is open at at; from the place of a start tag, past that element whole.

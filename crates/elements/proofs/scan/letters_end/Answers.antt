@@ -1,5 +1,5 @@
 -- `letters_end` meets its contract: the bytes before the first that is no small letter are of the name.
-use Rattle.std.proofs.Common.{not, refl, rules, tests}
+use Rattle.std.proofs.Common.{not, rules, tests}
 use Rattle.std.proofs.lemmas.Iterator.Search.{position_from_yields_List}
 use Rattle.std.specs.Char.{is_ascii_lowercase}
 use Rattle.xml.specs.Bytes.{is_name_byte}

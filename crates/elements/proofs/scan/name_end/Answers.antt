@@ -1,5 +1,5 @@
 -- `name_end` meets its contract: past small letters, the place of the first other byte is told by `position`.
-use Rattle.std.proofs.Common.{not, refl, rules, tests}
+use Rattle.std.proofs.Common.{not, rules, tests}
 use Rattle.std.proofs.lemmas.Iterator.Search.{position_from_yields_List}
 use Rattle.xml.specs.Bytes.{is_name_byte}
 use Rattle.elements.proofs.Finding.{yields_rest, past_position, not_not, onward_end}

@@ -1,8 +1,6 @@
 -- `tag_end` meets its contract: a name with `>` behind it at once; for any other, invariant: the tag ends from here on as it does from n on.
-use Rattle.std.proofs.Common.{◌+◌, ◌≡◌, ap, sym, ◌∙◌, length, drop, get_or, false, arith}
-use Rattle.std.specs.Prelude.{None}
+use Rattle.std.proofs.Common.{◌+◌, ◌≡◌, sym, ◌∙◌, length, get_or, false, arith}
 use Rattle.std.specs.Option.{is_some, unwrap_or}
-use Rattle.xml.specs.Tree.{past}
 use Rattle.xml.proofs.Past.{past_ahead}
 use mathlib.Core.Bool.{false≢true}
 use Rattle.elements.proofs.Left.{past_shut, past_byte, past_end}
