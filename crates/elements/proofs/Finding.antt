@@ -1,27 +1,23 @@
 -- The end of a run of bytes, as `position` tells it.
 use mathlib.Core.Path.{◌≡◌, refl, ap, sym, ◌∙◌}
-use mathlib.Core.Bool.{Bool, true, false, not, cond}
+use mathlib.Core.Bool.{Bool, true, false, not, cond, ◌||◌, false≢true}
 use mathlib.Core.List.{List, [], ◌∷◌}
-use Prim.Native.Nat.{ℕ, suc, ◌+◌, ◌-◌, ◌<◌, ◌≤◌}
+use Prim.Native.Nat.{ℕ, zero, suc, ◌+◌, ◌-◌, ◌<◌, ◌≤◌}
 use native.Mathlib.Omega.{arith}
 use native.Mathlib.Nat.{zero-add}
 use borrow.Author.Tests.{ltb-false}
-use lib.Dec.{ltb}
+use lib.Dec.{eqb, ltb}
 use lib.ListN.{length, take, drop, get_or, length-drop}
 use lib.Seq.{drop-drop, get_or-drop}
 use Rattle.std.specs.Prelude.{Option, None, Some}
 use Rattle.std.specs.Option.{unwrap_or}
-use Rattle.std.specs.List.{position_or_len, prefix_len}
-use Rattle.std.specs.Slice.Iter.{iter_rest}
-use Rattle.std.specs.declared.slice.Iter.{Iter}
-use Rattle.std.proofs.iter.Yields.{fronts}
-use Rattle.std.proofs.lemmas.Iterator.{YieldsList, YieldsList-from_slice}
+use Rattle.std.specs.List.{list_any, position_or_len, prefix_len}
 use Rattle.std.proofs.lemmas.List.{take_rest}
 use Rattle.std.proofs.lemmas.List.Sums.{prefix_len-le-length}
 use Rattle.xml.specs.Bytes.{is_name_byte}
-use Rattle.xml.specs.Tree.{front}
+use Rattle.xml.specs.Tree.{front, is_not}
 use Rattle.xml.specs.ScanSteps.{Past}
-use Rattle.xml.proofs.Past.{front_none, front_end}
+use Rattle.xml.proofs.Past.{front_none}
 use Rattle.elements.specs.ScanSteps.{Onward}
 use Rattle.elements.proofs.Names.{no_shut}
 
@@ -60,30 +56,26 @@ unwrapped p l h = go (ltb p l) refl
     go true e = refl
     go false e = omega (arith, ltb-false p l e)
 
--- the bytes from a place on, as a slice and its iterator show them
+-- the bytes from a place on, as a slice shows them
 abbrev pub rest_at : List ℕ → ℕ → List ℕ
 rest_at t at = take (length t - at) (drop at t)
 
 pub item_at : (t : List ℕ) (at k : ℕ) → get_or (rest_at t at) k 0 ≡ get_or t (at + k) 0
 item_at t at k = ap (λ s. get_or s k 0) (take_rest t at) ∙ get_or-drop at t k 0
 
-pub yields_rest : {i : Iter ℕ} (t : List ℕ) (at : ℕ) → iter_rest i ≡ rest_at t at → YieldsList fronts (λ y. y.now) i (drop at t)
-yields_rest t at e = YieldsList-from_slice (drop at t) (e ∙ take_rest t at)
-
-module _ (f test : ℕ → Bool) (t : List ℕ) (at : ℕ) (h : at ≤ length t) (r : Option ℕ) (n : ℕ)
-    (found : r ≡ cond (ltb (position_or_len test (drop at t)) (length (drop at t))) (Some (position_or_len test (drop at t))) None) (or_all : n ≡ unwrap_or r (length (rest_at t at))) where
+-- of the bytes s, which stand from a place on, the first that does not pass, or how many there are
+module _ (f test : ℕ → Bool) (t : List ℕ) (at : ℕ) (h : at ≤ length t) (s : List ℕ) (here : s ≡ drop at t) (r : Option ℕ) (n : ℕ)
+    (found : r ≡ cond (ltb (position_or_len test s) (length s)) (Some (position_or_len test s)) None) (or_all : n ≡ unwrap_or r (length s)) where
   first_place : n ≡ position_or_len test (drop at t)
-  first_place =
-      or_all ∙ ap (λ s. unwrap_or r (length s)) (take_rest t at) ∙ ap (λ o. unwrap_or o (length (drop at t))) found
-      ∙ unwrapped _ _ (prefix_len-le-length (λ b. not (test b)) (drop at t))
+  first_place = or_all ∙ ap (λ o. unwrap_or o (length s)) found ∙ unwrapped _ _ (prefix_len-le-length (λ b. not (test b)) s) ∙ ap (position_or_len test) here
 
-  -- the run ends at the first byte that does not pass
+  -- the run ends there
   pub past_position : ((b : ℕ) → f b ≡ not (test b)) → Past f t at (at + n)
   past_position e =
       let l : position_or_len test (drop at t) ≤ length (drop at t) = prefix_len-le-length _ (drop at t) in
       record { found = omega (arith, first_place, front_prefix f (λ b. not (test b)) e (drop at t)); inside = omega (arith, first_place, l, length-drop at t) }
 
-  -- where a test is no weaker than another, the run goes on from the first byte that does not pass it
+  -- where a test is no weaker than another, the run goes on from there
   pub onward_position : ((b : ℕ) → test b ≡ false → f b ≡ true) → Onward f t at (at + n)
   onward_position e =
       let g : ℕ → Bool = λ b. not (test b) in
@@ -96,6 +88,47 @@ module _ (f test : ℕ → Bool) (t : List ℕ) (at : ℕ) (h : at ≤ length t)
       kept true k = sym k
       kept false k = refl
 
+-- bytes of which none is b are passed
+front_over : (b n : ℕ) (s : List ℕ) → list_any (λ x. eqb x b) (take n s) ≡ false → n ≤ length s → front (is_not b) s ≡ n + front (is_not b) (drop n s)
+unfolding front is_not
+front_over b zero s e h = sym (zero-add _)
+front_over b (suc n) [] e h = omega arith
+front_over b (suc n) (x ∷ s) e h = step (eqb x b) e (λ z. front_over b n s z (omega arith))
+  where
+    step :
+        (c : Bool) → (c || list_any (λ x. eqb x b) (take n s)) ≡ false → (list_any (λ x. eqb x b) (take n s) ≡ false → front (is_not b) s ≡ n + front (is_not b) (drop n s))
+        → cond (not c) (suc (front (is_not b) s)) 0 ≡ suc n + front (is_not b) (drop n s)
+    step true z k = absurd (false≢true (sym z))
+    step false z k = omega (arith, k z)
+
+-- what is left of a text
+pub record Left (t rest : List ℕ) : Type 0 where
+  pub bytes : rest ≡ drop (length t - length rest) t
+  pub long : length rest ≤ length t
+
+pub left_start : (t : List ℕ) (at : ℕ) → at ≤ length t → Left t (rest_at t at)
+left_start t at h =
+    let z : length t - length (rest_at t at) ≡ at = omega (arith, ap length (take_rest t at), length-drop at t) in
+    record { bytes = take_rest t at ∙ ap (λ i. drop i t) (sym z); long = omega (arith, ap length (take_rest t at), length-drop at t) }
+
+pub left_less : {t rest : List ℕ} (others : List ℕ) (n : ℕ) → Left t rest → others ≡ drop n rest → length others + n ≡ length rest → Left t others
+left_less {t} {rest} others n l e h =
+    let z : length t - length rest + n ≡ length t - length others = omega (arith, l.long) in
+    record { bytes = e ∙ ap (drop n) l.bytes ∙ drop-drop n (length t - length rest) t ∙ ap (λ i. drop i t) z; long = omega (arith, l.long) }
+
+-- past bytes of which none is b
+pub onward_over :
+    (b : ℕ) {t rest : List ℕ} {at : ℕ} (others : List ℕ) (n : ℕ) → Left t rest → list_any (λ x. eqb x b) (take n rest) ≡ false → length others + n ≡ length rest
+    → Onward (is_not b) t at (length t - length rest) → Onward (is_not b) t at (length t - length others)
+onward_over b {t} {rest} {at} others n l e h o =
+    let f = is_not b in
+    let k = length t - length rest in
+    let z : length t - length others ≡ k + n = omega (arith, l.long) in
+    let here = ap (front f) l.bytes in
+    let over = front_over b n rest e (omega arith) in
+    let next = ap (front f) (ap (drop n) l.bytes ∙ drop-drop n k t) in
+    rw z (record { same = omega (arith, o.same, here, over, next); inside = omega (arith, l.long) })
+
 module _ {f : ℕ → Bool} {s : List ℕ} {at i : ℕ} (o : Onward f s at i) where
   -- the run ends where it ends from there on
   pub onward_end : {j : ℕ} → Past f s i j → Past f s at j
@@ -104,10 +137,6 @@ module _ {f : ℕ → Bool} {s : List ℕ} {at i : ℕ} (o : Onward f s at i) wh
   -- the byte here does not pass
   onward_stop : i < length s → f (get_or s i 0) ≡ false → Past f s at i
   onward_stop h e = record { found = sym (o.same ∙ front_none f s i h e); inside = o.inside }
-
-  -- nor is there one past the end
-  pub onward_over : length s ≤ i → Past f s at i
-  onward_over h = record { found = sym (o.same ∙ front_end f s i h); inside = o.inside }
 
 -- a name of small letters ends at `>`
 pub onward_shut : {s : List ℕ} {at i : ℕ} → Onward is_name_byte s at i → i < length s → get_or s i 0 ≡ 62 → Past is_name_byte s at i

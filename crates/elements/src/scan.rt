@@ -21,13 +21,20 @@ pub fn byte(text: &[u8], i: usize) -> u8
     text.get(i).copied().unwrap_or(0)
 }
 
-// The first b from at on, or the end.
+// The first b from at on, or the end: past eight bytes at a turn, which the compiler compares at once, and then by one.
 pub fn find(text: &[u8], at: usize, b: u8) -> usize
     requires { at ≤ length text.now }
     ensures { Past (is_not b) text.now at result }
 {
-    let rest = &text[at..];
-    at + rest.iter().position(|x| *x == b).unwrap_or(rest.len())
+    let mut rest = &text[at..];
+    while let Some((eight, others)) = rest.split_first_chunk::<8>() {
+        if eight.contains(&b) {
+            break;
+        }
+        rest = others;
+    }
+    let from = text.len() - rest.len();
+    from + rest.iter().position(|x| *x == b).unwrap_or(rest.len())
 }
 
 // A letter, a digit, `_`, `-` or `.`.

@@ -9,8 +9,8 @@ pub returns-in-Open : goal.returns-in-Open
 returns-in-Open c =
     let i = c.first_child in
     elim c.in-Open.is [
-    | inl (n, e) ↦ sym (ap has_element (sym i.ensures.row) ∙ one_open n (subst (NextTag c.args.text.now i.result) e c.next_tag.ensures))
-    | inr (n, e) ↦ sym (ap has_element (sym i.ensures.row) ∙ one_empty n (subst (NextTag c.args.text.now i.result) e c.next_tag.ensures))
+      | inl (n, e) ↦ sym (ap has_element (sym i.ensures.row) ∙ one_open n (subst (NextTag c.args.text.now i.result) e c.next_tag.ensures))
+      | inr (n, e) ↦ sym (ap has_element (sym i.ensures.row) ∙ one_empty n (subst (NextTag c.args.text.now i.result) e c.next_tag.ensures))
     ]
 
 pub returns-in_default : goal.returns-in_default

@@ -1,13 +1,15 @@
 -- `space_end` meets its contract: the place of the first other byte is told by `position`.
 use Rattle.std.proofs.Common.{not, rules, tests}
+use Rattle.std.proofs.lemmas.List.{take_rest}
+use Rattle.std.proofs.lemmas.Iterator.{YieldsList-from_slice}
 use Rattle.std.proofs.lemmas.Iterator.Search.{position_from_yields_List}
 use Rattle.xml.specs.Bytes.{is_space}
-use Rattle.elements.proofs.Finding.{yields_rest, past_position, not_not}
+use Rattle.elements.proofs.Finding.{rest_at, past_position, not_not}
 use Rattle.elements.proofs.scan.space_end.Goals as goal
 
 pub returns : goal.returns
 returns c =
     let a = c.args in
-    past_position is_space (λ x. not (is_space x)) a.text.now a.at c.requires c.position.result c.unwrap_or.result
-    (position_from_yields_List (λ x. not (is_space x)) c.position.new.self _ _ c.position.ensures.ran (yields_rest a.text.now a.at c.iter.ensures.rest) (λ x b q k. search (rules, tests)))
+    past_position is_space (λ x. not (is_space x)) a.text.now a.at c.requires (rest_at a.text.now a.at) (take_rest a.text.now a.at) c.position.result c.unwrap_or.result
+    (position_from_yields_List (λ x. not (is_space x)) c.position.new.self _ _ c.position.ensures.ran (YieldsList-from_slice (rest_at a.text.now a.at) c.iter.ensures.rest) (λ x b q k. search (rules, tests)))
     c.unwrap_or.ensures (λ b. not_not (is_space b))
