@@ -2,7 +2,7 @@
 use mathlib.Core.Path.{◌≡◌, refl, ap, sym, ◌∙◌}
 use mathlib.Core.Bool.{Bool, true, false, not, cond, ◌||◌, false≢true}
 use mathlib.Core.List.{List, [], ◌∷◌}
-use Prim.Native.Nat.{ℕ, zero, suc, ◌+◌, ◌-◌, ◌<◌, ◌≤◌}
+use Prim.Native.Nat.{ℕ, suc, ◌+◌, ◌-◌, ◌<◌, ◌≤◌}
 use native.Mathlib.Omega.{arith}
 use native.Mathlib.Nat.{zero-add}
 use borrow.Author.Tests.{ltb-false}
@@ -11,14 +11,14 @@ use lib.ListN.{length, take, drop, get_or, length-drop}
 use lib.Seq.{drop-drop, get_or-drop}
 use Rattle.std.specs.Prelude.{Option, None, Some}
 use Rattle.std.specs.Option.{unwrap_or}
-use Rattle.std.specs.List.{list_any, position_or_len, prefix_len}
+use Rattle.std.specs.List.{position_or_len, prefix_len}
 use Rattle.std.proofs.lemmas.List.{take_rest}
 use Rattle.std.proofs.lemmas.List.Sums.{prefix_len-le-length}
 use Rattle.xml.specs.Bytes.{is_name_byte}
 use Rattle.xml.specs.Tree.{front, is_not}
 use Rattle.xml.specs.ScanSteps.{Past}
-use Rattle.xml.proofs.Past.{front_none}
-use Rattle.elements.specs.ScanSteps.{Onward}
+use Rattle.xml.proofs.Past.{front_more, front_none}
+use Rattle.elements.specs.ScanSteps.{Onward, Looked}
 use Rattle.elements.proofs.Names.{no_shut}
 
 module _ (f g : ℕ → Bool) where
@@ -88,56 +88,39 @@ module _ (f test : ℕ → Bool) (t : List ℕ) (at : ℕ) (h : at ≤ length t)
       kept true k = sym k
       kept false k = refl
 
--- bytes of which none is b are passed
-front_over : (b n : ℕ) (s : List ℕ) → list_any (λ x. eqb x b) (take n s) ≡ false → n ≤ length s → front (is_not b) s ≡ n + front (is_not b) (drop n s)
-unfolding front is_not
-front_over b zero s e h = sym (zero-add _)
-front_over b (suc n) [] e h = omega arith
-front_over b (suc n) (x ∷ s) e h = step (eqb x b) e (λ z. front_over b n s z (omega arith))
-  where
-    step :
-        (c : Bool) → (c || list_any (λ x. eqb x b) (take n s)) ≡ false → (list_any (λ x. eqb x b) (take n s) ≡ false → front (is_not b) s ≡ n + front (is_not b) (drop n s))
-        → cond (not c) (suc (front (is_not b) s)) 0 ≡ suc n + front (is_not b) (drop n s)
-    step true z k = absurd (false≢true (sym z))
-    step false z k = omega (arith, k z)
-
--- what is left of a text
-pub record Left (t rest : List ℕ) : Type 0 where
-  pub bytes : rest ≡ drop (length t - length rest) t
-  pub long : length rest ≤ length t
-
-pub left_start : (t : List ℕ) (at : ℕ) → at ≤ length t → Left t (rest_at t at)
-left_start t at h =
-    let z : length t - length (rest_at t at) ≡ at = omega (arith, ap length (take_rest t at), length-drop at t) in
-    record { bytes = take_rest t at ∙ ap (λ i. drop i t) (sym z); long = omega (arith, ap length (take_rest t at), length-drop at t) }
-
-pub left_less : {t rest : List ℕ} (others : List ℕ) (n : ℕ) → Left t rest → others ≡ drop n rest → length others + n ≡ length rest → Left t others
-left_less {t} {rest} others n l e h =
-    let z : length t - length rest + n ≡ length t - length others = omega (arith, l.long) in
-    record { bytes = e ∙ ap (drop n) l.bytes ∙ drop-drop n (length t - length rest) t ∙ ap (λ i. drop i t) z; long = omega (arith, l.long) }
-
--- past bytes of which none is b
-pub onward_over :
-    (b : ℕ) {t rest : List ℕ} {at : ℕ} (others : List ℕ) (n : ℕ) → Left t rest → list_any (λ x. eqb x b) (take n rest) ≡ false → length others + n ≡ length rest
-    → Onward (is_not b) t at (length t - length rest) → Onward (is_not b) t at (length t - length others)
-onward_over b {t} {rest} {at} others n l e h o =
-    let f = is_not b in
-    let k = length t - length rest in
-    let z : length t - length others ≡ k + n = omega (arith, l.long) in
-    let here = ap (front f) l.bytes in
-    let over = front_over b n rest e (omega arith) in
-    let next = ap (front f) (ap (drop n) l.bytes ∙ drop-drop n k t) in
-    rw z (record { same = omega (arith, o.same, here, over, next); inside = omega (arith, l.long) })
+-- at the place itself
+pub onward_here : (f : ℕ → Bool) (s : List ℕ) (i j : ℕ) → j ≡ i → i ≤ length s → Onward f s i j
+onward_here f s i j e h = record { same = ap (λ (k : ℕ). k + front f (drop k s)) (sym e); inside = omega arith }
 
 module _ {f : ℕ → Bool} {s : List ℕ} {at i : ℕ} (o : Onward f s at i) where
+  -- past one byte more that passes
+  pub onward_more : i < length s → f (get_or s i 0) ≡ true → (j : ℕ) → j ≡ i + 1 → Onward f s at j
+  onward_more h e j z =
+      record { same = o.same ∙ front_more f s i h e ∙ ap (λ (k : ℕ). k + front f (drop k s)) (sym z); inside = omega arith }
+
+  -- and on from there
+  pub onward_on : {j : ℕ} → Onward f s i j → Onward f s at j
+  onward_on p = record { same = o.same ∙ p.same; inside = p.inside }
+
   -- the run ends where it ends from there on
   pub onward_end : {j : ℕ} → Past f s i j → Past f s at j
   onward_end p = record { found = p.found ∙ sym o.same; inside = p.inside }
 
   -- the byte here does not pass
-  onward_stop : i < length s → f (get_or s i 0) ≡ false → Past f s at i
+  pub onward_stop : i < length s → f (get_or s i 0) ≡ false → Past f s at i
   onward_stop h e = record { found = sym (o.same ∙ front_none f s i h e); inside = o.inside }
 
 -- a name of small letters ends at `>`
 pub onward_shut : {s : List ℕ} {at i : ℕ} → Onward is_name_byte s at i → i < length s → get_or s i 0 ≡ 62 → Past is_name_byte s at i
 onward_shut o h e = onward_stop o h (ap is_name_byte e ∙ no_shut)
+
+-- one byte more looked at, for a byte b
+pub looked_more : (b : ℕ) (s : List ℕ) (i k : ℕ) (near : Bool) → i + k < length s → Looked (is_not b) s i k near
+    → Looked (is_not b) s i (k + 1) (near || eqb (get_or s (i + k) 0) b)
+unfolding is_not
+looked_more b s i k true h p = record { none = λ e. absurd (false≢true (sym e)); some = λ e. p.some refl }
+looked_more b s i k false h p =
+    record {
+      none = λ e. onward_more (p.none refl) h (ap not e) (i + (k + 1)) (omega arith);
+      some = λ e. omega (arith, (p.none refl).same, front_none (is_not b) s (i + k) h (ap not e));
+    }
