@@ -1,7 +1,6 @@
 -- Numbers, as an index's reader tells them: by computation.
 use mathlib.Core.Path.{◌≡◌, refl}
-use mathlib.Core.Bool.{Bool, true}
-use Rattle.slices.specs.Slices.{every, same}
+use mathlib.Core.Bool.{true}
 use Rattle.slices.specs.Words.{bytes}
 use Rattle.digits.specs.Runs.{value}
 use Rattle.digits.specs.Decimal.{is_run, run, plain, plain_number}

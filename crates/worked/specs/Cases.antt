@@ -1,6 +1,6 @@
 -- Document 01's starred cases (01, Bench examples), each a test of the definitions: one table.
 use Rattle.refusals.specs.declared.Refusal.{Refusal}
-use Rattle.std.specs.Prelude.{Bool, true, false, not, ◌&&◌, ◌||◌, List, [], ◌∷◌, ◌++◌, ℕ, eqb, ltb, length, Err, Ok, Result}
+use Rattle.std.specs.Prelude.{Bool, true, false, not, ◌&&◌, ◌||◌, List, [], ◌∷◌, ◌++◌, ℕ, eqb, ltb, length, Err, None, Ok, Result, Some}
 use Prim.Native.String.{String}
 use Rattle.refusals.specs.Refusals.{Answer, and_then, number_of, shown_number}
 use Rattle.slices.specs.Slices.{same}
