@@ -1,12 +1,12 @@
 -- What an entry adds to the path of its parent: below the root its name, elsewhere `/` and its name; how long that is, and how it is written in front.
 use Rattle.refusals.specs.declared.Refusal.{Refusal}
-use Rattle.std.specs.Prelude.{None, Result, Some}
+use Rattle.std.specs.Prelude.{Result, Some}
 use mathlib.Core.Path.{◌≡◌, refl, ap, sym, ◌∙◌}
 use mathlib.Core.List.{List, [], ◌∷◌, ◌++◌, append_assoc}
-use Prim.Native.Nat.{ℕ, zero, suc, ◌+◌, ◌-◌, ◌<◌, ◌≤◌}
+use Prim.Native.Nat.{ℕ, zero, suc, ◌+◌, ◌-◌, ◌≤◌}
 use native.Mathlib.Nat.{zero-add}
 use native.Mathlib.Omega.{arith}
-use borrow.Author.Tests.{le-leb, lt-leb}
+use borrow.Author.Tests.{le-leb}
 use lib.ListN.{length, take, drop, set, length-take, length-drop, length-append}
 use lib.Seq.{append_snoc}
 use Rattle.refusals.specs.Refusals.{shown_bytes}
@@ -119,8 +119,5 @@ module _ (text entries : List ℕ) where
 
 -- the size of a path, by the room that there is
 module _ (room : ℕ) (w : List ℕ) where
-  pub too_long : room < length w → None ≡ size_for room w
-  too_long h = rw (lt-leb _ _ h)
-
   pub fits : (n : ℕ) → n ≡ length w → n ≤ room → Some n ≡ size_for room w
   fits n e h = let k : length w ≤ room = omega arith in rw (le-leb _ _ k) (ap Some e)

@@ -1,17 +1,17 @@
 -- The path of an entry from that of its parent: a refusal, the parent's path with `/` and the name, or the name alone below the root.
 use Rattle.std.specs.Prelude.{Err, Ok}
 use mathlib.Core.Path.{◌≡◌, refl, ap, sym, ◌∙◌}
-use mathlib.Core.Bool.{Bool, true, false, false≢true, and-false}
+use mathlib.Core.Bool.{Bool, true, false, false≢true}
 use mathlib.Core.List.{List, [], ◌∷◌, ◌++◌, append_assoc}
-use Prim.Native.Nat.{ℕ, zero, suc, ◌+◌, ◌-◌, ◌<◌, ◌≤◌}
+use Prim.Native.Nat.{ℕ, zero, suc, ◌+◌, ◌<◌, ◌≤◌}
 use native.Mathlib.Omega.{arith}
-use borrow.Author.Tests.{ltb-true, lt-ltb, le-ltb, lt-leb, ne_eqb, eq-eqb}
+use borrow.Author.Tests.{ltb-true, ne_eqb, eq-eqb}
 use lib.Dec.{ltb, leb, eqb}
 use lib.ListN.{length}
 use Rattle.refusals.specs.Refusals.{Answer, require, and_then, shown_bytes}
 use Rattle.refusals.specs.declared.Refusal.TheVariants.{Caller}
 use Rattle.slices.specs.Words.{bytes}
-use Rattle.slices.proofs.Booleans.{and_left, same_leb}
+use Rattle.slices.proofs.Booleans.{and_left}
 use Rattle.paths.specs.Paths.{parent_of, name_at, name_length, joined, name_of, is_placed, names_down, path_down}
 use Rattle.paths.specs.Steps.{is_answer, path_bytes}
 
@@ -47,25 +47,6 @@ module _ (text entries : List ℕ) where
   pub placed_before : (n : ℕ) → is_placed text entries n ≡ true → parent_of entries n < n
   unfolding is_placed
   placed_before n e = ltb-true _ _ (and_left (ltb (parent_of entries n) n) (leb (name_at entries n + name_length entries n) (length text)) e)
-
-  -- as the code tests it
-  module _ (n : ℕ) where
-    pub unplaced_parent : n ≤ parent_of entries n → is_placed text entries n ≡ false
-    unfolding is_placed
-    unplaced_parent h = rw (le-ltb (parent_of entries n) n h)
-
-    pub unplaced_from : length text < name_at entries n → is_placed text entries n ≡ false
-    unfolding is_placed
-    unplaced_from h =
-        let past : length text < name_at entries n + name_length entries n = omega arith in
-        rw (lt-leb _ _ past) (and-false (ltb (parent_of entries n) n))
-
-    pub placed_name : parent_of entries n < n → name_at entries n ≤ length text
-        → is_placed text entries n ≡ leb (name_length entries n) (length text - name_at entries n)
-    unfolding is_placed
-    placed_name h k =
-        rw (lt-ltb (parent_of entries n) n h)
-        (same_leb (name_at entries n + name_length entries n) (length text) (name_length entries n) (length text - name_at entries n) (λ e. omega arith) (λ e. omega arith))
 
   -- any number of steps that is no less than the entry's number
   enough : (f g n : ℕ) → n ≤ f → n ≤ g → names_down text entries f n ≡ names_down text entries g n

@@ -9,117 +9,116 @@ ghost use Rattle.paths.specs.Steps.{is_answer, size_for, path_bytes, HasPath, En
 
 use refusals::Refusal;
 
-// One of the nine numbers of an entry.
-fn number_of(entries: &[u64], n: usize, k: usize) -> usize
-    requires { (n < entry_count entries.now) × (k < 9) }
-    ensures { result ≡ get_or entries.now (n * 9 + k) 0 }
-{
-    entries[n * 9 + k] as usize
+// Entries, nine numbers each, and the text in which their names stand.
+#[derive(Clone, Copy)]
+struct Table<'a> {
+    text: &'a [u8],
+    entries: &'a [u64],
 }
 
-fn parent_of(entries: &[u64], n: usize) -> usize
-    requires { n < entry_count entries.now }
-    ensures { result ≡ parent_of entries.now n }
-{
-    number_of(entries, n, 1)
-}
-
-// An entry's name, as spelled.
-fn name_of<'a>(text: &'a [u8], entries: &[u64], n: usize) -> &'a [u8]
-    requires { n < entry_count entries.now }
-    ensures { decoded result.now ≡ name_of text.now entries.now n }
-{
-    let from = number_of(entries, n, 4);
-    let len = number_of(entries, n, 5);
-    slices::part(text, from, len)
-}
-
-// Whether an entry's parent is before it and its name lies in the text.
-fn is_placed(text: &[u8], entries: &[u64], n: usize) -> bool
-    requires { n < entry_count entries.now }
-    ensures { result ≡ is_placed text.now entries.now n }
-{
-    if n <= parent_of(entries, n) {
-        return false;
+impl<'a> Table<'a> {
+    // One of the nine numbers of an entry.
+    fn number_of(&self, n: usize, k: usize) -> usize
+        requires { (n < entry_count self.now.entries.now) × (k < 9) }
+        ensures { result ≡ get_or self.now.entries.now (n * 9 + k) 0 }
+    {
+        self.entries[n * 9 + k] as usize
     }
-    let from = number_of(entries, n, 4);
-    if text.len() < from {
-        return false;
-    }
-    number_of(entries, n, 5) <= text.len() - from
-}
 
-// Whether each entry on the way up is placed.
-fn is_path(text: &[u8], entries: &[u64], entry: usize) -> bool
-    requires { entry < entry_count entries.now }
-    ensures { result ≡ is_answer (path_down text.now entries.now entry) }
-{
-    let mut n = entry;
-    while n != 0 {
-        if !is_placed(text, entries, n) {
-            return false;
+    fn parent_of(&self, n: usize) -> usize
+        requires { n < entry_count self.now.entries.now }
+        ensures { result ≡ parent_of self.now.entries.now n }
+    {
+        self.number_of(n, 1)
+    }
+
+    // An entry's name, as spelled.
+    fn name_of(&self, n: usize) -> &'a [u8]
+        requires { n < entry_count self.now.entries.now }
+        ensures { decoded result.now ≡ name_of self.now.text.now self.now.entries.now n }
+    {
+        let from = self.number_of(n, 4);
+        let len = self.number_of(n, 5);
+        slices::part(self.text, from, len)
+    }
+
+    // Whether an entry's parent is before it and its name lies in the text.
+    #[tactic(auto, unfolding(crate::specs::Paths::is_placed))]
+    fn is_placed(&self, n: usize) -> bool
+        requires { n < entry_count self.now.entries.now }
+        ensures { result ≡ is_placed self.now.text.now self.now.entries.now n }
+    {
+        let parent = self.parent_of(n);
+        let from = self.number_of(n, 4);
+        let len = self.number_of(n, 5);
+        parent < n && from <= self.text.len() && len <= self.text.len() - from
+    }
+
+    // Whether each entry on the way up is placed.
+    fn is_path(&self, entry: usize) -> bool
+        requires { entry < entry_count self.now.entries.now }
+        ensures { result ≡ is_answer (path_down self.now.text.now self.now.entries.now entry) }
+    {
+        let mut n = entry;
+        while n != 0 {
+            if !self.is_placed(n) {
+                return false;
+            }
+            n = self.parent_of(n);
         }
-        n = parent_of(entries, n);
+        true
     }
-    true
-}
 
-// How many bytes an entry adds to its parent's path: its name, and `/` where the parent is not the root.
-fn added_len(text: &[u8], entries: &[u64], n: usize) -> usize
-    requires { (0 < n) × HasPath text.now entries.now n }
-    ensures { length (path_bytes text.now entries.now n)
-        ≡ length (path_bytes text.now entries.now (parent_of entries.now n)) + result }
-{
-    let len = texts::decoded_len(name_of(text, entries, n));
-    if parent_of(entries, n) == 0 {
-        return len;
+    // How many bytes an entry adds to its parent's path: its name, and `/` where the parent is not the root.
+    fn added_len(&self, n: usize) -> usize
+        requires { (0 < n) × HasPath self.now.text.now self.now.entries.now n }
+        ensures { length (path_bytes self.now.text.now self.now.entries.now n)
+            ≡ length (path_bytes self.now.text.now self.now.entries.now (parent_of self.now.entries.now n)) + result }
+    {
+        let len = texts::decoded_len(self.name_of(n));
+        if self.parent_of(n) == 0 { len } else { len + 1 }
     }
-    len + 1
-}
 
-// How long the path of an entry is, as far as there is room for it.
-fn path_len(text: &[u8], entries: &[u64], entry: usize, room: usize) -> Option<usize>
-    requires { HasPath text.now entries.now entry }
-    ensures { result ≡ size_for room (path_bytes text.now entries.now entry) }
-{
-    let mut n = entry;
-    let mut left = room;
-    while n != 0 {
-        let len = added_len(text, entries, n);
-        if left < len {
-            return None;
+    // How long the path of an entry is, as far as there is room for it.
+    fn path_len(&self, entry: usize, room: usize) -> Option<usize>
+        requires { HasPath self.now.text.now self.now.entries.now entry }
+        ensures { result ≡ size_for room (path_bytes self.now.text.now self.now.entries.now entry) }
+    {
+        let mut n = entry;
+        let mut left = room;
+        while n != 0 {
+            left = left.checked_sub(self.added_len(n))?;
+            n = self.parent_of(n);
         }
-        left -= len;
-        n = parent_of(entries, n);
+        Some(room - left)
     }
-    Some(room - left)
-}
 
-// Writes the last name of a path that is to end at a place, with the `/` before it, and answers where it begins.
-fn put_last(text: &[u8], entries: &[u64], n: usize, out: &mut [u8], end: usize) -> usize
-    requires { (0 < n) × EndsAt text.now entries.now n end out.old }
-    ensures { WritesLast text.now entries.now n out.old out.new result }
-{
-    let name = name_of(text, entries, n);
-    let from = end - texts::decoded_len(name);
-    let _ = texts::decode(name, out, from);
-    if parent_of(entries, n) == 0 {
-        return from;
+    // Writes the last name of a path that is to end at a place, with the `/` before it, and answers where it begins.
+    fn put_last(&self, n: usize, out: &mut [u8], end: usize) -> usize
+        requires { (0 < n) × EndsAt self.now.text.now self.now.entries.now n end out.old }
+        ensures { WritesLast self.now.text.now self.now.entries.now n out.old out.new result }
+    {
+        let name = self.name_of(n);
+        let from = end - texts::decoded_len(name);
+        let _ = texts::decode(name, out, from);
+        if self.parent_of(n) == 0 {
+            return from;
+        }
+        out[from - 1] = b'/';
+        from - 1
     }
-    out[from - 1] = b'/';
-    from - 1
-}
 
-// Writes a path, from its last name on.
-fn put_path(text: &[u8], entries: &[u64], entry: usize, out: &mut [u8], len: usize)
-    requires { EndsAt text.now entries.now entry len out.old }
-    ensures { out.new ≡ written 0 (path_bytes text.now entries.now entry) out.old }
-{
-    let mut n = entry;
-    let mut end = len;
-    while n != 0 {
-        end = put_last(text, entries, n, out, end);
-        n = parent_of(entries, n);
+    // Writes a path, from its last name on.
+    fn put_path(&self, entry: usize, out: &mut [u8], len: usize)
+        requires { EndsAt self.now.text.now self.now.entries.now entry len out.old }
+        ensures { out.new ≡ written 0 (path_bytes self.now.text.now self.now.entries.now entry) out.old }
+    {
+        let mut n = entry;
+        let mut end = len;
+        while n != 0 {
+            end = self.put_last(n, out, end);
+            n = self.parent_of(n);
+        }
     }
 }
 
@@ -134,12 +133,13 @@ pub fn path(text: &[u8], entries: &[u64], entry: u64, out: &mut [u8]) -> Result<
     if entries.len() / 9 <= n {
         return Err(Refusal::Missing);
     }
-    if !is_path(text, entries, n) {
+    let table = Table { text, entries };
+    if !table.is_path(n) {
         return Err(Refusal::Caller);
     }
-    let Some(len) = path_len(text, entries, n, out.len()) else {
+    let Some(len) = table.path_len(n, out.len()) else {
         return Err(Refusal::Short);
     };
-    put_path(text, entries, n, out, len);
+    table.put_path(n, out, len);
     Ok(len)
 }

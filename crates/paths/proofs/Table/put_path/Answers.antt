@@ -7,7 +7,7 @@ use Rattle.paths.specs.Paths.{path_down}
 use Rattle.paths.specs.Steps.{is_answer, path_bytes}
 use Rattle.paths.proofs.Walks.{up}
 use Rattle.paths.proofs.Names.{parts_fit, root_written}
-use Rattle.paths.proofs.put_path.Goals as goal
+use Rattle.paths.proofs.Table.put_path.Goals as goal
 
 pub loop-n-init : goal.loop-n-init
 loop-n-init c = (omega arith, c.requires.path.answered, c.requires.ends, c.requires.room, refl, refl)
@@ -21,7 +21,7 @@ pub loop-n-smaller : goal.loop-n-smaller
 loop-n-smaller c =
     let a = c.args in
     let l = c.loop-n in
-    let u = up a.text.now a.entries.now l.n (omega arith) l.invariant.1 in
+    let u = up a.self.now.text.now a.self.now.entries.now l.n (omega arith) l.invariant.1 in
     let b = u.before in
     omega arith
 
@@ -29,14 +29,14 @@ pub loop-n-preserved : goal.loop-n-preserved
 loop-n-preserved c =
     let a = c.args in
     let l = c.loop-n in
-    let u = up a.text.now a.entries.now l.n (omega arith) l.invariant.1 in
+    let u = up a.self.now.text.now a.self.now.entries.now l.n (omega arith) l.invariant.1 in
     let b = u.before in
-    let s = parts_fit a.text.now a.entries.now l.n u in
+    let s = parts_fit a.self.now.text.now a.self.now.entries.now l.n u in
     let w = c.put_last-end.ensures in
     let e = c.parent_of-n.ensures in (
       omega arith,
-      ap (λ (p : ℕ). is_answer (path_down a.text.now a.entries.now p)) e ∙ u.answered,
-      w.ends ∙ ap (λ (p : ℕ). length (path_bytes a.text.now a.entries.now p)) (sym e),
+      ap (λ (p : ℕ). is_answer (path_down a.self.now.text.now a.self.now.entries.now p)) e ∙ u.answered,
+      w.ends ∙ ap (λ (p : ℕ). length (path_bytes a.self.now.text.now a.self.now.entries.now p)) (sym e),
       omega arith,
       w.long ∙ l.invariant.4,
       rw e (w.left ∙ l.invariant.5),
@@ -49,4 +49,4 @@ pub returns : goal.returns
 returns c =
     let a = c.args in
     let l = c.loop-n in
-    sym (root_written a.text.now a.entries.now l.n (omega arith) l.out) ∙ l.invariant.5
+    sym (root_written a.self.now.text.now a.self.now.entries.now l.n (omega arith) l.out) ∙ l.invariant.5
