@@ -1,32 +1,15 @@
--- Numbers into a buffer: stores one after the other, rows from a place on.
+-- Numbers into a buffer: rows from a place on.
 use mathlib.Core.Path.{◌≡◌, refl, ap, sym, ◌∙◌}
 use mathlib.Core.List.{List, [], ◌∷◌, ◌++◌}
 use Prim.Native.Nat.{ℕ, ◌+◌, ◌*◌, ◌≤◌}
 use native.Mathlib.Omega.{arith}
-use lib.ListN.{length, set, length-append}
+use lib.ListN.{length, length-append}
 use Rattle.slices.specs.Slices.{written}
-use Rattle.slices.proofs.Writing.{written_set, written_snoc, written_then, written_nil, length_written}
+use Rattle.slices.proofs.Writing.{written_then, written_nil, length_written}
 use Rattle.extents.specs.declared.Row.{Row}
 use Rattle.extents.specs.Rows.{five, numbers_of}
 use Rattle.extents.proofs.Rows.{length_numbers}
 use Rattle.index_files.specs.FillingSteps.{WritesRows}
-
--- four and five numbers, one after the other
-pub four_written : (at a b c d : ℕ) (o0 o1 o2 o3 o4 : List ℕ) → at + 4 ≤ length o0 → o1 ≡ set o0 at a → o2 ≡ set o1 (at + 1) b
-    → o3 ≡ set o2 (at + 2) c → o4 ≡ set o3 (at + 3) d → o4 ≡ written at (a ∷ b ∷ c ∷ d ∷ []) o0
-four_written at a b c d o0 o1 o2 o3 o4 h e1 e2 e3 e4 =
-    let w1 = e1 ∙ sym (written_set at a o0 (omega arith)) in
-    let w2 = e2 ∙ ap (λ (o : List ℕ). set o (at + 1) b) w1 ∙ written_snoc at b (a ∷ []) o0 (omega arith) in
-    let w3 = e3 ∙ ap (λ (o : List ℕ). set o (at + 2) c) w2 ∙ written_snoc at c (a ∷ b ∷ []) o0 (omega arith) in
-    e4 ∙ ap (λ (o : List ℕ). set o (at + 3) d) w3 ∙ written_snoc at d (a ∷ b ∷ c ∷ []) o0 (omega arith)
-
-pub five_written : (at : ℕ) (x : Row) (o0 o1 o2 o3 o4 o5 : List ℕ) → at + 5 ≤ length o0 → o1 ≡ set o0 at x.letter → o2 ≡ set o1 (at + 1) x.startblock
-    → o3 ≡ set o2 (at + 2) x.byteoffset → o4 ≡ set o3 (at + 3) x.bytecount → o5 ≡ set o4 (at + 4) x.fileoffset
-    → o5 ≡ written at (five x) o0
-five_written at x o0 o1 o2 o3 o4 o5 h e1 e2 e3 e4 e5 =
-    e5
-    ∙ ap (λ (o : List ℕ). set o (at + 4) x.fileoffset) (four_written at x.letter x.startblock x.byteoffset x.bytecount o0 o1 o2 o3 o4 (omega arith) e1 e2 e3 e4)
-    ∙ written_snoc at x.fileoffset (x.letter ∷ x.startblock ∷ x.byteoffset ∷ x.bytecount ∷ []) o0 (omega arith)
 
 numbers_append : (a b : List Row) → numbers_of (a ++ b) ≡ numbers_of a ++ numbers_of b
 unfolding numbers_of

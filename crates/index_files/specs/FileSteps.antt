@@ -5,7 +5,7 @@ use Rattle.elements.specs.Tags.{Tags, tags_left}
 use Rattle.elements.specs.Reading.{left_at, children_at}
 use Rattle.index.specs.Index.{File as Said, file_of}
 use Rattle.index_files.specs.Names.{each_file}
-use Rattle.index_files.specs.declared.files.NextFile.{NextFile}
+use Rattle.elements.specs.declared.tags.Child.{Child}
 
 -- the children of each file in a row of elements and in what stands in them, in text order
 abbrev pub files_in : Forest → List Forest
@@ -42,6 +42,6 @@ pub record NoFile (s : List ℕ) (i : ℕ) : Type 0 where
   pub tags : file_tags_from s i ≡ []
 
 -- the next file from i on
-abbrev pub FileFrom : List ℕ → ℕ → Option NextFile → Type 0
+abbrev pub FileFrom : List ℕ → ℕ → Option Child → Type 0
 FileFrom s i None = NoFile s i
 FileFrom s i (Some f) = FileAt s i f.at f.next

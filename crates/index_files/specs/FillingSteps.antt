@@ -1,6 +1,6 @@
 -- What filling a lent buffer with rows owes.
 use Rattle.refusals.specs.declared.Refusal.{Refusal}
-use Rattle.std.specs.Prelude.{◌≡◌, List, ℕ, ◌+◌, ◌*◌, length, Err, Ok, Result}
+use Rattle.std.specs.Prelude.{◌≡◌, List, ℕ, ◌+◌, ◌*◌, length, Ok, Result}
 use Rattle.refusals.specs.Refusals.{Answer, and_then}
 use Rattle.slices.specs.Slices.{written}
 use Rattle.extents.specs.declared.Row.{Row}

@@ -1,7 +1,6 @@
 pub mod Names
 pub mod FileSteps
 pub mod RowSteps
-pub mod MetSteps
 pub mod Asked
 pub mod Filling
 pub mod Whole

@@ -47,10 +47,8 @@ fn locate(
 ) -> Result<usize, Refusal>
     ensures { LocatesFile text.now (given uuid.now volume) letter block k result }
 {
-    match index::read_index(text, uuid, volume, letter, block) {
-        Err(r) => Err(r),
-        Ok(_) => find(text, k),
-    }
+    index::read_index(text, uuid, volume, letter, block)?;
+    find(text, k)
 }
 
 // How many rows there are from at on.
@@ -59,17 +57,11 @@ pub(crate) fn count_rows(text: &[u8], at: usize) -> u64
 {
     let mut i = at;
     let mut n: u64 = 0;
-    loop {
-        match elements::next_child(text, i) {
-            None => {
-                return n;
-            }
-            Some(child) => {
-                n += 1;
-                i = child.next;
-            }
-        }
+    while let Some(child) = elements::next_child(text, i) {
+        n += 1;
+        i = child.next;
     }
+    n
 }
 
 // What the file whose tag is at n says.
@@ -78,7 +70,7 @@ pub(crate) fn head_at(text: &[u8], n: usize) -> FileHead
 {
     let at = elements::first_child(text, n);
     FileHead {
-        length: ByteCount(index_values::number_said(index_values::text_in(text, at, b"length"))),
+        length: ByteCount(index_values::number_named(text, at, b"length")),
         name: index_values::span_in(text, at, b"name"),
         rows: count_rows(text, extent_rows::first_row(text, n)),
     }
@@ -95,10 +87,8 @@ pub fn file(
 ) -> Result<FileHead, Refusal>
     ensures { ReadsNumbered text.now (given uuid.now volume) letter block k result }
 {
-    match locate(text, uuid, volume, letter, block, k) {
-        Err(r) => Err(r),
-        Ok(n) => Ok(head_at(text, n)),
-    }
+    let n = locate(text, uuid, volume, letter, block, k)?;
+    Ok(head_at(text, n))
 }
 
 // The rows from at on, into the front of out if it has room for all of them.
@@ -109,7 +99,7 @@ fn put_rows(text: &[u8], at: usize, out: &mut [u64]) -> Result<u64, Refusal>
     if ((out.len() / 5) as u64) < n {
         return Err(Refusal::Short);
     }
-    filling::write_rows(text, at, 0, out);
+    filling::write_rows(text, at, out);
     Ok(n)
 }
 
@@ -125,8 +115,6 @@ pub fn rows(
 ) -> Result<u64, Refusal>
     ensures { PutsFileRows text.now (given uuid.now volume) letter block out.old out.new k result }
 {
-    match locate(text, uuid, volume, letter, block, k) {
-        Err(r) => Err(r),
-        Ok(n) => put_rows(text, extent_rows::first_row(text, n), out),
-    }
+    let n = locate(text, uuid, volume, letter, block, k)?;
+    put_rows(text, extent_rows::first_row(text, n), out)
 }

@@ -9,5 +9,5 @@ mod whole;
 
 pub use asked::{FileHead, file, rows};
 pub use extent_rows::{NextRow, Row, first_row, next_row};
-pub use files::{NextFile, next_file};
+pub use files::next_file;
 pub use whole::read_whole;

@@ -14,13 +14,7 @@ fn is_enough(h: Header, entries: usize, rows: usize) -> bool
     ensures { result ≡ enough h entries rows }
 {
     let room = (entries / 9) as u64;
-    if room < h.directories {
-        return false;
-    }
-    if room - h.directories < h.files {
-        return false;
-    }
-    h.rows <= (rows / 5) as u64
+    h.directories <= room && h.files <= room - h.directories && h.rows <= (rows / 5) as u64
 }
 
 // What a header counts, from the tables into the buffers.
@@ -56,19 +50,15 @@ fn read_by_tables(
     ensures { ReadsWhole text.now (index_of (given uuid.now volume) letter block.0 text.now)
         entries.old entries.new rows.old rows.new result }
 {
-    match index::read_into(text, uuid, volume, letter, block, entry_table, row_table) {
-        Err(r) => Err(r),
-        Ok(h) => {
-            if !is_enough(h, entries.len(), rows.len()) {
-                return Err(Refusal::Short);
-            }
-            if !is_enough(h, entry_table.len(), row_table.len()) {
-                return index::read_into(text, uuid, volume, letter, block, entries, rows);
-            }
-            hand_over(h, entry_table, row_table, entries, rows);
-            Ok(h)
-        }
+    let h = index::read_into(text, uuid, volume, letter, block, entry_table, row_table)?;
+    if !is_enough(h, entries.len(), rows.len()) {
+        return Err(Refusal::Short);
     }
+    if !is_enough(h, entry_table.len(), row_table.len()) {
+        return index::read_into(text, uuid, volume, letter, block, entries, rows);
+    }
+    hand_over(h, entry_table, row_table, entries, rows);
+    Ok(h)
 }
 
 // All of an index's text: entries and rows go into the fronts of the buffers; the other parameters are those of reading it. The tables have room for all

@@ -1,5 +1,5 @@
 -- `count_rows` meets its contract. Invariant: those counted and those of the rest of the row are all.
-use mathlib.Core.Path.{ap, subst}
+use mathlib.Core.Path.{ap}
 use native.Mathlib.Omega.{arith}
 use lib.ListN.{length}
 use Rattle.index_files.proofs.Meeting.{rows_over}
@@ -10,11 +10,11 @@ use Rattle.index_files.proofs.asked.count_rows.Goals as goal
 pub loop-child-init : goal.loop-child-init
 loop-child-init c = (omega arith, omega arith)
 
-pub returns-in-None : goal.returns-in-None
-returns-in-None c =
+pub returns : goal.returns
+returns c =
     let s = c.args.text.now in
     let l = c.loop-child in
-    let e = c.in-None.ensures in
+    let e = c.in_default.ensures in
     let z = ap length (rows_over s l.i e) in
     omega (arith, z, l.invariant.1)
 

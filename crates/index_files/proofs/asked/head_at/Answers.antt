@@ -14,7 +14,7 @@ pub returns : goal.returns
 unfolding bytes
 returns c =
     record {
-      length = c.number_said.ensures ∙ ap number_or_zero (c.text_in.ensures ∙ ap (text_in (bytes "length")) c.first_child-at.ensures.row);
+      length = c.number_named.ensures ∙ ap (λ (f : Forest). number_or_zero (text_in (bytes "length") f)) c.first_child-at.ensures.row;
       name = record { part = c.span_in.ensures.spans.part ∙ ap (text_in (bytes "name")) c.first_child-at.ensures.row; inside = c.span_in.ensures.spans.inside };
       place = c.span_in.ensures.place ∙ ap (λ (t : Tags). first_text c.args.text.now (tags_named (bytes "name") t)) c.first_child-at.ensures.tags;
       rows = c.count_rows.ensures ∙ ap (λ (f : Forest). length (rows_in f)) c.first_row.ensures.row;

@@ -14,4 +14,4 @@ write_rows-requires c = omega (arith, c.if-out-n.false, c.count_rows-n.ensures)
 
 pub returns : goal.returns
 returns c =
-    put_all 5 (rows_in (forest_at c.args.text.now c.args.at)) c.count_rows-n.result c.args.out.now c.count_rows-n.ensures (omega (arith, c.if-out-n.false)) _ c.write_rows.ensures.holds
+    put_all 5 (rows_in (forest_at c.args.text.now c.args.at)) c.count_rows-n.result c.args.out.now c.count_rows-n.ensures (omega (arith, c.if-out-n.false)) _ c.write_rows.ensures

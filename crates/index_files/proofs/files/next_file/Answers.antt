@@ -37,7 +37,7 @@ returns-then-is_file c =
     let l = c.loop-n in
     let t : NextTag s l.i (Open c.in-Open.n) = subst (NextTag s l.i) c.in-Open.is c.next_tag.ensures in
     let e = sym (ap names_file c.name_of-name.ensures) ∙ sym c.is_file.ensures ∙ c.if-is_file.true in
-    file_along l.invariant.1 l.invariant.0 (file_open t c.leave.ensures e)
+    file_along l.invariant.1 l.invariant.0 (file_open t c.leave-next.ensures e)
 
 pub loop-n-smaller-then-is_skipped : goal.loop-n-smaller-then-is_skipped
 loop-n-smaller-then-is_skipped c =

@@ -10,7 +10,7 @@ use borrow.Author.Rules.{rules}
 use Rattle.index_files.proofs.filling.write_rows.Goals as goal
 
 pub loop-found-init : goal.loop-found-init
-loop-found-init c = writing_first c.args.k (rows_in (forest_at c.args.text.now c.args.at)) c.args.out.now c.requires
+loop-found-init c = writing_first 0 (rows_in (forest_at c.args.text.now c.args.at)) c.args.out.now (omega (arith, c.requires))
 
 pub shape_of-out : goal.shape_of-out
 shape_of-out c = c.loop-found.invariant.long
@@ -20,8 +20,7 @@ returns c =
     let s = c.args.text.now in
     let l = c.loop-found in
     let e : RowAhead s l.i None = subst (RowAhead s l.i) c.in_default.is c.next_row.ensures in
-    let (h, z) = writing_done l.invariant e in
-    record { holds = h; up_to = z }
+    (writing_done l.invariant e).0
 
 pub put_row-requires : goal.put_row-requires
 put_row-requires c =

@@ -10,7 +10,7 @@ use Rattle.index_files.proofs.filling.write_rows.Given as goal
 
 abbrev pub invariant-loop-found : goal.invariant-loop-found
 invariant-loop-found l =
-    Writing (written l.k (numbers_of (rows_in (forest_at l.text l.at))) l.initial.out) (l.k + length (rows_in (forest_at l.text l.at)) * 5) l.initial.out l.out l.j (rows_in (forest_at l.text l.i))
+    Writing (written 0 (numbers_of (rows_in (forest_at l.text l.at))) l.initial.out) (0 + length (rows_in (forest_at l.text l.at)) * 5) l.initial.out l.out l.j (rows_in (forest_at l.text l.i))
 
 abbrev pub decreases-loop-found : goal.decreases-loop-found
 decreases-loop-found l = length l.text - l.i
