@@ -1,7 +1,7 @@
--- A letter by its one byte; and five tests in a row.
+-- A letter by its one byte.
 use Rattle.std.specs.Prelude.{None, Some}
 use mathlib.Core.Path.{◌≡◌, refl}
-use mathlib.Core.Bool.{Bool, true, cond, ◌&&◌}
+use mathlib.Core.Bool.{cond}
 use mathlib.Core.List.{List, [], ◌∷◌}
 use Prim.Native.Nat.{ℕ}
 use native.Mathlib.Omega.{arith}
@@ -20,7 +20,3 @@ unfolding letter
 letter_none [] h = refl
 letter_none (b ∷ []) h = absurd (h refl)
 letter_none (b ∷ c ∷ s) h = refl
-
--- five tests in a row: the first four passed, so the last decides
-pub last_of_five : (a b c d e : Bool) → a ≡ true → b ≡ true → c ≡ true → d ≡ true → e ≡ (a && b && c && d && e)
-last_of_five a b c d e p q r s = rw (p, q, r, s)

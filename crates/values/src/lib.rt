@@ -106,6 +106,7 @@ pub fn is_time(raw: &[u8]) -> bool
 }
 
 // Whether raw is a UUID.
+#[tactic(auto, unfolding(crate::specs::Values::is_uuid, slices::specs::Words::bytes))]
 pub fn is_uuid(raw: &[u8]) -> bool
     ensures { result ≡ is_uuid raw.now }
 {
