@@ -1,5 +1,5 @@
 -- What is found by name in a row: in none of its elements, in the first one, or behind it.
-use mathlib.Core.Path.{◌≡◌, ap, ◌∙◌}
+use mathlib.Core.Path.{◌≡◌, refl, ap, sym, ◌∙◌}
 use mathlib.Core.Bool.{true, false}
 use mathlib.Core.List.{List, []}
 use Prim.Native.Nat.{ℕ}
@@ -7,7 +7,9 @@ use lib.ListN.{drop}
 use Rattle.slices.specs.Slices.{same}
 use Rattle.xml.specs.Tree.{none}
 use Rattle.elements.specs.Tags.{tags_at, text_place}
-use Rattle.elements.specs.Reading.{forest_at, head_at, children_at}
+use Rattle.elements.specs.Reading.{forest_at, head_at, children_at, part_at}
+use Rattle.elements.specs.StartSteps.{ItemOf}
+use Rattle.elements.specs.declared.starts.Start.{Start}
 use Rattle.elements.specs.TagSteps.{FirstOf}
 use Rattle.elements.specs.declared.heads.Span.{Span}
 use Rattle.elements.proofs.ByTag.{no_tags}
@@ -15,6 +17,7 @@ use Rattle.children.specs.Children.{matching}
 use Rattle.children.specs.Places.{tags_named, first_text}
 use Rattle.index_rows.proofs.Named.{same_flip}
 use Rattle.index_values.specs.Elements.{text_in, children_in}
+use Rattle.index_values.specs.Steps.{FoundStart, NoneFound}
 
 module _ (name s : List ℕ) (i : ℕ) where
   -- where the text stands that is found
@@ -57,3 +60,27 @@ module _ (name s : List ℕ) (i : ℕ) where
     pub row_next : same (head_at s n).name name ≡ false → children_in name (forest_at s i) ≡ children_in name (forest_at s j)
     unfolding children_in
     row_next e = ap (children_in name) first.row ∙ simp e
+
+-- what the row at i has of the name is what the row at m has
+pub record SameRest (name s : List ℕ) (i m : ℕ) : Type 0 where
+  pub text : text_in name (forest_at s i) ≡ text_in name (forest_at s m)
+  pub place : place_from name s i ≡ place_from name s m
+  pub row : children_in name (forest_at s i) ≡ children_in name (forest_at s m)
+
+pub same_rest : (name s : List ℕ) (i : ℕ) → SameRest name s i i
+same_rest name s i = record { text = refl; place = refl; row = refl }
+
+module _ {name s : List ℕ} {i m : ℕ} (w : SameRest name s i m) where
+  pub rest_none : forest_at s m ≡ none → NoneFound s i name
+  rest_none e =
+      record { place = w.place ∙ place_none name s m e; text = w.text ∙ text_none name s m e; row = w.row ∙ row_none name s m e }
+
+  pub rest_here : {h : Start} {k : ℕ} → ItemOf s m h k → same (part_at s h.name) name ≡ true → FoundStart s i name h
+  rest_here {h} f e =
+      let n : same (head_at s h.at).name name ≡ true = ap (λ (n : List ℕ). same n name) (sym f.shape.name.part) ∙ e in
+      record { shape = f.shape; place = w.place ∙ place_here name s m f.first n; text = w.text ∙ text_here name s m f.first n; row = w.row ∙ row_here name s m f.first n }
+
+  pub rest_next : {h : Start} {k : ℕ} → ItemOf s m h k → same (part_at s h.name) name ≡ false → SameRest name s i k
+  rest_next {h} f e =
+      let n : same (head_at s h.at).name name ≡ false = ap (λ (n : List ℕ). same n name) (sym f.shape.name.part) ∙ e in
+      record { text = w.text ∙ text_next name s m f.first n; place = w.place ∙ place_next name s m f.first n; row = w.row ∙ row_next name s m f.first n }

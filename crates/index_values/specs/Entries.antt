@@ -1,5 +1,5 @@
 -- Directories and files (01, Index).
-use Rattle.std.specs.Prelude.{Bool, cond, ◌||◌, List, [], ◌∷◌, ℕ, suc, eqb, None, Option, Some}
+use Rattle.std.specs.Prelude.{Bool, cond, ◌||◌, List, [], ◌∷◌, ℕ, suc, eqb, Option, unwrap_or}
 use Rattle.slices.specs.Words.{bytes}
 use Rattle.values.specs.Values as values
 use Rattle.xml.specs.Tree.{Forest}
@@ -12,8 +12,7 @@ is_entry s = eqb s root || eqb s directory || eqb s file
 
 -- what a text says as a number, 0 where it says none
 abbrev pub or_zero : Option ℕ → ℕ
-or_zero None = 0
-or_zero (Some n) = n
+or_zero o = unwrap_or o 0
 
 abbrev pub number_or_zero : List ℕ → ℕ
 number_or_zero t = or_zero (values.number t)

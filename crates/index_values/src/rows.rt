@@ -4,28 +4,31 @@ ghost use Rattle.elements.specs.Reading.{forest_at, children_at};
 ghost use Rattle.elements.specs.StartSteps.{Shape};
 ghost use Rattle.index_values.specs.Elements.{text_in, children_in};
 ghost use Rattle.index_values.specs.Entries.{number_or_zero};
-ghost use Rattle.index_values.specs.Steps.{TextFound};
+ghost use Rattle.index_values.specs.Steps.{Finds, TextFound};
 
 use elements::{Span, Start};
+
+// The first element of a name in the row at at.
+fn find(text: &[u8], at: usize, name: &[u8]) -> Option<Start>
+    ensures { Finds text.now at name.now result }
+{
+    let mut i = at;
+    while let Some(item) = elements::next_item(text, i) {
+        if elements::part(text, item.start.name) == name {
+            return Some(item.start);
+        }
+        i = item.next;
+    }
+    None
+}
 
 // Where the text of the first element of a name in the row at at stands.
 pub fn span_in(text: &[u8], at: usize, name: &[u8]) -> Span
     ensures { TextFound text.now at name.now result }
 {
-    let mut i = at;
-    loop {
-        match elements::next_item(text, i) {
-            None => {
-                return Span { from: 0, len: 0 };
-            }
-            Some(item) => {
-                let h = item.start;
-                if slices::same(elements::part(text, h.name), name) {
-                    return h.text;
-                }
-                i = item.next;
-            }
-        }
+    match find(text, at, name) {
+        Some(start) => start.text,
+        None => Span { from: 0, len: 0 },
     }
 }
 
@@ -41,30 +44,16 @@ fn children_row(text: &[u8], h: Start) -> usize
     requires { Shape text.now h }
     ensures { forest_at text.now result ≡ children_at text.now h.at }
 {
-    if h.empty {
-        return text.len();
-    }
-    h.at
+    if h.empty { text.len() } else { h.at }
 }
 
 // Where the row of the first element of a name in the row at at begins.
 pub fn row_in(text: &[u8], at: usize, name: &[u8]) -> usize
     ensures { forest_at text.now result ≡ children_in name.now (forest_at text.now at) }
 {
-    let mut i = at;
-    loop {
-        match elements::next_item(text, i) {
-            None => {
-                return text.len();
-            }
-            Some(item) => {
-                let h = item.start;
-                if slices::same(elements::part(text, h.name), name) {
-                    return children_row(text, h);
-                }
-                i = item.next;
-            }
-        }
+    match find(text, at, name) {
+        Some(start) => children_row(text, start),
+        None => text.len(),
     }
 }
 
@@ -72,8 +61,5 @@ pub fn row_in(text: &[u8], at: usize, name: &[u8]) -> usize
 pub fn number_said(raw: &[u8]) -> u64
     ensures { result ≡ number_or_zero raw.now }
 {
-    match values::read_number(raw) {
-        Some(n) => n,
-        None => 0,
-    }
+    values::read_number(raw).unwrap_or(0)
 }

@@ -23,111 +23,58 @@ use index_names::{
 use quantities::ByteCount;
 
 // The label's letters, and the block size.
-#[derive(Clone, Copy)]
+#[derive(Clone, Copy, PartialEq, Eq, Debug)]
 pub struct Partitions {
     pub index_letter: u8,
     pub data_letter: u8,
     pub block_size: u64,
 }
 
-fn says_number(raw: &[u8]) -> bool
-    ensures { result ≡ is_some (values.number raw.now) }
-{
-    match values::read_number(raw) {
-        Some(_) => true,
-        None => false,
-    }
-}
-
-fn says_boolean(raw: &[u8]) -> bool
-    ensures { result ≡ is_some (values.boolean raw.now) }
-{
-    match values::read_boolean(raw) {
-        Some(_) => true,
-        None => false,
-    }
-}
-
-fn says_letter(raw: &[u8]) -> bool
-    ensures { result ≡ is_some (values.letter raw.now) }
-{
-    match values::read_letter(raw) {
-        Some(_) => true,
-        None => false,
-    }
-}
-
 // The letter that a text says, 0 where it says none.
 pub fn letter_said(raw: &[u8]) -> u8
     ensures { result ≡ letter_or_zero raw.now }
 {
-    match values::read_letter(raw) {
-        Some(b) => b,
-        None => 0,
-    }
+    values::read_letter(raw).unwrap_or(0)
 }
 
 // Whether the text of an element of a sort is a lawful value.
+#[tactic(auto, using(std::proofs::lemmas::Bool::Decides::nat_tests), unfolding(crate::specs::Tests::valued))]
 pub fn is_valued(sort: usize, raw: &[u8]) -> bool
     ensures { result ≡ valued sort raw.now }
 {
-    if sort == TIME {
-        return values::is_time(raw);
+    match sort {
+        TIME => values::is_time(raw),
+        NUMBER => values::read_number(raw).is_some(),
+        BOOLEAN => values::read_boolean(raw).is_some(),
+        NAME => values::is_name(raw),
+        UID => 2 <= rows::number_said(raw),
+        LETTER => values::read_letter(raw).is_some(),
+        CREATOR => values::is_creator(raw),
+        UUID => values::is_uuid(raw),
+        GENERATION => 1 <= rows::number_said(raw),
+        ROOT_NAME => values::is_root_name(raw),
+        ROOT_UID => rows::number_said(raw) == 1,
+        _ => true,
     }
-    if sort == NUMBER {
-        return says_number(raw);
-    }
-    if sort == BOOLEAN {
-        return says_boolean(raw);
-    }
-    if sort == NAME {
-        return values::is_name(raw);
-    }
-    if sort == UID {
-        return 2 <= rows::number_said(raw);
-    }
-    if sort == LETTER {
-        return says_letter(raw);
-    }
-    if sort == CREATOR {
-        return values::is_creator(raw);
-    }
-    if sort == UUID {
-        return values::is_uuid(raw);
-    }
-    if sort == GENERATION {
-        return 1 <= rows::number_said(raw);
-    }
-    if sort == ROOT_NAME {
-        return values::is_root_name(raw);
-    }
-    if sort == ROOT_UID {
-        return rows::number_said(raw) == 1;
-    }
-    true
 }
 
 // Whether a letter is one of the volume's.
 fn is_own_letter(b: u8, volume: Partitions) -> bool
     ensures { result ≡ (eqb b volume.index_letter || eqb b volume.data_letter) }
 {
-    if b == volume.index_letter {
-        return true;
-    }
-    b == volume.data_letter
+    b == volume.index_letter || b == volume.data_letter
 }
 
 // Whether what the text of an element of a sort names is the volume's.
+#[tactic(auto, using(std::proofs::lemmas::Bool::Decides::nat_tests), unfolding(crate::specs::Tests::own))]
 pub fn is_own(uuid: &[u8], volume: Partitions, sort: usize, raw: &[u8]) -> bool
     ensures { result ≡ own (given uuid.now volume) sort raw.now }
 {
-    if sort == LETTER {
-        return is_own_letter(letter_said(raw), volume);
+    match sort {
+        LETTER => is_own_letter(letter_said(raw), volume),
+        UUID => values::same_uuid(raw, uuid),
+        _ => true,
     }
-    if sort == UUID {
-        return values::same_uuid(raw, uuid);
-    }
-    true
 }
 
 // The number that the first element of a name says, in the row at at.
@@ -152,7 +99,7 @@ fn put_row(text: &[u8], from: usize, out: &mut [u64], at: usize) -> usize
     let row = index_rows::read_row(text, from, EXTENT);
     let places = row.places;
     let letter = letter_said(index_rows::text_at(text, places[1]));
-    tables::put(out, at, letter as u64);
+    tables::put(out, at, u64::from(letter));
     tables::put(out, at + 1, number_placed(text, places[2]));
     tables::put(out, at + 2, number_placed(text, places[3]));
     tables::put(out, at + 3, number_placed(text, places[4]));
@@ -169,12 +116,7 @@ fn read_rows(text: &[u8], at: usize, out: &mut [u64]) -> usize
     let mut n: usize = 0;
     loop {
         match elements::next_start(text, i) {
-            Next::End => {
-                return n;
-            }
-            Next::Close(_) => {
-                return n;
-            }
+            Next::End | Next::Close(_) => return n,
             Next::Opens(h) => {
                 if n == 1024 {
                     return 1025;
@@ -192,8 +134,9 @@ fn read_rows(text: &[u8], at: usize, out: &mut [u64]) -> usize
     }
 }
 
-// Whether a file has few extents, and lawful ones; and how many rows were taken of it, none of a file with too many.
-#[derive(Clone, Copy)]
+// Whether a file has few extents, and lawful ones; and how many rows were taken of it, none of a file with too many. The walk joins each flag with those
+// of other files, so they stay flags and not a Result.
+#[derive(Clone, Copy, PartialEq, Eq, Debug)]
 pub struct Judged {
     pub few: bool,
     pub lawful: bool,
@@ -205,8 +148,7 @@ fn are_lawful(table: &[u64], count: usize, file_length: ByteCount, size: u64) ->
     requires { count * 5 ≤ length table.now }
     ensures { result ≡ extents.lawful file_length.0 size (numbers.rows_of (take (count * 5) table.now)) }
 {
-    let e = count * 5;
-    extents::lawful(&table[0..e], file_length, size)
+    extents::lawful(&table[..count * 5], file_length, size)
 }
 
 // The extents of an element of a sort whose children have those places, if it is a file; their rows go into the front of out.

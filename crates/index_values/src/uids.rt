@@ -1,20 +1,13 @@
 // Whether numbers are all different.
-ghost use Rattle.std.specs.Prelude.{◌≡◌, ◌≤◌, length, take, drop};
+ghost use Rattle.std.specs.Prelude.{◌≡◌, ◌≤◌, length, take};
 ghost use Rattle.index_values.specs.Different.{member, different};
 
-// Whether x is among those of the first n from from on.
-fn among(t: &[u64], from: usize, n: usize, x: u64) -> bool
-    requires { n ≤ length t.now }
-    ensures { result ≡ member x (drop from (take n t.now)) }
+// Whether x is one of them.
+#[tactic(auto, unfolding(crate::specs::Different::member))]
+fn among(t: &[u64], x: u64) -> bool
+    ensures { result ≡ member x t.now }
 {
-    let mut i = from;
-    while i < n {
-        if x == t[i] {
-            return true;
-        }
-        i += 1;
-    }
-    false
+    t.iter().any(|y| x == *y)
 }
 
 // Whether the first n are all different. From the last to the first: one that is below all after it needs no look at them.
@@ -22,17 +15,13 @@ fn are_different(t: &[u64], n: usize) -> bool
     requires { n ≤ length t.now }
     ensures { result ≡ different (take n t.now) }
 {
-    let mut i = n;
-    let mut low: u64 = 18446744073709551615;
-    while 0 < i {
-        i -= 1;
+    let mut low = u64::MAX;
+    for i in (0..n).rev() {
         let x = t[i];
         if x < low {
             low = x;
-        } else {
-            if among(t, i + 1, n, x) {
-                return false;
-            }
+        } else if among(&t[i + 1..n], x) {
+            return false;
         }
     }
     true
@@ -42,8 +31,5 @@ fn are_different(t: &[u64], n: usize) -> bool
 pub fn unique(t: &[u64], n: usize) -> bool
     ensures { result ≡ different (take n t.now) }
 {
-    if t.len() < n {
-        return are_different(t, t.len());
-    }
-    are_different(t, n)
+    are_different(t, n.min(t.len()))
 }

@@ -10,6 +10,6 @@ pub returns-then-h : goal.returns-then-h
 unfolding children_at
 returns-then-h c = row_past c.args.text.now (length c.args.text.now) (omega arith) ∙ sym (rw (c.requires.empty ∙ c.if-h.true))
 
-pub returns : goal.returns
+pub returns-else-h : goal.returns-else-h
 unfolding children_at
-returns c = sym (rw (c.requires.empty ∙ c.if-h.false))
+returns-else-h c = sym (rw (c.requires.empty ∙ c.if-h.false))

@@ -18,7 +18,7 @@ returns c =
     let t = c.read_row-row.result.places in
     let placed = c.read_row-row.ensures.0 in (
       put_five at (row_of f) c.args.out.now c.put.new.table c.put-2.new.table c.put-3.new.table c.put-4.new.table c.put-5.new.table
-          (c.put.ensures ∙ ap (λ (v : ℕ). set c.args.out.now at v) (c.letter_said-letter.ensures ∙ ap letter_or_zero (c.text_at.ensures ∙ sym (partition_placed s f t placed))))
+          (c.put.ensures ∙ ap (λ (v : ℕ). set c.args.out.now at v) (c.from.ensures ∙ c.letter_said-letter.ensures ∙ ap letter_or_zero (c.text_at.ensures ∙ sym (partition_placed s f t placed))))
           (c.put-2.ensures ∙ ap (λ (v : ℕ). set c.put.new.table (at + 1) v) (c.number_placed.ensures ∙ ap number_or_zero (sym (startblock_placed s f t placed))))
           (c.put-3.ensures ∙ ap (λ (v : ℕ). set c.put-2.new.table (at + 2) v) (c.number_placed-2.ensures ∙ ap number_or_zero (sym (byteoffset_placed s f t placed))))
           (c.put-4.ensures ∙ ap (λ (v : ℕ). set c.put-3.new.table (at + 3) v) (c.number_placed-3.ensures ∙ ap number_or_zero (sym (bytecount_placed s f t placed))))

@@ -1,11 +1,13 @@
 -- `read_rows` meets its contract. Invariant: the rows read so far and those of the rest of the row are all.
-use mathlib.Core.Path.{refl, ap, sym, ◌∙◌, subst}
+use mathlib.Core.Path.{◌≡◌, refl, ap, sym, ◌∙◌, subst}
+use Rattle.std.proofs.Common.{inl, inr}
+use Rattle.xml.specs.Tree.{none}
 use Prim.Native.Nat.{◌+◌, ◌*◌, ◌≤◌}
 use native.Mathlib.Omega.{arith}
 use lib.ListN.{length, take}
 use lib.Seq.{length-sets}
 use Rattle.elements.specs.declared.tags.Tag.TheVariants.{Open, Empty}
-use Rattle.elements.specs.declared.starts.Next.TheVariants.{End, Close, Opens}
+use Rattle.elements.specs.declared.starts.Next.TheVariants.{Opens}
 use Rattle.elements.specs.Reading.{forest_at}
 use Rattle.elements.specs.TagSteps.{NextTag, FirstOf}
 use Rattle.elements.specs.StartSteps.{NextStart}
@@ -25,15 +27,12 @@ pub returns-in-End : goal.returns-in-End
 returns-in-End c =
     let s = c.args.text.now in
     let l = c.loop-h in
-    let t : NextStart s l.i End = subst (NextStart s l.i) c.in-End.is c.next_start.ensures in
-    rows_read (rows_in (forest_at s c.args.at)) l.out l.n l.invariant.1 (search rules) (l.invariant.3 ∙ rows_none s l.i (rows_of (take (l.n * 5) l.out)) (row_end t))
-
-pub returns-in-Close : goal.returns-in-Close
-returns-in-Close c =
-    let s = c.args.text.now in
-    let l = c.loop-h in
-    let t : NextStart s l.i (Close c.in-Close.field-0) = subst (NextStart s l.i) c.in-Close.is c.next_start.ensures in
-    rows_read (rows_in (forest_at s c.args.at)) l.out l.n l.invariant.1 (search rules) (l.invariant.3 ∙ rows_none s l.i (rows_of (take (l.n * 5) l.out)) (row_close t))
+    let none_left : forest_at s l.i ≡ none =
+    elim c.in-End.is [
+      | inl e ↦ row_end (subst (NextStart s l.i) e c.next_start.ensures)
+      | inr (n, e) ↦ row_close (subst (NextStart s l.i) e c.next_start.ensures)
+    ] in
+    rows_read (rows_in (forest_at s c.args.at)) l.out l.n l.invariant.1 (search rules) (l.invariant.3 ∙ rows_none s l.i (rows_of (take (l.n * 5) l.out)) none_left)
 
 pub returns-then-n-eq1024 : goal.returns-then-n-eq1024
 returns-then-n-eq1024 c =

@@ -1,4 +1,5 @@
 -- `are_different` meets its contract. Invariant: those from i on are all different, and none is below low, so one below low is new.
+use Rattle.slices.proofs.Parts.{drop_front}
 use Rattle.index_values.proofs.Differ.{Above, above_less, not_member, different_drop, step_back, front_out, new_first, old_first, above_cons, above_none}
 use native.Mathlib.Nat.{le_refl, le_of_lt}
 use mathlib.Core.Path.{subst}
@@ -41,8 +42,8 @@ returns-then-among c =
     let D = drop l.i (take a.n s) in
     let x = get_or s (l.i - 1) 0 in
     let b : drop (l.i - 1) (take a.n s) ≡ x ∷ D = step_back s a.n l.i (search rules) (search rules) (search rules) in
-    let one : l.i - 1 + 1 ≡ l.i = omega arith in
-    let m : member x D ≡ true = sym (c.among.ensures ∙ ap (λ (k : ℕ). member x (drop k (take a.n s))) one) ∙ c.if-among.true in
+    let one : l.i ≡ l.i - 1 + 1 = omega arith in
+    let m : member x D ≡ true = ap (member x) (ap (λ (k : ℕ). drop k (take a.n s)) one ∙ drop_front (l.i - 1 + 1) a.n s) ∙ sym c.among.ensures ∙ c.if-among.true in
     sym (different_drop (l.i - 1) (take a.n s) (ap different b ∙ old_first x D m))
 
 pub loop-i-preserved : goal.loop-i-preserved
@@ -53,13 +54,6 @@ loop-i-preserved c =
     let D = drop l.i (take a.n s) in
     let x = get_or s (l.i - 1) 0 in
     let b : drop (l.i - 1) (take a.n s) ≡ x ∷ D = step_back s a.n l.i (search rules) (search rules) (search rules) in
-    let one : l.i - 1 + 1 ≡ l.i = omega arith in
-    let m : member x D ≡ false = sym (c.among.ensures ∙ ap (λ (k : ℕ). member x (drop k (take a.n s))) one) ∙ c.if-among.false in
+    let one : l.i ≡ l.i - 1 + 1 = omega arith in
+    let m : member x D ≡ false = ap (member x) (ap (λ (k : ℕ). drop k (take a.n s)) one ∙ drop_front (l.i - 1 + 1) a.n s) ∙ sym c.among.ensures ∙ c.if-among.false in
     (search rules, ap different b ∙ new_first x D m l.invariant.1, subst (Above l.low) (sym b) (above_cons x D c.if-x-low.false l.invariant.2))
-
-pub returns : goal.returns
-returns c =
-    let a = c.args in
-    let l = c.loop-i in
-    let z : l.i ≡ 0 = omega arith in
-    sym (ap (λ (k : ℕ). different (drop k (take a.n a.t.now))) (sym z) ∙ l.invariant.1)

@@ -9,6 +9,3 @@ use Rattle.index_values.proofs.uids.are_different.Given as goal
 
 abbrev pub invariant-loop-i : goal.invariant-loop-i
 invariant-loop-i l = (l.i ≤ l.n) × (different (drop l.i (take l.n l.t)) ≡ true) × Above l.low (drop l.i (take l.n l.t))
-
-abbrev pub decreases-loop-i : goal.decreases-loop-i
-decreases-loop-i l = l.i
