@@ -19,25 +19,20 @@ fn number(rt: &impl Print, n: usize) -> io::Result<()> {
 }
 
 fn indent(rt: &impl Print, depth: usize) -> io::Result<()> {
-    let mut i: usize = 0;
-    while i < depth {
-        space(rt)?;
-        i += 1;
+    for _ in 0..depth {
+        put(rt, b"  ")?;
     }
     Ok(())
-}
-
-fn space(rt: &impl Print) -> io::Result<()> {
-    put(rt, b"  ")
 }
 
 // What the element at n says: `name key=[value] [text]`.
 fn element(rt: &impl Print, text: &[u8], n: usize, depth: usize) -> io::Result<()> {
     indent(rt, depth)?;
     put(rt, elements::name_of(text, n))?;
-    if elements::key_of(text, n).len() != 0 {
+    let key = elements::key_of(text, n);
+    if !key.is_empty() {
         put(rt, b" ")?;
-        put(rt, elements::key_of(text, n))?;
+        put(rt, key)?;
         put(rt, b"=[")?;
         put(rt, elements::value_of(text, n))?;
         put(rt, b"]")?;
@@ -45,20 +40,6 @@ fn element(rt: &impl Print, text: &[u8], n: usize, depth: usize) -> io::Result<(
     put(rt, b" [")?;
     put(rt, elements::text_of(text, n))?;
     line(rt, b"]")
-}
-
-fn less(depth: usize) -> usize {
-    if depth == 0 {
-        return 0;
-    }
-    depth - 1
-}
-
-fn more(depth: usize) -> usize {
-    if depth < 64 {
-        return depth + 1;
-    }
-    depth
 }
 
 // Each element from at on, by its nesting.
@@ -71,12 +52,12 @@ fn walk(rt: &impl Print, text: &[u8], at: usize) -> io::Result<()> {
                 return Ok(());
             }
             Tag::Close(n) => {
-                depth = less(depth);
+                depth = depth.saturating_sub(1);
                 i = n;
             }
             Tag::Open(n) => {
                 element(rt, text, n, depth)?;
-                depth = more(depth);
+                depth = depth.saturating_add(1);
                 i = n;
             }
             Tag::Empty(n) => {
@@ -102,17 +83,11 @@ fn child(rt: &impl Print, text: &[u8], n: usize) -> io::Result<()> {
 // The elements of the row at at alone.
 fn row(rt: &impl Print, text: &[u8], at: usize) -> io::Result<()> {
     let mut i = at;
-    loop {
-        match elements::next_child(text, i) {
-            None => {
-                return Ok(());
-            }
-            Some(next) => {
-                child(rt, text, next.at)?;
-                i = next.next;
-            }
-        }
+    while let Some(next) = elements::next_child(text, i) {
+        child(rt, text, next.at)?;
+        i = next.next;
     }
+    Ok(())
 }
 
 // The children of the first element from at on.
@@ -132,16 +107,8 @@ fn tags(text: &[u8], at: usize) -> usize {
             Tag::End => {
                 return n;
             }
-            Tag::Close(p) => {
-                n = std::num::wrapping_add_usize(n, 1);
-                i = p;
-            }
-            Tag::Open(p) => {
-                n = std::num::wrapping_add_usize(n, 1);
-                i = p;
-            }
-            Tag::Empty(p) => {
-                n = std::num::wrapping_add_usize(n, 1);
+            Tag::Close(p) | Tag::Open(p) | Tag::Empty(p) => {
+                n = n.wrapping_add(1);
                 i = p;
             }
         }
@@ -156,13 +123,9 @@ fn said(rt: &impl Print, text: &[u8], n: usize) -> io::Result<()> {
     number(rt, elements::text_of(text, n).len())
 }
 
-// The first k bytes: its tags, where its first element is left, and what that says.
-fn front(rt: &impl Print, text: &[u8], k: usize) -> io::Result<()> {
-    if text.len() < k {
-        return Ok(());
-    }
-    let part = &text[0..k];
-    number(rt, k)?;
+// The front of a text: its tags, where its first element is left, and what that says.
+fn front(rt: &impl Print, part: &[u8]) -> io::Result<()> {
+    number(rt, part.len())?;
     put(rt, b":")?;
     number(rt, tags(part, 0))?;
     number(rt, elements::leave(part, 1))?;
@@ -170,19 +133,17 @@ fn front(rt: &impl Print, text: &[u8], k: usize) -> io::Result<()> {
     line(rt, b"")
 }
 
-// The same for each length of the text, and past its end.
+// The same for each front of a text.
 fn fronts(rt: &impl Print, text: &[u8]) -> io::Result<()> {
-    let mut k: usize = 0;
-    while k <= text.len() {
-        front(rt, text, k)?;
-        k += 1;
+    for k in 0..=text.len() {
+        front(rt, &text[..k])?;
     }
     Ok(())
 }
 
 // A text, what is meant by it in a buffer of dots from the place 2 on, and its bytes and code points.
 fn show_decoded(rt: &impl Print, raw: &[u8]) -> io::Result<()> {
-    let mut out = [46u8; 16];
+    let mut out = [b'.'; 16];
     put(rt, raw)?;
     put(rt, b" = ")?;
     match texts::decode(raw, &mut out, 2) {
@@ -197,17 +158,18 @@ fn show_decoded(rt: &impl Print, raw: &[u8]) -> io::Result<()> {
     }
     number(rt, texts::decoded_len(raw))?;
     number(rt, texts::code_points(raw))?;
-    number(rt, texts::decoded_byte(raw, 1) as usize)?;
+    number(rt, usize::from(texts::decoded_byte(raw, 1)))?;
     line(rt, b"")
 }
 
 fn show_same(rt: &impl Print, a: &[u8], b: &[u8]) -> io::Result<()> {
     put(rt, a)?;
-    if texts::same_decoded(a, b) {
-        put(rt, b" means ")?;
+    let says: &[u8] = if texts::same_decoded(a, b) {
+        b" means "
     } else {
-        put(rt, b" does not mean ")?;
-    }
+        b" does not mean "
+    };
+    put(rt, says)?;
     line(rt, b)
 }
 

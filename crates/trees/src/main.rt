@@ -47,7 +47,7 @@ fn put_element(rt: &impl Print, text: &[u8], n: usize) -> io::Result<()> {
     put(rt, elements::name_of(text, n))?;
     put(rt, b"\n")?;
     let key = elements::key_of(text, n);
-    if key.len() != 0 {
+    if !key.is_empty() {
         put(rt, b"@")?;
         put(rt, key)?;
         put(rt, b"=")?;

@@ -1,5 +1,5 @@
 -- `row` ends, since a row goes on behind each of its elements.
-use Rattle.std.proofs.Common.{subst, arith}
+use Rattle.std.proofs.Common.{arith}
 use Rattle.elements_cases.proofs.row.Goals as goal
 
 pub loop-next-smaller : goal.loop-next-smaller
