@@ -12,6 +12,7 @@ use Rattle.xml.specs.Bytes.{is_space, is_ascii_letter, is_name_byte, declaration
 use Rattle.xml.specs.CheckSteps.{Mode, before, root, name, tag, key, keyed, equals, value, valued, content, opens, closed, after, more, lead239, Held, blank, words, children, State, at, reads, char, in_text, inside_element, tag_end, outside, leave, innermost, without_text, form_step, good, ended, form_run, form}
 use Rattle.xml.specs.Tree.{Head, Forest, none, node}
 use Rattle.xml.specs.Grammar.{Spaces, NameBytes, Name, Char, Entity, Value, Quoted, Equals, Attribute, Start, End, Text, Elements, Document, utf8, is_char}
+use Rattle.xml.proofs.Leads.{lead_two, lead_224, lead_three, lead_237, lead_239, lead_240, lead_four, lead_244}
 use Rattle.xml.proofs.Runs.{run_to, run_word}
 use Rattle.xml.proofs.Stays.{before_stay, tag_stay, keyed_stay, equals_stay, valued_stay, closed_stay, blank_stay, children_stay, after_stay}
 use Rattle.xml.proofs.Utf8.{Tail}
@@ -88,45 +89,9 @@ module _ (p : Mode) (ns : List (List ℕ)) where
       printable = ascii_printable c h e
 
   two_runs : (c : ℕ) (t : List ℕ) {s : List ℕ} → 128 ≤ c → c < 2048 → s ≡ (192 + c / 64) ∷ (128 + c % 64) ∷ t → Runs p ns s t
-  unfolding char
   two_runs c t h g z =
-      by_tail (192 + c / 64) 128 191 0 ((128 + c % 64) ∷ t) (omega arith)
-      (simp (le-ltb (192 + c / 64) 128 (omega arith), le-ltb (192 + c / 64) 194 (omega arith), lt-ltb (192 + c / 64) 224 (omega arith))) z
+      by_tail (192 + c / 64) 128 191 0 ((128 + c % 64) ∷ t) (omega arith) (lead_two p ns (192 + c / 64) (omega arith) (omega arith)) z
       (Tail.last (omega arith) (omega arith))
-
-  lead_224 : (b : ℕ) → b ≡ 224 → char p ns b ≡ at (more p 160 191 1) ns
-  unfolding char
-  lead_224 b e = rw e
-
-  lead_3 : (b : ℕ) → 225 ≤ b → b < 237 → char p ns b ≡ at (more p 128 191 1) ns
-  unfolding char
-  lead_3 b h g =
-      simp (le-ltb b 128 (omega arith), le-ltb b 194 (omega arith), le-ltb b 224 (omega arith), le-ltb b 225 h, lt-ltb b 237 g)
-
-  lead_237 : (b : ℕ) → b ≡ 237 → char p ns b ≡ at (more p 128 159 1) ns
-  unfolding char
-  lead_237 b e = rw e
-
-  lead_238 : (b : ℕ) → b ≡ 238 → char p ns b ≡ at (more p 128 191 1) ns
-  unfolding char
-  lead_238 b e = rw e
-
-  lead_239 : (b : ℕ) → b ≡ 239 → char p ns b ≡ at (lead239 p) ns
-  unfolding char
-  lead_239 b e = rw e
-
-  lead_240 : (b : ℕ) → b ≡ 240 → char p ns b ≡ at (more p 144 191 2) ns
-  unfolding char
-  lead_240 b e = rw e
-
-  lead_4 : (b : ℕ) → 241 ≤ b → b < 244 → char p ns b ≡ at (more p 128 191 2) ns
-  unfolding char
-  lead_4 b h g =
-      simp (le-ltb b 128 (omega arith), le-ltb b 194 (omega arith), le-ltb b 224 (omega arith), le-ltb b 225 (omega arith), le-ltb b 237 (omega arith), le-ltb b 238 (omega arith), le-ltb b 239 (omega arith), le-ltb b 240 (omega arith), le-ltb b 241 h, lt-ltb b 244 g)
-
-  lead_244 : (b : ℕ) → b ≡ 244 → char p ns b ≡ at (more p 128 143 2) ns
-  unfolding char
-  lead_244 b e = rw e
 
   three_low : (c : ℕ) (t : List ℕ) {s : List ℕ} → 2048 ≤ c → c ≤ 55295 → s ≡ (224 + c / 4096) ∷ (128 + c / 64 % 64) ∷ (128 + c % 64) ∷ t → Runs p ns s t
   three_low c t {s} h g z = go (ltb c 4096) (ltb c 53248) refl refl
@@ -134,14 +99,14 @@ module _ (p : Mode) (ns : List (List ℕ)) where
       go : (q r : Bool) → ltb c 4096 ≡ q → ltb c 53248 ≡ r → Runs p ns s t
       go true r x y =
           let l : c < 4096 = ltb-true c 4096 x in
-          by_tail (224 + c / 4096) 160 191 1 _ (omega arith) (lead_224 (224 + c / 4096) (omega arith)) z (Tail.next (omega arith) (omega arith) (Tail.last (omega arith) (omega arith)))
+          by_tail (224 + c / 4096) 160 191 1 _ (omega arith) (lead_224 p ns (224 + c / 4096) (omega arith)) z (Tail.next (omega arith) (omega arith) (Tail.last (omega arith) (omega arith)))
       go false true x y =
           let l : 4096 ≤ c = ltb-false c 4096 x in
           let m : c < 53248 = ltb-true c 53248 y in
-          by_tail (224 + c / 4096) 128 191 1 _ (omega arith) (lead_3 (224 + c / 4096) (omega arith) (omega arith)) z (Tail.next (omega arith) (omega arith) (Tail.last (omega arith) (omega arith)))
+          by_tail (224 + c / 4096) 128 191 1 _ (omega arith) (lead_three p ns (224 + c / 4096) (omega arith) (omega arith) (λ w. omega arith)) z (Tail.next (omega arith) (omega arith) (Tail.last (omega arith) (omega arith)))
       go false false x y =
           let m : 53248 ≤ c = ltb-false c 53248 y in
-          by_tail (224 + c / 4096) 128 159 1 _ (omega arith) (lead_237 (224 + c / 4096) (omega arith)) z (Tail.next (omega arith) (omega arith) (Tail.last (omega arith) (omega arith)))
+          by_tail (224 + c / 4096) 128 159 1 _ (omega arith) (lead_237 p ns (224 + c / 4096) (omega arith)) z (Tail.next (omega arith) (omega arith) (Tail.last (omega arith) (omega arith)))
 
   three_mid : (c : ℕ) (t : List ℕ) {s : List ℕ} → 57344 ≤ c → c ≤ 65533 → s ≡ (224 + c / 4096) ∷ (128 + c / 64 % 64) ∷ (128 + c % 64) ∷ t → Runs p ns s t
   unfolding form_step
@@ -155,13 +120,13 @@ module _ (p : Mode) (ns : List (List ℕ)) where
             split = z;
             not60 = omega arith;
             single = λ g. absurd (omega arith);
-            runs = ap (λ (σ : State). form_run σ (d ∷ u)) (lead_239 (224 + c / 4096) (omega arith)) ∙ run_to (lead239 p) ns d u (at (more p 128 hi 0) ns) e ∙ tail_run p ns x;
+            runs = ap (λ (σ : State). form_run σ (d ∷ u)) (lead_239 p ns (224 + c / 4096) (omega arith)) ∙ run_to (lead239 p) ns d u (at (more p 128 hi 0) ns) e ∙ tail_run p ns x;
           }
 
       go : (q r : Bool) → ltb c 61440 ≡ q → ltb c 65472 ≡ r → Runs p ns s t
       go true r x y =
           let l : c < 61440 = ltb-true c 61440 x in
-          by_tail (224 + c / 4096) 128 191 1 _ (omega arith) (lead_238 (224 + c / 4096) (omega arith)) z (Tail.next (omega arith) (omega arith) (Tail.last (omega arith) (omega arith)))
+          by_tail (224 + c / 4096) 128 191 1 _ (omega arith) (lead_three p ns (224 + c / 4096) (omega arith) (omega arith) (λ w. omega arith)) z (Tail.next (omega arith) (omega arith) (Tail.last (omega arith) (omega arith)))
       go false true x y =
           let l : 61440 ≤ c = ltb-false c 61440 x in
           let m : c < 65472 = ltb-true c 65472 y in
@@ -179,14 +144,14 @@ module _ (p : Mode) (ns : List (List ℕ)) where
       go : (q r : Bool) → ltb c 262144 ≡ q → ltb c 1048576 ≡ r → Runs p ns s t
       go true r x y =
           let l : c < 262144 = ltb-true c 262144 x in
-          by_tail (240 + c / 262144) 144 191 2 _ (omega arith) (lead_240 (240 + c / 262144) (omega arith)) z (Tail.next (omega arith) (omega arith) (Tail.next (omega arith) (omega arith) (Tail.last (omega arith) (omega arith))))
+          by_tail (240 + c / 262144) 144 191 2 _ (omega arith) (lead_240 p ns (240 + c / 262144) (omega arith)) z (Tail.next (omega arith) (omega arith) (Tail.next (omega arith) (omega arith) (Tail.last (omega arith) (omega arith))))
       go false true x y =
           let l : 262144 ≤ c = ltb-false c 262144 x in
           let m : c < 1048576 = ltb-true c 1048576 y in
-          by_tail (240 + c / 262144) 128 191 2 _ (omega arith) (lead_4 (240 + c / 262144) (omega arith) (omega arith)) z (Tail.next (omega arith) (omega arith) (Tail.next (omega arith) (omega arith) (Tail.last (omega arith) (omega arith))))
+          by_tail (240 + c / 262144) 128 191 2 _ (omega arith) (lead_four p ns (240 + c / 262144) (omega arith) (omega arith)) z (Tail.next (omega arith) (omega arith) (Tail.next (omega arith) (omega arith) (Tail.last (omega arith) (omega arith))))
       go false false x y =
           let m : 1048576 ≤ c = ltb-false c 1048576 y in
-          by_tail (240 + c / 262144) 128 143 2 _ (omega arith) (lead_244 (240 + c / 262144) (omega arith)) z (Tail.next (omega arith) (omega arith) (Tail.next (omega arith) (omega arith) (Tail.last (omega arith) (omega arith))))
+          by_tail (240 + c / 262144) 128 143 2 _ (omega arith) (lead_244 p ns (240 + c / 262144) (omega arith)) z (Tail.next (omega arith) (omega arith) (Tail.next (omega arith) (omega arith) (Tail.last (omega arith) (omega arith))))
 
   entity_runs : (e t : List ℕ) → Entity e → form_run (char p ns 38) (e ++ t) ≡ form_run (at p ns) t
   unfolding char form_run form_step reads bytes

@@ -2,23 +2,23 @@
 use mathlib.Core.Path.{◌≡◌, refl, sym, ◌∙◌}
 use mathlib.Core.Bool.{Bool, true, false, cond}
 use mathlib.Core.List.{List}
-use Prim.Native.Nat.{ℕ}
+use Prim.Native.Nat.{ℕ, ◌<◌}
 use native.Mathlib.Omega.{arith}
 use borrow.Author.Tests.{ne_eqb, eq-eqb}
 use lib.Dec.{leb, eqb, T, eqb→eq}
 use lib.ListN.{length, get_or}
 use Rattle.slices.proofs.Tables.{at, passes}
 use Rattle.xml.specs.Bytes.{is_space, is_ascii_letter, is_name_byte}
-use Rattle.xml.specs.ScanSteps.{is_text, kind_of, up_to, Kinds}
+use Rattle.xml.specs.ScanSteps.{is_text, kind_of, up_to}
 use Rattle.xml.proofs.Classes.{space_no_name, letter_no_space, letter_name, name_text, space_text}
 
 -- the entry k of the byte b is its kind
 unfoldable pub right : ℕ → ℕ → Bool
 right b k = eqb k (kind_of b)
 
-pub table_kinds : (ks : List ℕ) → length ks ≡ 256 → T (passes right 0 ks) → Kinds ks
+pub table_kinds : (ks : List ℕ) → length ks ≡ 256 → T (passes right 0 ks) → (b : ℕ) → b < 256 → get_or ks b 0 ≡ kind_of b
 unfolding right
-table_kinds ks l t = record { each = λ b h. eqb→eq (get_or ks b 0) (kind_of b) (at right ks t b (omega arith)) }
+table_kinds ks l t b h = eqb→eq (get_or ks b 0) (kind_of b) (at right ks t b (omega arith))
 
 -- by the answers l, n, s and t to the four tests of `kind_of`
 abbrev pick : Bool → Bool → Bool → Bool → ℕ

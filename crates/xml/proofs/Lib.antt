@@ -4,6 +4,7 @@ pub mod KindTable
 pub mod Past
 pub mod Stays
 pub mod Runs
+pub mod Leads
 pub mod Wide
 pub mod Scanning
 pub mod Scanned

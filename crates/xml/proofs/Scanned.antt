@@ -1,4 +1,5 @@
 -- Scans put together: from one byte, from a run of bytes, from one scan and the next.
+use Rattle.std.specs.Prelude.{Ok, Err}
 use mathlib.Core.Path.{◌≡◌, refl, ap, ◌∙◌, sym, subst}
 use mathlib.Core.Bool.{Bool, true}
 use mathlib.Core.List.{List, ◌++◌}
@@ -8,9 +9,8 @@ use lib.ListN.{length, take, drop, get_or, take-append-drop}
 use lib.Seq.{drop-drop}
 use Rattle.xml.specs.Bytes.{is_ascii_letter}
 use Rattle.xml.specs.CheckSteps.{Mode, State, stop, at, reads, form_step, broken, ended, form_run}
-use Rattle.xml.specs.ScanSteps.{Past, Scans, Between, goes_on}
-use Rattle.xml.specs.declared.bytes.Scan.{Scan}
-use Rattle.xml.specs.declared.bytes.Scan.TheVariants.{At, Broken}
+use Rattle.xml.specs.ScanSteps.{Past, Scan, Scans, Between, goes_on}
+use Rattle.xml.specs.declared.bytes.Unread.{Unread}
 use Rattle.xml.proofs.Classes.{letter_high}
 use Rattle.xml.proofs.Past.{past_ahead}
 use Rattle.xml.proofs.Runs.{run_word}
@@ -24,12 +24,12 @@ pub inside_letter : (t : List ℕ) (i : ℕ) → is_ascii_letter (get_or t i 0) 
 inside_letter t i e = inside t i (λ z. omega (arith, letter_high (get_or t i 0) e, z))
 
 later : (i j n : ℕ) → i ≤ j → (r : Scan) → Between j n r → Between i n r
-later i j n h (At k) b = (omega arith, b.1)
-later i j n h (Broken u) b = tt
+later i j n h (Ok k) b = (omega arith, b.1)
+later i j n h (Err u) b = tt
 
 module _ {t : List ℕ} {i : ℕ} where
   -- the scan ends where it is
-  pub scan_done : {σ : List (List ℕ) → State} → i ≤ length t → Scans t i σ σ (At i)
+  pub scan_done : {σ : List (List ℕ) → State} → i ≤ length t → Scans t i σ σ (Ok i)
   scan_done h = record { runs = λ ns. refl; ends = (omega arith, h) }
 
   -- it begins as another
@@ -49,14 +49,14 @@ module _ {t : List ℕ} {i : ℕ} where
 
   -- the byte b does not fit, or there is none
   pub scan_refused : {p : Mode} {to : List (List ℕ) → State} (b : ℕ) → b ≡ get_or t i 0 → i ≤ length t → ended p ≡ broken 0
-      → ((ns : List (List ℕ)) → form_step p ns b ≡ stop) → Scans t i (at p) to (Broken (length t - i))
+      → ((ns : List (List ℕ)) → form_step p ns b ≡ stop) → Scans t i (at p) to (Err (record { 0 = length t - i }))
   scan_refused {p} b e h n f = record { runs = λ ns. run_refused t i p ns h n (ap (form_step p ns) (sym e) ∙ f ns); ends = tt }
 
-  pub scan_out : {p : Mode} {to : List (List ℕ) → State} → i ≤ length t → length t ≤ i → ended p ≡ broken 0 → Scans t i (at p) to (Broken (length t - i))
+  pub scan_out : {p : Mode} {to : List (List ℕ) → State} → i ≤ length t → length t ≤ i → ended p ≡ broken 0 → Scans t i (at p) to (Err (record { 0 = length t - i }))
   scan_out {p} h g n = record { runs = λ ns. run_out t i p ns g ∙ n ∙ ap broken (omega arith); ends = tt }
 
   -- the byte before stopped the machine
-  pub scan_stopped : {σ to : List (List ℕ) → State} → i < length t → ((ns : List (List ℕ)) → σ ns ≡ stop) → Scans t (i + 1) σ to (Broken (length t - i))
+  pub scan_stopped : {σ to : List (List ℕ) → State} → i < length t → ((ns : List (List ℕ)) → σ ns ≡ stop) → Scans t (i + 1) σ to (Err (record { 0 = length t - i }))
   scan_stopped h e = record { runs = λ ns. run_stopped t i h (e ns); ends = tt }
 
   -- bytes at which the machine stays
@@ -74,20 +74,20 @@ module _ {t : List ℕ} {i : ℕ} where
   scan_is {a} {b} x e = subst (Scans t i a b) e x
 
   -- a word that stands there
-  pub scan_word : {p : Mode} (w : List ℕ) (j : ℕ) → take (j - i) (drop i t) ≡ w → i ≤ j → j ≤ length t → Scans t i (at (reads p w)) (at p) (At j)
+  pub scan_word : {p : Mode} (w : List ℕ) (j : ℕ) → take (j - i) (drop i t) ≡ w → i ≤ j → j ≤ length t → Scans t i (at (reads p w)) (at p) (Ok j)
   scan_word {p} w j e h l =
       let n : i + (j - i) ≡ j = omega arith in
       let d : drop i t ≡ w ++ drop j t = sym (take-append-drop (j - i) (drop i t)) ∙ ap (λ (v : List ℕ). v ++ drop (j - i) (drop i t)) e ∙ ap (λ (v : List ℕ). w ++ v) (drop-drop (j - i) i t ∙ ap (λ (k : ℕ). drop k t) n) in
       record { runs = λ ns. ap (form_run (at (reads p w) ns)) d ∙ run_word p ns w (drop j t); ends = (h, l) }
 
   -- one scan and the next
-  pub scan_then : {a b c : List (List ℕ) → State} {r s : Scan} (j : ℕ) → Scans t i a b r → r ≡ At j → Scans t j b c s → Scans t i a c s
+  pub scan_then : {a b c : List (List ℕ) → State} {r s : Scan} (j : ℕ) → Scans t i a b r → r ≡ Ok j → Scans t j b c s → Scans t i a c s
   scan_then {b = b} {s = s} j x e y =
       let z : (i ≤ j) × (j ≤ length t) = subst (Between i (length t)) e x.ends in
       record { runs = λ ns. x.runs ns ∙ ap (goes_on t (b ns)) e ∙ y.runs ns; ends = later i j (length t) z.0 s y.ends }
 
-  pub scan_broken : {a b c : List (List ℕ) → State} {r : Scan} (u : ℕ) → Scans t i a b r → r ≡ Broken u → Scans t i a c (Broken u)
+  pub scan_broken : {a b c : List (List ℕ) → State} {r : Scan} (u : Unread) → Scans t i a b r → r ≡ Err u → Scans t i a c (Err u)
   scan_broken {b = b} u x e = record { runs = λ ns. x.runs ns ∙ ap (goes_on t (b ns)) e; ends = tt }
 
-  pub scan_bounds : {a b : List (List ℕ) → State} {r : Scan} (j : ℕ) → Scans t i a b r → r ≡ At j → (i ≤ j) × (j ≤ length t)
+  pub scan_bounds : {a b : List (List ℕ) → State} {r : Scan} (j : ℕ) → Scans t i a b r → r ≡ Ok j → (i ≤ j) × (j ≤ length t)
   scan_bounds j x e = subst (Between i (length t)) e x.ends

@@ -7,8 +7,8 @@ use native.Mathlib.Omega.{arith}
 use borrow.Author.Tests.{lt-ltb, ne_eqb, leb-true}
 use lib.Dec.{eqb, leb}
 use Rattle.xml.specs.Bytes.{is_space, is_name_byte}
-use Rattle.xml.specs.CheckSteps.{before, tag, key, keyed, equals, valued, content, blank, words, children, closed, after, opens, stop, at, char, in_text, inside_element, without_text, form_step}
-use Rattle.xml.specs.ScanSteps.{is_text, held}
+use Rattle.xml.specs.CheckSteps.{before, root, tag, key, keyed, equals, valued, content, blank, words, children, closed, after, opens, stop, at, leave, char, in_text, inside_element, without_text, form_step, ended}
+use Rattle.xml.specs.ScanSteps.{is_text, held, Scan, Scans, ScansByte}
 use Rattle.xml.proofs.Classes.{space_low, space_not}
 use Rattle.xml.proofs.Logic.{and_both}
 
@@ -118,3 +118,17 @@ pub held_text : (c : Bool) (ns : List (List ℕ)) (b : ℕ) → c ≡ false → 
 unfolding form_step inside_element
 held_text true ns b h e f = absurd (false≢true (sym h))
 held_text false ns b h e f = simp (f, e)
+
+-- white space, and then the one byte that may follow it
+module _ {t : List ℕ} {i : ℕ} {r : Scan} where
+  pub to_equals : ScansByte t i 61 r → Scans t i (at keyed) (at equals) r
+  unfolding form_step is_space ended
+  to_equals x = x keyed (at equals) refl refl keyed_stay (λ ns. refl) (λ ns c s n. simp (s, ne_eqb c 61 n))
+
+  pub to_leave : ScansByte t i 62 r → Scans t i (at closed) leave r
+  unfolding form_step is_space ended
+  to_leave x = x closed leave refl refl closed_stay (λ ns. refl) (λ ns c s n. simp (s, ne_eqb c 62 n))
+
+  pub to_root : ScansByte t i 60 r → Scans t i (at before) (at root) r
+  unfolding form_step is_space ended
+  to_root x = x before (at root) refl refl before_stay (λ ns. refl) (λ ns c s n. simp (s, ne_eqb c 60 n))

@@ -1,4 +1,6 @@
 -- Start tags put together: the name, and then what the rest of the tag leads to.
+use Rattle.std.specs.Prelude.{Some, None, Result, Ok, Err}
+use Rattle.std.specs.Borrow.{Bor}
 use mathlib.Core.Path.{◌≡◌, refl, ap, ◌∙◌, sym, subst}
 use mathlib.Core.Bool.{Bool, true, false, cond}
 use mathlib.Core.List.{List, [], ◌∷◌, ◌++◌, append_assoc, append-nil}
@@ -10,32 +12,35 @@ use lib.Seq.{drop-cons, drop-drop}
 use Rattle.xml.specs.Bytes.{is_ascii_letter, is_name_byte}
 use Rattle.xml.specs.Tree.{front}
 use Rattle.xml.specs.CheckSteps.{Mode, name, tag, content, blank, State, stop, at, leave, form_step, ended, form_run}
-use Rattle.xml.specs.ScanSteps.{Past, Scans, ScansTag, TagBetween, Starts, part, tagged}
-use Rattle.xml.specs.declared.bytes.Scan.TheVariants.{At, Broken}
+use Rattle.xml.specs.ScanSteps.{Past, Scans, ScansTag, ToldFrom, Starts, part, told, tag_state}
+use Rattle.xml.specs.declared.bytes.Unread.{Unread}
 use Rattle.xml.specs.declared.tags.TagEnd.{TagEnd}
-use Rattle.xml.specs.declared.tags.Start.{Start}
+use Rattle.xml.specs.declared.tags.TagEnd.TheVariants.{Open, Empty}
 use Rattle.xml.proofs.Classes.{letter_name}
 use Rattle.xml.proofs.Past.{front_more, past_stop}
 use Rattle.xml.proofs.Scanning.{run_on, run_as}
 use Rattle.xml.proofs.Runs.{run_to}
 
-later : (i j n : ℕ) → i ≤ j → (r : TagEnd) → TagBetween j n r → TagBetween i n r
-later i j n h (TagEnd.Open k) b = (omega arith, b.1)
-later i j n h (TagEnd.Empty k) b = (omega arith, b.1)
-later i j n h (TagEnd.Broken u) b = tt
+-- what a scan told, by a name for it
+pub tells : {A : Type 0} {r : Result (A × ℕ) Unread} (p : A × ℕ) (a : A) → r ≡ Ok p → p.0 ≡ a → r ≡ Ok (a, p.1)
+tells {A} p a e f = e ∙ ap (λ (w : A). Ok (w, p.1)) f
+
+later : (i j n : ℕ) → i ≤ j → (r : Result (TagEnd × ℕ) Unread) → ToldFrom j n r → ToldFrom i n r
+later i j n h (Ok p) b = (omega arith, b.1)
+later i j n h (Err u) b = tt
 
 module _ {t : List ℕ} {i : ℕ} where
   -- a scan, and then the rest of the tag
-  pub tags_after : {a b : List (List ℕ) → State} {r : TagEnd} (j : ℕ) → Scans t i a b (At j) → ScansTag t j b r → ScansTag t i a r
+  pub tags_after : {a b : List (List ℕ) → State} {r : Result (TagEnd × ℕ) Unread} (j : ℕ) → Scans t i a b (Ok j) → ScansTag t j b r → ScansTag t i a r
   tags_after {r = r} j x y = record { runs = λ ns. x.runs ns ∙ y.runs ns; ends = later i j (length t) x.ends.0 r y.ends }
 
-  pub tags_broken : {a b : List (List ℕ) → State} {u : ℕ} → Scans t i a b (Broken u) → ScansTag t i a (TagEnd.Broken u)
+  pub tags_broken : {a b : List (List ℕ) → State} {u : Unread} → Scans t i a b (Err u) → ScansTag t i a (Err u)
   tags_broken x = record { runs = x.runs; ends = tt }
 
-  pub tags_open : (j : ℕ) {a : List (List ℕ) → State} → Scans t i a (at (content blank)) (At j) → ScansTag t i a (TagEnd.Open j)
+  pub tags_open : (j : ℕ) {a : List (List ℕ) → State} → Scans t i a (at (content blank)) (Ok j) → ScansTag t i a (Ok (Open, j))
   tags_open j x = record { runs = x.runs; ends = x.ends }
 
-  pub tags_empty : (j : ℕ) {a : List (List ℕ) → State} → Scans t i a leave (At j) → ScansTag t i a (TagEnd.Empty j)
+  pub tags_empty : (j : ℕ) {a : List (List ℕ) → State} → Scans t i a leave (Ok j) → ScansTag t i a (Ok (Empty, j))
   tags_empty j x = record { runs = x.runs; ends = x.ends }
 
 -- the rest of a name
@@ -92,23 +97,25 @@ module _ (t : List ℕ) (i e : ℕ) (l : i < length t) (h : is_ascii_letter (get
   starts p ns f = f ∙ simp h
 
   -- the start tag, by how its rest ended
-  pub starts_open : {r : TagEnd} (j : ℕ) → ScansTag t e (at tag) r → r ≡ TagEnd.Open j → Starts t i (Start.Open e j)
-  starts_open j x g =
-      let b : (e ≤ j) × (j ≤ length t) = subst (TagBetween e (length t)) g x.ends in
+  pub starts_open : {r : Result (TagEnd × ℕ) Unread} (n : Bor (List ℕ)) (j : ℕ) → n.now ≡ part t i e → ScansTag t e (at tag) r → r ≡ Ok (Open, j)
+      → Starts t i (Ok (Some n, j))
+  starts_open n j m x g =
+      let b : (e ≤ j) × (j ≤ length t) = subst (ToldFrom e (length t)) g x.ends in
       record {
-        runs = λ p ns n f. run_named p ns (starts p ns f) ∙ x.runs (part t i e ∷ ns) ∙ ap (tagged t (part t i e ∷ ns)) g;
-        ends = (omega (arith, front_rest), omega arith, omega (arith, front_rest), b.1);
-      }
-
-  pub starts_empty : {r : TagEnd} (j : ℕ) → ScansTag t e (at tag) r → r ≡ TagEnd.Empty j → Starts t i (Start.Empty j)
-  unfolding leave
-  starts_empty j x g =
-      let b : (e ≤ j) × (j ≤ length t) = subst (TagBetween e (length t)) g x.ends in
-      record {
-        runs = λ p ns n f. run_named p ns (starts p ns f) ∙ x.runs (part t i e ∷ ns) ∙ ap (tagged t (part t i e ∷ ns)) g;
+        runs = λ p ns o f. run_named p ns (starts p ns f) ∙ x.runs (part t i e ∷ ns) ∙ ap (told t (tag_state (part t i e ∷ ns))) g
+            ∙ ap (λ (w : List ℕ). form_run (at (content blank) (w ∷ ns)) (drop j t)) (sym m);
         ends = (omega (arith, front_rest), b.1);
       }
 
-  pub starts_broken : {r : TagEnd} (u : ℕ) → ScansTag t e (at tag) r → r ≡ TagEnd.Broken u → Starts t i (Start.Broken u)
+  pub starts_empty : {r : Result (TagEnd × ℕ) Unread} (j : ℕ) → ScansTag t e (at tag) r → r ≡ Ok (Empty, j) → Starts t i (Ok (None, j))
+  unfolding leave
+  starts_empty j x g =
+      let b : (e ≤ j) × (j ≤ length t) = subst (ToldFrom e (length t)) g x.ends in
+      record {
+        runs = λ p ns n f. run_named p ns (starts p ns f) ∙ x.runs (part t i e ∷ ns) ∙ ap (told t (tag_state (part t i e ∷ ns))) g;
+        ends = (omega (arith, front_rest), b.1);
+      }
+
+  pub starts_broken : {r : Result (TagEnd × ℕ) Unread} (u : Unread) → ScansTag t e (at tag) r → r ≡ Err u → Starts t i (Err u)
   starts_broken u x g =
-      record { runs = λ p ns n f. run_named p ns (starts p ns f) ∙ x.runs (part t i e ∷ ns) ∙ ap (tagged t (part t i e ∷ ns)) g; ends = tt }
+      record { runs = λ p ns n f. run_named p ns (starts p ns f) ∙ x.runs (part t i e ∷ ns) ∙ ap (told t (tag_state (part t i e ∷ ns))) g; ends = tt }

@@ -6,8 +6,7 @@ use Rattle.slices.specs.Words.{bytes}
 use Rattle.refusals.specs.declared.Refusal.TheVariants.{Form}
 use Rattle.xml.specs.Bytes.{is_space, is_ascii_letter, is_name_byte, declaration}
 use Rattle.xml.specs.declared.FormError.{FormError}
-use Rattle.xml.specs.declared.Ending.{Ending}
-use Rattle.xml.specs.declared.Ending.TheVariants as ending
+use Rattle.xml.specs.declared.bytes.Unread.{Unread}
 
 -- what an element holds so far: white space alone; text that ends in 0, 1, or 2 or more `]`; elements
 pub data Held : Type 0 where
@@ -194,7 +193,7 @@ module _ {A : Type 0} where
 abbrev pub form_checked : List ℕ → Result (Unit {0}) FormError
 form_checked s = cond (in_form s) (Ok tt) (Err (record { front = front s }))
 
--- the outcome by its parts
-abbrev pub outcome_of : Ending → Outcome
-outcome_of ending.Good = good
-outcome_of (ending.Broken u) = broken u
+-- the outcome that an end shows
+abbrev pub outcome_of : Result (Unit {0}) Unread → Outcome
+outcome_of (Ok u) = good
+outcome_of (Err r) = broken r.0

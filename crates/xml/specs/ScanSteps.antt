@@ -1,15 +1,15 @@
 -- What the scanners of the form check promise each other: the machine comes to the same from where a scanner began as from where it ended.
-use Rattle.std.specs.Prelude.{◌≡◌, Bool, true, false, cond, not, ◌&&◌, ◌||◌, List, [], ◌∷◌, ◌++◌, ℕ, suc, ◌+◌, ◌-◌, ◌≤◌, ◌<◌, length, take, drop, get_or, leb, ltb, eqb}
+use Rattle.std.specs.Prelude.{◌≡◌, ◌≢◌, Bool, true, false, cond, not, ◌&&◌, ◌||◌, List, [], ◌∷◌, ◌++◌, ℕ, suc, ◌+◌, ◌-◌, ◌≤◌, ◌<◌, length, take, drop, get_or, leb, ltb, eqb, Option, Some, None, Result, Ok, Err}
+use Rattle.std.specs.Borrow.{Bor}
 use Rattle.slices.specs.Slices.{within}
 use Rattle.xml.specs.Bytes.{is_space, is_ascii_letter, is_name_byte}
 use Rattle.xml.specs.Tree.{front}
 use Rattle.xml.specs.CheckSteps.{Held, blank, children, words, Mode, name, content, opens, State, stop, at, char, tag_end, outside, leave, form_step, Outcome, broken, ended, form_run}
-use Rattle.xml.specs.declared.bytes.Scan.{Scan}
-use Rattle.xml.specs.declared.bytes.Scan.TheVariants.{At, Broken}
+use Rattle.xml.specs.declared.bytes.Unread.{Unread}
 use Rattle.xml.specs.declared.tags.TagEnd.{TagEnd}
-use Rattle.xml.specs.declared.tags.Start.{Start}
-use Rattle.xml.specs.declared.Markup.{Markup}
+use Rattle.xml.specs.declared.tags.TagEnd.TheVariants.{Open, Empty}
 use Rattle.xml.specs.declared.Turn.{Turn}
+use Rattle.xml.specs.declared.Turn.TheVariants.{Opened, Inside, Outside}
 
 -- bytes that text has under no further rule: white space, and ASCII characters other than `<`, `&`, `>` and `]`
 unfoldable pub is_text : ℕ → Bool
@@ -21,10 +21,6 @@ kind_of b = cond (is_ascii_letter b) 97 (cond (is_name_byte b) 98 (cond (is_spac
 
 abbrev pub up_to : ℕ → ℕ → Bool
 up_to hi b = leb (kind_of b) hi
-
--- a table of the kinds of bytes
-pub record Kinds (ks : List ℕ) : Type 0 where
-  pub each : (b : ℕ) → b < 256 → get_or ks b 0 ≡ kind_of b
 
 -- j is the end of the bytes from i on that pass the test
 pub record Past (f : ℕ → Bool) (t : List ℕ) (i j : ℕ) : Type 0 where
@@ -41,20 +37,31 @@ pub record Along (f : ℕ → Bool) (t : List ℕ) (i j : ℕ) : Type 0 where
 abbrev pub first : Mode → ℕ → List (List ℕ) → State
 first p b ns = char p ns b
 
+-- the position that a scan came to, or how many bytes are unread
+abbrev pub Scan : Type 0
+Scan = Result ℕ Unread
+
 -- the outcome where a scan that leads to the state σ ended so
 abbrev pub goes_on : List ℕ → State → Scan → Outcome
-goes_on t σ (At i) = form_run σ (drop i t)
-goes_on t σ (Broken u) = broken u
+goes_on t σ (Ok i) = form_run σ (drop i t)
+goes_on t σ (Err u) = broken u.0
 
 -- from i on, and not past n
 abbrev pub Between : ℕ → ℕ → Scan → Type 0
-Between i n (At j) = (i ≤ j) × (j ≤ n)
-Between i n (Broken u) = Unit {0}
+Between i n (Ok j) = (i ≤ j) × (j ≤ n)
+Between i n (Err u) = Unit {0}
 
 -- a scan of t from i on, where the machine is at `from`, to where it is at `to`, whatever elements are open
 pub record Scans (t : List ℕ) (i : ℕ) (from to : List (List ℕ) → State) (r : Scan) : Type 0 where
   pub runs : (ns : List (List ℕ)) → form_run (from ns) (drop i t) ≡ goes_on t (to ns) r
   pub ends : Between i (length t) r
+
+-- white space and then the byte b, from i on: wherever the machine stays at white space, goes from b to σ, and stops at each other byte
+abbrev pub ScansByte : List ℕ → ℕ → ℕ → Scan → Type 0
+ScansByte t i b r =
+    (p : Mode) (σ : List (List ℕ) → State) → ended p ≡ broken 0 → is_space b ≡ false
+    → ((ns : List (List ℕ)) (c : ℕ) → is_space c ≡ true → form_step p ns c ≡ at p ns) → ((ns : List (List ℕ)) → form_step p ns b ≡ σ ns)
+    → ((ns : List (List ℕ)) (c : ℕ) → is_space c ≡ false → c ≢ b → form_step p ns c ≡ stop) → Scans t i (at p) σ r
 
 -- r is true only where the bytes w complete the character that begins with b
 pub record Completes (b : ℕ) (w : List ℕ) (r : Bool) : Type 0 where
@@ -62,71 +69,74 @@ pub record Completes (b : ℕ) (w : List ℕ) (r : Bool) : Type 0 where
 
 -- text from i to j, where the machine is as it was at i: in text that ends in no `]`
 abbrev pub TextTo : List ℕ → ℕ → ℕ → Type 0
-TextTo t i j = Scans t i (at (content (words 0))) (at (content (words 0))) (At j)
+TextTo t i j = Scans t i (at (content (words 0))) (at (content (words 0))) (Ok j)
 
 -- the bytes of t from i to j
 abbrev pub part : List ℕ → ℕ → ℕ → List ℕ
 part t i j = take (j - i) (drop i t)
 
--- the outcome where the rest of a start tag in the elements ns, its own first, ended so
-abbrev pub tagged : List ℕ → List (List ℕ) → TagEnd → Outcome
-tagged t ns (TagEnd.Open i) = form_run (at (content blank) ns) (drop i t)
-tagged t ns (TagEnd.Empty i) = form_run (leave ns) (drop i t)
-tagged t ns (TagEnd.Broken u) = broken u
+-- A scan that tells something, beside the position that it came to.
+module _ {A : Type 0} where
+  -- the outcome where one that leads to the states `to` ended so
+  abbrev pub told : List ℕ → (A → State) → Result (A × ℕ) Unread → Outcome
+  told t to (Ok p) = form_run (to p.0) (drop p.1 t)
+  told t to (Err u) = broken u.0
 
-abbrev pub TagBetween : ℕ → ℕ → TagEnd → Type 0
-TagBetween i n (TagEnd.Open j) = (i ≤ j) × (j ≤ n)
-TagBetween i n (TagEnd.Empty j) = (i ≤ j) × (j ≤ n)
-TagBetween i n (TagEnd.Broken u) = Unit {0}
+  -- from i on, and not past n
+  abbrev pub ToldFrom : ℕ → ℕ → Result (A × ℕ) Unread → Type 0
+  ToldFrom i n (Ok p) = (i ≤ p.1) × (p.1 ≤ n)
+  ToldFrom i n (Err u) = Unit {0}
+
+  -- ahead of i, and not past n
+  abbrev pub ToldAhead : ℕ → ℕ → Result (A × ℕ) Unread → Type 0
+  ToldAhead i n (Ok p) = (i < p.1) × (p.1 ≤ n)
+  ToldAhead i n (Err u) = Unit {0}
+
+-- behind a start tag in the elements ns, its own first
+abbrev pub tag_state : List (List ℕ) → TagEnd → State
+tag_state ns Open = at (content blank) ns
+tag_state ns Empty = leave ns
 
 -- the rest of a start tag, from i on, where the machine is at `from`
-pub record ScansTag (t : List ℕ) (i : ℕ) (from : List (List ℕ) → State) (r : TagEnd) : Type 0 where
-  pub runs : (ns : List (List ℕ)) → form_run (from ns) (drop i t) ≡ tagged t ns r
-  pub ends : TagBetween i (length t) r
+pub record ScansTag (t : List ℕ) (i : ℕ) (from : List (List ℕ) → State) (r : Result (TagEnd × ℕ) Unread) : Type 0 where
+  pub runs : (ns : List (List ℕ)) → form_run (from ns) (drop i t) ≡ told t (tag_state ns) r
+  pub ends : ToldFrom i (length t) r
 
 -- the `>` or `/>` of a start tag at i, wherever only one of them may be
-abbrev pub ShutsTag : List ℕ → ℕ → TagEnd → Type 0
+abbrev pub ShutsTag : List ℕ → ℕ → Result (TagEnd × ℕ) Unread → Type 0
 ShutsTag t i r =
     (p : Mode) → ended p ≡ broken 0 → ((ns : List (List ℕ)) → form_step p ns (get_or t i 0) ≡ tag_end ns (get_or t i 0)) → ScansTag t i (at p) r
 
--- the outcome where a start tag from i on, inside the elements ns, ended so
-abbrev pub started : List ℕ → ℕ → List (List ℕ) → Start → Outcome
-started t i ns (Start.Open e j) = form_run (at (content blank) (part t i e ∷ ns)) (drop j t)
-started t i ns (Start.Empty j) = form_run (outside ns) (drop j t)
-started t i ns (Start.Broken u) = broken u
-
-abbrev pub StartBetween : ℕ → ℕ → Start → Type 0
-StartBetween i n (Start.Open e j) = (i ≤ e) × (e ≤ n) × (i < j) × (j ≤ n)
-StartBetween i n (Start.Empty j) = (i < j) × (j ≤ n)
-StartBetween i n (Start.Broken u) = Unit {0}
+-- behind a start tag inside the elements ns: in the element with this name, or none that it opens
+abbrev pub start_state : List (List ℕ) → Option (Bor (List ℕ)) → State
+start_state ns (Some n) = at (content blank) (n.now ∷ ns)
+start_state ns None = outside ns
 
 -- a start tag from i on, at a place where only one may be
-pub record Starts (t : List ℕ) (i : ℕ) (r : Start) : Type 0 where
+pub record Starts (t : List ℕ) (i : ℕ) (r : Result (Option (Bor (List ℕ)) × ℕ) Unread) : Type 0 where
   pub runs : (p : Mode) (ns : List (List ℕ)) → ended p ≡ broken 0
-      → form_step p ns (get_or t i 0) ≡ cond (is_ascii_letter (get_or t i 0)) (at (name (get_or t i 0 ∷ [])) ns) stop → form_run (at p ns) (drop i t) ≡ started t i ns r
-  pub ends : StartBetween i (length t) r
+      → form_step p ns (get_or t i 0) ≡ cond (is_ascii_letter (get_or t i 0)) (at (name (get_or t i 0 ∷ [])) ns) stop → form_run (at p ns) (drop i t) ≡ told t (start_state ns) r
+  pub ends : ToldAhead i (length t) r
 
--- the outcome where the next tag of the element n, inside the elements ns, ended so
-abbrev pub turned : List ℕ → List ℕ → List (List ℕ) → Turn → Outcome
-turned t n ns (Turn.Opened s e j) = form_run (at (content blank) (part t s e ∷ n ∷ ns)) (drop j t)
-turned t n ns (Turn.Inside j) = form_run (at (content children) (n ∷ ns)) (drop j t)
-turned t n ns (Turn.Outside j) = form_run (outside ns) (drop j t)
-turned t n ns (Turn.Broken u) = broken u
+-- behind the next tag of the element n, inside the elements ns
+abbrev pub turn_state : List ℕ → List (List ℕ) → Turn → State
+turn_state n ns (Opened m) = at (content blank) (m.now ∷ n ∷ ns)
+turn_state n ns Inside = at (content children) (n ∷ ns)
+turn_state n ns Outside = outside ns
 
--- ahead of i, and not past n; an element opens only where one may
-abbrev pub TurnBetween : ℕ → ℕ → Bool → Turn → Type 0
-TurnBetween i n begins (Turn.Opened s e j) = (begins ≡ true) × (s ≤ e) × (e ≤ n) × (i < j) × (j ≤ n)
-TurnBetween i n begins (Turn.Inside j) = (i < j) × (j ≤ n)
-TurnBetween i n begins (Turn.Outside j) = (i < j) × (j ≤ n)
-TurnBetween i n begins (Turn.Broken u) = Unit {0}
+-- an element opens only where one may
+abbrev pub OpensIf : Bool → Result (Turn × ℕ) Unread → Type 0
+OpensIf begins (Ok p) = elim p.0 [ Opened m ↦ begins ≡ true | Inside ↦ Unit {0} | Outside ↦ Unit {0} ]
+OpensIf begins (Err u) = Unit {0}
 
 -- the next tag of the element n, from i on, where the machine is at `from`, in all elements around n that are as `around` says
-pub record Turns (t : List ℕ) (i : ℕ) (n : List ℕ) (begins : Bool) (from : List (List ℕ) → State) (around : List (List ℕ) → Type 0) (r : Turn) : Type 0 where
-  pub runs : (ns : List (List ℕ)) → around ns → form_run (from (n ∷ ns)) (drop i t) ≡ turned t n ns r
-  pub ends : TurnBetween i (length t) begins r
+pub record Turns (t : List ℕ) (i : ℕ) (n : List ℕ) (begins : Bool) (from : List (List ℕ) → State) (around : List (List ℕ) → Type 0) (r : Result (Turn × ℕ) Unread) : Type 0 where
+  pub runs : (ns : List (List ℕ)) → around ns → form_run (from (n ∷ ns)) (drop i t) ≡ told t (turn_state n ns) r
+  pub ends : ToldAhead i (length t) r
+  pub opens_if : OpensIf begins r
 
 -- a tag of the element n from behind its `<` on, where an element may begin or not
-abbrev pub OpensTurn : List ℕ → ℕ → List ℕ → Bool → Turn → Type 0
+abbrev pub OpensTurn : List ℕ → ℕ → List ℕ → Bool → Result (Turn × ℕ) Unread → Type 0
 OpensTurn t i n begins r = (o : Bool) → Turns t i n begins (at (opens o)) (λ ns. (o && ltb (suc (length ns)) 64) ≡ begins) r
 
 -- an element with children so far, or with white space alone
@@ -135,10 +145,10 @@ held true = children
 held false = blank
 
 -- the content of an element from i on, up to its next `<`, behind which an element may begin or not
-abbrev pub Reaches : List ℕ → ℕ → Bool → Markup → Type 0
-Reaches t i some (Markup.At j o) = Scans t i (at (content (held some))) (at (opens o)) (At j)
-Reaches t i some (Markup.Broken u) = Scans t i (at (content (held some))) (at (opens false)) (Broken u)
+pub record Reaches (t : List ℕ) (i : ℕ) (some : Bool) (r : Result (Bool × ℕ) Unread) : Type 0 where
+  pub runs : (ns : List (List ℕ)) → form_run (at (content (held some)) ns) (drop i t) ≡ told t (λ o. at (opens o) ns) r
+  pub ends : ToldFrom i (length t) r
 
 -- what follows in the element n at that depth, up to the end of its next tag
-abbrev pub NextTurn : List ℕ → ℕ → List ℕ → Bool → ℕ → Turn → Type 0
+abbrev pub NextTurn : List ℕ → ℕ → List ℕ → Bool → ℕ → Result (Turn × ℕ) Unread → Type 0
 NextTurn t i n some depth r = Turns t i n (ltb depth 64) (at (content (held some))) (λ ns. suc (length ns) ≡ depth) r

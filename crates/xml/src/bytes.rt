@@ -2,11 +2,11 @@
 ghost use Rattle.std.specs.Prelude.{◌≡◌, ◌+◌, ◌≤◌, length, get_or};
 ghost use Rattle.xml.specs.Bytes.{is_space, is_name_byte};
 ghost use Rattle.xml.specs.CheckSteps.{Mode, at, reads};
-ghost use Rattle.xml.specs.ScanSteps.{is_text, kind_of, up_to, Kinds, Past, Along, Scans};
+ghost use Rattle.xml.specs.ScanSteps.{is_text, kind_of, up_to, Past, Along, Scans};
 
 // The kind of each byte: `a` a letter, `b` another byte of a name, `c` another byte that text has under no further rule, `d` white space, `e` any
 // other byte.
-pub(crate) const KINDS: [u8; 256] = *b"\
+static KINDS: [u8; 256] = *b"\
     eeeeeeeeeddeedeeeeeeeeeeeeeeeeee\
     dccccceccccccbbcbbbbbbbbbbccecec\
     caaaaaaaaaaaaaaaaaaaaaaaaaaccecb\
@@ -17,65 +17,52 @@ pub(crate) const KINDS: [u8; 256] = *b"\
     eeeeeeeeeeeeeeeeeeeeeeeeeeeeeeee";
 
 // The kind of b.
-pub(crate) fn kind(b: u8, kinds: &[u8; 256]) -> u8
-    requires { Kinds kinds.now }
+pub(crate) fn kind(b: u8) -> u8
     ensures { result ≡ kind_of b }
 {
-    kinds[b as usize]
+    KINDS[usize::from(b)]
 }
 
 // The byte at i, and 0, which the form has nowhere, past the end.
 pub(crate) fn byte(text: &[u8], i: usize) -> u8
     ensures { result ≡ get_or text.now i 0 }
 {
-    if i < text.len() { text[i] } else { 0 }
+    text.get(i).copied().unwrap_or(0)
 }
 
-// The end of the bytes from `from` on whose kinds are up to hi, byte by byte.
-fn skip_one(text: &[u8], from: usize, hi: u8, kinds: &[u8; 256]) -> usize
-    requires { (from ≤ length text.now) × Kinds kinds.now }
+// The end of the bytes from `from` on whose kinds are up to hi; four bytes at a turn.
+fn skip(text: &[u8], from: usize, hi: u8) -> usize
+    requires { from ≤ length text.now }
     ensures { Past (up_to hi) text.now from result }
 {
     let mut i = from;
-    while i < text.len() {
-        if hi < kind(text[i], kinds) {
+    while 4 <= text.len() - i {
+        if hi < kind(text[i]) {
             return i;
         }
+        if hi < kind(text[i + 1]) {
+            return i + 1;
+        }
+        if hi < kind(text[i + 2]) {
+            return i + 2;
+        }
+        if hi < kind(text[i + 3]) {
+            return i + 3;
+        }
+        i += 4;
+    }
+    while i < text.len() && kind(text[i]) <= hi {
         i += 1;
     }
     i
 }
 
-// The end of the bytes from `from` on whose kinds are up to hi; four bytes at a turn.
-fn skip(text: &[u8], from: usize, hi: u8, kinds: &[u8; 256]) -> usize
-    requires { (from ≤ length text.now) × Kinds kinds.now }
-    ensures { Past (up_to hi) text.now from result }
-{
-    let mut i = from;
-    while 4 <= text.len() - i {
-        if hi < kind(text[i], kinds) {
-            return i;
-        }
-        if hi < kind(text[i + 1], kinds) {
-            return i + 1;
-        }
-        if hi < kind(text[i + 2], kinds) {
-            return i + 2;
-        }
-        if hi < kind(text[i + 3], kinds) {
-            return i + 3;
-        }
-        i += 4;
-    }
-    skip_one(text, i, hi, kinds)
-}
-
 // The end of the name bytes from `from` on.
-pub(crate) fn past_name(text: &[u8], from: usize, kinds: &[u8; 256]) -> usize
-    requires { (from ≤ length text.now) × Kinds kinds.now }
+pub(crate) fn past_name(text: &[u8], from: usize) -> usize
+    requires { from ≤ length text.now }
     ensures { Past is_name_byte text.now from result }
 {
-    skip(text, from, b'b', kinds)
+    skip(text, from, b'b')
 }
 
 // Past spaces from `from` on; not all of them at the end of the text. Four at a turn: most white space is the indentation of a line.
@@ -103,51 +90,40 @@ fn past_indentation(text: &[u8], from: usize) -> usize
 }
 
 // The end of the white space from `from` on.
-pub(crate) fn past_spaces(text: &[u8], from: usize, kinds: &[u8; 256]) -> usize
-    requires { (from ≤ length text.now) × Kinds kinds.now }
+pub(crate) fn past_spaces(text: &[u8], from: usize) -> usize
+    requires { from ≤ length text.now }
     ensures { Past is_space text.now from result }
 {
     let mut i = from;
-    while i < text.len() {
-        if kind(text[i], kinds) != b'd' {
-            return i;
-        }
+    while i < text.len() && kind(text[i]) == b'd' {
         i = past_indentation(text, i + 1);
     }
     i
 }
 
 // The end of the bytes of text from `from` on that are under no further rule.
-pub(crate) fn past_text(text: &[u8], from: usize, kinds: &[u8; 256]) -> usize
-    requires { (from ≤ length text.now) × Kinds kinds.now }
+pub(crate) fn past_text(text: &[u8], from: usize) -> usize
+    requires { from ≤ length text.now }
     ensures { Past is_text text.now from result }
 {
-    skip(text, from, b'd', kinds)
+    skip(text, from, b'd')
 }
 
-// Where a scan ended: at a position past what it read, or at a byte that does not fit, with so many bytes unread.
+// A byte does not fit, or there is none, and so many bytes are unread.
 #[derive(Clone, Copy)]
-pub(crate) enum Scan {
-    At(usize),
-    Broken(usize),
-}
+pub(crate) struct Unread(pub(crate) usize);
 
-// The bytes of a word.
-pub(crate) fn word_end(text: &[u8], from: usize, word: &[u8]) -> Scan
+// Past the bytes of a word.
+pub(crate) fn word_end(text: &[u8], from: usize, word: &[u8]) -> Result<usize, Unread>
     requires { from ≤ length text.now }
     ensures { (p : Mode) → Scans text.now from (at (reads p word.now)) (at p) result }
 {
     let mut i = from;
-    let mut k: usize = 0;
-    while k < word.len() {
-        if text.len() <= i {
-            return Scan::Broken(text.len() - i);
-        }
-        if text[i] != word[k] {
-            return Scan::Broken(text.len() - i);
+    for c in word {
+        if i == text.len() || text[i] != *c {
+            return Err(Unread(text.len() - i));
         }
         i += 1;
-        k += 1;
     }
-    Scan::At(i)
+    Ok(i)
 }

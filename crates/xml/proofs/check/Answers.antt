@@ -5,11 +5,11 @@ use Rattle.xml.proofs.Fronts.{unread_inside}
 use Rattle.xml.proofs.Checked.{good_checked, broken_checked}
 use Rattle.xml.proofs.check.Goals as goal
 
+pub returns-in-Ok : goal.returns-in-Ok
+returns-in-Ok c = good_checked c.args.text.now (sym c.read_all.ensures ∙ ap outcome_of c.in-Ok.is)
+
 pub overflow_sub-result : goal.overflow_sub-result
-overflow_sub-result c = unread_inside c.args.text.now _ (sym c.read_all.ensures ∙ ap outcome_of c.in-Broken.is)
+overflow_sub-result c = unread_inside c.args.text.now _ (sym c.read_all.ensures ∙ ap outcome_of c.in-Err.is)
 
-pub returns-in-Good : goal.returns-in-Good
-returns-in-Good c = good_checked c.args.text.now (sym c.read_all.ensures ∙ ap outcome_of c.in-Good.is)
-
-pub returns-in-Broken : goal.returns-in-Broken
-returns-in-Broken c = broken_checked c.args.text.now _ (sym c.read_all.ensures ∙ ap outcome_of c.in-Broken.is)
+pub returns-in-Err : goal.returns-in-Err
+returns-in-Err c = broken_checked c.args.text.now _ (sym c.read_all.ensures ∙ ap outcome_of c.in-Err.is)

@@ -3,12 +3,11 @@ use mathlib.Core.List.{[], ◌∷◌}
 use Prim.Native.Nat.{◌-◌}
 use lib.ListN.{length, drop}
 use Rattle.xml.specs.CheckSteps.{at, content, blank, form_run}
-use Rattle.xml.specs.ScanSteps.{part}
 use Rattle.xml.proofs.OpenElements.{Stands}
 use Rattle.xml.proofs.elements.Given as goal
 
 abbrev pub invariant-loop-i : goal.invariant-loop-i
-invariant-loop-i l = Stands l.text (form_run (at (content blank) (part l.text l.start l.end ∷ [])) (drop l.from l.text)) l.starts l.ends l.depth l.i l.children
+invariant-loop-i l = Stands l.text (form_run (at (content blank) (l.name ∷ [])) (drop l.from l.text)) l.names l.depth l.i l.children
 
 abbrev pub decreases-loop-i : goal.decreases-loop-i
 decreases-loop-i l = length l.text - l.i

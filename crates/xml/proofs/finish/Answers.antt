@@ -18,9 +18,9 @@ returns-then-i-text c =
     let t = c.args.text.now in
     sym (run_past is_space after [] (after_stay []) t c.args.from c.past_spaces-i.result c.past_spaces-i.ensures ∙ run_out t c.past_spaces-i.result after [] (search rules))
 
-pub returns : goal.returns
+pub returns-else-i-text : goal.returns-else-i-text
 unfolding form_step
-returns c =
+returns-else-i-text c =
     let t = c.args.text.now in
     let i = c.past_spaces-i.result in
     let e = c.past_spaces-i.ensures in

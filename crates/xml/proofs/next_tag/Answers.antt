@@ -1,41 +1,28 @@
--- `next_tag` meets its contract: what leads to the tag, and then the tag.
-use mathlib.Core.Path.{ap, ◌∙◌, sym, subst}
-use mathlib.Core.Bool.{false, ◌&&◌}
+-- `next_tag` meets its contract: content up to a `<`, and then a tag.
+use Rattle.std.proofs.lemmas.Result.{err_from_is_err_and}
+use mathlib.Core.Path.{◌≡◌, ap, ◌∙◌, sym}
+use mathlib.Core.Bool.{◌&&◌}
 use Prim.Native.Nat.{ℕ}
 use lib.Dec.{ltb}
-use borrow.Author.Rules.{rules}
-use Rattle.xml.specs.CheckSteps.{at, content, opens}
-use Rattle.xml.specs.ScanSteps.{Scans, Reaches, held}
-use Rattle.xml.specs.declared.bytes.Scan.TheVariants.{At, Broken}
+use Rattle.xml.specs.CheckSteps.{at, opens}
 use Rattle.xml.proofs.Logic.{and_both}
 use Rattle.xml.proofs.Turned.{turns_after, turns_broken}
 use Rattle.xml.proofs.next_tag.Goals as goal
-
-pub next_markup-requires : goal.next_markup-requires
-next_markup-requires c = (search rules, c.requires.3)
+use Rattle.xml.proofs.next_tag.Goals.{then-alone, else-alone}
 
 pub read_tag-requires : goal.read_tag-requires
-read_tag-requires c =
-    let t = c.args.text.now in
-    let f = c.args.from in
-    let h = c.args.children in
-    let x : Scans t f (at (content (held h))) (at (opens c.in-At.alone)) (At c.in-At.j) = subst (Reaches t f h) c.in-At.is c.next_markup.ensures in
-    let b = x.ends in
-    (search rules, search rules, search rules, c.requires.3)
+read_tag-requires c = (c.in_ok-alone.ensures).ends.1
 
-pub returns-in-At : goal.returns-in-At
-returns-in-At c =
-    let t = c.args.text.now in
-    let f = c.args.from in
-    let h = c.args.children in
-    let x : Scans t f (at (content (held h))) (at (opens c.in-At.alone)) (At c.in-At.j) = subst (Reaches t f h) c.in-At.is c.next_markup.ensures in
-    let m = c.may_begin.ensures in
-    turns_after c.may_begin.result c.in-At.j (λ z. (and_both c.in-At.alone (ltb c.args.depth 64) (sym m ∙ z)).1) (λ ns g. ap (λ (k : ℕ). c.in-At.alone && ltb k 64) g ∙ sym m) x (c.read_tag.ensures c.in-At.alone)
+pub returns : goal.returns
+returns c =
+    let b : c.if-alone.begins ≡ (c.in_ok-alone.alone && ltb c.args.depth 64) =
+    elim c.if-alone.branch [ then-alone w ↦ w.begins-is ∙ simp w.if-alone.true | else-alone w ↦ w.begins-is ∙ simp w.if-alone.false ] in
+    let x = c.in_ok-alone.ensures in
+    turns_after {b = at (opens c.in_ok-alone.alone)} c.if-alone.begins c.in_ok-alone.j (λ e. (and_both _ _ (sym b ∙ e)).1) (λ ns e. ap (λ (k : ℕ). c.in_ok-alone.alone && ltb k 64) e ∙ sym b)
+    x.runs x.ends.0 (c.read_tag.ensures c.in_ok-alone.alone)
 
-pub returns-in-Broken : goal.returns-in-Broken
-returns-in-Broken c =
-    let t = c.args.text.now in
-    let f = c.args.from in
-    let h = c.args.children in
-    let x : Scans t f (at (content (held h))) (at (opens false)) (Broken c.in-Broken.u) = subst (Reaches t f h) c.in-Broken.is c.next_markup.ensures in
-    turns_broken {b = at (opens false)} x
+pub returns-in_err-alone : goal.returns-in_err-alone
+returns-in_err-alone c =
+    let p = err_from_is_err_and c.from_residual.result c.from_residual.ensures.1 in
+    let x = c.in_err-alone.ensures in
+    rw (p.1, p.2) (turns_broken c.in_err-alone.field-0.0 x.runs)

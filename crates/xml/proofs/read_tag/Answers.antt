@@ -1,4 +1,6 @@
 -- `read_tag` meets its contract: its tests are those of `opens`.
+use Rattle.std.specs.Prelude.{Some, None}
+use Rattle.std.proofs.lemmas.Result.{err_from_is_err_and}
 use mathlib.Core.Path.{◌≡◌, refl, ap, ◌∙◌, sym}
 use mathlib.Core.Bool.{true, false, and-false, and-true}
 use mathlib.Core.List.{◌∷◌}
@@ -6,89 +8,82 @@ use Prim.Native.Nat.{◌+◌}
 use borrow.Author.Tests.{ne_eqb}
 use borrow.Author.Rules.{rules}
 use Rattle.xml.specs.CheckSteps.{at, opens, closed, reads, innermost, form_step, ended}
-use Rattle.xml.specs.ScanSteps.{part}
 use Rattle.xml.proofs.Scanning.{run_on, run_refused}
 use Rattle.xml.proofs.Scanned.{stands}
+use Rattle.xml.proofs.Tagged.{tells}
 use Rattle.xml.proofs.Turned.{turns_outside, turns_unread, turns_opened, turns_inside, turns_cut}
 use Rattle.xml.proofs.read_tag.Goals as goal
 
 pub overflow_add-from : goal.overflow_add-from
 overflow_add-from c =
-    let t = c.args.text.now in
-    let i = c.args.from in
-    let n = part t c.args.start c.args.end in
-    let e = c.byte.ensures in
-    let h = stands t i c.byte.result e (search rules) in
+    let h = stands c.args.text.now c.args.from c.byte.result c.byte.ensures (search rules) in
     search rules
 
 pub end_tag-requires : goal.end_tag-requires
 end_tag-requires c =
-    let t = c.args.text.now in
-    let i = c.args.from in
-    let n = part t c.args.start c.args.end in
-    let e = c.byte.ensures in
-    let h = stands t i c.byte.result e (search rules) in
-    (search rules, c.requires.3)
+    let h = stands c.args.text.now c.args.from c.byte.result c.byte.ensures (search rules) in
+    search rules
 
-pub returns-in-At : goal.returns-in-At
+pub returns-then-byte-eq47 : goal.returns-then-byte-eq47
 unfolding form_step innermost
-returns-in-At c =
+returns-then-byte-eq47 c =
     let t = c.args.text.now in
     let i = c.args.from in
-    let n = part t c.args.start c.args.end in
+    let n = c.args.name.now in
     let e = c.byte.ensures in
     let h = stands t i c.byte.result e (search rules) in
-    λ o. turns_outside {b = at (reads closed n)} (i + 1) (search rules) (λ ns. run_on t i (opens o) (n ∷ ns) h (ap (form_step (opens o) (n ∷ ns)) (sym e ∙ c.if-byte-eq47.true))) c.end_tag.ensures c.in-At.j c.in-At.is
+    λ o. turns_outside {b = at (reads closed n)} (i + 1) (search rules) (λ ns. run_on t i (opens o) (n ∷ ns) h (ap (form_step (opens o) (n ∷ ns)) (sym e ∙ c.if-byte-eq47.true))) c.end_tag.ensures c.in_ok-j.j c.in_ok-j.was
 
-pub returns-in-Broken : goal.returns-in-Broken
+pub returns-in_err-j : goal.returns-in_err-j
 unfolding form_step innermost
-returns-in-Broken c =
+returns-in_err-j c =
     let t = c.args.text.now in
     let i = c.args.from in
-    let n = part t c.args.start c.args.end in
+    let n = c.args.name.now in
     let e = c.byte.ensures in
     let h = stands t i c.byte.result e (search rules) in
-    λ o. turns_unread {b = at (reads closed n)} (i + 1) (search rules) (λ ns. run_on t i (opens o) (n ∷ ns) h (ap (form_step (opens o) (n ∷ ns)) (sym e ∙ c.if-byte-eq47.true))) c.end_tag.ensures c.in-Broken.u c.in-Broken.is
+    let p = err_from_is_err_and c.from_residual.result c.from_residual.ensures.1 in
+    rw (p.1, p.2)
+    (λ o. turns_unread {b = at (reads closed n)} (i + 1) (search rules) (λ ns. run_on t i (opens o) (n ∷ ns) h (ap (form_step (opens o) (n ∷ ns)) (sym e ∙ c.if-byte-eq47.true))) c.end_tag.ensures c.in_err-j.field-0.0 c.in_err-j.was)
 
 pub returns-then-not-begins : goal.returns-then-not-begins
 unfolding form_step ended
 returns-then-not-begins c =
     let t = c.args.text.now in
     let i = c.args.from in
-    let n = part t c.args.start c.args.end in
+    let n = c.args.name.now in
     let e = c.byte.ensures in
     let no : c.args.begins ≡ false = c.if-not-begins.true in
-    λ o. record { runs = λ ns f. run_refused t i (opens o) (n ∷ ns) (search rules) refl (simp (← e, ne_eqb _ _ c.if-byte-eq47.false, f, no, and-false)); ends = tt }
+    λ o. record { runs = λ ns f. run_refused t i (opens o) (n ∷ ns) (search rules) refl (simp (← e, ne_eqb _ _ c.if-byte-eq47.false, f, no, and-false)); ends = tt; opens_if = tt }
 
-pub inner_tag-requires : goal.inner_tag-requires
-inner_tag-requires c = (search rules, c.requires.3)
-
-pub returns-in-Open : goal.returns-in-Open
+pub returns-in-Some-default : goal.returns-in-Some-default
 unfolding form_step ended
-returns-in-Open c =
+returns-in-Some-default c =
     let t = c.args.text.now in
     let i = c.args.from in
-    let n = part t c.args.start c.args.end in
+    let n = c.args.name.now in
     let e = c.byte.ensures in
     let yes : c.args.begins ≡ true = c.if-not-begins.false in
-    λ o. turns_opened (opens o) refl yes (λ ns f. simp (← e, ne_eqb _ _ c.if-byte-eq47.false, f, yes, and-true)) c.in-Open.e c.in-Open.j c.inner_tag.ensures c.in-Open.is
+    λ o. turns_opened (opens o) refl yes (λ ns f. simp (← e, ne_eqb _ _ c.if-byte-eq47.false, f, yes, and-true)) c.inner_tag.ensures c.in-Some-default.opened c.in_ok-opened.field-0.1
+    (tells c.in_ok-opened.field-0 (Some c.in-Some-default.opened) c.in_ok-opened.was c.in-Some-default.is-0)
 
-pub returns-in-Empty : goal.returns-in-Empty
+pub returns-in-None-default : goal.returns-in-None-default
 unfolding form_step ended
-returns-in-Empty c =
+returns-in-None-default c =
     let t = c.args.text.now in
     let i = c.args.from in
-    let n = part t c.args.start c.args.end in
+    let n = c.args.name.now in
     let e = c.byte.ensures in
     let yes : c.args.begins ≡ true = c.if-not-begins.false in
-    λ o. turns_inside (opens o) refl yes (λ ns f. simp (← e, ne_eqb _ _ c.if-byte-eq47.false, f, yes, and-true)) c.in-Empty.j c.inner_tag.ensures c.in-Empty.is
+    λ o. turns_inside (opens o) refl yes (λ ns f. simp (← e, ne_eqb _ _ c.if-byte-eq47.false, f, yes, and-true)) c.inner_tag.ensures c.in_ok-opened.field-0.1 (tells c.in_ok-opened.field-0 None c.in_ok-opened.was c.in-None-default.is-0)
 
-pub returns-in-Broken-inner_tag : goal.returns-in-Broken-inner_tag
+pub returns-in_err-opened : goal.returns-in_err-opened
 unfolding form_step ended
-returns-in-Broken-inner_tag c =
+returns-in_err-opened c =
     let t = c.args.text.now in
     let i = c.args.from in
-    let n = part t c.args.start c.args.end in
+    let n = c.args.name.now in
     let e = c.byte.ensures in
     let yes : c.args.begins ≡ true = c.if-not-begins.false in
-    λ o. turns_cut (opens o) refl yes (λ ns f. simp (← e, ne_eqb _ _ c.if-byte-eq47.false, f, yes, and-true)) c.in-Broken-inner_tag.u c.inner_tag.ensures c.in-Broken-inner_tag.is
+    let p = err_from_is_err_and c.from_residual-in_err-opened.result c.from_residual-in_err-opened.ensures.1 in
+    rw (p.1, p.2) (λ o. turns_cut (opens o) refl yes (λ ns f. simp (← e, ne_eqb _ _ c.if-byte-eq47.false, f, yes, and-true)) c.inner_tag.ensures c.in_err-opened.field-0.0 c.in_err-opened.was)

@@ -1,89 +1,51 @@
 -- `root` meets its contract: white space, `<`, and a start tag.
+use Rattle.std.specs.Prelude.{Some, None}
+use Rattle.std.proofs.lemmas.Result.{err_from_is_err_and}
 use mathlib.Core.List.{[]}
-use mathlib.Core.Path.{◌≡◌, refl, ap, ◌∙◌, sym, subst}
-use mathlib.Core.Bool.{false}
-use Prim.Native.Nat.{◌+◌}
-use lib.Dec.{eqb}
-use lib.ListN.{length, get_or}
-use borrow.Author.Tests.{ne_eqb}
-use borrow.Author.Rules.{rules}
-use Rattle.xml.specs.Bytes.{is_space}
-use Rattle.xml.specs.CheckSteps.{before, root, outside, form_step, ended}
-use Rattle.xml.specs.ScanSteps.{StartBetween, started}
-use Rattle.xml.specs.declared.tags.Start.{Start}
-use Rattle.xml.proofs.Past.{past_not}
-use Rattle.xml.proofs.Stays.{before_stay}
-use Rattle.xml.proofs.Scanning.{run_past, run_on, run_refused}
-use Rattle.xml.proofs.Scanned.{stands}
+use mathlib.Core.Path.{refl, ap, ◌∙◌, sym}
+use Rattle.xml.specs.CheckSteps.{at, root, outside, form_step, ended}
+use Rattle.xml.specs.ScanSteps.{goes_on, told, start_state}
+use Rattle.xml.proofs.Stays.{to_root}
+use Rattle.xml.proofs.Scanned.{scan_bounds}
+use Rattle.xml.proofs.Tagged.{tells}
 use Rattle.xml.proofs.root.Goals as goal
 
-pub returns-then-byte-ne60 : goal.returns-then-byte-ne60
-unfolding is_space form_step ended
-returns-then-byte-ne60 c =
-    let t = c.args.text.now in
-    let i = c.past_spaces-i.result in
-    let e = c.past_spaces-i.ensures in
-    let s : is_space (get_or t i 0) ≡ false = past_not e refl in
-    let o : eqb (get_or t i 0) 60 ≡ false = ne_eqb _ _ (λ z. c.if-byte-ne60.true (c.byte.ensures ∙ z)) in
-    sym (run_past is_space before [] (before_stay []) t c.args.from i e ∙ run_refused t i before [] (search rules) refl (simp (s, o)))
-
-pub overflow_add-start : goal.overflow_add-start
-overflow_add-start c =
-    let t = c.args.text.now in
-    let i = c.past_spaces-i.result in
-    let e = c.past_spaces-i.ensures in
-    let h = stands t i c.byte.result c.byte.ensures (search rules) in
-    search rules
-
 pub start_tag-requires : goal.start_tag-requires
-start_tag-requires c =
-    let t = c.args.text.now in
-    let i = c.past_spaces-i.result in
-    let e = c.past_spaces-i.ensures in
-    let h = stands t i c.byte.result c.byte.ensures (search rules) in
-    (search rules, c.requires.1)
+start_tag-requires c = (scan_bounds c.in_ok-i.i (to_root c.byte_end.ensures) c.in_ok-i.was).1
 
 pub elements-requires : goal.elements-requires
-elements-requires c =
-    let t = c.args.text.now in
-    let i = c.past_spaces-i.result in
-    let e = c.past_spaces-i.ensures in
-    let h = stands t i c.byte.result c.byte.ensures (search rules) in
-    let b : StartBetween (i + 1) (length t) (Start.Open c.in-Open.e c.in-Open.j) = subst (StartBetween (i + 1) (length t)) c.in-Open.is c.start_tag.ensures.ends in
-    (b.3, b.0, b.1, c.requires.1)
+elements-requires c = (c.in_ok-name.ensures).ends.1
 
 pub finish-requires : goal.finish-requires
-finish-requires c =
-    let t = c.args.text.now in
-    let i = c.past_spaces-i.result in
-    let e = c.past_spaces-i.ensures in
-    let h = stands t i c.byte.result c.byte.ensures (search rules) in
-    let b : StartBetween (i + 1) (length t) (Start.Empty c.in-Empty.j) = subst (StartBetween (i + 1) (length t)) c.in-Empty.is c.start_tag.ensures.ends in
-    (b.1, c.requires.1)
+finish-requires c = (c.in_ok-name.ensures).ends.1
 
-pub returns-in-Open : goal.returns-in-Open
-unfolding is_space form_step ended
-returns-in-Open c =
+pub returns-in-Some-default : goal.returns-in-Some-default
+unfolding form_step ended
+returns-in-Some-default c =
     let t = c.args.text.now in
-    let i = c.past_spaces-i.result in
-    let e = c.past_spaces-i.ensures in
-    let h = stands t i c.byte.result c.byte.ensures (search rules) in
-    c.elements.ensures ∙ sym (run_past is_space before [] (before_stay []) t c.args.from i e ∙ run_on t i before [] h (ap (form_step before []) (sym c.byte.ensures ∙ c.if-byte-ne60.false)) ∙ c.start_tag.ensures.runs root [] refl refl ∙ ap (started t (i + 1) []) c.in-Open.is)
+    let x = to_root c.byte_end.ensures in
+    c.elements.ensures
+    ∙ sym (x.runs [] ∙ ap (goes_on t (at root [])) c.in_ok-i.was ∙ c.start_tag.ensures.runs root [] refl refl ∙ ap (told t (start_state [])) (tells c.in_ok-name.field-0 (Some c.in-Some-default.name) c.in_ok-name.was c.in-Some-default.is-0))
 
-pub returns-in-Empty : goal.returns-in-Empty
-unfolding is_space form_step ended outside
-returns-in-Empty c =
+pub returns-in-None-default : goal.returns-in-None-default
+unfolding form_step ended outside
+returns-in-None-default c =
     let t = c.args.text.now in
-    let i = c.past_spaces-i.result in
-    let e = c.past_spaces-i.ensures in
-    let h = stands t i c.byte.result c.byte.ensures (search rules) in
-    c.finish.ensures ∙ sym (run_past is_space before [] (before_stay []) t c.args.from i e ∙ run_on t i before [] h (ap (form_step before []) (sym c.byte.ensures ∙ c.if-byte-ne60.false)) ∙ c.start_tag.ensures.runs root [] refl refl ∙ ap (started t (i + 1) []) c.in-Empty.is)
+    let x = to_root c.byte_end.ensures in
+    c.finish.ensures
+    ∙ sym (x.runs [] ∙ ap (goes_on t (at root [])) c.in_ok-i.was ∙ c.start_tag.ensures.runs root [] refl refl ∙ ap (told t (start_state [])) (tells c.in_ok-name.field-0 None c.in_ok-name.was c.in-None-default.is-0))
 
-pub returns-in-Broken : goal.returns-in-Broken
-unfolding is_space form_step ended
-returns-in-Broken c =
+pub returns-in_err-i : goal.returns-in_err-i
+returns-in_err-i c =
     let t = c.args.text.now in
-    let i = c.past_spaces-i.result in
-    let e = c.past_spaces-i.ensures in
-    let h = stands t i c.byte.result c.byte.ensures (search rules) in
-    sym (run_past is_space before [] (before_stay []) t c.args.from i e ∙ run_on t i before [] h (ap (form_step before []) (sym c.byte.ensures ∙ c.if-byte-ne60.false)) ∙ c.start_tag.ensures.runs root [] refl refl ∙ ap (started t (i + 1) []) c.in-Broken.is)
+    let x = to_root c.byte_end.ensures in
+    let p = err_from_is_err_and c.from_residual.result c.from_residual.ensures.1 in
+    rw (p.1, p.2) (sym (x.runs [] ∙ ap (goes_on t (at root [])) c.in_err-i.was))
+
+pub returns-in_err-name : goal.returns-in_err-name
+unfolding form_step ended
+returns-in_err-name c =
+    let t = c.args.text.now in
+    let x = to_root c.byte_end.ensures in
+    let p = err_from_is_err_and c.from_residual-in_err-name.result c.from_residual-in_err-name.ensures.1 in
+    rw (p.1, p.2) (sym (x.runs [] ∙ ap (goes_on t (at root [])) c.in_ok-i.was ∙ c.start_tag.ensures.runs root [] refl refl ∙ ap (told t (start_state [])) c.in_err-name.was))

@@ -6,5 +6,5 @@ use Rattle.xml.proofs.characters.past_chars.Goals as goal
 pub returns-then-byte-lt128 : goal.returns-then-byte-lt128
 returns-then-byte-lt128 c = scan_past text_stay c.past_text-i.ensures (scan_done c.past_text-i.ensures.inside)
 
-pub returns : goal.returns
-returns c = scan_past text_stay c.past_text-i.ensures c.past_wide.ensures
+pub returns-else-byte-lt128 : goal.returns-else-byte-lt128
+returns-else-byte-lt128 c = scan_past text_stay c.past_text-i.ensures c.past_wide.ensures

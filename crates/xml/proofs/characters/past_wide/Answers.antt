@@ -10,9 +10,6 @@ use Rattle.xml.proofs.characters.past_wide.Goals as goal
 pub loop-i-init : goal.loop-i-init
 loop-i-init c = (search rules, scan_done (search rules))
 
-pub kind-requires : goal.kind-requires
-kind-requires c = c.requires.1
-
 pub returns-then-kind-eq101 : goal.returns-then-kind-eq101
 returns-then-kind-eq101 c = c.loop-i.invariant.1
 

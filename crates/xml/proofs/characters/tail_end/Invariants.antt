@@ -2,8 +2,7 @@
 use Prim.Native.Nat.{◌-◌, ◌≤◌}
 use lib.ListN.{length}
 use Rattle.xml.specs.CheckSteps.{Mode, at, more}
-use Rattle.xml.specs.ScanSteps.{Scans}
-use Rattle.xml.specs.declared.bytes.Scan.{Scan}
+use Rattle.xml.specs.ScanSteps.{Scan, Scans}
 use Rattle.xml.proofs.characters.tail_end.Given as goal
 
 abbrev pub invariant-loop-i : goal.invariant-loop-i

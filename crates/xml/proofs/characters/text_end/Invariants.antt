@@ -3,8 +3,7 @@ use mathlib.Core.Bool.{false}
 use Prim.Native.Nat.{◌-◌, ◌≤◌}
 use lib.ListN.{length}
 use Rattle.xml.specs.CheckSteps.{at, content, words, opens}
-use Rattle.xml.specs.ScanSteps.{Scans}
-use Rattle.xml.specs.declared.bytes.Scan.{Scan}
+use Rattle.xml.specs.ScanSteps.{Scan, Scans}
 use Rattle.xml.proofs.characters.text_end.Given as goal
 
 abbrev pub invariant-loop-i : goal.invariant-loop-i

@@ -1,5 +1,6 @@
 -- `value_end` meets its contract. Invariant: a scan of the value from i on is a scan of it from `from` on.
 use mathlib.Core.Path.{refl}
+use Rattle.std.proofs.lemmas.Result.{err_from_is_err_and}
 use lib.ListN.{get_or}
 use borrow.Author.Tests.{eq-eqb, ne_eqb}
 use borrow.Author.Rules.{rules}
@@ -20,21 +21,23 @@ returns-then-b-eq60 c = c.loop-i.invariant.2 _ (scan_refused (get_or c.args.text
 
 pub loop-i-smaller : goal.loop-i-smaller
 loop-i-smaller c =
-    let b = scan_bounds c.in-At.j (c.char_end.ensures (value c.args.q)) c.in-At.is in
+    let b = scan_bounds c.in_ok-i.i (c.char_end.ensures (value c.args.q)) c.in_ok-i.was in
     search rules
 
 pub loop-i-preserved : goal.loop-i-preserved
 unfolding form_step
 loop-i-preserved c =
     let r = c.char_end.ensures (value c.args.q) in
-    let b = scan_bounds c.in-At.j r c.in-At.is in
-    (search rules, search rules, λ s x. c.loop-i.invariant.2 s (scan_step (search rules) (λ ns. simp (ne_eqb _ _ c.if-b-q.false, ne_eqb _ _ c.if-b-eq60.false)) (scan_then c.in-At.j r c.in-At.is x)))
+    let b = scan_bounds c.in_ok-i.i r c.in_ok-i.was in
+    (search rules, search rules, λ s x. c.loop-i.invariant.2 s (scan_step (search rules) (λ ns. simp (ne_eqb _ _ c.if-b-q.false, ne_eqb _ _ c.if-b-eq60.false)) (scan_then c.in_ok-i.i r c.in_ok-i.was x)))
 
-pub returns-in-Broken : goal.returns-in-Broken
+pub returns-in_err-i : goal.returns-in_err-i
 unfolding form_step
-returns-in-Broken c =
+returns-in_err-i c =
     let r = c.char_end.ensures (value c.args.q) in
-    c.loop-i.invariant.2 _ (scan_step (search rules) (λ ns. simp (ne_eqb _ _ c.if-b-q.false, ne_eqb _ _ c.if-b-eq60.false)) (scan_broken c.in-Broken.u r c.in-Broken.is))
+    let p = err_from_is_err_and c.from_residual.result c.from_residual.ensures.1 in
+    rw (p.1, p.2)
+    (c.loop-i.invariant.2 _ (scan_step (search rules) (λ ns. simp (ne_eqb _ _ c.if-b-q.false, ne_eqb _ _ c.if-b-eq60.false)) (scan_broken c.in_err-i.field-0.0 r c.in_err-i.was)))
 
 pub returns : goal.returns
 unfolding ended

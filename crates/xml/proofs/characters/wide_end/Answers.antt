@@ -1,50 +1,41 @@
--- `wide_end` meets its contract: its tests are those of `char`.
-use borrow.Author.Tests.{lt-ltb, le-ltb}
-use borrow.Author.Rules.{rules}
-use Rattle.xml.specs.CheckSteps.{char}
+-- `wide_end` meets its contract: its arms are the tests of `char`.
+use mathlib.Core.Path.{◌≡◌}
+use Prim.Native.Nat.{◌<◌, ◌≤◌}
+use native.Mathlib.Omega.{arith}
+use Rattle.xml.proofs.Leads.{lead_two, lead_224, lead_three, lead_237, lead_239, lead_240, lead_four, lead_244, lead_low, lead_high}
 use Rattle.xml.proofs.Scanned.{scan_stopped, scan_from}
 use Rattle.xml.proofs.characters.wide_end.Goals as goal
+use Rattle.xml.proofs.characters.wide_end.Goals.{in_default-via-then-b-lt194, in_default-via-else-b-lt194+else-b-lt224+else-b-lt237+else-b-lt244}
 
-pub returns-then-b-lt194 : goal.returns-then-b-lt194
-unfolding char
-returns-then-b-lt194 c = λ p. scan_stopped (search rules) (λ ns. simp (le-ltb _ _ c.requires.1, lt-ltb _ _ c.if-b-lt194.true))
+pub returns-in-194-to-223 : goal.returns-in-194-to-223
+returns-in-194-to-223 c = λ p. scan_from (λ ns. lead_two p ns c.args.b (omega arith) (omega arith)) (c.tail_end-in-194-to-223.ensures p)
 
-pub returns-then-b-lt224 : goal.returns-then-b-lt224
-unfolding char
-returns-then-b-lt224 c = λ p. scan_from (λ ns. simp (le-ltb _ _ c.requires.1, le-ltb _ _ c.if-b-lt194.false, lt-ltb _ _ c.if-b-lt224.true)) (c.tail_end.ensures p)
+pub returns-in-224 : goal.returns-in-224
+returns-in-224 c = λ p. scan_from (λ ns. lead_224 p ns c.args.b (omega arith)) (c.tail_end.ensures p)
 
-pub returns-then-b-lt225 : goal.returns-then-b-lt225
-unfolding char
-returns-then-b-lt225 c = λ p. scan_from (λ ns. simp (le-ltb _ _ c.requires.1, le-ltb _ _ c.if-b-lt194.false, le-ltb _ _ c.if-b-lt224.false, lt-ltb _ _ c.if-b-lt225.true)) (c.tail_end-then-b-lt225.ensures p)
+pub returns-in-237 : goal.returns-in-237
+returns-in-237 c = λ p. scan_from (λ ns. lead_237 p ns c.args.b (omega arith)) (c.tail_end-in-237.ensures p)
 
-pub returns-then-b-lt237 : goal.returns-then-b-lt237
-unfolding char
-returns-then-b-lt237 c = λ p. scan_from (λ ns. simp (le-ltb _ _ c.requires.1, le-ltb _ _ c.if-b-lt194.false, le-ltb _ _ c.if-b-lt224.false, le-ltb _ _ c.if-b-lt225.false, lt-ltb _ _ c.if-b-lt237.true)) (c.tail_end-then-b-lt237.ensures p)
+pub returns-in-239 : goal.returns-in-239
+returns-in-239 c = λ p. scan_from (λ ns. lead_239 p ns c.args.b (omega arith)) (c.end_239.ensures p)
 
-pub returns-then-b-lt238 : goal.returns-then-b-lt238
-unfolding char
-returns-then-b-lt238 c = λ p. scan_from (λ ns. simp (le-ltb _ _ c.requires.1, le-ltb _ _ c.if-b-lt194.false, le-ltb _ _ c.if-b-lt224.false, le-ltb _ _ c.if-b-lt225.false, le-ltb _ _ c.if-b-lt237.false, lt-ltb _ _ c.if-b-lt238.true)) (c.tail_end-then-b-lt238.ensures p)
+pub returns-in-240 : goal.returns-in-240
+returns-in-240 c = λ p. scan_from (λ ns. lead_240 p ns c.args.b (omega arith)) (c.tail_end-in-240.ensures p)
 
-pub returns-then-b-lt239 : goal.returns-then-b-lt239
-unfolding char
-returns-then-b-lt239 c = λ p. scan_from (λ ns. simp (le-ltb _ _ c.requires.1, le-ltb _ _ c.if-b-lt194.false, le-ltb _ _ c.if-b-lt224.false, le-ltb _ _ c.if-b-lt225.false, le-ltb _ _ c.if-b-lt237.false, le-ltb _ _ c.if-b-lt238.false, lt-ltb _ _ c.if-b-lt239.true)) (c.tail_end-then-b-lt239.ensures p)
+pub returns-in-241-to-243 : goal.returns-in-241-to-243
+returns-in-241-to-243 c = λ p. scan_from (λ ns. lead_four p ns c.args.b (omega arith) (omega arith)) (c.tail_end-in-241-to-243.ensures p)
 
-pub returns-then-b-lt240 : goal.returns-then-b-lt240
-unfolding char
-returns-then-b-lt240 c = λ p. scan_from (λ ns. simp (le-ltb _ _ c.requires.1, le-ltb _ _ c.if-b-lt194.false, le-ltb _ _ c.if-b-lt224.false, le-ltb _ _ c.if-b-lt225.false, le-ltb _ _ c.if-b-lt237.false, le-ltb _ _ c.if-b-lt238.false, le-ltb _ _ c.if-b-lt239.false, lt-ltb _ _ c.if-b-lt240.true)) (c.end_239.ensures p)
+pub returns-in-244 : goal.returns-in-244
+returns-in-244 c = λ p. scan_from (λ ns. lead_244 p ns c.args.b (omega arith)) (c.tail_end-in-244.ensures p)
 
-pub returns-then-b-lt241 : goal.returns-then-b-lt241
-unfolding char
-returns-then-b-lt241 c = λ p. scan_from (λ ns. simp (le-ltb _ _ c.requires.1, le-ltb _ _ c.if-b-lt194.false, le-ltb _ _ c.if-b-lt224.false, le-ltb _ _ c.if-b-lt225.false, le-ltb _ _ c.if-b-lt237.false, le-ltb _ _ c.if-b-lt238.false, le-ltb _ _ c.if-b-lt239.false, le-ltb _ _ c.if-b-lt240.false, lt-ltb _ _ c.if-b-lt241.true)) (c.tail_end-then-b-lt241.ensures p)
+pub returns-in-225-to-236 : goal.returns-in-225-to-236
+returns-in-225-to-236 c =
+    let h : (225 ≤ c.args.b) × (c.args.b < 239) × (c.args.b ≡ 237 → ⊥) = grind arith in
+    λ p. scan_from (λ ns. lead_three p ns c.args.b h.0 h.1 h.2) (c.tail_end-in-225-to-236.ensures p)
 
-pub returns-then-b-lt244 : goal.returns-then-b-lt244
-unfolding char
-returns-then-b-lt244 c = λ p. scan_from (λ ns. simp (le-ltb _ _ c.requires.1, le-ltb _ _ c.if-b-lt194.false, le-ltb _ _ c.if-b-lt224.false, le-ltb _ _ c.if-b-lt225.false, le-ltb _ _ c.if-b-lt237.false, le-ltb _ _ c.if-b-lt238.false, le-ltb _ _ c.if-b-lt239.false, le-ltb _ _ c.if-b-lt240.false, le-ltb _ _ c.if-b-lt241.false, lt-ltb _ _ c.if-b-lt244.true)) (c.tail_end-then-b-lt244.ensures p)
-
-pub returns-then-b-lt245 : goal.returns-then-b-lt245
-unfolding char
-returns-then-b-lt245 c = λ p. scan_from (λ ns. simp (le-ltb _ _ c.requires.1, le-ltb _ _ c.if-b-lt194.false, le-ltb _ _ c.if-b-lt224.false, le-ltb _ _ c.if-b-lt225.false, le-ltb _ _ c.if-b-lt237.false, le-ltb _ _ c.if-b-lt238.false, le-ltb _ _ c.if-b-lt239.false, le-ltb _ _ c.if-b-lt240.false, le-ltb _ _ c.if-b-lt241.false, le-ltb _ _ c.if-b-lt244.false, lt-ltb _ _ c.if-b-lt245.true)) (c.tail_end-then-b-lt245.ensures p)
-
-pub returns : goal.returns
-unfolding char
-returns c = λ p. scan_stopped (search rules) (λ ns. simp (le-ltb _ _ c.requires.1, le-ltb _ _ c.if-b-lt194.false, le-ltb _ _ c.if-b-lt224.false, le-ltb _ _ c.if-b-lt225.false, le-ltb _ _ c.if-b-lt237.false, le-ltb _ _ c.if-b-lt238.false, le-ltb _ _ c.if-b-lt239.false, le-ltb _ _ c.if-b-lt240.false, le-ltb _ _ c.if-b-lt241.false, le-ltb _ _ c.if-b-lt244.false, le-ltb _ _ c.if-b-lt245.false))
+pub returns-in_default : goal.returns-in_default
+returns-in_default c =
+    elim c.in_default.branch [
+      | in_default-via-then-b-lt194 w ↦ λ p. scan_stopped (omega arith) (λ ns. lead_low p ns c.args.b (omega arith) (omega arith))
+      | in_default-via-else-b-lt194+else-b-lt224+else-b-lt237+else-b-lt244 w ↦ λ p. scan_stopped (omega arith) (λ ns. lead_high p ns c.args.b (omega arith))
+    ]

@@ -3,28 +3,31 @@ use mathlib.Core.Path.{refl, sym, ◌∙◌}
 use Prim.Native.Nat.{◌+◌}
 use native.Mathlib.Omega.{arith}
 use lib.ListN.{length}
-use borrow.Author.Rules.{rules}
+use Rattle.std.proofs.lemmas.Result.{err_from_is_err_and}
 use Rattle.slices.proofs.Equal.{same_eq}
 use Rattle.xml.specs.CheckSteps.{closed}
+use Rattle.xml.proofs.Stays.{to_leave}
 use Rattle.xml.proofs.Scanned.{scan_word, scan_then, scan_broken, scan_bounds}
 use Rattle.xml.proofs.tags.end_tag.Goals as goal
 
-pub shut-requires : goal.shut-requires
-shut-requires c = (omega arith, c.requires.1)
+pub byte_end-requires : goal.byte_end-requires
+byte_end-requires c = omega arith
 
-pub returns-then-same : goal.returns-then-same
-returns-then-same c =
+pub returns-then-eq : goal.returns-then-eq
+returns-then-eq c =
     let n = c.args.name.now in
     let end = c.args.from + length n in
-    scan_then end (scan_word n end (same_eq _ n (sym c.same.ensures ∙ c.if-same.true)) (omega arith) (omega arith)) refl c.shut.ensures
+    scan_then end (scan_word n end (same_eq _ n (sym c.eq.ensures ∙ c.if-eq.true)) (omega arith) (omega arith)) refl (to_leave c.byte_end.ensures)
 
-pub shut-requires-in-At : goal.shut-requires-in-At
-shut-requires-in-At c =
-    let b = scan_bounds c.in-At.j (c.word_end.ensures closed) c.in-At.is in
-    (search rules, c.requires.1)
+pub byte_end-requires-2 : goal.byte_end-requires-2
+byte_end-requires-2 c =
+    let b = scan_bounds c.in_ok-j.j (c.word_end.ensures closed) c.in_ok-j.was in
+    b.1
 
-pub returns-in-At : goal.returns-in-At
-returns-in-At c = scan_then c.in-At.j (c.word_end.ensures closed) c.in-At.is c.shut-in-At.ensures
+pub returns : goal.returns
+returns c = scan_then c.in_ok-j.j (c.word_end.ensures closed) c.in_ok-j.was (to_leave c.byte_end-2.ensures)
 
-pub returns-in-Broken : goal.returns-in-Broken
-returns-in-Broken c = scan_broken c.in-Broken.u (c.word_end.ensures closed) c.in-Broken.is
+pub returns-in_err-j : goal.returns-in_err-j
+returns-in_err-j c =
+    let p = err_from_is_err_and c.from_residual.result c.from_residual.ensures.1 in
+    rw (p.1, p.2) (scan_broken c.in_err-j.field-0.0 (c.word_end.ensures closed) c.in_err-j.was)

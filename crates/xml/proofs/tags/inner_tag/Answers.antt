@@ -25,8 +25,5 @@ returns-then-byte-eq62 c =
     let e = c.past_name-e.result in
     let l : is_ascii_letter (get_or t i 0) ≡ true = a_letter c.kind.result (get_or t i 0) (c.kind.ensures ∙ ap kind_of c.byte.ensures) c.if-kind-eq97.true in
     let h = stands t e c.byte-then-kind-eq97.result c.byte-then-kind-eq97.ensures (search rules) in
-    starts_open t i e (inside_letter t i l) l c.past_name-e.ensures (e + 1)
+    starts_open t i e (inside_letter t i l) l c.past_name-e.ensures _ (e + 1) refl
     (tags_open (e + 1) (scan_on c.byte-then-kind-eq97.result c.byte-then-kind-eq97.ensures (search rules) (λ ns. ap (form_step tag ns) c.if-byte-eq62.true) (scan_done (search rules)))) refl
-
-pub returns : goal.returns
-returns c = c.start_tag.ensures

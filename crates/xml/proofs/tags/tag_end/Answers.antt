@@ -3,6 +3,7 @@ use mathlib.Core.Path.{◌≡◌, refl, ap, ◌∙◌}
 use mathlib.Core.Bool.{true, false}
 use lib.ListN.{get_or}
 use borrow.Author.Rules.{rules}
+use Rattle.std.proofs.lemmas.Result.{err_from_is_err_and}
 use Rattle.xml.specs.Bytes.{is_space, is_ascii_letter}
 use Rattle.xml.specs.CheckSteps.{at, tag, valued, form_step, ended}
 use Rattle.xml.specs.ScanSteps.{kind_of}
@@ -23,25 +24,30 @@ returns-then-kind-ne97 c =
     let l : is_ascii_letter (get_or t i 0) ≡ false = no_letter c.kind.result (get_or t i 0) (c.kind.ensures ∙ ap kind_of c.byte.ensures) c.if-kind-ne97.true in
     tags_after i (scan_past tag_stay e (scan_done e.inside)) (c.close.ensures tag refl (λ ns. simp (s, l)))
 
+pub overflow_add-i : goal.overflow_add-i
+overflow_add-i c =
+    let t = c.args.text.now in
+    let i = c.past_spaces-i.result in
+    let l : is_ascii_letter (get_or t i 0) ≡ true = a_letter c.kind.result (get_or t i 0) (c.kind.ensures ∙ ap kind_of c.byte.ensures) c.if-kind-ne97.false in
+    let h = inside_letter t i l in
+    search rules
+
 pub attribute_end-requires : goal.attribute_end-requires
-unfolding is_space
 attribute_end-requires c =
     let t = c.args.text.now in
     let i = c.past_spaces-i.result in
-    let e = c.past_spaces-i.ensures in
-    let s : is_space (get_or t i 0) ≡ false = past_not e refl in
     let l : is_ascii_letter (get_or t i 0) ≡ true = a_letter c.kind.result (get_or t i 0) (c.kind.ensures ∙ ap kind_of c.byte.ensures) c.if-kind-ne97.false in
     let h = inside_letter t i l in
-    (search rules, c.requires.1)
+    search rules
 
 pub past_spaces-requires : goal.past_spaces-requires
 past_spaces-requires c =
-    let b = scan_bounds c.in-At.j c.attribute_end.ensures c.in-At.is in
-    (search rules, c.requires.1)
+    let b = scan_bounds c.in_ok-j.j c.attribute_end.ensures c.in_ok-j.was in
+    b.1
 
-pub returns-in-At : goal.returns-in-At
+pub returns : goal.returns
 unfolding is_space form_step ended
-returns-in-At c =
+returns c =
     let t = c.args.text.now in
     let i = c.past_spaces-i.result in
     let e = c.past_spaces-i.ensures in
@@ -51,16 +57,17 @@ returns-in-At c =
     let e₂ = c.past_spaces.ensures in
     let s₂ : is_space (get_or t c.past_spaces.result 0) ≡ false = past_not e₂ refl in
     tags_after c.past_spaces.result
-    (scan_past tag_stay e (scan_step h (λ ns. simp (s, l)) (scan_then c.in-At.j c.attribute_end.ensures c.in-At.is (scan_past valued_stay e₂ (scan_done e₂.inside)))))
-    (c.close-in-At.ensures valued refl (λ ns. simp s₂))
+    (scan_past tag_stay e (scan_step h (λ ns. simp (s, l)) (scan_then c.in_ok-j.j c.attribute_end.ensures c.in_ok-j.was (scan_past valued_stay e₂ (scan_done e₂.inside)))))
+    (c.close-2.ensures valued refl (λ ns. simp s₂))
 
-pub returns-in-Broken : goal.returns-in-Broken
+pub returns-in_err-j : goal.returns-in_err-j
 unfolding is_space form_step
-returns-in-Broken c =
+returns-in_err-j c =
     let t = c.args.text.now in
     let i = c.past_spaces-i.result in
     let e = c.past_spaces-i.ensures in
     let s : is_space (get_or t i 0) ≡ false = past_not e refl in
     let l : is_ascii_letter (get_or t i 0) ≡ true = a_letter c.kind.result (get_or t i 0) (c.kind.ensures ∙ ap kind_of c.byte.ensures) c.if-kind-ne97.false in
     let h = inside_letter t i l in
-    tags_broken {b = at valued} (scan_past tag_stay e (scan_step h (λ ns. simp (s, l)) (scan_broken c.in-Broken.u c.attribute_end.ensures c.in-Broken.is)))
+    let p = err_from_is_err_and c.from_residual.result c.from_residual.ensures.1 in
+    rw (p.1, p.2) (tags_broken {b = at valued} (scan_past tag_stay e (scan_step h (λ ns. simp (s, l)) (scan_broken c.in_err-j.field-0.0 c.attribute_end.ensures c.in_err-j.was))))
