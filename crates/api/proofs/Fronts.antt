@@ -4,7 +4,7 @@ use mathlib.Core.Path.{◌≡◌, refl, sym, ap, ◌∙◌}
 use mathlib.Core.Bool.{false≢true}
 use mathlib.Core.List.{List}
 use mathlib.Core.Logic.{◌⊎◌, inl, inr}
-use Prim.Native.Nat.{ℕ}
+use Prim.Native.Nat.{ℕ, suc}
 use native.Mathlib.Omega.{arith}
 use lib.ListN.{take, get_or}
 use borrow.Author.Tests.{eq-eqb}
@@ -19,7 +19,9 @@ use Rattle.xml.proofs.Form.{same_form, in_form_lem}
 use Rattle.xml.proofs.Checked.{OfText, leaves_form}
 use Rattle.labels.proofs.TextFronts.{OfLabels, Whose}
 use Rattle.api.specs.Outputs.{bit}
-use Rattle.api.specs.Fronts.{TellsFront, WithFront, TellsSide}
+use Rattle.tape.specs.Answers.{tape_in}
+use Rattle.labels.specs.Places.{text_on}
+use Rattle.api.specs.Fronts.{TellsFront, WithFront, TellsSide, WithSide}
 
 -- another number than 4, where a refusal has it
 not_four : (r : Refusal) {k : ℕ} → Another r → k ≡ number_of r → k ≡ 4 → ⊥
@@ -42,11 +44,11 @@ module _ {s : List ℕ} where
           record { with4 = λ _. rw z (leaves_form s unformed); else = λ n. absurd (n (h ∙ ap number_of g)) }
       go (inr x) = record { with4 = λ z. absurd (not_four r x h z); else = λ _. p ∙ ap (λ (y : Place). y.front) x.1 }
 
-  module _ {n : ℕ} {shows : ℕ → List ℕ → Type 0} {out : List ℕ} where
-    pub with_answer : shows 0 (take n out) → get_or out n 0 ≡ 0 → WithFront n s shows 0 out
-    with_answer w z = record { numbers = w; front = rw z no_front }
+  module _ {n : ℕ} {shows : ℕ → List ℕ → Type 0} {k : ℕ} {out : List ℕ} where
+    pub with_answer : k ≡ 0 → shows k (take n out) → get_or out n 0 ≡ 0 → WithFront n s shows k out
+    with_answer h w z = record { numbers = w; front = rw (h, z) no_front }
 
-    pub with_refusal : {A : Type 0} {a : Answer A} (r : Refusal) {k : ℕ} → Refuses (OfText s) a → Err r ≡ a → k ≡ number_of r → get_or out n 0 ≡ (place_of r).front → shows k (take n out)
+    pub with_refusal : {A : Type 0} {a : Answer A} (r : Refusal) → Refuses (OfText s) a → Err r ≡ a → k ≡ number_of r → get_or out n 0 ≡ (place_of r).front → shows k (take n out)
         → WithFront n s shows k out
     with_refusal r q e h p w = record { numbers = w; front = refused_front r q e h p }
 
@@ -80,3 +82,11 @@ module _ {s t : List ℕ} where
             with4 = λ z. absurd (not_four r x h z);
             else = λ _. (p ∙ ap (λ (y : Place). y.front) x.1, g ∙ ap (λ (y : Place). bit y.on_data) x.1);
           }
+
+module _ {n : ℕ} {il is dl ds : List ℕ} {shows : ℕ → List ℕ → Type 0} {k : ℕ} {out : List ℕ} where
+  pub side_answered : k ≡ 0 → shows k (take n out) → get_or out n 0 ≡ 0 → get_or out (suc n) 0 ≡ 0 → WithSide n il is dl ds shows k out
+  side_answered h w y z = record { numbers = w; side = rw (h, y, z) no_side }
+
+  pub side_told : {A : Type 0} {a : Answer A} (r : Refusal) → Refuses (OfLabels (text_on (tape_in il is)) (text_on (tape_in dl ds))) a → Err r ≡ a → k ≡ number_of r
+      → get_or out n 0 ≡ (place_of r).front → get_or out (suc n) 0 ≡ bit (place_of r).on_data → shows k (take n out) → WithSide n il is dl ds shows k out
+  side_told r q e h p g w = record { numbers = w; side = refused_side r q e h p g }

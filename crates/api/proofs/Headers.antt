@@ -1,12 +1,11 @@
 -- An index's header and a file in numbers say what was read; so does a buffer that was filled.
-use Rattle.refusals.specs.declared.Refusal.{Refusal}
-use Rattle.std.specs.Prelude.{None, Ok, Option, Result, Some, Err}
+use Rattle.std.specs.Prelude.{None, Ok, Option, Some, Err}
 use mathlib.Core.Path.{◌≡◌, refl, subst, sym, ap, ◌∙◌}
 use mathlib.Core.List.{List, [], ◌∷◌}
 use Prim.Native.Nat.{ℕ, ◌-◌, min}
 use native.Mathlib.Omega.{arith}
 use lib.ListN.{length, take, drop, get_or, length-take, length-drop}
-use Rattle.refusals.specs.Refusals.{Answer}
+use Rattle.refusals.specs.Refusals.{Answer, shown_place}
 use Rattle.constructs.specs.declared.Bounds.{Bounds}
 use Rattle.index.specs.Index.{Index, File, Summary, summary}
 use Rattle.index.specs.Places.{update_time_place}
@@ -21,13 +20,13 @@ use Rattle.index_files.proofs.Mapped.{mapped}
 use Rattle.volume.specs.Steps.{bounds_text}
 use Rattle.volume.specs.Chosen.{Indexed}
 use Rattle.volume.specs.ChosenSteps.{indexed_in, LiesInStore, Chooses}
-use Rattle.volume.specs.declared.chosen.Chosen.TheVariants as chosen_is
+use Rattle.volume.specs.declared.chosen.FoundIndex.{FoundIndex}
 use Rattle.refusals.proofs.Refusing.{Refuses}
 use Rattle.xml.proofs.Checked.{OfText}
 use Rattle.api.specs.Outputs.{ShownAs, Shown, bit, one}
 use Rattle.api.specs.Fronts.{TellsFront}
 use Rattle.api.specs.Indexes.{back_numbers, SaysHeader, SaysIndex, SaysConstruct, how_many, FillsOut}
-use Rattle.api.specs.Steps.{header_numbers, construct_numbers, Counts}
+use Rattle.api.specs.Steps.{header_numbers, construct_numbers, head_numbers}
 use Rattle.api.proofs.Fronts.{no_front, refused_front}
 use Rattle.api.proofs.Showing.{told as tells}
 
@@ -52,10 +51,11 @@ says_header s h d =
       rows = refl;
     }
 
-pub says_index : (s : List ℕ) (a : Answer Index) (h : Header) {out : List ℕ} → ReadsIndex s a (Ok h) → out ≡ header_numbers h → ShownAs 14 (SaysIndex s) a 0 (take 14 out)
-says_index s a h {out} w q =
+pub says_index : (s : List ℕ) (a : Answer Index) (h : Header) {k : ℕ} {out : List ℕ} → ReadsIndex s a (Ok h) → k ≡ 0 → out ≡ header_numbers h
+    → ShownAs 14 (SaysIndex s) a k (take 14 out)
+says_index s a h w z q =
     let (x, g, p) = mapped summary a _ w.answers in
-    tells x g (subst (λ (o : List ℕ). SaysIndex s x (take 14 o)) (sym q) (subst (λ (t : Summary). SaysHeader s t (take 14 (header_numbers h))) p (says_header s h w.header)))
+    tells x g z (subst (λ (o : List ℕ). SaysIndex s x (take 14 o)) (sym q) (subst (λ (t : Summary). SaysHeader s t (take 14 (header_numbers h))) p (says_header s h w.header)))
 
 says_place : (s : List ℕ) (p : Bounds) (h : Header) → LiesInStore s p h → SaysConstruct s (indexed_in s p h) (take 18 (construct_numbers p h))
 says_place s p h i =
@@ -71,22 +71,24 @@ says_place s p h i =
     whole : min (p.to - p.from) (length (drop p.from s)) ≡ p.to - p.from
     whole = omega (arith, length-drop p.from s, i.text)
 
-pub says_construct : (s : List ℕ) (a : Answer Indexed) (p : Bounds) (h : Header) {out : List ℕ} → Chooses s a (chosen_is.Found p h)
-    → out ≡ construct_numbers p h → ShownAs 18 (SaysConstruct s) a 0 (take 18 out)
-says_construct s a p h w q =
-    tells (indexed_in s p h) w.answers (subst (λ (o : List ℕ). SaysConstruct s (indexed_in s p h) (take 18 o)) (sym q) (says_place s p h w.inside))
+pub says_construct : (s : List ℕ) (a : Answer Indexed) (x : FoundIndex) {k : ℕ} {out : List ℕ} → Chooses s a (Ok x) → k ≡ 0
+    → out ≡ construct_numbers x.place x.header → ShownAs 18 (SaysConstruct s) a k (take 18 out)
+says_construct s a x w z q =
+    tells (indexed_in s x.place x.header) w.answers z
+    (subst (λ (o : List ℕ). SaysConstruct s (indexed_in s x.place x.header) (take 18 o)) (sym q) (says_place s x.place x.header w.inside))
 
-pub says_file : (s t : List ℕ) (a : Answer File) (h : FileHead) → ReadsFile s t a (Ok h)
-    → ShownAs 4 (SaysFile s t) a 0 (h.length.0 ∷ h.name.from ∷ h.name.len ∷ h.rows ∷ [])
-says_file s t a h r =
+pub says_file : (s t : List ℕ) (a : Answer File) (h : FileHead) {k : ℕ} {out : List ℕ} → ReadsFile s t a (Ok h) → k ≡ 0 → out ≡ head_numbers h
+    → ShownAs 4 (SaysFile s t) a k (take 4 out)
+says_file s t a h r z q =
     let (f, g, p) = mapped head_of a _ r.says in
-    tells f g
+    tells f g z
+    (subst (λ (o : List ℕ). SaysFile s t f (take 4 o)) (sym q)
     record {
       length = ap (λ (t : Head). t.length) p;
       name = record { part = ap (λ (t : Head). t.name) p; inside = r.inside };
       place = r.stands;
       rows = ap (λ (t : Head). t.rows) p;
-    }
+    })
 
 -- a buffer filled, and the number of what was written
 module _ {A : Type 0} where
@@ -94,16 +96,17 @@ module _ {A : Type 0} where
   shown_counted (Err r) s = record { refusal = s.refusal; holds = s.holds }
   shown_counted (Ok l) s = record { refusal = s.refusal; holds = s.holds }
 
-  pub fills_out : {holds : List A → List ℕ → List ℕ → Type 0} {a : Answer (List A)} {before after : List ℕ} {r : (Result ℕ Refusal)} {returned told : ℕ}
+  pub fills_out : {holds : List A → List ℕ → List ℕ → Type 0} {a : Answer (List A)} {before after : List ℕ} {r : Answer ℕ} {returned told : ℕ}
       → FillsBuffer holds a before after r → Shown 1 one r returned (one told) → FillsOut holds a before after returned told
   fills_out {a = a} {returned = returned} {told = told} p s =
       record { answers = shown_counted a (subst (λ (n : Answer ℕ). Shown 1 one n returned (one told)) p.says s); stored = p.stored }
 
 -- the front beside that number
-pub counted_front : {A : Type 0} {s : List ℕ} {a : Answer (List A)} (r : Result ℕ Refusal) {returned count place : ℕ}
-    → Refuses (OfText s) a → r ≡ count_of a → Counts r returned count place → TellsFront s returned place
-counted_front {A} {s} {a = a} r {returned = returned} {count = count} {place = place} q e w = go a q (subst (λ (n : Answer ℕ). Counts n returned count place) e w)
+pub counted_front : {A : Type 0} {s : List ℕ} {a : Answer (List A)} (r : Answer ℕ) {returned count place : ℕ} → Refuses (OfText s) a → r ≡ count_of a
+    → Shown 1 one r returned (one count) → place ≡ (shown_place r).front → TellsFront s returned place
+counted_front {A} {s} {a = a} r {returned = returned} {count = count} {place = place} q e w p =
+    go a q (subst (λ (n : Answer ℕ). Shown 1 one n returned (one count)) e w) (p ∙ ap (λ (n : Answer ℕ). (shown_place n).front) e)
   where
-    go : (x : Answer (List A)) → Refuses (OfText s) x → Counts (count_of x) returned count place → TellsFront s returned place
-    go (Err y) o k = refused_front y o refl k.shows.refusal k.place
-    go (Ok l) o k = rw (k.shows.refusal, k.place) no_front
+    go : (x : Answer (List A)) → Refuses (OfText s) x → Shown 1 one (count_of x) returned (one count) → place ≡ (shown_place (count_of x)).front → TellsFront s returned place
+    go (Err y) o k f = refused_front y o refl k.refusal f
+    go (Ok l) o k f = rw (k.refusal, f) no_front

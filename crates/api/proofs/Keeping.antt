@@ -6,6 +6,7 @@ use Prim.Native.Nat.{ℕ, min}
 use Rattle.refusals.specs.declared.Refusal.{Refusal}
 use Rattle.refusals.specs.Refusals.{number_of, shown_number}
 use Rattle.refusals.proofs.Numbers.{not_zero}
+use Rattle.tape.specs.declared.Front.{Front}
 use Rattle.tape.specs.Answers.{kept_of}
 use Rattle.tape.specs.Steps.{Keeps}
 use Rattle.api.specs.Outputs.{numbers}
@@ -13,13 +14,14 @@ use Rattle.api.specs.Partitions.{fronts, told_fronts, ShowsKept}
 use Rattle.api.proofs.Showing.{shown, not_shown}
 
 module _ {m : ℕ} {l s : List ℕ} where
-  pub kept_shown : {a b : ℕ} → Keeps m l s (Ok (record { list = a; store = b })) → ShowsKept m l s 0 (a ∷ b ∷ [])
-  kept_shown k = record { shown = shown _ k.answers; bytes = λ z. k.bytes; again = λ z. k.again _ refl }
+  pub kept_shown : (f : Front) {n : ℕ} {out : List ℕ} → Keeps m l s (Ok f) → n ≡ 0 → out ≡ fronts f → ShowsKept m l s n out
+  kept_shown f k h g =
+      rw (h, g) record { shown = shown f k.answers refl refl; bytes = λ z. k.bytes; again = λ z. k.again f refl }
 
-  pub kept_refused : (r : Refusal) {n : ℕ} → Keeps m l s (Err r) → n ≡ number_of r → ShowsKept m l s n (0 ∷ 0 ∷ [])
-  kept_refused r {n} k h =
+  pub kept_refused : (r : Refusal) {n : ℕ} {out : List ℕ} → Keeps m l s (Err r) → n ≡ number_of r → out ≡ 0 ∷ 0 ∷ [] → ShowsKept m l s n out
+  kept_refused r {n} k h g =
       record {
-        shown = not_shown r k.answers h;
+        shown = not_shown r k.answers h g;
         bytes = λ z. absurd (not_zero r (sym h ∙ z));
         again = λ z. absurd (not_zero r (sym h ∙ z));
       }

@@ -1,10 +1,14 @@
 -- What a reader hands out, in the numbers that C is told.
-use Rattle.std.specs.Prelude.{◌≡◌, List, [], ◌∷◌, ℕ, ◌-◌, get_or}
+use Rattle.std.specs.Prelude.{List, [], ◌∷◌, ℕ, ◌-◌, get_or, None, Option, Some}
 use Rattle.index.specs.Steps.{back_of}
 use Rattle.index.specs.declared.read.Header.{Header}
 use Rattle.constructs.specs.declared.Bounds.{Bounds}
-use Rattle.refusals.specs.Refusals.{Answer, shown_place}
-use Rattle.api.specs.Outputs.{bit, Shown, one}
+use Rattle.vol1.specs.Vol1.{identifier_at, identifier_length, owner_at, owner_length}
+use Rattle.index_files.specs.declared.asked.FileHead.{FileHead}
+use Rattle.volume.specs.Steps.{break_told}
+use Rattle.volume.specs.declared.judge.Break.{Break}
+use Rattle.volume.specs.declared.search.FoundCut.{FoundCut}
+use Rattle.api.specs.Outputs.{bit}
 use Rattle.api.specs.Indexes.{back_numbers}
 use Rattle.label.specs.declared.reader.LabelFields.{LabelFields}
 
@@ -27,7 +31,19 @@ label_numbers f =
     f.release ∷ f.creator.from ∷ f.creator.len ∷ f.time.from ∷ f.time.len ∷ f.uuid.from ∷ f.uuid.len
     ∷ f.location ∷ f.index_letter ∷ f.data_letter ∷ f.block_size ∷ bit f.compression ∷ 0 ∷ []
 
--- how many were written, and the front
-pub record Counts (a : Answer ℕ) (returned count front : ℕ) : Type 0 where
-  pub shows : Shown 1 one a returned (one count)
-  pub place : front ≡ (shown_place a).front
+-- where VOL1's identifier and owner stand
+abbrev pub vol1_numbers : List ℕ
+vol1_numbers = identifier_at ∷ identifier_length ∷ owner_at ∷ owner_length ∷ []
+
+-- what a file says, in numbers, and 0 in the place of the front
+abbrev pub head_numbers : FileHead → List ℕ
+head_numbers h = h.length.0 ∷ h.name.from ∷ h.name.len ∷ h.rows ∷ 0 ∷ []
+
+-- a break, or none, in numbers, and 0 in the places of the front and the side
+abbrev pub verdict_numbers : Option Break → List ℕ
+verdict_numbers None = 0 ∷ 0 ∷ 0 ∷ 0 ∷ []
+verdict_numbers (Some b) = (break_told b).which ∷ (break_told b).number ∷ 0 ∷ 0 ∷ []
+
+-- a cut in numbers, and 0 in the places of the front and the side
+abbrev pub rescue_numbers : FoundCut → List ℕ
+rescue_numbers k = k.index_construct ∷ k.data_construct ∷ k.index_kept ∷ k.data_kept ∷ k.generation.0 ∷ 0 ∷ 0 ∷ []

@@ -1,6 +1,8 @@
 // ANSI labelled tapes: their files, and where a tape leaves the layout.
 ghost use Rattle.api.specs.Tapes.{ReadsAnsi, PlacesAnsi};
 
+use crate::outputs;
+
 // The files of an ANSI labelled tape, 36 bytes each, at the front of buffer.
 #[unsafe(no_mangle)]
 pub extern "C" fn klapouzen_ansi(
@@ -11,16 +13,7 @@ pub extern "C" fn klapouzen_ansi(
 ) -> u64
     ensures { ReadsAnsi list.now store.now buffer.old buffer.new result count.new }
 {
-    match ansi::files(list, store, buffer) {
-        Ok(n) => {
-            *count = n as u64;
-            0
-        }
-        Err(r) => {
-            *count = 0;
-            u64::from(r)
-        }
-    }
+    outputs::tell_count(ansi::files(list, store, buffer), count)
 }
 
 // How many elements at the front of a tape some tape in the layout begins with.
@@ -28,14 +21,5 @@ pub extern "C" fn klapouzen_ansi(
 pub extern "C" fn klapouzen_ansi_place(list: &[u8], store: &[u8], place: &mut u64) -> u64
     ensures { PlacesAnsi list.now store.now result place.new }
 {
-    match ansi::place(list, store) {
-        Ok(n) => {
-            *place = n as u64;
-            0
-        }
-        Err(r) => {
-            *place = 0;
-            u64::from(r)
-        }
-    }
+    outputs::tell_count(ansi::place(list, store), place)
 }

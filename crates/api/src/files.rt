@@ -1,8 +1,11 @@
 // Texts, and the bytes of files.
+ghost use Rattle.std.specs.Prelude.{◌≡◌};
 ghost use Rattle.extents.specs.Map.{byte_map};
 ghost use Rattle.api.specs.Outputs.{Shown};
 ghost use Rattle.api.specs.Files.{byte_place, ChecksForm};
 
+use crate::outputs;
+use extents::Stored;
 use quantities::ByteCount;
 use refusals::Refusal;
 
@@ -11,16 +14,21 @@ use refusals::Refusal;
 pub extern "C" fn klapouzen_check_form(text: &[u8], front: &mut u64) -> u64
     ensures { ChecksForm text.now result front.new }
 {
-    match xml::check(text) {
-        Ok(()) => {
-            *front = 0;
-            0
-        }
-        Err(e) => {
-            *front = e.front as u64;
-            let refusal = Refusal::from(e);
-            u64::from(refusal)
-        }
+    outputs::tell(
+        xml::check(text).map_err(Refusal::from),
+        |()| 0,
+        outputs::front,
+        front,
+    )
+}
+
+// Whether the byte is stored; its letter, its block, and where in the block.
+fn in_place(byte: Option<Stored>) -> [u64; 4]
+    ensures { result ≡ byte_place byte }
+{
+    match byte {
+        Some(stored) => [1, u64::from(stored.letter), stored.block.0, stored.byte.0],
+        None => [0; 4],
     }
 }
 
@@ -35,18 +43,6 @@ pub extern "C" fn klapouzen_byte_at(
 ) -> u64
     ensures { Shown 4 byte_place (byte_map rows.now length block_size position) result out.new }
 {
-    match extents::byte_at(rows, ByteCount(length), block_size, ByteCount(position)) {
-        Ok(Some(stored)) => {
-            *out = [1, u64::from(stored.letter), stored.block.0, stored.byte.0];
-            0
-        }
-        Ok(None) => {
-            *out = [0; 4];
-            0
-        }
-        Err(r) => {
-            *out = [0; 4];
-            u64::from(r)
-        }
-    }
+    let byte = extents::byte_at(rows, ByteCount(length), block_size, ByteCount(position));
+    outputs::tell(byte, in_place, outputs::zeros, out)
 }

@@ -4,13 +4,12 @@ ghost use Rattle.index.specs.Steps.{back_of};
 ghost use Rattle.api.specs.Indexes.{back_numbers, ReadsIndexOut, ReadsFileOut, FillsRows, ReadsWholeOut, ReadsConstructOut};
 ghost use Rattle.api.specs.Steps.{header_numbers, construct_numbers, Counts};
 
-use crate::numbers::{flag, front};
-use constructs::Bounds;
+use crate::outputs;
 use index::{Header, Location};
+use index_files::FileHead;
 use index_values::Partitions;
 use quantities::BlockNumber;
-use refusals::Refusal;
-use volume::Chosen;
+use volume::FoundIndex;
 
 // Whether there is a back pointer, its letter and its block; zeros where there is none.
 fn in_back_numbers(back: Option<Location>) -> [u64; 3]
@@ -26,7 +25,7 @@ fn in_back_numbers(back: Option<Location>) -> [u64; 3]
 fn in_numbers(h: Header) -> [u64; 15]
     ensures { result ≡ header_numbers h }
 {
-    let back = in_back_numbers(h.back);
+    let [back, back_letter, back_block] = in_back_numbers(h.back);
     [
         h.release,
         h.generation.0,
@@ -34,10 +33,10 @@ fn in_numbers(h: Header) -> [u64; 15]
         h.time.len as u64,
         u64::from(h.location.letter),
         h.location.block.0,
-        back[0],
-        back[1],
-        back[2],
-        flag(h.allow),
+        back,
+        back_letter,
+        back_block,
+        u64::from(h.allow),
         h.highest,
         h.directories,
         h.files,
@@ -67,17 +66,21 @@ pub extern "C" fn klapouzen_read_index(
         data_letter,
         block_size,
     };
-    match index::read_index(text, uuid, volume, letter, BlockNumber(block)) {
-        Ok(h) => {
-            *out = in_numbers(h);
-            0
-        }
-        Err(r) => {
-            *out = [0; 15];
-            out[14] = front(r);
-            u64::from(r)
-        }
-    }
+    let header = index::read_index(text, uuid, volume, letter, BlockNumber(block));
+    outputs::tell(header, in_numbers, outputs::with_front, out)
+}
+
+// The last number is the place of the front.
+fn in_head(file: FileHead) -> [u64; 5]
+    ensures { result ≡ head_numbers file }
+{
+    [
+        file.length.0,
+        file.name.from as u64,
+        file.name.len as u64,
+        file.rows,
+        0,
+    ]
 }
 
 // A file of an index's text, by its number; the other parameters are those of reading it.
@@ -101,35 +104,8 @@ pub extern "C" fn klapouzen_read_file(
         data_letter,
         block_size,
     };
-    match index_files::file(text, uuid, volume, letter, BlockNumber(block), file) {
-        Ok(h) => {
-            *out = [h.length.0, h.name.from as u64, h.name.len as u64, h.rows, 0];
-            0
-        }
-        Err(r) => {
-            *out = [0; 5];
-            out[4] = front(r);
-            u64::from(r)
-        }
-    }
-}
-
-// How many were written, 0 where refused; and the front.
-fn counted(filled: Result<u64, Refusal>, count: &mut u64, place: &mut u64) -> u64
-    ensures { Counts filled result count.new place.new }
-{
-    match filled {
-        Ok(n) => {
-            *count = n;
-            *place = 0;
-            0
-        }
-        Err(r) => {
-            *count = 0;
-            *place = front(r);
-            u64::from(r)
-        }
-    }
+    let head = index_files::file(text, uuid, volume, letter, BlockNumber(block), file);
+    outputs::tell(head, in_head, outputs::with_front, out)
 }
 
 // The rows of a file of an index's text, five numbers each, into the front of rows.
@@ -156,7 +132,8 @@ pub extern "C" fn klapouzen_read_rows(
         block_size,
     };
     let filled = index_files::rows(text, uuid, volume, letter, BlockNumber(block), file, rows);
-    counted(filled, count, place)
+    *place = filled.err().map_or(0, outputs::front);
+    outputs::tell(filled, |n| n, |_| 0, count)
 }
 
 // All of an index's text: its header, nine numbers of each entry into the front of entries, and five of each row into the front of rows.
@@ -181,7 +158,7 @@ pub extern "C" fn klapouzen_read_whole(
         data_letter,
         block_size,
     };
-    match index_files::read_whole(
+    let header = index_files::read_whole(
         text,
         uuid,
         volume,
@@ -189,45 +166,22 @@ pub extern "C" fn klapouzen_read_whole(
         BlockNumber(block),
         entries,
         rows,
-    ) {
-        Ok(h) => {
-            *out = in_numbers(h);
-            0
-        }
-        Err(r) => {
-            *out = [0; 15];
-            out[14] = front(r);
-            u64::from(r)
-        }
-    }
+    );
+    outputs::tell(header, in_numbers, outputs::with_front, out)
 }
 
 // A construct's place in a store, and its header.
-fn in_place(p: Bounds, h: Header) -> [u64; 19]
-    ensures { result ≡ construct_numbers p h }
+fn in_place(found: FoundIndex) -> [u64; 19]
+    ensures { result ≡ construct_numbers found.place found.header }
 {
-    let a = in_numbers(h);
-    [
-        p.first.0,
-        p.end as u64,
-        p.from as u64,
-        volume::between(p.from, p.to) as u64,
-        a[0],
-        a[1],
-        a[2],
-        a[3],
-        a[4],
-        a[5],
-        a[6],
-        a[7],
-        a[8],
-        a[9],
-        a[10],
-        a[11],
-        a[12],
-        a[13],
-        a[14],
-    ]
+    let place = found.place;
+    let mut numbers = [0; 19];
+    numbers[0] = place.first.0;
+    numbers[1] = place.end as u64;
+    numbers[2] = place.from as u64;
+    numbers[3] = place.to.saturating_sub(place.from) as u64;
+    numbers[4..].copy_from_slice(&in_numbers(found.header));
+    numbers
 }
 
 // The index of a construct by its number on the partition with that letter; the other parameters are those of reading its text.
@@ -251,15 +205,6 @@ pub extern "C" fn klapouzen_index(
         data_letter,
         block_size,
     };
-    match volume::read_construct(list, store, uuid, letters, letter, number) {
-        Chosen::Found(p, h) => {
-            *out = in_place(p, h);
-            0
-        }
-        Chosen::Refused(r) => {
-            *out = [0; 19];
-            out[18] = front(r);
-            u64::from(r)
-        }
-    }
+    let found = volume::read_construct(list, store, uuid, letters, letter, number);
+    outputs::tell(found, in_place, outputs::with_front, out)
 }

@@ -1,9 +1,9 @@
 // Labels: read, written, and the labels of a volume.
 ghost use Rattle.std.specs.Prelude.{◌≡◌, [], ◌∷◌, ◌++◌};
 ghost use Rattle.api.specs.Labels.{given_label, ReadsVol1Out, WritesVol1, ReadsLabelOut, ChecksOut, WritesLabel};
-ghost use Rattle.api.specs.Steps.{label_numbers};
+ghost use Rattle.api.specs.Steps.{vol1_numbers, label_numbers};
 
-use crate::numbers::{flag, front, side};
+use crate::outputs;
 use label::LabelFields;
 use label_writer::Given;
 use refusals::Refusal;
@@ -25,8 +25,20 @@ fn in_numbers(f: LabelFields) -> [u64; 13]
         f.index_letter as u64,
         f.data_letter as u64,
         f.block_size,
-        flag(f.compression),
+        u64::from(f.compression),
         0,
+    ]
+}
+
+// Where a VOL1 label's identifier and its owner stand.
+fn in_places(_: ()) -> [u64; 4]
+    ensures { result ≡ vol1_numbers }
+{
+    [
+        Vol1::IDENTIFIER_AT as u64,
+        Vol1::IDENTIFIER_LENGTH as u64,
+        Vol1::OWNER_AT as u64,
+        Vol1::OWNER_LENGTH as u64,
     ]
 }
 
@@ -35,21 +47,7 @@ fn in_numbers(f: LabelFields) -> [u64; 13]
 pub extern "C" fn klapouzen_read_vol1(block: &[u8], out: &mut [u64; 4]) -> u64
     ensures { ReadsVol1Out block.now result out.new }
 {
-    match vol1::read_vol1(block) {
-        Ok(()) => {
-            *out = [
-                Vol1::IDENTIFIER_AT as u64,
-                Vol1::IDENTIFIER_LENGTH as u64,
-                Vol1::OWNER_AT as u64,
-                Vol1::OWNER_LENGTH as u64,
-            ];
-            0
-        }
-        Err(r) => {
-            *out = [0; 4];
-            u64::from(r)
-        }
-    }
+    outputs::tell(vol1::read_vol1(block), in_places, outputs::zeros, out)
 }
 
 // Writes a VOL1 label to the front of out.
@@ -62,16 +60,7 @@ pub extern "C" fn klapouzen_write_vol1(
 ) -> u64
     ensures { WritesVol1 identifier.now owner.now out.old out.new result length.new }
 {
-    match vol1::write_vol1(out, identifier, owner) {
-        Ok(n) => {
-            *length = n as u64;
-            0
-        }
-        Err(r) => {
-            *length = 0;
-            u64::from(r)
-        }
-    }
+    outputs::tell_count(vol1::write_vol1(out, identifier, owner), length)
 }
 
 // Reads an LTFS label.
@@ -79,17 +68,7 @@ pub extern "C" fn klapouzen_write_vol1(
 pub extern "C" fn klapouzen_read_label(text: &[u8], out: &mut [u64; 13]) -> u64
     ensures { ReadsLabelOut text.now result out.new }
 {
-    match label::read(text) {
-        Ok(f) => {
-            *out = in_numbers(f);
-            0
-        }
-        Err(r) => {
-            *out = [0; 13];
-            out[12] = front(r);
-            u64::from(r)
-        }
-    }
+    outputs::tell(label::read(text), in_numbers, outputs::with_front, out)
 }
 
 // Writes an LTFS label to the front of out.
@@ -109,37 +88,28 @@ pub extern "C" fn klapouzen_write_label(
     ensures { WritesLabel compression (given_label creator.now time.now uuid.now
         location index_letter data_letter block_size compression) out.old out.new result length.new }
 {
-    if 1 < compression {
-        *length = 0;
-        return u64::from(Refusal::Caller);
-    }
-    let given = Given {
-        location,
-        index_letter,
-        data_letter,
-        block_size,
-        compression: compression == 1,
+    let written = if 1 < compression {
+        Err(Refusal::Caller)
+    } else {
+        let given = Given {
+            location,
+            index_letter,
+            data_letter,
+            block_size,
+            compression: compression == 1,
+        };
+        label_writer::write(out, creator, time, uuid, given)
     };
-    match label_writer::write(out, creator, time, uuid, given) {
-        Ok(n) => {
-            *length = n as u64;
-            0
-        }
-        Err(r) => {
-            *length = 0;
-            u64::from(r)
-        }
-    }
+    outputs::tell_count(written, length)
 }
 
 // The last number is the place of the side.
 fn on_volume(f: LabelFields) -> [u64; 14]
     ensures { result ≡ label_numbers f ++ 0 ∷ [] }
 {
-    let a = in_numbers(f);
-    [
-        a[0], a[1], a[2], a[3], a[4], a[5], a[6], a[7], a[8], a[9], a[10], a[11], a[12], 0,
-    ]
+    let mut numbers = [0; 14];
+    numbers[..13].copy_from_slice(&in_numbers(f));
+    numbers
 }
 
 // The labels of a volume: what the index side's label says, its places being in the index store.
@@ -154,16 +124,6 @@ pub extern "C" fn klapouzen_check_labels(
     ensures { ChecksOut index_list.now index_store.now data_list.now data_store.now
         result out.new }
 {
-    match labels::check(index_list, index_store, data_list, data_store) {
-        Ok(f) => {
-            *out = on_volume(f);
-            0
-        }
-        Err(r) => {
-            *out = [0; 14];
-            out[12] = front(r);
-            out[13] = side(r);
-            u64::from(r)
-        }
-    }
+    let label = labels::check(index_list, index_store, data_list, data_store);
+    outputs::tell(label, on_volume, outputs::with_side, out)
 }

@@ -6,6 +6,6 @@ pub mod files;
 pub mod indexes;
 pub mod labelling;
 pub mod names;
-mod numbers;
+mod outputs;
 pub mod partitions;
 pub mod volumes;

@@ -1,8 +1,20 @@
 // A volume: its verdict, and the rescue.
+ghost use Rattle.std.specs.Prelude.{◌≡◌};
 ghost use Rattle.api.specs.Volumes.{JudgesOut, RescuesOut};
+ghost use Rattle.api.specs.Steps.{verdict_numbers, rescue_numbers};
 
-use crate::numbers::{front, side};
-use volume::Verdict;
+use crate::outputs;
+use volume::{Break, FoundCut};
+
+// Which of the five breaks it is, 0 for none, and its number; the last two numbers are the places of the front and the side.
+fn in_verdict(found: Option<Break>) -> [u64; 4]
+    ensures { result ≡ verdict_numbers found }
+{
+    match found {
+        Some(b) => [b.which(), b.number(), 0, 0],
+        None => [0; 4],
+    }
+}
 
 // Whether the volume is consistent, or which break comes first.
 #[unsafe(no_mangle)]
@@ -16,22 +28,23 @@ pub extern "C" fn klapouzen_verdict(
     ensures { JudgesOut index_list.now index_store.now data_list.now data_store.now
         result out.new }
 {
-    match volume::find_break(index_list, index_store, data_list, data_store) {
-        Verdict::Consistent => {
-            *out = [0; 4];
-            0
-        }
-        Verdict::Break(which, number) => {
-            *out = [which, number, 0, 0];
-            0
-        }
-        Verdict::Refused(r) => {
-            *out = [0; 4];
-            out[2] = front(r);
-            out[3] = side(r);
-            u64::from(r)
-        }
-    }
+    let found = volume::find_break(index_list, index_store, data_list, data_store);
+    outputs::tell(found, in_verdict, outputs::with_side, out)
+}
+
+// The last two numbers are the places of the front and the side.
+fn in_rescue(cut: FoundCut) -> [u64; 7]
+    ensures { result ≡ rescue_numbers cut }
+{
+    [
+        cut.index_construct,
+        cut.data_construct,
+        cut.index_kept,
+        cut.data_kept,
+        cut.generation.0,
+        0,
+        0,
+    ]
 }
 
 // The cut that keeps most index constructs in the index partition and leaves a consistent volume.
@@ -46,24 +59,6 @@ pub extern "C" fn klapouzen_rescue(
     ensures { RescuesOut index_list.now index_store.now data_list.now data_store.now
         result out.new }
 {
-    match volume::find_cut(index_list, index_store, data_list, data_store) {
-        Ok(k) => {
-            *out = [
-                k.index_construct,
-                k.data_construct,
-                k.index_kept,
-                k.data_kept,
-                k.generation.0,
-                0,
-                0,
-            ];
-            0
-        }
-        Err(r) => {
-            *out = [0; 7];
-            out[5] = front(r);
-            out[6] = side(r);
-            u64::from(r)
-        }
-    }
+    let cut = volume::find_cut(index_list, index_store, data_list, data_store);
+    outputs::tell(cut, in_rescue, outputs::with_side, out)
 }

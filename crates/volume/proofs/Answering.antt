@@ -1,13 +1,14 @@
 -- The rescue and the verdict, from what the tables hold, from the labels, and on the bytes handed in.
-use Rattle.std.specs.Prelude.{None, Option, Result, Err, Ok}
+use Rattle.std.specs.Prelude.{None, Option, Some, Err, Ok, ok_or}
 use mathlib.Core.Path.{◌≡◌, refl, sym, ap, subst, ◌∙◌}
-use mathlib.Core.Bool.{true, false}
+use mathlib.Core.Bool.{Bool, true, false}
 use mathlib.Core.List.{List, ◌∷◌}
 use Prim.Native.Nat.{ℕ, ◌-◌, ◌≤◌, ◌<◌}
 use native.Mathlib.Omega.{arith}
 use native.Mathlib.Decide.{dec_le}
 use lib.ListN.{length, get_or, replicate, length-replicate, get_or-eq_default}
 use Rattle.refusals.specs.declared.Refusal.{Refusal}
+use Rattle.refusals.specs.declared.Refusal.TheVariants.{NoCut}
 use Rattle.refusals.specs.Refusals.{Answer, and_then}
 use Rattle.tape.specs.Tape.{Tape, Encodes}
 use Rattle.tape.specs.Answers.{tape_in}
@@ -22,7 +23,6 @@ use Rattle.constructs.proofs.Lengths.{length_lengths}
 use Rattle.label.specs.Label.{Label}
 use Rattle.labels.specs.Labels.{labels_of, labels_in}
 use Rattle.index_values.specs.Tests.{Given}
-use Rattle.index_values.specs.declared.tests.Partitions.{Partitions}
 use Rattle.verdict.specs.Verdict.{Volume, ends_with, chain_break, verdict, Cut}
 use Rattle.verdict.specs.Rescue.{generation_of, through, cut_among, rescue}
 use Rattle.verdict.specs.Steps.{beginnings, firsts}
@@ -30,14 +30,20 @@ use Rattle.verdict.specs.Demand.{Demand3}
 use Rattle.verdict.proofs.Orders.{firsts_suffix, firsts_all}
 use Rattle.verdict.proofs.Partners.{begins_at, length_beginnings}
 use Rattle.volume.specs.Volume.{volume_with, given_by, volume_of, on_volume, or_no_cut, rescue_in, verdict_in}
-use Rattle.volume.specs.Steps.{Located, Listed, PartitionTables, FillsOf, JudgesLast, JudgesIndexes, JudgesData, Breaks, break_of, last_break, Chains, ChainsOf, Ready, BeginsOf, Searches, tried_cut, CutsBy, CutsData, Cuts}
+use Rattle.volume.specs.Steps.{Located, Listed, EndsAt, break_of, last_break, Chains, ChainsOf, Ready, BeginsOf, Tries, LastOf, Searches, tried_cut}
+use Rattle.volume.specs.Readers.{given_to, TablesOf, FillsOf, given_in, JudgesLastIn, FilledOf, JudgesIn, CutsIn, TriesIn, SearchesIn, Cuts, Breaks}
 use Rattle.volume.specs.Answers.{rescued, cut_of, Rescues}
 use Rattle.volume.specs.AnswerSteps.{judged, Judges}
-use Rattle.volume.specs.declared.filling.TablesFilled.{TablesFilled}
-use Rattle.volume.specs.declared.judge.Judgement.{Judgement}
-use Rattle.volume.specs.declared.judge.Judgement.TheVariants.{Broken}
-use Rattle.volume.specs.declared.answers.Verdict.{Verdict}
+use Rattle.volume.specs.declared.sound.Reader.{Reader}
+use Rattle.volume.specs.declared.filling.Partition.{Partition}
+use Rattle.volume.specs.declared.filling.Tables.{Tables}
+use Rattle.volume.specs.declared.filled.Filled.{Filled}
+use Rattle.volume.specs.declared.search.Search.{Search}
+use Rattle.volume.specs.declared.search.FoundCut.{FoundCut}
+use Rattle.volume.specs.declared.judge.Break.{Break}
+use Rattle.volume.specs.declared.judge.Break.TheVariants as break_is
 use Rattle.volume.proofs.Chaining.{last_sound}
+use Rattle.volume.proofs.Trying.{searches}
 use Rattle.volume.proofs.Verdicts.{verdict_1, verdict_2, verdict_3, verdict_last, ends_some}
 use Rattle.volume.proofs.Demands.{rescue_owes, verdict_owes, no_break}
 use Rattle.volume.proofs.Partitions.{through_past, listed_suffix}
@@ -50,18 +56,22 @@ located_first s table cs c bs p l e n = subst (λ (z : ℕ). Located s (bounds_i
 scan_length : (B : ℕ) (t : Tape) → Below (length t) (standing B t)
 scan_length B t = subst (λ (n : ℕ). Below n (standing B t)) (scan_at B scan_start t ∙ omega arith) (standing_below B t)
 
-module _ (g : Given) (is dl ds : List ℕ) (i d : Tape) (ed : Encodes dl ds d) (ti : List ℕ) (n : ℕ) (ri td : List ℕ) (m : ℕ) (rd : List ℕ)
-    (hi : PartitionTables g.block_size is i ti n ri) (hd : PartitionTables g.block_size ds d td m rd) where
+-- a volume whose tables are filled, of the partitions i and d
+module _ (x : Filled) (dl : List ℕ) (i d : Tape) (h : FilledOf x dl i d) where
+  abbrev g : Given
+  g = given_in x
+
   abbrev v : Volume
   v = volume_with g
 
   few : length (standing g.block_size d) ≤ 21845
-  few = omega (arith, standing_few g.block_size d, ed.elements)
+  few = omega (arith, standing_few g.block_size d, h.encodes.elements)
 
-  chain_of : (gens : List ℕ) (k : ℕ) → ChainsOf v ds td m (length {A = ℕ} (replicate 21845 0)) gens k → Chains v (standing g.block_size d) gens k
+  chain_of : (gens : List ℕ) (k : ℕ) → ChainsOf v x.data.store.now x.data.constructs.now x.data.count (length {A = ℕ} (replicate 21845 0)) gens k
+      → Chains v (standing g.block_size d) gens k
   chain_of gens k lc =
       let room : length {A = ℕ} (replicate 21845 0) ≡ 21845 = length-replicate {A = ℕ} 21845 0 in
-      lc (standing g.block_size d) hd.listed (sym hd.number) (omega (arith, few, room, hd.number))
+      lc (standing g.block_size d) h.other.listed (sym h.other.number) (omega (arith, few, room, h.other.number))
 
   module _ (gens begins : List ℕ) (k : ℕ) (hc : Chains v (standing g.block_size d) gens k)
       (hb : begins ≡ beginnings (firsts k (standing g.block_size d)) (replicate 65536 0)) where
@@ -69,30 +79,31 @@ module _ (g : Given) (is dl ds : List ℕ) (i d : Tape) (ed : Encodes dl ds d) (
     front = firsts_suffix (length (standing g.block_size d) - k) (standing g.block_size d)
 
     partners : (q : ℕ) → get_or begins q 0 ≡ length (through q (firsts k (standing g.block_size d)))
-    partners q = ap (λ (x : List ℕ). get_or x q 0) hb ∙ go (dec_le 65536 q)
+    partners q = ap (λ (y : List ℕ). get_or y q 0) hb ∙ go (dec_le 65536 q)
       where
         go : Dec (65536 ≤ q) → get_or (beginnings (firsts k (standing g.block_size d)) (replicate 65536 0)) q 0 ≡ length (through q (firsts k (standing g.block_size d)))
-        go (yes h) =
+        go (yes h₁) =
             let w : length (beginnings (firsts k (standing g.block_size d)) (replicate 65536 0)) ≡ 65536
             = length_beginnings (firsts k (standing g.block_size d)) (replicate 65536 0) ∙ length-replicate {A = ℕ} 65536 0 in
             get_or-eq_default (beginnings (firsts k (standing g.block_size d)) (replicate 65536 0)) 0 (omega arith)
-            ∙ sym (ap length (through_past (length d) q (firsts k (standing g.block_size d)) (below_suffix (length d) front (scan_length g.block_size d)) (omega (arith, ed.elements))))
-        go (no h) = begins_at (firsts k (standing g.block_size d)) 65536 q (omega arith)
+            ∙ sym (ap length (through_past (length d) q (firsts k (standing g.block_size d)) (below_suffix (length d) front (scan_length g.block_size d)) (omega (arith, h.encodes.elements))))
+        go (no h₁) = begins_at (firsts k (standing g.block_size d)) 65536 q (omega arith)
 
     fits : (t : Tape) (c : Construct) (bs : List Construct) → Suffix (c ∷ bs) (standing g.block_size t) → c.end ≤ length (data_lengths t)
     fits t c bs suf = omega (arith, (standing_at g.block_size t c bs suf).0, length_lengths 4 true t)
 
-    ready : Ready v is ti td gens begins ri rd (standing g.block_size i) (firsts k (standing g.block_size d)) (data_lengths i) (data_lengths d)
+    ready : Ready v x.index.store.now x.index.constructs.now x.data.constructs.now gens begins x.index.reach.now x.data.reach.now (standing g.block_size i)
+        (firsts k (standing g.block_size d)) (data_lengths i) (data_lengths d)
     ready =
         record {
-          ds_store = ds;
-          index = hi.listed;
-          chain = listed_suffix ds td (firsts k (standing g.block_size d)) (standing g.block_size d) front hd.listed;
+          ds_store = x.data.store.now;
+          index = h.index.listed;
+          chain = listed_suffix x.data.store.now x.data.constructs.now (firsts k (standing g.block_size d)) (standing g.block_size d) front h.other.listed;
           whole = hc.whole;
           generations = hc.generations;
           partners = partners;
-          index_reach = hi.reaches;
-          data_reach = hd.reaches;
+          index_reach = h.index.reaches;
+          data_reach = h.other.reaches;
           index_fits = fits i;
           data_fits = λ c bs suf. fits d c bs (suffix_trans suf front);
         }
@@ -100,77 +111,110 @@ module _ (g : Given) (is dl ds : List ℕ) (i d : Tape) (ed : Encodes dl ds d) (
     -- the search over those tables finds the rescue's cut
     found : (r : Option FoundCut) → tried_cut r ≡ cut_among v (data_lengths i) (data_lengths d) (firsts k (standing g.block_size d)) (standing g.block_size i) → tried_cut r ≡ rescue v i d
     unfolding rescue
-    found r e = e ∙ ap (λ (x : List Construct). cut_among (volume_with g) (data_lengths i) (data_lengths d) x (standing g.block_size i)) (sym hc.longest)
+    found r e = e ∙ ap (λ (y : List Construct). cut_among (volume_with g) (data_lengths i) (data_lengths d) y (standing g.block_size i)) (sym hc.longest)
 
-    cuts : (w : Partitions) (r : Option FoundCut) → Searches g w is ti n td gens begins ri rd r → tried_cut r ≡ rescue v i d
-    cuts w r e = found r (e (standing g.block_size i) (firsts k (standing g.block_size d)) (data_lengths i) (data_lengths d) ready (sym hi.number))
+    cuts : (r : Option FoundCut)
+        → Searches g x.reader.volume x.index.store.now x.index.constructs.now x.index.count x.data.constructs.now gens begins x.index.reach.now x.data.reach.now r
+        → tried_cut r ≡ rescue v i d
+    cuts r e = found r (e (standing g.block_size i) (firsts k (standing g.block_size d)) (data_lengths i) (data_lengths d) ready (sym h.index.number))
 
--- the cut and the breaks from 3 on, by the tables of both partitions
-module _ (g : Given) (is ds ti : List ℕ) (n : ℕ) (ri td : List ℕ) (m : ℕ) (rd gens : List ℕ) (k : ℕ)
-    (lc : ChainsOf (volume_with g) ds td m (length {A = ℕ} (replicate 21845 0)) gens k) where
-  pub cuts_by : (w : Partitions) (begins : List ℕ) (r : Option FoundCut) → BeginsOf td k (replicate 65536 0) begins → Searches g w is ti n td gens begins ri rd r
-      → CutsBy g is ds ti n ri td m rd r
-  cuts_by w begins r lb ls dl i d ed hi hd =
-      let c = chain_of g is dl ds i d ed ti n ri td m rd hi hd gens k lc in
-      let f = few g is dl ds i d ed ti n ri td m rd hi hd in
-      cuts g is dl ds i d ed ti n ri td m rd hi hd gens begins k c (lb ds (standing g.block_size d) hd.listed c.few (omega (arith, f, c.few))) w r ls
+last_of : {A : Type 0} {P Q : ℕ → Option A → Type 0} (n : ℕ) → ((k : ℕ) (o : Option A) → P k o → Q k o) → (r : Option A) → LastOf P n r → LastOf Q n r
+last_of n f None h = λ k lt. f k None (h k lt)
+last_of n f (Some a) (k, lt, p, q) = (k, lt, f k (Some a) p, λ m x y. f m None (q m x y))
 
-  pub judges_3 : k < m → JudgesIndexes g is ds ti n ri td m rd (Broken 3 k)
-  judges_3 h dl i d ed hi hd ei ee =
-      verdict_3 (volume_with g) i d k ei ee ((chain_of g is dl ds i d ed ti n ri td m rd hi hd gens k lc).stops (omega (arith, hd.number)))
+-- the cut by what the search goes by
+module _ (s : Search) (k : ℕ)
+    (lc : ChainsOf (volume_with (given_in s.filled)) s.filled.data.store.now s.filled.data.constructs.now s.filled.data.count (length {A = ℕ} (replicate 21845 0)) s.generations.now k) where
+  abbrev tried : ℕ → Option FoundCut → Type 0
+  tried n =
+      Tries (given_in s.filled) s.filled.reader.volume s.filled.index.store.now s.filled.index.constructs.now n s.filled.data.constructs.now s.generations.now
+      s.beginnings.now s.filled.index.reach.now s.filled.data.reach.now
 
-  pub judges_rest : (p q generation : ℕ) (r : Judgement) → m ≤ k → p ≡ n - 1 → q ≡ m - 1 → generation ≡ get_or gens q 0
-      → JudgesLast g is ti p td q generation ri rd r → JudgesIndexes g is ds ti n ri td m rd r
-  judges_rest p q generation r h hp hq hg w dl i d ed hi hd ei ee =
-      let v = volume_with g in
-      let ch = chain_of g is dl ds i d ed ti n ri td m rd hi hd gens k lc in
-      let one = ends_some v i d i (standing g.block_size i) ei in
-      let two = ends_some v i d d (standing g.block_size d) ee in
-      let k_all : k ≡ length (standing g.block_size d) = omega (arith, ch.few, hd.number) in
-      let all : firsts k (standing g.block_size d) ≡ standing g.block_size d = ap (λ (z : ℕ). firsts z (standing g.block_size d)) k_all ∙ firsts_all (standing g.block_size d) in
-      let whole : chain_break v (standing g.block_size d) ≡ None = ap (chain_break v) (sym all) ∙ ch.whole in
+  tried_in : (n : ℕ) (o : Option FoundCut) → TriesIn s n o → tried n o
+  unfolding TriesIn
+  tried_in n o t = t
+
+  pub cuts_by : (r : Option FoundCut) → BeginsOf s.filled.data.constructs.now k (replicate 65536 0) s.beginnings.now → SearchesIn s r → CutsIn s.filled r
+  cuts_by r lb ls dl i d h =
+      let x = s.filled in
+      let g = given_in x in
+      let c = chain_of x dl i d h s.generations.now k lc in
+      let f = few x dl i d h in
+      let last : LastOf tried x.index.count r = last_of {P = TriesIn s} {Q = tried} x.index.count tried_in r ls in
+      cuts x dl i d h s.generations.now s.beginnings.now k c (lb x.data.store.now (standing g.block_size d) h.other.listed c.few (omega (arith, f, c.few))) r
+      (searches g x.reader.volume x.index.store.now x.index.constructs.now x.index.count x.data.constructs.now s.generations.now s.beginnings.now
+      x.index.reach.now x.data.reach.now r last)
+
+-- the breaks from 3 on, by the tables of both partitions
+module _ (x : Filled) (gens : List ℕ) (k : ℕ)
+    (lc : ChainsOf (volume_with (given_in x)) x.data.store.now x.data.constructs.now x.data.count (length {A = ℕ} (replicate 21845 0)) gens k) where
+  abbrev given_x : Given
+  given_x = given_in x
+
+  pub judges_3 : k < x.data.count → JudgesIn x (Some (break_is.Chain k))
+  judges_3 lt dl i d h ei ee =
+      verdict_3 (volume_with given_x) i d k ei ee ((chain_of x dl i d h gens k lc).stops (omega (arith, h.other.number)))
+
+  pub judges_rest : (generation : ℕ) (r : Option Break) → x.data.count ≤ k → generation ≡ get_or gens (x.data.count - 1) 0 → JudgesLastIn x generation r → JudgesIn x r
+  judges_rest generation r le hg w dl i d h ei ee =
+      let v = volume_with given_x in
+      let ch = chain_of x dl i d h gens k lc in
+      let one = ends_some v i d i (standing given_x.block_size i) ei in
+      let two = ends_some v i d d (standing given_x.block_size d) ee in
+      let k_all : k ≡ length (standing given_x.block_size d) = omega (arith, ch.few, h.other.number) in
+      let all : firsts k (standing given_x.block_size d) ≡ standing given_x.block_size d
+      = ap (λ (z : ℕ). firsts z (standing given_x.block_size d)) k_all ∙ firsts_all (standing given_x.block_size d) in
+      let whole : chain_break v (standing given_x.block_size d) ≡ None = ap (chain_break v) (sym all) ∙ ch.whole in
       let y = last_sound v two.0 two.1 (ap (chain_break v) (sym two.2) ∙ whole) in
-      let bs_p : length one.1 ≡ p = omega (arith, hi.number, ap length one.2, hp) in
-      let es_q : length two.1 ≡ q = omega (arith, hd.number, ap length two.2, hq) in
-      let li = located_first is ti (standing g.block_size i) one.0 one.1 p hi.listed one.2 bs_p in
-      let ldd = located_first ds td (standing g.block_size d) two.0 two.1 q hd.listed two.2 es_q in
+      let bs_p : length one.1 ≡ x.index.count - 1 = omega (arith, h.index.number, ap length one.2) in
+      let es_q : length two.1 ≡ x.data.count - 1 = omega (arith, h.other.number, ap length two.2) in
+      let li = located_first x.index.store.now x.index.constructs.now (standing given_x.block_size i) one.0 one.1 (x.index.count - 1) h.index.listed one.2 bs_p in
+      let ld = located_first x.data.store.now x.data.constructs.now (standing given_x.block_size d) two.0 two.1 (x.data.count - 1) h.other.listed two.2 es_q in
       let gen : generation ≡ y.0.generation
       = hg ∙ ap (λ (z : ℕ). get_or gens z 0) (sym es_q) ∙ ch.generations two.0 two.1 (here (sym (all ∙ two.2))) ∙ ap generation_of y.1 in
-      w ds one.0 two.0 (data_lengths i) (data_lengths d) li ldd y.0 y.1 gen hi.reaches hd.reaches
+      w x.data.store.now one.0 two.0 (data_lengths i) (data_lengths d) li ld y.0 y.1 gen h.index.reaches h.other.reaches
       (one.3 ∙ sym (length_lengths 4 true i)) (two.3 ∙ sym (length_lengths 4 true d))
       ∙ ap (λ (z : ℕ). last_break v z one.0 two.0 (data_lengths i) (data_lengths d)) (sym bs_p)
       ∙ verdict_last v i d one.0 one.1 two.0 two.1 ei ee whole one.2 two.2
 
--- the cut and the breaks of lists and stores, over tables that were all zeros before they were filled
-abbrev Fills : Given → List ℕ → List ℕ → List ℕ → List ℕ → TablesFilled → Type 0
-Fills g l s table reach = FillsOf g.block_size l s (replicate 87380 0) table (replicate 65536 0) reach
+-- tables that were all zeros before they were filled
+abbrev Zeroed : Reader → Partition → Tables → Type 0
+Zeroed r p x = FillsOf r.volume.block_size p.list.now p.store.now (replicate 87380 0) (replicate 65536 0) x
 
-module _ (g : Given) (l s table reach : List ℕ) (r : TablesFilled) (h : Fills g l s table reach r) (t : Tape) (e : Encodes l s t) where
-  held : PartitionTables g.block_size s t table r.count reach
-  held = (h t e (length-replicate {A = ℕ} 87380 0) (length-replicate {A = ℕ} 65536 0)).0
+module _ (r : Reader) (p : Partition) (x : Tables) (f : Zeroed r p x) (t : Tape) (e : Encodes p.list.now p.store.now t) where
+  held : TablesOf r.volume.block_size t x
+  held = f.filled t e (length-replicate {A = ℕ} 87380 0) (length-replicate {A = ℕ} 65536 0)
 
-  ends_told : r.ends ≡ ends_with t (standing g.block_size t)
-  ends_told = (h t e (length-replicate {A = ℕ} 87380 0) (length-replicate {A = ℕ} 65536 0)).1
+  ends_told : (b : Bool) → EndsAt x.constructs.now x.count x.elements b → b ≡ ends_with t (standing r.volume.block_size t)
+  ends_told b w = w.ends x.store.now t (standing r.volume.block_size t) held.tables.listed held.tables.number held.elements
 
-module _ (g : Given) (il is dl ds ti ri : List ℕ) (a : TablesFilled) (fi : Fills g il is ti ri a) where
-  pub judges_1 : a.ends ≡ false → Breaks g il is dl ds (Broken 1 0)
-  judges_1 f i d ei ed = verdict_1 (volume_with g) i d (sym (ends_told g il is ti ri a fi i ei) ∙ f)
+-- of a volume that is read so, and its partitions
+module _ (r : Reader) (p q : Partition) (x : Tables) (fx : Zeroed r p x) where
+  pub judges_1 : EndsAt x.constructs.now x.count x.elements false → Breaks r p q (Some break_is.IndexEnd)
+  judges_1 w t u et eu = verdict_1 (volume_with (given_to r)) t u (sym (ends_told r p x fx t et false w))
 
-  pub judges_on : a.ends ≡ true → (r : Judgement) → JudgesData g is dl ds ti a.count ri r → Breaks g il is dl ds r
-  judges_on at r w i d ei ed = w i d ed (held g il is ti ri a fi i ei) (sym (ends_told g il is ti ri a fi i ei) ∙ at)
+  module _ (y : Tables) (fy : Zeroed r q y) where
+    abbrev filled : Filled
+    filled = record { reader = r; index = x; «data» = y }
 
-  pub cuts_on : (r : Option FoundCut) → CutsData g is dl ds ti a.count ri r → Cuts g il is dl ds r
-  cuts_on r w i d ei ed = w i d ed (held g il is ti ri a fi i ei)
+    filled_of : (t u : Tape) → Encodes p.list.now p.store.now t → Encodes q.list.now q.store.now u → FilledOf filled q.list.now t u
+    filled_of t u et eu =
+        record {
+          index = (held r p x fx t et).tables;
+          other = (held r q y fy u eu).tables;
+          encodes = subst (λ (s : List ℕ). Encodes q.list.now s u) (sym fy.store) eu;
+        }
 
-module _ (g : Given) (is ti : List ℕ) (n : ℕ) (ri dl ds td rd : List ℕ) (b : TablesFilled) (fd : Fills g dl ds td rd b) where
-  pub judges_2 : b.ends ≡ false → JudgesData g is dl ds ti n ri (Broken 2 0)
-  judges_2 f i d ed hi at = verdict_2 (volume_with g) i d at (sym (ends_told g dl ds td rd b fd d ed) ∙ f)
+    pub judges_2 : EndsAt x.constructs.now x.count x.elements true → EndsAt y.constructs.now y.count y.elements false → Breaks r p q (Some break_is.DataEnd)
+    judges_2 w z t u et eu =
+        verdict_2 (volume_with (given_to r)) t u (sym (ends_told r p x fx t et true w)) (sym (ends_told r q y fy u eu false z))
 
-  pub judges_by : b.ends ≡ true → (r : Judgement) → JudgesIndexes g is ds ti n ri td b.count rd r → JudgesData g is dl ds ti n ri r
-  judges_by bt r w i d ed hi at = w dl i d ed hi (held g dl ds td rd b fd d ed) at (sym (ends_told g dl ds td rd b fd d ed) ∙ bt)
+    pub judges_on : EndsAt x.constructs.now x.count x.elements true → EndsAt y.constructs.now y.count y.elements true → (b : Option Break) → JudgesIn filled b → Breaks r p q b
+    judges_on w z b j t u et eu =
+        j q.list.now t u (filled_of t u et eu) (sym (ends_told r p x fx t et true w)) (sym (ends_told r q y fy u eu true z))
 
-  pub cuts_with : (r : Option FoundCut) → CutsBy g is ds ti n ri td b.count rd r → CutsData g is dl ds ti n ri r
-  cuts_with r w i d ed hi = w dl i d ed hi (held g dl ds td rd b fd d ed)
+    pub cuts_on : (c : Option FoundCut) → CutsIn filled c → Cuts r p q c
+    cuts_on c w t u et eu = w q.list.now t u (filled_of t u et eu)
 
 module _ {A : Type 0} (ask : Volume → Tape → Tape → Answer A) (il is dl ds : List ℕ) where
   -- where the labels are refused, so is the question
@@ -218,33 +262,44 @@ module _ {A : Type 0} (ask : Volume → Tape → Tape → Answer A) (il is dl ds
 
 -- an answer that is the definition's keeps demand 3
 module _ (il is dl ds : List ℕ) where
-  pub rescues : (r : Result FoundCut Refusal) → rescued r ≡ rescue_in il is dl ds → Rescues il is dl ds r
+  pub rescues : (r : Answer FoundCut) → rescued r ≡ rescue_in il is dl ds → Rescues il is dl ds r
   rescues r e =
       record {
         answers = e;
         demand = λ i d v p. subst (λ (a : Answer Cut). Demand3 volume_of v i d (cut_of a)) (sym e) (rescue_owes il is dl ds i d v p);
       }
 
-  pub judges : (r : Verdict) → judged r ≡ verdict_in il is dl ds → Judges il is dl ds r
+  pub judges : (r : Answer (Option Break)) → judged r ≡ verdict_in il is dl ds → Judges il is dl ds r
   judges r e = record { answers = e; demand = λ i d v p. verdict_owes il is dl ds i d v p (no_break r (verdict_in il is dl ds) e) }
 
 -- lists whose labels are read are well formed
 pub read_tape : (l s : List ℕ) (t : Tape) → Bytes l → tape_in l s ≡ Ok t → Encodes l s t
 read_tape l s t bs e = encodes_read l s t bs (tape_read l s t e)
 
-module _ (il is dl ds : List ℕ) (bi : Bytes il) (bd : Bytes dl) (f : Label) (e : Ok f ≡ labels_in il is dl ds) (g : Given) (same : g ≡ given_by f) where
-  pub cut_found : (r : Option FoundCut) → Cuts g il is dl ds r → (a : Result FoundCut Refusal) → rescued a ≡ or_no_cut (tried_cut r) → Rescues il is dl ds a
-  cut_found r c a h =
-      let l = labelled (λ v i d. or_no_cut (rescue v i d)) il is dl ds f e in
-      rescues il is dl ds a
-      (h ∙ ap or_no_cut (c l.index l.other (read_tape il is l.index bi l.index_read) (read_tape dl ds l.other bd l.other_read))
-      ∙ ap (λ (x : Given). or_no_cut (rescue (volume_with x) l.index l.other)) same
-      ∙ sym (ask_labelled (λ v i d. or_no_cut (rescue v i d)) il is dl ds f l))
+-- of the volume that is read with what its labels give
+module _ (il is dl ds : List ℕ) (bi : Bytes il) (bd : Bytes dl) (f : Label) (e : Ok f ≡ labels_in il is dl ds) (r : Reader) (same : given_to r ≡ given_by f) where
+  module _ {A : Type 0} (ask : Volume → Tape → Tape → Answer A) where
+    asked_here : (t u : Tape) × Encodes il is t × Encodes dl ds u × (ask (volume_with (given_to r)) t u ≡ on_volume ask il is dl ds)
+    asked_here =
+        let l = labelled ask il is dl ds f e in (
+          l.index,
+          l.other,
+          read_tape il is l.index bi l.index_read,
+          read_tape dl ds l.other bd l.other_read,
+          ap (λ (x : Given). ask (volume_with x) l.index l.other) same ∙ sym (ask_labelled ask il is dl ds f l),
+        )
 
-  pub verdict_found : (r : Judgement) → Breaks g il is dl ds r → (a : Verdict) → judged a ≡ Ok (break_of r) → Judges il is dl ds a
-  verdict_found r c a h =
-      let l = labelled (λ v i d. Ok (verdict v i d)) il is dl ds f e in
-      judges il is dl ds a
-      (h ∙ ap Ok (c l.index l.other (read_tape il is l.index bi l.index_read) (read_tape dl ds l.other bd l.other_read))
-      ∙ ap (λ (x : Given). Ok (verdict (volume_with x) l.index l.other)) same
-      ∙ sym (ask_labelled (λ v i d. Ok (verdict v i d)) il is dl ds f l))
+  pub cut_found : (c : Option FoundCut) → ((t u : Tape) → Encodes il is t → Encodes dl ds u → tried_cut c ≡ rescue (volume_with (given_to r)) t u)
+      → Rescues il is dl ds (ok_or c NoCut)
+  cut_found c w =
+      let (t, u, et, eu, x) = asked_here (λ v i d. or_no_cut (rescue v i d)) in
+      rescues il is dl ds (ok_or c NoCut) (cut_or_none c ∙ ap or_no_cut (w t u et eu) ∙ x)
+    where
+      cut_or_none : (o : Option FoundCut) → rescued (ok_or o NoCut) ≡ or_no_cut (tried_cut o)
+      cut_or_none None = refl
+      cut_or_none (Some k) = refl
+
+  pub verdict_found : (b : Option Break) → ((t u : Tape) → Encodes il is t → Encodes dl ds u → break_of b ≡ verdict (volume_with (given_to r)) t u) → Judges il is dl ds (Ok b)
+  verdict_found b w =
+      let (t, u, et, eu, x) = asked_here (λ v i d. Ok (verdict v i d)) in
+      judges il is dl ds (Ok b) (ap Ok (w t u et eu) ∙ x)

@@ -6,13 +6,13 @@ use mathlib.Core.List.{List, []}
 use Prim.Native.Nat.{ℕ}
 use native.Mathlib.Omega.{arith}
 use lib.Dec.{leb, eqb}
-use Rattle.refusals.specs.declared.Refusal.{Refusal}
 use Rattle.refusals.specs.declared.Refusal.TheVariants.{Caller, TooMany}
 use Rattle.refusals.specs.Refusals.{Answer, require}
 use Rattle.quantities.specs.Addresses.{Address}
 use Rattle.constructs.specs.Constructs.{Construct}
 use Rattle.index.specs.Index as text
-use Rattle.index.specs.Steps.{means, back_of}
+use Rattle.std.specs.Result.{result_ok}
+use Rattle.index.specs.Steps.{means}
 use Rattle.index.specs.declared.read.Header.{Header}
 use Rattle.index_values.specs.Tests.{Given}
 use Rattle.slices.proofs.Booleans.{split}
@@ -22,7 +22,6 @@ use Rattle.verdict.specs.Verdict.{IndexLinks, Volume, read_text, follows}
 use Rattle.volume.specs.Volume.{soundly, volume_with}
 use Rattle.volume.specs.Chosen.{text_bytes}
 use Rattle.volume.specs.Steps.{link_of, brief_link, joined}
-use Rattle.volume.specs.declared.sound.Brief.{Brief}
 
 -- an empty text is no index
 no_text : (g : Given) (letter block : ℕ) → soundly (text.index_of g letter block []) ≡ None
@@ -45,32 +44,17 @@ abbrev summary_back : Answer text.Summary → Option Address
 summary_back (Err r) = None
 summary_back (Ok t) = t.heading.back
 
--- what is read of an index: whether it is sound, its generation and its back pointer
-pub link_found : (a : Answer text.Index) (s : List ℕ) (h : Header) → means s (Ok h) ≡ text.summary_of a
-    → Some (record { generation = h.generation.0; back = back_of h }) ≡ link_of (soundly a)
-link_found (Err r) s h e = let z : ◌≡◌ {A = ℕ} 0 1 = cc in absurd (omega arith)
-link_found (Ok x) s h e = rw (ap summary_generation e, ap summary_back e)
+-- what is read of an index that is sound: its generation and its back pointer
+pub link_found : (a : Answer text.Index) (s : List ℕ) (r : Answer Header) (h : Header) → means s r ≡ text.summary_of a → Some h ≡ result_ok r
+    → brief_link (Some (record { generation = h.generation; back = h.back })) ≡ link_of (soundly a)
+link_found a s (Err q) h m e = let z : ◌≡◌ {A = ℕ} 0 1 = cc in absurd (omega arith)
+link_found (Err q) s (Ok k) h m e = let z : ◌≡◌ {A = ℕ} 0 1 = cc in absurd (omega arith)
+link_found (Ok x) s (Ok k) h m e = let z : h ≡ k = cc in rw (z, ap summary_generation m, ap summary_back m)
 
-pub link_refused : (a : Answer text.Index) (s : List ℕ) (r : Refusal) → means s (Err r) ≡ text.summary_of a → None ≡ link_of (soundly a)
-link_refused (Err r) s q e = refl
-link_refused (Ok x) s q e = let z : ◌≡◌ {A = ℕ} 0 1 = cc in absurd (omega arith)
-
-module _ (b : Brief) (letter first generation : ℕ) where
-  pub joins_unsound : b.sound ≡ false → false ≡ joined (brief_link b) letter first generation
-  joins_unsound e = rw e
-
-  pub joins_alone : b.sound ≡ true → b.back ≡ false → false ≡ joined (brief_link b) letter first generation
-  joins_alone e f = rw (e, f)
-
-  pub joins_letter : b.sound ≡ true → b.back ≡ true → eqb b.letter letter ≡ false → false ≡ joined (brief_link b) letter first generation
-  joins_letter e f g = rw (e, f, g)
-
-  pub joins_block : b.sound ≡ true → b.back ≡ true → eqb b.letter letter ≡ true → eqb b.block.0 first ≡ false → false ≡ joined (brief_link b) letter first generation
-  joins_block e f g h = rw (e, f, g, h)
-
-  pub joins_last : b.sound ≡ true → b.back ≡ true → eqb b.letter letter ≡ true → eqb b.block.0 first ≡ true
-      → leb generation b.generation.0 ≡ joined (brief_link b) letter first generation
-  joins_last e f g h = rw (e, f, g, h)
+pub link_refused : (a : Answer text.Index) (s : List ℕ) (r : Answer Header) → means s r ≡ text.summary_of a → None ≡ result_ok r → None ≡ link_of (soundly a)
+link_refused (Err q) s r m e = refl
+link_refused (Ok x) s (Ok k) m e = let z : ◌≡◌ {A = ℕ} 0 1 = cc in absurd (omega arith)
+link_refused (Ok x) s (Err q) m e = let z : ◌≡◌ {A = ℕ} 0 1 = cc in absurd (omega arith)
 
 -- an index that joins a construct whose index is sound follows it
 pub joined_follows : (v : Volume) (o : Option IndexLinks) (d : Construct) (p : Option IndexLinks) (y : IndexLinks) → p ≡ Some y

@@ -1,7 +1,7 @@
 -- The chain of the data partition, one construct more at a time.
-use Rattle.std.specs.Prelude.{None, Option, Some}
+use Rattle.std.specs.Prelude.{None, Option, Some, is_some}
 use mathlib.Core.Path.{◌≡◌, refl, sym, ap, subst, ◌∙◌}
-use mathlib.Core.Bool.{Bool, true, false, cond, not}
+use mathlib.Core.Bool.{Bool, true, false, not}
 use mathlib.Core.List.{List, [], ◌∷◌}
 use Prim.Native.Nat.{ℕ, suc, ◌+◌, ◌-◌, ◌≤◌, ◌<◌}
 use native.Mathlib.Omega.{arith}
@@ -17,48 +17,41 @@ use Rattle.constructs.proofs.Suffixes.{suffix_length, suffix_trans, nil_suffix}
 use Rattle.verdict.specs.Verdict.{IndexLinks, Volume, is_none, read_text, read_data, follows, begins_chain, chained, chain_break}
 use Rattle.verdict.specs.Rescue.{generation_of}
 use Rattle.verdict.proofs.Chains.{or_else_none, unless_none}
-use Rattle.slices.proofs.Booleans.{split}
 use Rattle.verdict.specs.Steps.{firsts}
 use Rattle.verdict.proofs.Orders.{firsts_suffix, firsts_next, firsts_all, break_at, chain_stops, chain_grows, chain_whole}
 use Rattle.index_values.specs.Tests.{Given}
 use Rattle.index.specs.Index.{index_of}
+use Rattle.index.specs.Steps.{back_of}
+use Rattle.index.specs.declared.read.Location.{Location}
+use Rattle.std.specs.Bool.{then_some}
 use Rattle.volume.specs.Volume.{soundly, volume_with}
-use Rattle.volume.specs.Steps.{Link, link_of, brief_link, joined, bounds_text, Located, Listed, last_generation, Links, LinksAt, Generations, Chains, ChainsOf}
+use Rattle.volume.specs.Steps.{Link, link_of, brief_link, joined, bounds_text, Located, Listed, last_generation, linked, LinksAt, Generations, Chains, ChainsOf}
 use Rattle.volume.specs.declared.sound.Brief.{Brief}
-use Rattle.volume.specs.declared.chains.Linked.{Linked}
 use Rattle.volume.proofs.Briefs.{read_bytes, joined_follows}
 
 abbrev link_generation : Option Link → ℕ
 link_generation None = 0
 link_generation (Some t) = t.generation
 
-abbrev link_begins : Option Link → Bool
-link_begins None = false
-link_begins (Some t) = is_none t.back
+abbrev link_back : Option Link → Option Address
+link_back None = None
+link_back (Some t) = t.back
 
-generation_linked : (o : Option IndexLinks) → link_generation (link_of o) ≡ generation_of o
-generation_linked None = refl
-generation_linked (Some x) = refl
+-- what is read of a sound index is its generation and its back pointer; of no index there is nothing
+pub link_read : (o : Option IndexLinks) (b : Brief) → brief_link (Some b) ≡ link_of o
+    → (x : IndexLinks) × (o ≡ Some x) × (x.generation ≡ b.generation.0) × (x.back ≡ back_of b.back)
+link_read None b e = let z : ◌≡◌ {A = ℕ} 0 1 = cc in absurd (omega arith)
+link_read (Some x) b e = (x, refl, sym (ap link_generation e), sym (ap link_back e))
 
-begins_linked : (v : Volume) (o : Option IndexLinks) → link_begins (link_of o) ≡ begins_chain v o
-begins_linked v None = refl
-begins_linked v (Some x) = refl
+pub link_none : (o : Option IndexLinks) → None ≡ link_of o → o ≡ None
+link_none None e = refl
+link_none (Some x) e = let z : ◌≡◌ {A = ℕ} 0 1 = cc in absurd (omega arith)
 
-begins_by : (b : Brief) → b.sound ≡ true → link_begins (brief_link b) ≡ not b.back
-begins_by b e = rw e (split (λ k. is_none {A = Address} (cond k (Some (record { letter = b.letter; block = b.block.0 })) None) ≡ not k) b.back (λ u. refl) (λ u. refl))
-
--- the generation of a sound index
-pub link_generation_lem : (o : Option IndexLinks) (b : Brief) → brief_link b ≡ link_of o → b.sound ≡ true → b.generation.0 ≡ generation_of o
-link_generation_lem o b e f =
-    let z : link_generation (brief_link b) ≡ b.generation.0 = rw f in
-    sym z ∙ ap link_generation e ∙ generation_linked o
-
--- what joins a construct is sound
-pub joined_sound : (b : Brief) (letter first generation : ℕ) → joined (brief_link b) letter first generation ≡ true → b.sound ≡ true
-joined_sound b letter first generation =
-    split (λ k. b.sound ≡ k → joined (brief_link b) letter first generation ≡ true → b.sound ≡ true) b.sound
-    (λ u e h. e)
-    (λ u e h. let z : ◌≡◌ {A = Bool} false true = rw e at h in let y : ◌≡◌ {A = ℕ} 0 1 = cc in absurd (omega arith)) refl
+none_back : (b : Option Location) (t : Bool) → is_some b ≡ not t → t ≡ is_none (back_of b)
+none_back None true e = refl
+none_back None false e = let z : ◌≡◌ {A = ℕ} 0 1 = cc in absurd (omega arith)
+none_back (Some l) true e = let z : ◌≡◌ {A = ℕ} 0 1 = cc in absurd (omega arith)
+none_back (Some l) false e = refl
 
 module _ (v : Volume) where
   follows_sound : (o : Option IndexLinks) (d : Construct) (p : Option IndexLinks) → follows v o d p ≡ true → (x : IndexLinks) × (o ≡ Some x)
@@ -79,32 +72,40 @@ module _ (v : Volume) where
   unfolding chain_break
   last_sound c cs h = chained_sound c cs (unless_none (chained v c cs) (length cs) (or_else_none (chain_break v cs) _ h).1)
 
-  module _ (c : Construct) (b : Brief) (e : brief_link b ≡ link_of (read_data v c)) where
-    -- the first construct
-    pub links_unsound : (g : Generation) → b.sound ≡ false → Links v c [] (record { ok = false; generation = g })
-    links_unsound g f =
-        record {
-          chained = let z : link_begins (brief_link b) ≡ false = rw f in sym (sym (begins_linked v (read_data v c)) ∙ ap link_begins (sym e) ∙ z);
-          generation = λ h. let y : ◌≡◌ {A = ℕ} 0 1 = cc in absurd (omega arith);
-        }
+  unread_chained : (c : Construct) (cs : List Construct) → read_data v c ≡ None → chained v c cs ≡ false
+  unfolding follows
+  unread_chained c [] e = rw e
+  unread_chained c (p ∷ ps) e = rw e
 
-    pub links_first : b.sound ≡ true → Links v c [] (record { ok = not b.back; generation = b.generation })
-    links_first f =
-        record { chained = sym (begins_by b f) ∙ ap link_begins e ∙ begins_linked v (read_data v c); generation = λ h. link_generation_lem (read_data v c) b e f }
+  module _ (c : Construct) where
+    -- no sound index goes on no chain
+    links_unsound : (cs : List Construct) → None ≡ link_of (read_data v c) → None ≡ linked v c cs
+    links_unsound cs e = let z : chained v c cs ≡ false = unread_chained c cs (link_none (read_data v c) e) in rw z
 
-    -- one behind others
-    pub links_behind : (p : Construct) (ps : List Construct) (first before : ℕ) (ok : Bool) → chain_break v (p ∷ ps) ≡ None → first ≡ p.first
-        → last_generation v (p ∷ ps) ≡ before → ok ≡ joined (brief_link b) v.data_letter first before → Links v c (p ∷ ps) (record { ok = ok; generation = b.generation })
-    links_behind p ps first before ok whole at gen j =
-        let y = last_sound p ps whole in
-        let g : before ≡ y.0.generation = sym gen ∙ ap generation_of y.1 in
-        record {
-          chained = rw (at, g, e) at j ∙ joined_follows v (read_data v c) p (read_data v p) y.0 y.1;
-          generation = λ h. link_generation_lem (read_data v c) b e (joined_sound b v.data_letter first before (sym j ∙ h));
-        }
+    module _ (b : Brief) (e : brief_link (Some b) ≡ link_of (read_data v c)) where
+      same_generation : (t u : Bool) → t ≡ u → then_some t b.generation ≡ then_some u (record { 0 = generation_of (read_data v c) })
+      same_generation t u f =
+          let x = link_read (read_data v c) b e in
+          let g : generation_of (read_data v c) ≡ b.generation.0 = ap generation_of x.1 ∙ x.2 in
+          rw (f, g)
+
+      -- the first construct
+      links_first : (t : Bool) → is_some b.back ≡ not t → then_some t b.generation ≡ linked v c []
+      links_first t f =
+          let x = link_read (read_data v c) b e in
+          same_generation t (begins_chain v (read_data v c)) (none_back b.back t f ∙ ap is_none (sym x.3) ∙ ap (begins_chain v) (sym x.1))
+
+      -- one behind others
+      links_behind : (p : Construct) (ps : List Construct) (first before : ℕ) (t : Bool) → chain_break v (p ∷ ps) ≡ None → first ≡ p.first
+          → last_generation v (p ∷ ps) ≡ before → t ≡ joined (brief_link (Some b)) v.data_letter first before → then_some t b.generation ≡ linked v c (p ∷ ps)
+      links_behind p ps first before t whole at gen j =
+          let y = last_sound p ps whole in
+          let g : before ≡ y.0.generation = sym gen ∙ ap generation_of y.1 in
+          same_generation t (follows v (read_data v c) p (read_data v p))
+          (j ∙ ap (λ (o : Option Link). joined o v.data_letter first before) e ∙ rw (at, g) (joined_follows v (read_data v c) p (read_data v p) y.0 y.1))
 
 -- what is read of a construct at its place in the store
-pub link_located : (g : Given) (s : List ℕ) (letter : ℕ) (p : Bounds) (t : List ℕ) (b : Brief) → t ≡ bounds_text s p → brief_link b ≡ link_of (soundly (index_of g letter p.first.0 t))
+pub link_located : (g : Given) (s : List ℕ) (letter : ℕ) (p : Bounds) (t : List ℕ) (b : Option Brief) → t ≡ bounds_text s p → brief_link b ≡ link_of (soundly (index_of g letter p.first.0 t))
     → (c : Construct) → Located s p c → brief_link b ≡ link_of (read_text (volume_with g) letter c.first c.text)
 link_located g s letter p t b f r c w =
     r ∙ ap (λ (x : ℕ). link_of (soundly (index_of g letter x t))) w.first ∙ ap (λ (x : List ℕ). link_of (soundly (index_of g letter c.first x))) (f ∙ w.text)
@@ -114,29 +115,29 @@ link_located g s letter p t b f r c w =
 pub located_at : (s table : List ℕ) (k : ℕ) (p : Bounds) (c : Construct) (cs : List Construct) → p ≡ bounds_in table k → Located s (bounds_in table (length cs)) c → length cs ≡ k → Located s p c
 located_at s table k p c cs e l n = subst (λ (x : Bounds). Located s x c) (sym (e ∙ ap (bounds_in table) (sym n))) l
 
-pub link_placed : (g : Given) (s table : List ℕ) (letter k : ℕ) (p : Bounds) (t : List ℕ) (b : Brief) → p ≡ bounds_in table k → t ≡ bounds_text s p
+pub link_placed : (g : Given) (s table : List ℕ) (letter k : ℕ) (p : Bounds) (t : List ℕ) (b : Option Brief) → p ≡ bounds_in table k → t ≡ bounds_text s p
     → brief_link b ≡ link_of (soundly (index_of g letter p.first.0 t))
     → (c : Construct) (cs : List Construct) → Located s (bounds_in table (length cs)) c → length cs ≡ k
     → brief_link b ≡ link_of (read_text (volume_with g) letter c.first c.text)
 link_placed g s table letter k p t b e f r c cs l n = link_located g s letter p t b f r c (located_at s table k p c cs e l n)
 
-module _ (v : Volume) (s table : List ℕ) (k before : ℕ) (b : Brief)
-    (link-of : (c : Construct) (cs : List Construct) → Located s (bounds_in table (length cs)) c → length cs ≡ k → brief_link b ≡ link_of (read_data v c)) where
-  pub at_unsound : (g : Generation) → k ≡ 0 → b.sound ≡ false → LinksAt v s table k before (record { ok = false; generation = g })
-  at_unsound g z f ds l c [] suf n whole gen = links_unsound v c b (link-of c [] (l c [] suf) n) g f
-  at_unsound g z f ds l c (p ∷ ps) suf n whole gen = absurd (omega arith)
+module _ (v : Volume) (s table : List ℕ) (k before : ℕ) (o : Option Brief)
+    (link-of : (c : Construct) (cs : List Construct) → Located s (bounds_in table (length cs)) c → length cs ≡ k → brief_link o ≡ link_of (read_data v c)) where
+  pub at_unsound : o ≡ None → LinksAt v s table k before None
+  at_unsound e ds l c cs suf n whole gen = links_unsound v c cs (ap brief_link (sym e) ∙ link-of c cs (l c cs suf) n)
 
-  pub at_first : k ≡ 0 → b.sound ≡ true → LinksAt v s table k before (record { ok = not b.back; generation = b.generation })
-  at_first z f ds l c [] suf n whole gen = links_first v c b (link-of c [] (l c [] suf) n) f
-  at_first z f ds l c (p ∷ ps) suf n whole gen = absurd (omega arith)
+  module _ (b : Brief) (e : o ≡ Some b) where
+    pub at_first : k ≡ 0 → (t : Bool) → is_some b.back ≡ not t → LinksAt v s table k before (then_some t b.generation)
+    at_first z t f ds l c [] suf n whole gen = links_first v c b (ap brief_link (sym e) ∙ link-of c [] (l c [] suf) n) t f
+    at_first z t f ds l c (p ∷ ps) suf n whole gen = absurd (omega arith)
 
-  pub at_behind : (k ≡ 0 → ⊥) → (q : Bounds) (ok : Bool) → q ≡ bounds_in table (k - 1) → ok ≡ joined (brief_link b) v.data_letter q.first.0 before
-      → LinksAt v s table k before (record { ok = ok; generation = b.generation })
-  at_behind z q ok e j ds l c [] suf n whole gen = absurd (z (sym n))
-  at_behind z q ok e j ds l c (p ∷ ps) suf n whole gen =
-      let m : k - 1 ≡ length ps = omega arith in
-      let w : Located s q p = subst (λ (x : Bounds). Located s x p) (sym (e ∙ ap (bounds_in table) m)) (l p ps (suffix_trans (there (here refl)) suf)) in
-      links_behind v c b (link-of c (p ∷ ps) (l c (p ∷ ps) suf) n) p ps q.first.0 before ok whole w.first gen j
+    pub at_behind : (k ≡ 0 → ⊥) → (q : Bounds) (t : Bool) → q ≡ bounds_in table (k - 1) → t ≡ joined (brief_link (Some b)) v.data_letter q.first.0 before
+        → LinksAt v s table k before (then_some t b.generation)
+    at_behind z q t at j ds l c [] suf n whole gen = absurd (z (sym n))
+    at_behind z q t at j ds l c (p ∷ ps) suf n whole gen =
+        let m : k - 1 ≡ length ps = omega arith in
+        let w : Located s q p = subst (λ (x : Bounds). Located s x p) (sym (at ∙ ap (bounds_in table) m)) (l p ps (suffix_trans (there (here refl)) suf)) in
+        links_behind v c b (ap brief_link (sym e) ∙ link-of c (p ∷ ps) (l c (p ∷ ps) suf) n) p ps q.first.0 before t whole w.first gen j
 
 -- the chain so far: the first k constructs have no break, the table has their generations, and the last one's is at hand
 pub record ChainAt (v : Volume) (ds : List Construct) (table : List ℕ) (k before : ℕ) : Type 0 where
@@ -161,6 +162,14 @@ module _ (ds : List Construct) where
       let e : k + 1 ≡ suc k = omega arith in
       (x.0, ap (λ (n : ℕ). firsts n ds) e ∙ x.1, subst (λ (l : List Construct). Suffix l ds) x.1 (firsts_suffix (length ds - suc k) ds))
 
+goes_on : (t : Bool) (x : Generation) {g : Generation} → then_some t x ≡ Some g → (t ≡ true) × (x ≡ g)
+goes_on true x {g} e = (refl, let z : x ≡ g = cc in z)
+goes_on false x e = let z : ◌≡◌ {A = ℕ} 0 1 = cc in absurd (omega arith)
+
+breaks_off : (t : Bool) (x : Generation) → then_some t x ≡ None → t ≡ false
+breaks_off true x e = let z : ◌≡◌ {A = ℕ} 0 1 = cc in absurd (omega arith)
+breaks_off false x e = refl
+
 module _ (v : Volume) (ds : List Construct) where
   chain_none : (gens : List ℕ) → ChainAt v ds gens 0 0
   unfolding chain_break
@@ -171,33 +180,35 @@ module _ (v : Volume) (ds : List Construct) where
         generations = λ c cs h. absurd (nil_suffix (subst (λ (l : List Construct). Suffix (c ∷ cs) l) (firsts_none ds) h));
       }
 
-  module _ (gens : List ℕ) (k before : ℕ) (w : ChainAt v ds gens k before) (h : k < length ds) (r : Linked) (l : Links v (next_first ds k h).0 (firsts k ds) r) where
-    chain_more : k < length gens → r.ok ≡ true → ChainAt v ds (set gens k r.generation.0) (k + 1) r.generation.0
-    chain_more room e =
+  module _ (gens : List ℕ) (k before : ℕ) (w : ChainAt v ds gens k before) (h : k < length ds) (r : Option Generation) (l : r ≡ linked v (next_first ds k h).0 (firsts k ds)) where
+    chain_more : (g : Generation) → k < length gens → r ≡ Some g → ChainAt v ds (set gens k g.0) (k + 1) g.0
+    chain_more g room e =
         let x = next_first ds k h in
         let n = firsts_length ds k (omega arith) in
+        let y = goes_on (chained v x.0 (firsts k ds)) (record { 0 = generation_of (read_data v x.0) }) (sym l ∙ e) in
+        let q : g.0 ≡ generation_of (read_data v x.0) = ap (λ (z : Generation). z.0) (sym y.1) in
         record {
-          whole = ap (chain_break v) x.1 ∙ chain_grows v x.0 (firsts k ds) w.whole (sym l.chained ∙ e);
-          last = ap (last_generation v) x.1 ∙ sym (l.generation e);
-          generations = λ c cs s. go c cs (subst (λ (t : List Construct). Suffix (c ∷ cs) t) x.1 s);
+          whole = ap (chain_break v) x.1 ∙ chain_grows v x.0 (firsts k ds) w.whole y.0;
+          last = ap (last_generation v) x.1 ∙ sym q;
+          generations = λ c cs s. go q c cs (subst (λ (t : List Construct). Suffix (c ∷ cs) t) x.1 s);
         }
       where
-        go : Generations v (set gens k r.generation.0) ((next_first ds k h).0 ∷ firsts k ds)
-        go c cs (here q) =
+        go : g.0 ≡ generation_of (read_data v (next_first ds k h).0) → Generations v (set gens k g.0) ((next_first ds k h).0 ∷ firsts k ds)
+        go f c cs (here q) =
             let z : c ≡ (next_first ds k h).0 = cc in
             let y : cs ≡ firsts k ds = cc in
             let n : length cs ≡ k = ap length y ∙ firsts_length ds k (omega arith) in
-            rw (n, z) (get_or-set_same gens k r.generation.0 0 room ∙ l.generation e)
-        go c cs (there s) =
+            rw (n, z) (get_or-set_same gens k g.0 0 room ∙ f)
+        go f c cs (there s) =
             let n = firsts_length ds k (omega arith) in
             let m = suffix_length s in
-            get_or-set_other gens k (length cs) r.generation.0 0 (λ q. omega arith) ∙ w.generations c cs s
+            get_or-set_other gens k (length cs) g.0 0 (λ q. omega arith) ∙ w.generations c cs s
 
-    chain_over : r.ok ≡ false → Chains v ds gens k
+    chain_over : r ≡ None → Chains v ds gens k
     chain_over e =
         let x = next_first ds k h in
         let n = firsts_length ds k (omega arith) in
-        let f : chained v x.0 (firsts k ds) ≡ false = sym l.chained ∙ e in
+        let f : chained v x.0 (firsts k ds) ≡ false = breaks_off (chained v x.0 (firsts k ds)) (record { 0 = generation_of (read_data v x.0) }) (sym l ∙ e) in
         record {
           few = omega arith;
           whole = w.whole;
@@ -222,20 +233,20 @@ module _ (v : Volume) (s table : List ℕ) (n room : ℕ) where
   pub chains_start : (gens : List ℕ) → ChainsAt v s table n room gens 0 0
   chains_start gens ds l e f = chain_none v ds gens
 
-  module _ (gens : List ℕ) (k before : ℕ) (w : ChainsAt v s table n room gens k before) (h : k < n) (r : Linked) (l : LinksAt v s table k before r) where
+  module _ (gens : List ℕ) (k before : ℕ) (w : ChainsAt v s table n room gens k before) (h : k < n) (r : Option Generation) (l : LinksAt v s table k before r) where
     link_at : (ds : List Construct) (d : Listed s table ds) (e : length ds ≡ n) (f : n ≤ room) (i : k < length ds)
-        → Links v (next_first ds k i).0 (firsts k ds) r
+        → r ≡ linked v (next_first ds k i).0 (firsts k ds)
     link_at ds d e f i =
         let x = next_first ds k i in
         let a = w ds d e f in
         l ds d x.0 (firsts k ds) x.2 (firsts_length ds k (omega arith)) a.whole a.last
 
-    pub chains_more : length gens ≡ room → r.ok ≡ true → ChainsAt v s table n room (set gens k r.generation.0) (k + 1) r.generation.0
-    chains_more g ok ds d e f =
+    pub chains_more : (g : Generation) → length gens ≡ room → r ≡ Some g → ChainsAt v s table n room (set gens k g.0) (k + 1) g.0
+    chains_more g long ok ds d e f =
         let i : k < length ds = omega arith in
-        chain_more v ds gens k before (w ds d e f) i r (link_at ds d e f i) (omega arith) ok
+        chain_more v ds gens k before (w ds d e f) i r (link_at ds d e f i) g (omega arith) ok
 
-    pub chains_over : r.ok ≡ false → ChainsOf v s table n room gens k
+    pub chains_over : r ≡ None → ChainsOf v s table n room gens k
     chains_over ok ds d e f =
         let i : k < length ds = omega arith in
         chain_over v ds gens k before (w ds d e f) i r (link_at ds d e f i) ok

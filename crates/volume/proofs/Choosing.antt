@@ -28,8 +28,7 @@ use Rattle.verdict.specs.Steps.{firsts}
 use Rattle.volume.specs.Steps.{bounds_text, bounds_of}
 use Rattle.volume.specs.Chosen.{Indexed, construct_at, read_at, chosen_in}
 use Rattle.volume.specs.ChosenSteps.{Chooses, TextAt, ReadsPlace}
-use Rattle.volume.specs.declared.chosen.Chosen.{Chosen}
-use Rattle.volume.specs.declared.chosen.Chosen.TheVariants as chosen_is
+use Rattle.volume.specs.declared.chosen.FoundIndex.{FoundIndex}
 use Rattle.volume.proofs.Chaining.{next_first, firsts_length}
 use Rattle.volume.proofs.Partitions.{lists_of, spot_of_lem, spot_text}
 use Rattle.volume.proofs.Answering.{read_tape}
@@ -55,10 +54,10 @@ read_from g letter t c o =
     and_then (summary_of (index_of g letter c.first x)) (λ y. Ok (record { first = c.first; end = c.end; from = bytes_before t c.first; text = x; summary = y })))
 
 -- a construct whose spot is empty has an unreadable block
-pub place_unreadable : (g : Given) (letter : ℕ) (s : List ℕ) (p : Bounds) → p.from ≡ p.to → ReadsPlace g letter s p (chosen_is.Refused Unreadable)
+pub place_unreadable : (g : Given) (letter : ℕ) (s : List ℕ) (p : Bounds) → p.from ≡ p.to → ReadsPlace g letter s p (Err Unreadable)
 place_unreadable g letter s p same t c at lies = go c.text lies
   where
-    go : (o : Option (List ℕ)) → TextAt s p o → Chooses s (read_from g letter t c o) (chosen_is.Refused Unreadable)
+    go : (o : Option (List ℕ)) → TextAt s p o → Chooses s (read_from g letter t c o) (Err Unreadable)
     go None w = record { answers = refl; inside = tt }
     go (Some x) w = let apart = w.1 in absurd (omega arith)
 
@@ -66,14 +65,14 @@ module _ (g : Given) (letter : ℕ) (s : List ℕ) (p : Bounds) (x : List ℕ) (
   index_at : (t : Tape) (c : Construct) (z : List ℕ) → p ≡ bounds_of t c → bounds_text s p ≡ z → index_of g letter p.first.0 x ≡ index_of g letter c.first z
   index_at t c z at e = ap (λ (n : ℕ). index_of g letter n x) (ap (λ (q : Bounds). q.first.0) at) ∙ ap (index_of g letter c.first) (is_text ∙ e)
 
-  pub place_found : (h : Header) → ReadsIndex x (index_of g letter p.first.0 x) (Ok h) → ReadsPlace g letter s p (chosen_is.Found p h)
+  pub place_found : (h : Header) → ReadsIndex x (index_of g letter p.first.0 x) (Ok h) → ReadsPlace g letter s p (Ok (record { place = p; header = h }))
   place_found h w t c at lies = go c.text lies
     where
       same : {first end from : ℕ} {text z : List ℕ} → first ≡ c.first → end ≡ c.end → text ≡ z → from ≡ bytes_before t c.first
           → and_then (summary_of (index_of g letter c.first z)) (λ y. Ok (record { first = first; end = end; from = from; text = text; summary = y })) ≡ read_from g letter t c (Some z)
       same a b d e = rw (a, b, d, e)
 
-      go : (o : Option (List ℕ)) → TextAt s p o → Chooses s (read_from g letter t c o) (chosen_is.Found p h)
+      go : (o : Option (List ℕ)) → TextAt s p o → Chooses s (read_from g letter t c o) (Ok (record { place = p; header = h }))
       go None lies = absurd (apart lies)
       go (Some z) lies =
           let q : Ok (summary_in (bounds_text s p) h) ≡ summary_of (index_of g letter c.first z)
@@ -91,10 +90,10 @@ module _ (g : Given) (letter : ℕ) (s : List ℕ) (p : Bounds) (x : List ℕ) (
             inside = record { text = lies.0.inside; header = subst (λ (y : List ℕ). Definite y (update_time_place y) h) is_text w.header };
           }
 
-  pub place_refused : (r : Refusal) → ReadsIndex x (index_of g letter p.first.0 x) (Err r) → ReadsPlace g letter s p (chosen_is.Refused r)
+  pub place_refused : (r : Refusal) → ReadsIndex x (index_of g letter p.first.0 x) (Err r) → ReadsPlace g letter s p (Err r)
   place_refused r w t c at lies = go c.text lies
     where
-      go : (o : Option (List ℕ)) → TextAt s p o → Chooses s (read_from g letter t c o) (chosen_is.Refused r)
+      go : (o : Option (List ℕ)) → TextAt s p o → Chooses s (read_from g letter t c o) (Err r)
       go None lies = absurd (apart lies)
       go (Some z) lies =
           record {
@@ -106,12 +105,12 @@ module _ (g : Given) (letter : ℕ) (s : List ℕ) (p : Bounds) (x : List ℕ) (
           }
 
 module _ (g : Given) (letter k : ℕ) (l s : List ℕ) where
-  pub chosen_caller : caller_right g letter ≡ false → Chooses s (chosen_in g letter k l s) (chosen_is.Refused Caller)
+  pub chosen_caller : caller_right g letter ≡ false → Chooses s (chosen_in g letter k l s) (Err Caller)
   unfolding chosen_in
   chosen_caller e = record { answers = rw e; inside = tt }
 
   module _ (right : caller_right g letter ≡ true) (before after : List ℕ) (sc : Result ℕ Refusal) (w : ScansPartition g.block_size l s before after sc) where
-    pub chosen_list : (r : Refusal) → sc ≡ Err r → Chooses s (chosen_in g letter k l s) (chosen_is.Refused r)
+    pub chosen_list : (r : Refusal) → sc ≡ Err r → Chooses s (chosen_in g letter k l s) (Err r)
     unfolding chosen_in
     chosen_list r e = record { answers = go (tape_in l s) (sym e ∙ w.answers); inside = tt }
       where
@@ -128,14 +127,14 @@ module _ (g : Given) (letter k : ℕ) (l s : List ℕ) where
         go (Ok t) y x = (t, y)
 
     module _ (bytes : Bytes l) (room : length before ≡ 87380) (n : ℕ) (e : sc ≡ Ok n) where
-      pub chosen_missing : n ≤ k → Chooses s (chosen_in g letter k l s) (chosen_is.Refused Missing)
+      pub chosen_missing : n ≤ k → Chooses s (chosen_in g letter k l s) (Err Missing)
       unfolding chosen_in
       chosen_missing h =
           let t = tape_of n e in
           let a = lists_of g.block_size l s before after sc n w e t.0 (read_tape l s t.0 bytes t.1) room in
           record { answers = rw (right, t.1, at_missing k (standing g.block_size t.0) (omega (arith, a.0))); inside = tt }
 
-      pub chosen_found : k < n → (p : Bounds) → p ≡ bounds_in after k → (r : Chosen) → ReadsPlace g letter s p r → Chooses s (chosen_in g letter k l s) r
+      pub chosen_found : k < n → (p : Bounds) → p ≡ bounds_in after k → (r : Answer FoundIndex) → ReadsPlace g letter s p r → Chooses s (chosen_in g letter k l s) r
       unfolding chosen_in
       chosen_found h p at r d =
           let t = tape_of n e in

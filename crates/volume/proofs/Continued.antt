@@ -1,7 +1,7 @@
 -- Reading on never hurts (02, Item 14): of two answers of the rescue that keep its promise, where the cut of the first keeps the same bytes of
 -- the second read's lists and stores; and of these where they continue the first one's.
-use Rattle.refusals.specs.declared.Refusal.{Refusal}
-use Rattle.std.specs.Prelude.{Result, Some, Ok}
+use Rattle.refusals.specs.Refusals.{Answer}
+use Rattle.std.specs.Prelude.{Some, Ok}
 use mathlib.Core.Path.{◌≡◌, sym, ap, ◌∙◌}
 use mathlib.Core.List.{List, ◌++◌}
 use Prim.Native.Nat.{ℕ}
@@ -19,6 +19,7 @@ use Rattle.verdict.specs.Demand.{Leaves}
 use Rattle.verdict.proofs.Continued.{never_hurts_lem, leaves_on}
 use Rattle.volume.specs.Volume.{volume_with, given_by, agreed, volume_of, or_no_cut}
 use Rattle.volume.specs.Answers.{rescued, cut_of, Premises, Rescues}
+use Rattle.volume.specs.declared.search.FoundCut.{FoundCut}
 use Rattle.volume.specs.Continued.{RescuesOn, LeavesOn}
 use Rattle.volume.proofs.Demands.{agreed_label}
 use Rattle.volume.proofs.Answering.{asked_labelled}
@@ -40,7 +41,7 @@ record HasCut (il is dl ds : List ℕ) (a : Cut) : Type 0 where
   premises : Premises il is dl ds i d (volume_with (given_by label))
   leaves : Leaves volume_of (volume_with (given_by label)) i d a.index_kept a.data_kept
 
-has_cut : {il is dl ds : List ℕ} {r : (Result FoundCut Refusal)} → Rescues il is dl ds r → (a : Cut) → rescued r ≡ Ok a → HasCut il is dl ds a
+has_cut : {il is dl ds : List ℕ} {r : Answer FoundCut} → Rescues il is dl ds r → (a : Cut) → rescued r ≡ Ok a → HasCut il is dl ds a
 has_cut {il} {is} {dl} {ds} w a h =
     let (f, k) = asked_labelled (λ v i d. or_no_cut (rescue v i d)) il is dl ds a (sym w.answers ∙ h) in
     let p : Premises il is dl ds k.index k.other (volume_with (given_by f))
@@ -54,8 +55,8 @@ has_cut {il} {is} {dl} {ds} w a h =
       leaves = (w.demand k.index k.other (volume_with (given_by f)) p).sound a (ap cut_of h);
     }
 
-module _ {il is dl ds il' is' dl' ds' : List ℕ} {r : (Result FoundCut Refusal)} (old : Rescues il is dl ds r) (a : Cut) (h : rescued r ≡ Ok a) where
-  pub rescues_on : {r' : (Result FoundCut Refusal)} → Rescues il' is' dl' ds' r' → keeping a.index_kept il' is' ≡ keeping a.index_kept il is
+module _ {il is dl ds il' is' dl' ds' : List ℕ} {r : Answer FoundCut} (old : Rescues il is dl ds r) (a : Cut) (h : rescued r ≡ Ok a) where
+  pub rescues_on : {r' : Answer FoundCut} → Rescues il' is' dl' ds' r' → keeping a.index_kept il' is' ≡ keeping a.index_kept il is
       → keeping a.data_kept dl' ds' ≡ keeping a.data_kept dl ds → RescuesOn il is dl ds il' is' dl' ds' a (cut_of (rescued r'))
   rescues_on new on_index on_data =
       let c = has_cut old a h in

@@ -19,8 +19,7 @@ use Rattle.verdict.proofs.Judged.{judged as judged_sound, named}
 use Rattle.volume.specs.Volume.{volume_with, given_by, agreed, volume_of, on_volume, or_no_cut, rescue_in, verdict_in}
 use Rattle.volume.specs.Answers.{cut_of, Premises}
 use Rattle.volume.specs.AnswerSteps.{judged}
-use Rattle.volume.specs.declared.answers.Verdict.{Verdict}
-use Rattle.volume.specs.declared.answers.Verdict.TheVariants as verdict_is
+use Rattle.volume.specs.declared.judge.Break as declared
 
 pub agreed_label : (a : Answer Label) (v : Volume) → agreed a ≡ Some v → (f : Label) × (a ≡ Ok f) × (volume_with (given_by f) ≡ v)
 agreed_label (Err r) v e = let z : ◌≡◌ {A = ℕ} 0 1 = cc in absurd (omega arith)
@@ -74,10 +73,10 @@ module _ (il is dl ds : List ℕ) where
       go (Ok i) (Ok d) e = last i d (labels_of i d) e
 
 -- a verdict tells of no break where none is answered
-pub no_break : (r : Verdict) (a : Answer (Option Break)) → judged r ≡ a → (r ≡ verdict_is.Consistent) ↔ (a ≡ Ok None)
+pub no_break : (r : Answer (Option declared.Break)) (a : Answer (Option Break)) → judged r ≡ a → (r ≡ Ok None) ↔ (a ≡ Ok None)
 no_break r a e = ((λ q. sym e ∙ ap judged q), (λ q. go r (e ∙ q)))
   where
-    go : (t : Verdict) → judged t ≡ Ok None → t ≡ verdict_is.Consistent
-    go verdict_is.Consistent q = refl
-    go (verdict_is.Break which number) q = let z : ◌≡◌ {A = ℕ} 0 1 = cc in absurd (omega arith)
-    go (verdict_is.Refused w) q = let z : ◌≡◌ {A = ℕ} 0 1 = cc in absurd (omega arith)
+    go : (t : Answer (Option declared.Break)) → judged t ≡ Ok None → t ≡ Ok None
+    go (Ok None) q = refl
+    go (Ok (Some b)) q = let z : ◌≡◌ {A = ℕ} 0 1 = cc in absurd (omega arith)
+    go (Err w) q = let z : ◌≡◌ {A = ℕ} 0 1 = cc in absurd (omega arith)

@@ -11,13 +11,14 @@ use lib.ListN.{length, get_or, take, drop}
 use Rattle.refusals.specs.declared.Refusal.{Refusal}
 use Rattle.refusals.specs.declared.Refusal.TheVariants.{Short}
 use Rattle.refusals.specs.Refusals.{Answer, require, and_then}
-use Rattle.tape.specs.Tape.{Tape, Encodes}
+use Rattle.std.specs.Result.{result_unwrap_or}
+use Rattle.tape.specs.Tape.{Tape, Encodes, max_elements}
 use Rattle.tape.specs.Answers.{tape_in, bytes_before, or_refused}
 use Rattle.tape.proofs.Encoding.{read_encoded}
 use Rattle.tape.proofs.Passing.{bytes_within}
 use Rattle.constructs.specs.Constructs.{Construct, standing, data_lengths}
 use Rattle.constructs.specs.Tables.{is_holed, text_end, table_after}
-use Rattle.constructs.specs.TableSteps.{bounds_in, ScansPartition}
+use Rattle.constructs.specs.TableSteps.{table_length, bounds_in, ScansPartition}
 use Rattle.constructs.specs.ReachSteps.{reaches, Reaches, reach_after}
 use Rattle.constructs.specs.declared.Bounds.{Bounds}
 use Rattle.constructs.specs.Steps.{Suffix, here}
@@ -28,10 +29,12 @@ use Rattle.constructs.proofs.Fronts.{Below, below_first}
 use Rattle.verdict.specs.Verdict.{ends_with}
 use Rattle.verdict.specs.Rescue.{through}
 use Rattle.volume.specs.Chosen.{text_bytes}
-use Rattle.volume.specs.Steps.{bounds_text, bounds_of, Located, Listed, ListsOf, ReachesOf, EndsAt, FillsOf}
+use Rattle.volume.specs.Steps.{bounds_text, bounds_of, Located, Listed, ListsOf, ReachesOf, EndsAt}
+use Rattle.volume.specs.Readers.{TablesOf, FillsOf}
+use Rattle.volume.specs.declared.filling.Tables.{Tables}
 use Rattle.volume.specs.ChosenSteps.{TextAt}
 
-same_answer : {A : Type 0} (a b : A) → Ok a ≡ Ok b → a ≡ b
+same_answer : {A : Type 0} (a b : A) → ◌≡◌ {A = Answer A} (Ok a) (Ok b) → a ≡ b
 same_answer a b e = cc
 
 -- a list and a store that encode a tape are read as it
@@ -97,6 +100,11 @@ lists_refused B l s before after r n q w h t e room =
     let z : ◌≡◌ {A = ℕ} 0 1 = cc in
     absurd (omega arith)
 
+-- so a count of them, 0 where the scan is refused
+pub lists_filled : (B : ℕ) (l s before after : List ℕ) (r : Answer ℕ) (n : ℕ) → ScansPartition B l s before after r → n ≡ result_unwrap_or r 0 → ListsOf B l s before after n
+lists_filled B l s before after (Ok k) n w h = lists_of B l s before after (Ok k) n w (ap Ok (sym h))
+lists_filled B l s before after (Err q) n w h = lists_refused B l s before after (Err q) n q w refl
+
 abbrev reach_count : List ℕ → Answer Tape → Answer ℕ
 reach_count before x = and_then x (λ u. require (leb (length u) (length before)) Short (Ok (length u)))
 
@@ -118,6 +126,13 @@ module _ (B : ℕ) (l s before after : List ℕ) (r : Result ℕ Refusal) (w : R
       let z : ◌≡◌ {A = ℕ} 0 1 = cc in
       absurd (omega arith)
 
+  pub reaches_filled : (n : ℕ) → n ≡ result_unwrap_or r 0 → ReachesOf B l s before after n
+  reaches_filled n h = go r refl
+    where
+      go : (a : Answer ℕ) → r ≡ a → ReachesOf B l s before after n
+      go (Ok k) e = reaches_of n (e ∙ ap Ok (sym (h ∙ ap (λ (x : Answer ℕ). result_unwrap_or x 0) e)))
+      go (Err q) e = reaches_refused n q e
+
 -- whether the last construct of a table ends with the last element
 pub ends_none : (table : List ℕ) (n count : ℕ) → n ≡ 0 → EndsAt table n count false
 ends_none table n count z = record { ends = go }
@@ -138,12 +153,18 @@ ends_last table n count p b z at q = record { ends = go }
         q ∙ ap (λ (x : ℕ). eqb x count) h ∙ ap (eqb c.end) f
 
 -- both tables filled
-pub fills_of : (B : ℕ) (l s before table empty reach : List ℕ) (n count : ℕ) (b : Bool) → ListsOf B l s before table n → ReachesOf B l s empty reach count
-    → EndsAt table n count b → FillsOf B l s before table empty reach (record { count = n; ends = b })
-fills_of B l s before table empty reach n count b x y z t e h k =
-    let p = x t e h in
-    let q = y t e k in
-    (record { number = p.0; listed = p.1; reaches = q.1 }, z.ends s t (standing B t) p.1 p.0 q.0)
+pub fills_of : (B : ℕ) (l s before empty : List ℕ) (x : Tables) → x.store.now ≡ s → ListsOf B l s before x.constructs.now x.count
+    → ReachesOf B l s empty x.reach.now x.elements → FillsOf B l s before empty x
+fills_of B l s before empty x same y z = record { store = same; filled = go }
+  where
+    go : (t : Tape) → Encodes l s t → length before ≡ table_length → length empty ≡ max_elements → TablesOf B t x
+    go t e h k =
+        let p = y t e h in
+        let q = z t e k in
+        record {
+          tables = record { number = p.0; listed = subst (λ (w : List ℕ). Listed w x.constructs.now (standing B t)) (sym same) p.1; reaches = q.1 };
+          elements = q.0;
+        }
 
 -- no construct of a partition begins past its end
 pub through_past : (n k : ℕ) (ds : List Construct) → Below n ds → n ≤ k → through k ds ≡ []

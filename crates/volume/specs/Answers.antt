@@ -1,6 +1,5 @@
 -- What the verdict and the rescue promise of the lists and stores handed in: their answers, and demand 3.
-use Rattle.refusals.specs.declared.Refusal.{Refusal}
-use Rattle.std.specs.Prelude.{◌≡◌, List, ℕ, None, Option, Result, Some, Err, Ok}
+use Rattle.std.specs.Prelude.{◌≡◌, List, ℕ, None, Option, Some, Err, Ok}
 use Rattle.refusals.specs.Refusals.{Answer}
 use Rattle.tape.specs.Tape.{Tape}
 use Rattle.tape.specs.Answers.{tape_in}
@@ -19,7 +18,7 @@ cut_is k =
       generation = k.generation.0;
     }
 
-abbrev pub rescued : Result FoundCut Refusal → Answer Cut
+abbrev pub rescued : Answer FoundCut → Answer Cut
 rescued (Ok k) = Ok (cut_is k)
 rescued (Err r) = Err r
 
@@ -43,6 +42,6 @@ module _ (indexList indexStore dataList dataStore : List ℕ) where
   abbrev pub VerdictOwes : Type 0 → Type 0
   VerdictOwes noBreak = (i d : Tape) (v : Volume) → Premises i d v → Verdict3 volume_of v i d noBreak (cut_of (rescue_in indexList indexStore dataList dataStore))
 
-  pub record Rescues (r : Result FoundCut Refusal) : Type 0 where
+  pub record Rescues (r : Answer FoundCut) : Type 0 where
     pub answers : rescued r ≡ rescue_in indexList indexStore dataList dataStore
     pub demand : RescueOwes (cut_of (rescued r))

@@ -5,3 +5,4 @@ pub mod Chosen
 pub mod Continued
 pub mod AnswerSteps
 pub mod ChosenSteps
+pub mod Readers

@@ -1,10 +1,13 @@
 -- What this crate's functions owe each other.
-use Rattle.std.specs.Prelude.{◌≡◌, Bool, true, false, cond, ◌&&◌, List, [], ◌∷◌, ◌++◌, ℕ, ◌-◌, ◌≤◌, ◌<◌, leb, eqb, length, get_or, take, drop, None, Option, Some, Ok}
+use Rattle.std.specs.Prelude.{◌≡◌, Bool, true, false, cond, ◌&&◌, List, [], ◌∷◌, ◌++◌, ℕ, ◌-◌, ◌≤◌, ◌<◌, leb, eqb, length, get_or, take, drop, None, Option, Some, Ok, option_map, MatchOption}
+use Rattle.std.specs.Bool.{then_some}
 use Rattle.slices.specs.Slices.{every}
 use Rattle.quantities.specs.Addresses.{Address}
+use Rattle.quantities.specs.declared.Generation.{Generation}
 use Rattle.extents.specs.declared.Row.{Row}
 use Rattle.index.specs.Index as text
 use Rattle.index.specs.Index.{index_of}
+use Rattle.index.specs.Steps.{back_of}
 use Rattle.index_values.specs.Tests.{Given}
 use Rattle.index_values.specs.declared.tests.Partitions.{Partitions}
 use Rattle.tape.specs.Tape.{Tape, Encodes, max_elements}
@@ -21,11 +24,11 @@ use Rattle.verdict.specs.Steps.{beginnings, firsts}
 use Rattle.volume.specs.Volume.{volume_with, rows_of_each}
 use Rattle.volume.specs.Chosen.{text_bytes}
 use Rattle.volume.specs.declared.sound.Brief.{Brief}
-use Rattle.volume.specs.declared.filling.TablesFilled.{TablesFilled}
-use Rattle.volume.specs.declared.judge.Judgement.{Judgement}
-use Rattle.volume.specs.declared.judge.Judgement.TheVariants as judgement_is
+use Rattle.volume.specs.declared.judge.Break as declared
+use Rattle.volume.specs.declared.judge.Break.TheVariants as break_is
+use Rattle.volume.specs.declared.filled.Misfit.{Misfit}
+use Rattle.volume.specs.declared.filled.Misfit.TheVariants as misfit
 use Rattle.volume.specs.declared.search.FoundCut.{FoundCut}
-use Rattle.volume.specs.declared.chains.Linked.{Linked}
 use Rattle.volume.specs.Answers.{cut_is}
 
 -- the bytes of a store that a spot names
@@ -61,11 +64,12 @@ abbrev pub link_of : Option IndexLinks → Option Link
 link_of None = None
 link_of (Some x) = Some (record { generation = x.generation; back = x.back })
 
-abbrev pub brief_back : Brief → Option Address
-brief_back b = cond b.back (Some (record { letter = b.letter; block = b.block.0 })) None
+abbrev pub link_in : Brief → Link
+link_in b = record { generation = b.generation.0; back = back_of b.back }
 
-abbrev pub brief_link : Brief → Option Link
-brief_link b = cond b.sound (Some (record { generation = b.generation.0; back = brief_back b })) None
+abbrev pub brief_link : Option Brief → Option Link
+brief_link None = None
+brief_link (Some b) = Some (link_in b)
 
 -- a sound index points at a construct of that partition with that first block, and has no lower generation
 abbrev pub joined : Option Link → ℕ → ℕ → ℕ → Bool
@@ -77,15 +81,14 @@ abbrev pub last_generation : Volume → List Construct → ℕ
 last_generation v [] = 0
 last_generation v (c ∷ cs) = generation_of (read_data v c)
 
--- a construct after some that are a chain without a break
-pub record Links (v : Volume) (c : Construct) (cs : List Construct) (r : Linked) : Type 0 where
-  pub chained : r.ok ≡ chained v c cs
-  pub generation : r.ok ≡ true → r.generation.0 ≡ generation_of (read_data v c)
+-- the generation of a construct's index, where it goes on a chain without a break after some
+abbrev pub linked : Volume → Construct → List Construct → Option Generation
+linked v c cs = then_some (chained v c cs) (record { 0 = generation_of (read_data v c) })
 
-abbrev pub LinksAt : Volume → List ℕ → List ℕ → ℕ → ℕ → Linked → Type 0
+abbrev pub LinksAt : Volume → List ℕ → List ℕ → ℕ → ℕ → Option Generation → Type 0
 LinksAt v s table k before r =
     (ds : List Construct) → Listed s table ds → (c : Construct) (cs : List Construct) → Suffix (c ∷ cs) ds → length cs ≡ k → chain_break v cs ≡ None
-    → last_generation v cs ≡ before → Links v c cs r
+    → last_generation v cs ≡ before → r ≡ linked v c cs
 
 -- a table of generations: at each construct's number the generation of its index
 abbrev pub Generations : Volume → List ℕ → List Construct → Type 0
@@ -119,14 +122,12 @@ Loses t w ri ki rd kd r =
     (g : Given) (letter block : ℕ) (x : text.Index) → index_of g letter block t ≡ Ok x
     → r ≡ first_failing (every (lies_in w ri ki rd kd)) 0 (rows_of_each x.files)
 
--- whether an index that has the text t and says b follows the construct at there, and by the tables its extents all lie on the ki elements
--- of its partition and on those of the other up to that construct's end
-pub data FitsCut (t : List ℕ) (b : Brief) (w : Partitions) (ki : ℕ) (there : Bounds) (generation : ℕ) (ri rd : List ℕ) (r : Bool) : Type 0 where
-  apart : r ≡ false → joined (brief_link b) w.data_letter there.first.0 generation ≡ false → FitsCut t b w ki there generation ri rd r
-  losing : (l : Option ℕ) (m : ℕ) → r ≡ false → joined (brief_link b) w.data_letter there.first.0 generation ≡ true → Loses t w ri ki rd there.end l
-      → l ≡ Some m → FitsCut t b w ki there generation ri rd r
-  fitting : (l : Option ℕ) → r ≡ true → joined (brief_link b) w.data_letter there.first.0 generation ≡ true → Loses t w ri ki rd there.end l
-      → l ≡ None → FitsCut t b w ki there generation ri rd r
+-- an index that has the text t and says b does not follow the construct at there; or by the tables the first of its files is lost whose extents do not
+-- all lie on the ki elements of its partition and on those of the other up to that construct's end; or it fits
+pub data Fits (t : List ℕ) (b : Brief) (w : Partitions) (ki : ℕ) (there : Bounds) (generation : ℕ) (ri rd : List ℕ) (r : Option Misfit) : Type 0 where
+  apart : r ≡ Some misfit.Apart → joined (Some (link_in b)) w.data_letter there.first.0 generation ≡ false → Fits t b w ki there generation ri rd r
+  behind : (l : Option ℕ) → r ≡ option_map misfit.Lost l → joined (Some (link_in b)) w.data_letter there.first.0 generation ≡ true
+      → Loses t w ri ki rd there.end l → Fits t b w ki there generation ri rd r
 
 -- a table of how far data blocks reach, by the lengths of a partition's data blocks
 pub record ReachTable (B : ℕ) (lengths table : List ℕ) : Type 0 where
@@ -147,24 +148,20 @@ pub record Ready (v : Volume) (is ti : List ℕ) (td gens begins ri rd : List �
   pub index_fits : (c : Construct) (bs : List Construct) → Suffix (c ∷ bs) cs → c.end ≤ length li
   pub data_fits : (d : Construct) (bs : List Construct) → Suffix (d ∷ bs) ds → d.end ≤ length ld
 
--- a cut that keeps construct k of the index partition and construct j of the data partition, which lie at here and there; b is what the
--- index of the first says
-pub record Keeps (k j : ℕ) (here there : Bounds) (b : Brief) (a : FoundCut) : Type 0 where
-  pub index_construct : a.index_construct ≡ k
-  pub data_construct : a.data_construct ≡ j
-  pub index_kept : a.index_kept ≡ here.end
-  pub data_kept : a.data_kept ≡ there.end
-  pub generation : a.generation.0 ≡ b.generation.0
-
 abbrev pub tried_cut : Option FoundCut → Option Cut
-tried_cut (Some k) = Some (cut_is k)
 tried_cut None = None
+tried_cut (Some k) = Some (cut_is k)
 
 abbrev pub Tries : Given → Partitions → List ℕ → List ℕ → ℕ → List ℕ → List ℕ → List ℕ → List ℕ → List ℕ → Option FoundCut → Type 0
 Tries g w is ti k td gens begins ri rd r =
     (cs ds : List Construct) (li ld : List ℕ) → Ready (volume_with g) is ti td gens begins ri rd cs ds li ld
     → (c : Construct) (bs : List Construct) → Suffix (c ∷ bs) cs → length bs ≡ k
     → tried_cut r ≡ attempt (volume_with g) li ld c bs (through (target (read_index (volume_with g) c)) ds)
+
+-- the answer of the last of n trials that has one
+abbrev pub LastOf : {A : Type 0} → (ℕ → Option A → Type 0) → ℕ → Option A → Type 0
+LastOf trial n r =
+    MatchOption r ((k : ℕ) → k < n → trial k None) (λ a. (k : ℕ) × (k < n) × trial k (Some a) × ((m : ℕ) → k < m → m < n → trial m None))
 
 abbrev pub Searches : Given → Partitions → List ℕ → List ℕ → ℕ → List ℕ → List ℕ → List ℕ → List ℕ → List ℕ → Option FoundCut → Type 0
 Searches g w is ti n td gens begins ri rd r =
@@ -191,29 +188,17 @@ pub record PartitionTables (B : ℕ) (s : List ℕ) (t : Tape) (table : List ℕ
   pub listed : Listed s table (standing B t)
   pub reaches : ReachTable B (data_lengths t) reach
 
--- both tables filled, and whether the partition ends with its last construct
-abbrev pub FillsOf : ℕ → List ℕ → List ℕ → List ℕ → List ℕ → List ℕ → List ℕ → TablesFilled → Type 0
-FillsOf B l s before table empty reach r =
-    (t : Tape) → Encodes l s t → length before ≡ table_length → length empty ≡ max_elements
-    → PartitionTables B s t table r.count reach × (r.ends ≡ ends_with t (standing B t))
-
--- the cut by the tables of both partitions
-abbrev pub CutsBy : Given → List ℕ → List ℕ → List ℕ → ℕ → List ℕ → List ℕ → ℕ → List ℕ → Option FoundCut → Type 0
-CutsBy g is ds ti n ri td m rd r =
-    (dl : List ℕ) (i d : Tape) → Encodes dl ds d → PartitionTables g.block_size is i ti n ri → PartitionTables g.block_size ds d td m rd → tried_cut r ≡ rescue (volume_with g) i d
-
--- the cut by the tables of the index partition, and the data partition's list
-abbrev pub CutsData : Given → List ℕ → List ℕ → List ℕ → List ℕ → ℕ → List ℕ → Option FoundCut → Type 0
-CutsData g is dl ds ti n ri r = (i d : Tape) → Encodes dl ds d → PartitionTables g.block_size is i ti n ri → tried_cut r ≡ rescue (volume_with g) i d
-
--- the cut of the volume with that UUID and those letters
-abbrev pub Cuts : Given → List ℕ → List ℕ → List ℕ → List ℕ → Option FoundCut → Type 0
-Cuts g il is dl ds r = (i d : Tape) → Encodes il is i → Encodes dl ds d → tried_cut r ≡ rescue (volume_with g) i d
-
 -- a break, or none
-abbrev pub break_of : Judgement → Option Break
-break_of judgement_is.Sound = None
-break_of (judgement_is.Broken which number) = Some (record { which = which; number = number })
+abbrev pub break_told : declared.Break → Break
+break_told break_is.IndexEnd = record { which = 1; number = 0 }
+break_told break_is.DataEnd = record { which = 2; number = 0 }
+break_told (break_is.Chain k) = record { which = 3; number = k }
+break_told (break_is.Apart k) = record { which = 4; number = k }
+break_told (break_is.Lost file) = record { which = 5; number = file }
+
+abbrev pub break_of : Option declared.Break → Option Break
+break_of None = None
+break_of (Some b) = Some (break_told b)
 
 -- the breaks 4 and 5 of the last constructs of both partitions
 abbrev pub last_break : Volume → ℕ → Construct → Construct → List ℕ → List ℕ → Option Break
@@ -221,24 +206,9 @@ last_break v k c d li ld =
     or_else (unless (follows v (read_index v c) d (read_data v d)) (record { which = 4; number = k })) (numbered 5 (bad_file_in v (read_index v c) li ld))
 
 -- whether they hold, of construct k of the index partition and construct j of the data partition
-abbrev pub JudgesLast : Given → List ℕ → List ℕ → ℕ → List ℕ → ℕ → ℕ → List ℕ → List ℕ → Judgement → Type 0
+abbrev pub JudgesLast : Given → List ℕ → List ℕ → ℕ → List ℕ → ℕ → ℕ → List ℕ → List ℕ → Option declared.Break → Type 0
 JudgesLast g is ti k td j generation ri rd r =
     (ds : List ℕ) (c d : Construct) (li ld : List ℕ) → Located is (bounds_in ti k) c → Located ds (bounds_in td j) d
     → (y : IndexLinks) → read_data (volume_with g) d ≡ Some y → generation ≡ y.generation
     → ReachTable g.block_size li ri → ReachTable g.block_size ld rd → c.end ≡ length li → d.end ≡ length ld
     → break_of r ≡ last_break (volume_with g) k c d li ld
-
--- whether the breaks from 3 on hold, by the tables of partitions that both end with a construct
-abbrev pub JudgesIndexes : Given → List ℕ → List ℕ → List ℕ → ℕ → List ℕ → List ℕ → ℕ → List ℕ → Judgement → Type 0
-JudgesIndexes g is ds ti n ri td m rd r =
-    (dl : List ℕ) (i d : Tape) → Encodes dl ds d → PartitionTables g.block_size is i ti n ri → PartitionTables g.block_size ds d td m rd
-    → ends_with i (standing g.block_size i) ≡ true → ends_with d (standing g.block_size d) ≡ true → break_of r ≡ verdict (volume_with g) i d
-
--- whether the breaks from 2 on hold, by the tables of an index partition that ends with a construct, and the data partition's list
-abbrev pub JudgesData : Given → List ℕ → List ℕ → List ℕ → List ℕ → ℕ → List ℕ → Judgement → Type 0
-JudgesData g is dl ds ti n ri r =
-    (i d : Tape) → Encodes dl ds d → PartitionTables g.block_size is i ti n ri → ends_with i (standing g.block_size i) ≡ true → break_of r ≡ verdict (volume_with g) i d
-
--- the break of the volume with that UUID and those letters, or none
-abbrev pub Breaks : Given → List ℕ → List ℕ → List ℕ → List ℕ → Judgement → Type 0
-Breaks g il is dl ds r = (i d : Tape) → Encodes il is i → Encodes dl ds d → break_of r ≡ verdict (volume_with g) i d

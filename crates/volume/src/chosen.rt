@@ -9,25 +9,29 @@ use index::Header;
 use index_values::Partitions;
 use refusals::Refusal;
 
-// Where the construct lies, and its index's header, whose places are those of the text; or a refusal.
+// An index that was asked for by its construct's number: where the construct lies, and its header, whose places are those of the text.
 #[derive(Clone, Copy)]
-pub enum Chosen {
-    Found(Bounds, Header),
-    Refused(Refusal),
+pub struct FoundIndex {
+    pub place: Bounds,
+    pub header: Header,
 }
 
 // The index whose text lies at a place of the store.
-fn read_place(store: &[u8], uuid: &[u8], volume: Partitions, letter: u8, place: Bounds) -> Chosen
+fn read_place(
+    store: &[u8],
+    uuid: &[u8],
+    volume: Partitions,
+    letter: u8,
+    place: Bounds,
+) -> Result<FoundIndex, Refusal>
     ensures { ReadsPlace (given uuid.now volume) letter store.now place result }
 {
     if place.from == place.to {
-        return Chosen::Refused(Refusal::Unreadable);
+        return Err(Refusal::Unreadable);
     }
     let text = sound::text_at(store, place);
-    match index::read_index(text, uuid, volume, letter, place.first) {
-        Ok(h) => Chosen::Found(place, h),
-        Err(r) => Chosen::Refused(r),
-    }
+    let header = index::read_index(text, uuid, volume, letter, place.first)?;
+    Ok(FoundIndex { place, header })
 }
 
 // The index of construct k of the partition with that letter.
@@ -38,21 +42,17 @@ pub fn read_construct(
     volume: Partitions,
     letter: u8,
     k: u64,
-) -> Chosen
+) -> Result<FoundIndex, Refusal>
     ensures { Chooses store.now (chosen_in (given uuid.now volume) letter k list.now store.now) result }
 {
     if !index::is_caller_right(uuid, volume, letter) {
-        return Chosen::Refused(Refusal::Caller);
+        return Err(Refusal::Caller);
     }
     let mut table = [0u32; NUMBERS];
-    match constructs::scan(list, store, volume.block_size as usize, &mut table) {
-        Err(r) => Chosen::Refused(r),
-        Ok(n) => {
-            if n as u64 <= k {
-                return Chosen::Refused(Refusal::Missing);
-            }
-            let place = constructs::construct(&table, k as usize);
-            read_place(store, uuid, volume, letter, place)
-        }
+    let n = constructs::scan(list, store, volume.block_size as usize, &mut table)?;
+    if n as u64 <= k {
+        return Err(Refusal::Missing);
     }
+    let place = constructs::construct(&table, k as usize);
+    read_place(store, uuid, volume, letter, place)
 }

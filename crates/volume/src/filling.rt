@@ -1,64 +1,87 @@
 // The tables of a partition: its standing constructs, and how far data blocks reach.
-ghost use Rattle.volume.specs.Steps.{ListsOf, ReachesOf, EndsAt, FillsOf};
+ghost use Rattle.std.specs.Prelude.{◌≡◌, ◌-◌};
+ghost use Rattle.constructs.specs.TableSteps.{bounds_in};
+ghost use Rattle.volume.specs.Steps.{ListsOf, ReachesOf, EndsAt};
+ghost use Rattle.volume.specs.Readers.{FillsOf};
 
-use constructs::NUMBERS;
-
-// How many constructs stand in a partition, and whether it ends with the last of them.
-#[derive(Clone, Copy)]
-pub struct TablesFilled {
-    pub count: usize,
-    pub ends: bool,
-}
+use constructs::{Bounds, NUMBERS};
 
 // The most elements of a list, and so the numbers of a table with one for each.
 pub const ELEMENTS: usize = 65536;
 
+// A partition: its list of elements and its store.
+#[derive(Clone, Copy)]
+pub struct Partition<'a> {
+    pub list: &'a [u8],
+    pub store: &'a [u8],
+}
+
+// The tables of a partition, and its store: where its constructs lie, and how many stand; how far data blocks reach from each element on, and how
+// many elements it has.
+#[derive(Clone, Copy)]
+pub struct Tables<'a> {
+    pub store: &'a [u8],
+    pub constructs: &'a [u32; NUMBERS],
+    pub count: usize,
+    pub reach: &'a [u32],
+    pub elements: usize,
+}
+
 // Puts the standing constructs of a partition into the table; their number.
-fn list_constructs(list: &[u8], store: &[u8], size: u64, table: &mut [u32; NUMBERS]) -> usize
-    ensures { ListsOf size list.now store.now table.old table.new result }
+fn list_constructs(partition: Partition, size: u64, table: &mut [u32; NUMBERS]) -> usize
+    ensures { ListsOf size partition.entry.list.now partition.entry.store.now table.old table.new result }
 {
-    match constructs::scan(list, store, size as usize, table) {
-        Ok(n) => n,
-        Err(_) => 0,
-    }
+    constructs::scan(partition.list, partition.store, size as usize, table).unwrap_or(0)
 }
 
 // Puts into the table how far data blocks reach from each element on; the number of elements.
-fn fill_reach(list: &[u8], store: &[u8], size: u64, table: &mut [u32]) -> usize
-    ensures { ReachesOf size list.now store.now table.old table.new result }
+fn fill_reach(partition: Partition, size: u64, table: &mut [u32]) -> usize
+    ensures { ReachesOf size partition.entry.list.now partition.entry.store.now table.old table.new result }
 {
-    match constructs::reach::reach(list, store, size as usize, table) {
-        Ok(n) => n,
-        Err(_) => 0,
+    constructs::reach::reach(partition.list, partition.store, size as usize, table).unwrap_or(0)
+}
+
+impl<'a> Tables<'a> {
+    // Fills both tables of a partition.
+    pub fn fill(
+        partition: Partition<'a>,
+        size: u64,
+        constructs: &'a mut [u32; NUMBERS],
+        reach: &'a mut [u32],
+    ) -> Tables<'a>
+        ensures { FillsOf size partition.entry.list.now partition.entry.store.now constructs.old reach.old result }
+    {
+        let count = list_constructs(partition, size, constructs);
+        let elements = fill_reach(partition, size, reach);
+        Tables {
+            store: partition.store,
+            constructs,
+            count,
+            reach,
+            elements,
+        }
     }
 }
 
-// Whether a partition of so many elements ends with the last of n constructs.
-fn ends(table: &[u32; NUMBERS], n: usize, count: usize) -> bool
-    ensures { EndsAt table.now n count result }
-{
-    if n == 0 {
-        return false;
+impl Tables<'_> {
+    // The construct with number k.
+    pub fn construct(&self, k: usize) -> Bounds
+        ensures { result ≡ bounds_in self.now.constructs.now k }
+    {
+        constructs::construct(self.constructs, k)
     }
-    let last = constructs::construct(table, n - 1);
-    last.end == count
-}
 
-// Fills both tables of a partition.
-pub fn fill(
-    list: &[u8],
-    store: &[u8],
-    size: u64,
-    table: &mut [u32; NUMBERS],
-    reach: &mut [u32],
-) -> TablesFilled
-    ensures { FillsOf size list.now store.now table.old table.new
-        reach.old reach.new result }
-{
-    let count = list_constructs(list, store, size, table);
-    let elements = fill_reach(list, store, size, reach);
-    TablesFilled {
-        count,
-        ends: ends(table, count, elements),
+    // The number of the last construct, 0 where there is none.
+    pub fn last(&self) -> usize
+        ensures { result ≡ self.now.count - 1 }
+    {
+        self.count.saturating_sub(1)
+    }
+
+    // Whether the partition ends with its last construct.
+    pub fn ends(&self) -> bool
+        ensures { EndsAt self.now.constructs.now self.now.count self.now.elements result }
+    {
+        self.count != 0 && self.construct(self.last()).end == self.elements
     }
 }

@@ -1,164 +1,107 @@
 // The five breaks, in their order.
-ghost use Rattle.index_values.specs.Steps.{given};
-ghost use Rattle.volume.specs.Steps.{JudgesLast, JudgesIndexes, JudgesData, Breaks};
+ghost use Rattle.std.specs.Prelude.{◌≡◌};
+ghost use Rattle.volume.specs.Steps.{break_told};
+ghost use Rattle.volume.specs.Readers.{JudgesLastIn, JudgesIn, Breaks};
 
-use crate::filling::ELEMENTS;
-use crate::{chains, filling, lost, sound};
+use crate::chains;
+use crate::filled::{Filled, Misfit};
+use crate::filling::{ELEMENTS, Partition, Tables};
+use crate::sound::Reader;
 use constructs::{CONSTRUCTS, NUMBERS};
-use index_values::Partitions;
 use quantities::Generation;
 
-// No break, or which of the five, and its number.
-#[derive(Clone, Copy)]
-pub enum Judgement {
-    Sound,
-    Broken(u64, u64),
+// What breaks a volume first.
+#[derive(Clone, Copy, PartialEq, Eq, Debug)]
+pub enum Break {
+    // The index partition does not end with a whole index.
+    IndexEnd,
+    // The data partition does not.
+    DataEnd,
+    // A construct of the data partition, by its number, whose index is not sound or does not follow the one before.
+    Chain(u64),
+    // The last construct of the index partition, by its number, does not follow the data partition's last.
+    Apart(u64),
+    // A file of the last index, by its number, does not lie on the tape.
+    Lost(u64),
 }
 
-// Breaks 4 and 5, of construct k of the index partition and construct j of the data partition, which has an index of that generation.
-fn judge_last(
-    store: &[u8],
-    uuid: &[u8],
-    volume: Partitions,
-    index_table: &[u32; NUMBERS],
-    k: usize,
-    data_table: &[u32; NUMBERS],
-    j: usize,
-    generation: Generation,
-    index_reach: &[u32],
-    data_reach: &[u32],
-) -> Judgement
-    ensures { JudgesLast (given uuid.now volume) store.now index_table.now k data_table.now j
-        generation.0 index_reach.now data_reach.now result }
+impl Break {
+    // Which of the five it is.
+    pub fn which(&self) -> u64
+        ensures { result ≡ (break_told self.now).which }
+    {
+        match self {
+            Break::IndexEnd => 1,
+            Break::DataEnd => 2,
+            Break::Chain(_) => 3,
+            Break::Apart(_) => 4,
+            Break::Lost(_) => 5,
+        }
+    }
+
+    // The number that goes with it, 0 where none does.
+    pub fn number(&self) -> u64
+        ensures { result ≡ (break_told self.now).number }
+    {
+        match *self {
+            Break::IndexEnd | Break::DataEnd => 0,
+            Break::Chain(n) | Break::Apart(n) | Break::Lost(n) => n,
+        }
+    }
+}
+
+// Breaks 4 and 5, of the last constructs of both partitions, of which the data partition's has an index of that generation.
+fn judge_last(filled: &Filled, generation: Generation) -> Option<Break>
+    ensures { JudgesLastIn filled.now generation.0 result }
 {
-    let here = constructs::construct(index_table, k);
-    let text = sound::text_at(store, here);
-    let b = sound::read_brief(text, uuid, volume, volume.index_letter, here.first);
-    let there = constructs::construct(data_table, j);
-    if !sound::joins(b, volume.data_letter, there.first, generation) {
-        return Judgement::Broken(4, k as u64);
-    }
-    match lost::first_lost(
-        text,
-        volume,
-        index_reach,
-        here.end as u64,
-        data_reach,
-        there.end as u64,
-    ) {
-        Some(f) => Judgement::Broken(5, f),
-        None => Judgement::Sound,
+    let k = filled.index.last();
+    let here = filled.index.construct(k);
+    let there = filled.data.construct(filled.data.last());
+    let letter = filled.reader.volume.index_letter;
+    let Some(brief) = filled.reader.brief_at(filled.index.store, letter, here) else {
+        return Some(Break::Apart(k as u64));
+    };
+    match filled.misfit(here, brief, there, generation)? {
+        Misfit::Apart => Some(Break::Apart(k as u64)),
+        Misfit::Lost(file) => Some(Break::Lost(file)),
     }
 }
 
-// Breaks 3, 4 and 5, of partitions whose tables are filled and that both end with a construct.
-fn judge_indexes(
-    index_store: &[u8],
-    data_store: &[u8],
-    uuid: &[u8],
-    volume: Partitions,
-    index_table: &[u32; NUMBERS],
-    n: usize,
-    index_reach: &[u32],
-    data_table: &[u32; NUMBERS],
-    m: usize,
-    data_reach: &[u32],
-) -> Judgement
-    ensures { JudgesIndexes (given uuid.now volume) index_store.now data_store.now index_table.now n
-        index_reach.now data_table.now m data_reach.now result }
+// Breaks 3, 4 and 5, of partitions that both end with a construct.
+fn judge_indexes(filled: &Filled) -> Option<Break>
+    ensures { JudgesIn filled.now result }
 {
     let mut generations = [0u64; CONSTRUCTS];
-    let k = chains::chain(data_store, uuid, volume, data_table, m, &mut generations);
-    if k < m {
-        return Judgement::Broken(3, k as u64);
+    let k = chains::chain(&filled.reader, &filled.data, &mut generations);
+    if k < filled.data.count {
+        return Some(Break::Chain(k as u64));
     }
-    let last = sound::between(1, m);
     judge_last(
-        index_store,
-        uuid,
-        volume,
-        index_table,
-        sound::between(1, n),
-        data_table,
-        last,
-        Generation(tables::item(&generations, last, 0)),
-        index_reach,
-        data_reach,
+        filled,
+        Generation(tables::item(&generations, filled.data.last(), 0)),
     )
 }
 
-// Breaks from 2 on, of an index partition whose tables are filled and that ends with a construct.
-fn judge_data(
-    index_store: &[u8],
-    data_list: &[u8],
-    data_store: &[u8],
-    uuid: &[u8],
-    volume: Partitions,
-    index_table: &[u32; NUMBERS],
-    n: usize,
-    index_reach: &[u32],
-) -> Judgement
-    ensures { JudgesData (given uuid.now volume) index_store.now data_list.now data_store.now
-        index_table.now n index_reach.now result }
+// The first break of the volume that is read so, of two lists that are well formed.
+pub fn judge(reader: Reader, index: Partition, data: Partition) -> Option<Break>
+    ensures { Breaks reader.entry index.entry «data».entry result }
 {
-    let mut table = [0u32; NUMBERS];
+    let size = reader.volume.block_size;
+    let mut constructs = [0u32; NUMBERS];
     let mut reach = [0u32; ELEMENTS];
-    let m = filling::fill(
-        data_list,
-        data_store,
-        volume.block_size,
-        &mut table,
-        &mut reach,
-    );
-    if !m.ends {
-        return Judgement::Broken(2, 0);
+    let index = Tables::fill(index, size, &mut constructs, &mut reach);
+    if !index.ends() {
+        return Some(Break::IndexEnd);
     }
-    judge_indexes(
-        index_store,
-        data_store,
-        uuid,
-        volume,
-        index_table,
-        n,
-        index_reach,
-        &table,
-        m.count,
-        &reach,
-    )
-}
-
-// The verdict on the volume with that UUID and those letters, of two lists that are well formed.
-pub fn judge(
-    index_list: &[u8],
-    index_store: &[u8],
-    data_list: &[u8],
-    data_store: &[u8],
-    uuid: &[u8],
-    volume: Partitions,
-) -> Judgement
-    ensures { Breaks (given uuid.now volume) index_list.now index_store.now
-        data_list.now data_store.now result }
-{
-    let mut table = [0u32; NUMBERS];
-    let mut reach = [0u32; ELEMENTS];
-    let n = filling::fill(
-        index_list,
-        index_store,
-        volume.block_size,
-        &mut table,
-        &mut reach,
-    );
-    if !n.ends {
-        return Judgement::Broken(1, 0);
+    let mut data_constructs = [0u32; NUMBERS];
+    let mut data_reach = [0u32; ELEMENTS];
+    let data = Tables::fill(data, size, &mut data_constructs, &mut data_reach);
+    if !data.ends() {
+        return Some(Break::DataEnd);
     }
-    judge_data(
-        index_store,
-        data_list,
-        data_store,
-        uuid,
-        volume,
-        &table,
-        n.count,
-        &reach,
-    )
+    judge_indexes(&Filled {
+        reader,
+        index,
+        data,
+    })
 }

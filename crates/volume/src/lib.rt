@@ -4,13 +4,14 @@
 mod answers;
 mod chains;
 mod chosen;
+mod filled;
 mod filling;
 mod judge;
 mod lost;
 mod search;
 mod sound;
 
-pub use answers::{Verdict, find_break, find_cut};
-pub use chosen::{Chosen, read_construct};
+pub use answers::{find_break, find_cut};
+pub use chosen::{FoundIndex, read_construct};
+pub use judge::Break;
 pub use search::FoundCut;
-pub use sound::between;

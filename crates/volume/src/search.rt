@@ -1,12 +1,9 @@
 // The search for the rescue's cut, from the index partition's last construct back.
-ghost use Rattle.std.specs.Prelude.{◌≡◌, ◌<◌};
-ghost use Rattle.index_values.specs.Steps.{given};
-ghost use Rattle.volume.specs.Steps.{BeginsOf, bounds_text, FitsCut, Keeps, Tries, Searches};
+ghost use Rattle.volume.specs.Steps.{BeginsOf, LastOf};
+ghost use Rattle.volume.specs.Readers.{TriesIn, SearchesIn};
 
-use crate::sound::Brief;
-use crate::{lost, sound};
-use constructs::{Bounds, NUMBERS};
-use index_values::Partitions;
+use crate::filled::Filled;
+use crate::filling::Tables;
 use quantities::Generation;
 
 // A cut: both construct numbers, both counts of kept elements, and the generation of the last index kept in the index partition.
@@ -19,147 +16,67 @@ pub struct FoundCut {
     pub generation: Generation,
 }
 
-fn narrow(n: usize) -> u32
-    ensures { n < 4294967296 → result ≡ n }
-{
-    if n < 4294967296 {
-        return n as u32;
-    }
-    0
+// What the search goes by: the volume's tables, and of the data partition's chain the generations of its indexes, and at the first block of
+// each construct its number plus 1.
+#[derive(Clone, Copy)]
+pub struct Search<'a> {
+    pub filled: Filled<'a>,
+    pub generations: &'a [u64],
+    pub beginnings: &'a [u32],
 }
 
 // Puts at the first block of each of the first n constructs its number plus 1.
-pub fn put_beginnings(table: &[u32; NUMBERS], n: usize, beginnings: &mut [u32])
-    ensures { BeginsOf table.now n beginnings.old beginnings.new }
+pub fn put_beginnings(partition: &Tables, n: usize, beginnings: &mut [u32])
+    ensures { BeginsOf partition.now.constructs.now n beginnings.old beginnings.new }
 {
-    let mut k: usize = 0;
-    while k < n {
-        let here = constructs::construct(table, k);
-        tables::put(beginnings, here.first.0 as usize, narrow(k + 1));
-        k += 1;
-    }
-}
-
-// Whether an index at here that says b follows the data partition's construct at there, which has an index of that generation, and its
-// extents all lie on what is kept up to both.
-fn cut_fits(
-    store: &[u8],
-    here: Bounds,
-    b: Brief,
-    volume: Partitions,
-    there: Bounds,
-    generation: Generation,
-    index_reach: &[u32],
-    data_reach: &[u32],
-) -> bool
-    ensures { FitsCut (bounds_text store.now here) b volume here.end there generation.0
-        index_reach.now data_reach.now result }
-{
-    if !sound::joins(b, volume.data_letter, there.first, generation) {
-        return false;
-    }
-    match lost::first_lost(
-        sound::text_at(store, here),
-        volume,
-        index_reach,
-        here.end as u64,
-        data_reach,
-        there.end as u64,
-    ) {
-        Some(_) => false,
-        None => true,
-    }
-}
-
-// The cut after construct k of the index partition, at here, whose index says b, and construct j of the data partition, at there.
-fn cut_after(k: usize, j: usize, here: Bounds, there: Bounds, b: Brief) -> FoundCut
-    ensures { Keeps k j here there b result }
-{
-    let generation = b.generation;
-    FoundCut {
-        index_construct: k as u64,
-        data_construct: j as u64,
-        index_kept: here.end as u64,
-        data_kept: there.end as u64,
-        generation: generation,
-    }
-}
-
-// The cut after construct k of the index partition and the construct of the chain that its index points at.
-fn try_cut(
-    store: &[u8],
-    uuid: &[u8],
-    volume: Partitions,
-    index_table: &[u32; NUMBERS],
-    k: usize,
-    data_table: &[u32; NUMBERS],
-    generations: &[u64],
-    beginnings: &[u32],
-    index_reach: &[u32],
-    data_reach: &[u32],
-) -> Option<FoundCut>
-    ensures { Tries (given uuid.now volume) volume store.now index_table.now k data_table.now
-        generations.now beginnings.now index_reach.now data_reach.now result }
-{
-    let here = constructs::construct(index_table, k);
-    let b = sound::brief_at(store, uuid, volume, volume.index_letter, here);
-    let j = tables::item(beginnings, b.block.0 as usize, 0) as usize;
-    if j == 0 {
-        return None;
-    }
-    let there = constructs::construct(data_table, j - 1);
-    let generation = Generation(tables::item(generations, j - 1, 0));
-    if !cut_fits(
-        store,
-        here,
-        b,
-        volume,
-        there,
-        generation,
-        index_reach,
-        data_reach,
-    ) {
-        return None;
-    }
-    Some(cut_after(k, j - 1, here, there, b))
-}
-
-// The first cut that fits, from construct n - 1 of the index partition back.
-pub fn search(
-    store: &[u8],
-    uuid: &[u8],
-    volume: Partitions,
-    index_table: &[u32; NUMBERS],
-    n: usize,
-    data_table: &[u32; NUMBERS],
-    generations: &[u64],
-    beginnings: &[u32],
-    index_reach: &[u32],
-    data_reach: &[u32],
-) -> Option<FoundCut>
-    ensures { Searches (given uuid.now volume) volume store.now index_table.now n data_table.now
-        generations.now beginnings.now index_reach.now data_reach.now result }
-{
-    let mut k = n;
-    while 0 < k {
-        k -= 1;
-        match try_cut(
-            store,
-            uuid,
-            volume,
-            index_table,
-            k,
-            data_table,
-            generations,
+    for k in 0..n {
+        let here = partition.construct(k);
+        tables::put(
             beginnings,
-            index_reach,
-            data_reach,
-        ) {
-            Some(cut) => {
-                return Some(cut);
-            }
-            None => {}
-        }
+            here.first.0 as usize,
+            u32::try_from(k + 1).unwrap_or(0),
+        );
     }
-    None
+}
+
+// The answer of the last of n trials that has one.
+fn last_of<T, F: FnMut(usize) -> Option<T>>(n: usize, trial: F) -> Option<T>
+    requires { (state : F) (k : _) → F.pre state k }
+    ensures { LastOf (λ k r. (state : F) × (after : F) × F.step state k r after) n result }
+{
+    (0..n).rev().find_map(trial)
+}
+
+impl Search<'_> {
+    // The cut after construct k of the index partition and the construct of the chain that its index points at.
+    fn cut_after(&self, k: usize) -> Option<FoundCut>
+        ensures { TriesIn self.now k result }
+    {
+        let filled = &self.filled;
+        let here = filled.index.construct(k);
+        let letter = filled.reader.volume.index_letter;
+        let brief = filled.reader.brief_at(filled.index.store, letter, here)?;
+        let place = brief.back?;
+        let number = tables::item(self.beginnings, place.block.0 as usize, 0) as usize;
+        let j = number.checked_sub(1)?;
+        let there = filled.data.construct(j);
+        let generation = Generation(tables::item(self.generations, j, 0));
+        if filled.misfit(here, brief, there, generation).is_some() {
+            return None;
+        }
+        Some(FoundCut {
+            index_construct: k as u64,
+            data_construct: j as u64,
+            index_kept: here.end as u64,
+            data_kept: there.end as u64,
+            generation: brief.generation,
+        })
+    }
+
+    // The first cut that fits, from the index partition's last construct back.
+    pub fn first_cut(&self) -> Option<FoundCut>
+        ensures { SearchesIn self.now result }
+    {
+        last_of(self.filled.index.count, |k| self.cut_after(k))
+    }
 }

@@ -1,17 +1,22 @@
 -- `klapouzen_check_labels` meets its contract: what the check answers, in numbers.
-use mathlib.Core.Path.{sym, ◌∙◌, ap}
+use mathlib.Core.Path.{ap, sym, ◌∙◌}
 use Rattle.label.specs.Steps.{means}
 use Rattle.label.proofs.Places.{said_inside, said_places}
-use Rattle.api.proofs.Showing.{told, not_told}
+use Rattle.api.proofs.Showing.{by_answer, told, not_told}
 use Rattle.api.proofs.Saying.{says_on_volume}
 use Rattle.labels.proofs.TextFronts.{labels_front}
-use Rattle.api.proofs.Fronts.{no_side, refused_side}
+use Rattle.api.proofs.Fronts.{side_answered, side_told}
 use Rattle.api.proofs.labelling.klapouzen_check_labels.Goals as goal
 
-pub returns-in-Says : goal.returns-in-Says
-returns-in-Says c = record { numbers = told _ (ap (means c.args.index_store.now) (sym c.in-Says.is) ∙ c.check.ensures.says) (says_on_volume c.args.index_store.now c.in-Says.f (said_inside c.in-Says.is c.check.ensures) (said_places c.in-Says.is c.check.ensures) c.on_volume.ensures); side = rw c.on_volume.ensures no_side }
-
-pub returns-in-Refused : goal.returns-in-Refused
-returns-in-Refused c =
-    let e = ap (means c.args.index_store.now) (sym c.in-Refused.is) ∙ c.check.ensures.says in
-    record { numbers = not_told c.in-Refused.r e c.from.ensures; side = refused_side c.in-Refused.r (labels_front c.args.index_list.now c.args.index_store.now c.args.data_list.now c.args.data_store.now) e c.from.ensures c.front.ensures c.side.ensures }
+pub returns : goal.returns
+returns c =
+    let a = c.args in
+    let s = a.index_store.now in
+    by_answer c.check-label.result c.tell.ensures
+    (λ f e p.
+    side_answered p.0
+    (told _ (ap (means s) e ∙ c.check-label.ensures.says) p.0 (says_on_volume s f (said_inside (sym e) c.check-label.ensures) (said_places (sym e) c.check-label.ensures) p.1))
+    (rw p.1) (rw p.1))
+    (λ r e q.
+    let w = ap (means s) e ∙ c.check-label.ensures.says in
+    side_told r (labels_front a.index_list.now a.index_store.now a.data_list.now a.data_store.now) w q.0 (rw q.1.1) (rw q.1.1) (not_told r w q.0 (rw q.1.1)))

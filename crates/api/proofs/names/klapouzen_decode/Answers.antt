@@ -3,4 +3,4 @@ use Rattle.api.proofs.Naming.{put_out}
 use Rattle.api.proofs.names.klapouzen_decode.Goals as goal
 
 pub returns : goal.returns
-returns c = put_out c.decode-wrote.ensures c.told.ensures
+returns c = put_out c.decode.ensures c.tell_count.ensures

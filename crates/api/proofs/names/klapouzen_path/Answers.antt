@@ -3,4 +3,4 @@ use Rattle.api.proofs.Naming.{delivered}
 use Rattle.api.proofs.names.klapouzen_path.Goals as goal
 
 pub returns : goal.returns
-returns c = delivered c.path-wrote.ensures c.told.ensures
+returns c = delivered c.path.ensures c.tell_count.ensures

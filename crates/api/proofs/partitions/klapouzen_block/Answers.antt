@@ -1,12 +1,12 @@
 -- `klapouzen_block` meets its contract: the place that was found.
-use mathlib.Core.Path.{subst}
+use mathlib.Core.Path.{subst, ◌∙◌}
 use mathlib.Core.List.{List}
 use Prim.Native.Nat.{ℕ}
 use Rattle.refusals.specs.Refusals.{Answer}
 use Rattle.tape.specs.declared.StorePart.{StorePart}
 use Rattle.tape.specs.Answers.{place_of, block_of, Holds}
 use Rattle.tape.specs.Steps.{FindsBlock}
-use Rattle.api.proofs.Showing.{shown, not_shown}
+use Rattle.api.proofs.Showing.{by_answer, shown, not_shown}
 use Rattle.api.proofs.partitions.klapouzen_block.Goals as goal
 
 -- the place that was found holds the block
@@ -14,12 +14,11 @@ held : (i d letter n : ℕ) (l s l' s' : List ℕ) {p : Answer StorePart} → Fi
     → Holds s s' (place_of i d letter n l s l' s') (block_of i d letter n l s l' s')
 held i d letter n l s l' s' f = subst (λ (p : Answer StorePart). Holds s s' p (block_of i d letter n l s l' s')) f.place f.holds
 
-pub returns-in-Ok : goal.returns-in-Ok
-returns-in-Ok c = record { shown = shown _ c.in-Ok.ensures.place; holds = held c.args.index_letter c.args.data_letter c.args.letter c.args.number c.args.index_list.now c.args.index_store.now c.args.data_list.now c.args.data_store.now c.in-Ok.ensures }
-
-pub returns-in-Err : goal.returns-in-Err
-returns-in-Err c =
+pub returns : goal.returns
+returns c =
+    let a = c.args in
+    let place = c.find_block-part.ensures.place in
     record {
-      shown = not_shown c.in-Err.r c.in-Err.ensures.place c.from.ensures;
-      holds = held c.args.index_letter c.args.data_letter c.args.letter c.args.number c.args.index_list.now c.args.index_store.now c.args.data_list.now c.args.data_store.now c.in-Err.ensures;
+      shown = by_answer c.find_block-part.result c.tell.ensures (λ v e p. shown v (e ∙ place) p.0 p.1) (λ r e q. not_shown r (e ∙ place) q.0 q.1.1);
+      holds = held a.index_letter a.data_letter a.letter a.number a.index_list.now a.index_store.now a.data_list.now a.data_store.now c.find_block-part.ensures;
     }

@@ -1,16 +1,19 @@
 -- `klapouzen_rescue` meets its contract: the cut in numbers, and demand 3 of them.
 use Rattle.std.specs.Prelude.{Err, Ok}
-use mathlib.Core.Path.{refl, subst}
+use mathlib.Core.Path.{refl, sym, subst}
 use Rattle.volume.specs.Answers.{Rescues}
-use Rattle.api.proofs.Showing.{shown, not_shown}
+use Rattle.api.proofs.Showing.{by_answer, shown, not_shown}
 use Rattle.volume.proofs.TextFronts.{rescue_front}
-use Rattle.api.proofs.Fronts.{no_side, refused_side}
+use Rattle.api.proofs.Fronts.{side_answered, side_told}
 use Rattle.api.proofs.volumes.klapouzen_rescue.Goals as goal
 
-pub returns-in-Cut : goal.returns-in-Cut
-returns-in-Cut c = record { numbers = record { rescue = Ok c.in-Cut.k; rescues = subst (Rescues _ _ _ _) c.in-Cut.is c.find_cut.ensures; shows = shown _ refl }; side = no_side }
-
-pub returns-in-Refused : goal.returns-in-Refused
-returns-in-Refused c =
-    let e = subst (Rescues c.args.index_list.now c.args.index_store.now c.args.data_list.now c.args.data_store.now) c.in-Refused.is c.find_cut.ensures in
-    record { numbers = record { rescue = Err c.in-Refused.r; rescues = e; shows = not_shown c.in-Refused.r refl c.from.ensures }; side = refused_side c.in-Refused.r (rescue_front c.args.index_list.now c.args.index_store.now c.args.data_list.now c.args.data_store.now) e.answers c.from.ensures c.front.ensures c.side.ensures }
+pub returns : goal.returns
+returns c =
+    let a = c.args in
+    by_answer c.find_cut-cut.result c.tell.ensures
+    (λ k e p.
+    side_answered p.0 (record { rescue = Ok k; rescues = subst (Rescues _ _ _ _) (sym e) c.find_cut-cut.ensures; shows = shown _ refl p.0 (rw p.1) }) (rw p.1) (rw p.1))
+    (λ r e q.
+    let w = subst (Rescues a.index_list.now a.index_store.now a.data_list.now a.data_store.now) (sym e) c.find_cut-cut.ensures in
+    side_told r (rescue_front a.index_list.now a.index_store.now a.data_list.now a.data_store.now) w.answers q.0 (rw q.1.1) (rw q.1.1)
+    (record { rescue = Err r; rescues = w; shows = not_shown r refl q.0 (rw q.1.1) }))

@@ -1,25 +1,53 @@
 -- `judge_last` meets its contract: break 4, then break 5.
-use Rattle.std.specs.Prelude.{Option, ℕ}
-use Rattle.volume.proofs.Verdicts.{judges_apart, judges_lost}
-use Rattle.volume.specs.declared.judge.Judgement.TheVariants.{Sound, Broken}
-use Rattle.verdict.specs.Verdict.{numbered}
-use mathlib.Core.Path.{sym, ap, ◌∙◌}
+use Prim.Native.Nat.{◌-◌}
+use mathlib.Core.Path.{refl, sym, ap, ◌∙◌}
+use Rattle.std.specs.Prelude.{option_map, Some}
+use Rattle.constructs.specs.TableSteps.{bounds_in}
+use Rattle.volume.specs.Steps.{bounds_text}
+use Rattle.volume.proofs.Verdicts.{misfit_break, judges_unsound, judges_by}
 use Rattle.volume.proofs.judge.judge_last.Goals as goal
 
-pub returns-then-not-joins : goal.returns-then-not-joins
-returns-then-not-joins c =
-    judges_apart c.args.uuid.now c.args.volume c.args.store.now c.args.index_table.now c.args.k c.args.data_table.now c.args.j c.args.generation.0 c.args.index_reach.now c.args.data_reach.now
-    c.construct-here.result c.construct-there.result c.text_at-text.result.now c.read_brief-b.result c.construct-here.ensures c.text_at-text.ensures c.read_brief-b.ensures c.construct-there.ensures
-    (sym c.joins.ensures ∙ c.if-not-joins.true)
+pub returns-in_default : goal.returns-in_default
+returns-in_default c =
+    let r = c.args.filled.now.reader in
+    let x = c.args.filled.now.index in
+    let y = c.args.filled.now.«data» in
+    rw c.last-k.ensures
+    (judges_unsound r.uuid.now r.volume x.store.now x.constructs.now (x.count - 1) y.constructs.now (y.count - 1) c.args.generation.0 x.reach.now y.reach.now
+    c.construct-here.result c.construct-there.result (bounds_text x.store.now c.construct-here.result) c.brief_at.result
+    (c.construct-here.ensures ∙ ap (bounds_in x.constructs.now) c.last-k.ensures) refl c.brief_at.ensures
+    (c.construct-there.ensures ∙ ap (bounds_in y.constructs.now) c.last.ensures)
+    c.in_default.is)
 
-pub returns-in-File : goal.returns-in-File
-returns-in-File c =
-    judges_lost c.args.uuid.now c.args.volume c.args.store.now c.args.index_table.now c.args.k c.args.data_table.now c.args.j c.args.generation.0 c.args.index_reach.now c.args.data_reach.now
-    c.construct-here.result c.construct-there.result c.text_at-text.result.now c.read_brief-b.result c.construct-here.ensures c.text_at-text.ensures c.read_brief-b.ensures c.construct-there.ensures
-    (sym c.joins.ensures ∙ c.if-not-joins.false) c.first_lost.result c.first_lost.ensures (Broken 5 c.in-File.f) (ap (λ (x : Option ℕ). numbered 5 x) (sym c.in-File.is))
+pub returns-in_err-misfit : goal.returns-in_err-misfit
+returns-in_err-misfit c =
+    let r = c.args.filled.now.reader in
+    let x = c.args.filled.now.index in
+    let y = c.args.filled.now.«data» in
+    rw c.from_residual.ensures (judges_by r.uuid.now r.volume x.store.now x.constructs.now (x.count - 1) y.constructs.now (y.count - 1) c.args.generation.0 x.reach.now y.reach.now
+    c.construct-here.result c.construct-there.result (bounds_text x.store.now c.construct-here.result) c.brief_at.result
+    (c.construct-here.ensures ∙ ap (bounds_in x.constructs.now) c.last-k.ensures) refl c.brief_at.ensures
+    (c.construct-there.ensures ∙ ap (bounds_in y.constructs.now) c.last.ensures)
+    c.in-Some.brief c.in-Some.is c.misfit.result c.misfit.ensures _ (sym (ap (option_map (misfit_break (x.count - 1))) c.in_err-misfit.was)))
 
-pub returns-in-Nothing : goal.returns-in-Nothing
-returns-in-Nothing c =
-    judges_lost c.args.uuid.now c.args.volume c.args.store.now c.args.index_table.now c.args.k c.args.data_table.now c.args.j c.args.generation.0 c.args.index_reach.now c.args.data_reach.now
-    c.construct-here.result c.construct-there.result c.text_at-text.result.now c.read_brief-b.result c.construct-here.ensures c.text_at-text.ensures c.read_brief-b.ensures c.construct-there.ensures
-    (sym c.joins.ensures ∙ c.if-not-joins.false) c.first_lost.result c.first_lost.ensures Sound (ap (λ (x : Option ℕ). numbered 5 x) (sym c.in-Nothing.is))
+pub returns-in-Apart : goal.returns-in-Apart
+returns-in-Apart c =
+    let r = c.args.filled.now.reader in
+    let x = c.args.filled.now.index in
+    let y = c.args.filled.now.«data» in
+    rw c.last-k.ensures (judges_by r.uuid.now r.volume x.store.now x.constructs.now (x.count - 1) y.constructs.now (y.count - 1) c.args.generation.0 x.reach.now y.reach.now
+    c.construct-here.result c.construct-there.result (bounds_text x.store.now c.construct-here.result) c.brief_at.result
+    (c.construct-here.ensures ∙ ap (bounds_in x.constructs.now) c.last-k.ensures) refl c.brief_at.ensures
+    (c.construct-there.ensures ∙ ap (bounds_in y.constructs.now) c.last.ensures)
+    c.in-Some.brief c.in-Some.is c.misfit.result c.misfit.ensures _ (sym (ap (option_map (misfit_break (x.count - 1))) (c.in_ok-misfit.was ∙ ap Some c.in-Apart.is))))
+
+pub returns-in-Lost : goal.returns-in-Lost
+returns-in-Lost c =
+    let r = c.args.filled.now.reader in
+    let x = c.args.filled.now.index in
+    let y = c.args.filled.now.«data» in
+    (judges_by r.uuid.now r.volume x.store.now x.constructs.now (x.count - 1) y.constructs.now (y.count - 1) c.args.generation.0 x.reach.now y.reach.now
+    c.construct-here.result c.construct-there.result (bounds_text x.store.now c.construct-here.result) c.brief_at.result
+    (c.construct-here.ensures ∙ ap (bounds_in x.constructs.now) c.last-k.ensures) refl c.brief_at.ensures
+    (c.construct-there.ensures ∙ ap (bounds_in y.constructs.now) c.last.ensures)
+    c.in-Some.brief c.in-Some.is c.misfit.result c.misfit.ensures _ (sym (ap (option_map (misfit_break (x.count - 1))) (c.in_ok-misfit.was ∙ ap Some c.in-Lost.is))))
