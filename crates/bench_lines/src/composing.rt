@@ -2,11 +2,12 @@
 ghost use Rattle.std.specs.Prelude.{◌+◌, length};
 ghost use Rattle.volume.specs.Answers.{rescued, cut_is};
 ghost use Rattle.volume.specs.AnswerSteps.{judged};
-ghost use Rattle.bench_lines.specs.Lines.{pair, refused_line, break_line, cut_line, rescue_line, lines_of};
+ghost use Rattle.volume.specs.Steps.{break_of, break_told};
+ghost use Rattle.bench_lines.specs.Lines.{pair, refused_line, break_line, verdict_line, cut_line, rescue_line, lines_of};
 ghost use Rattle.writing.specs.Steps.{AddsAtMost};
 
 use refusals::Refusal;
-use volume::{FoundCut, Verdict};
+use volume::{Break, FoundCut};
 use writing::{add, add_number};
 
 // Adds a word and two numbers with a space between.
@@ -29,11 +30,21 @@ pub fn add_refusal(out: &mut [u8], from: usize, refusal: Refusal) -> usize
 }
 
 // Adds the verdict's line for a break.
-fn add_break(out: &mut [u8], from: usize, which: u64, number: u64) -> usize
-    ensures { AddsAtMost 56 out.old from (break_line which number) out.new result }
+fn add_break(out: &mut [u8], from: usize, found: Break) -> usize
+    ensures { AddsAtMost 56 out.old from (break_line (break_told found).which (break_told found).number) out.new result }
 {
-    let at = add_pair(out, from, b"verdict break ", which, number);
+    let at = add_pair(out, from, b"verdict break ", found.which(), found.number());
     add(out, at, b"\n")
+}
+
+// Adds the verdict's line.
+fn add_verdict(out: &mut [u8], from: usize, found: Option<Break>) -> usize
+    ensures { AddsAtMost 56 out.old from (verdict_line (break_of found)) out.new result }
+{
+    match found {
+        Some(b) => add_break(out, from, b),
+        None => add(out, from, b"verdict consistent\n"),
+    }
 }
 
 // Adds the line of a cut.
@@ -61,20 +72,16 @@ fn add_rescue(out: &mut [u8], from: usize, rescue: Result<FoundCut, Refusal>) ->
 pub fn add_lines(
     out: &mut [u8],
     from: usize,
-    verdict: Verdict,
+    verdict: Result<Option<Break>, Refusal>,
     rescue: Result<FoundCut, Refusal>,
 ) -> usize
     ensures { AddsAtMost 181 out.old from (lines_of (judged verdict) (rescued rescue)) out.new result }
 {
     match verdict {
-        Verdict::Consistent => {
-            let at = add(out, from, b"verdict consistent\n");
+        Ok(found) => {
+            let at = add_verdict(out, from, found);
             add_rescue(out, at, rescue)
         }
-        Verdict::Break(which, number) => {
-            let at = add_break(out, from, which, number);
-            add_rescue(out, at, rescue)
-        }
-        Verdict::Refused(refusal) => add_refusal(out, from, refusal),
+        Err(refusal) => add_refusal(out, from, refusal),
     }
 }
