@@ -1,5 +1,5 @@
 // The search for the rescue's cut, from the index partition's last construct back.
-ghost use Rattle.volume.specs.Steps.{BeginsOf, LastOf};
+ghost use Rattle.volume.specs.Steps.{BeginsOf};
 ghost use Rattle.volume.specs.Readers.{TriesIn, SearchesIn};
 
 use crate::filled::Filled;
@@ -39,14 +39,6 @@ pub fn put_beginnings(partition: &Tables, n: usize, beginnings: &mut [u32])
     }
 }
 
-// The answer of the last of n trials that has one.
-fn last_of<T, F: FnMut(usize) -> Option<T>>(n: usize, trial: F) -> Option<T>
-    requires { (state : F) (k : _) → F.pre state k }
-    ensures { LastOf (λ k r. (state : F) × (after : F) × F.step state k r after) n result }
-{
-    (0..n).rev().find_map(trial)
-}
-
 impl Search<'_> {
     // The cut after construct k of the index partition and the construct of the chain that its index points at.
     fn cut_after(&self, k: usize) -> Option<FoundCut>
@@ -77,6 +69,11 @@ impl Search<'_> {
     pub fn first_cut(&self) -> Option<FoundCut>
         ensures { SearchesIn self.now result }
     {
-        last_of(self.filled.index.count, |k| self.cut_after(k))
+        for k in (0..self.filled.index.count).rev() {
+            if let Some(cut) = self.cut_after(k) {
+                return Some(cut);
+            }
+        }
+        None
     }
 }
