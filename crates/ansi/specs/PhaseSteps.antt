@@ -2,6 +2,7 @@
 use Rattle.std.specs.Prelude.{Ok, Err}
 use Rattle.refusals.specs.declared.Refusal.{Refusal}
 use Rattle.std.specs.Prelude.{cond, List, [], ◌∷◌, ℕ, suc, ◌<◌, take, drop, None, Option, Some, Result}
+use Rattle.ansi.specs.declared.phases.Block.{Block}
 use Rattle.ansi.specs.declared.phases.Phase.{Phase}
 use Rattle.ansi.specs.declared.phases.Phase.TheVariants as phase
 use Rattle.ansi_labels.specs.Labels.{is_label, is_numbered, label_number}
@@ -35,9 +36,13 @@ unfiled (go σ) = go σ
 unfiled (found f σ) = go σ
 unfiled (stop r) = stop r
 
--- what the block of so many bytes that begins at a place of the store does in a phase
-abbrev pub block_step : List ℕ → Phase → ℕ → ℕ → Step
-block_step s p from len = at_block (stage_of s p) (take len (drop from s))
+-- the bytes of a block
+abbrev pub block_bytes : Block → List ℕ
+block_bytes b = take b.len (drop b.from b.store.now)
+
+-- what a block does in a phase
+abbrev pub block_step : Block → Phase → Step
+block_step b p = at_block (stage_of b.store.now p) (block_bytes b)
 
 -- what a mark does, without the file that it may make known
 abbrev pub mark_step : List ℕ → Phase → Step
