@@ -130,6 +130,7 @@ fn sum_up(list: &[u8]) -> Option<Totals>
     let mut at: usize = 0;
     let mut elements: usize = 0;
     let mut bytes: usize = 0;
+    // By the place, since `Cells` ends at a wrong entry as it does at the end.
     while at < list.len() {
         if elements == 65536 {
             return None;
@@ -235,7 +236,7 @@ pub fn are_letters(index: u8, data: u8, letter: u8) -> bool
         && (letter == index || letter == data)
 }
 
-// The block with a number, of a list with so many elements.
+// The block with a number, of a list with so many elements; they were counted when it was checked, and are not counted again.
 fn numbered(list: &[u8], count: usize, number: BlockNumber) -> Result<Spot, Refusal>
     requires { count ≤ max_elements }
     ensures { result ≡ spot_below count list.now number.0 }
