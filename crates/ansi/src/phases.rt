@@ -2,7 +2,7 @@
 ghost use Rattle.std.specs.Prelude.{◌≡◌, ◌<◌};
 ghost use Rattle.ansi.specs.declared.phases.Phase.TheVariants as phase;
 ghost use Rattle.ansi.specs.ReadingSteps.{opening};
-ghost use Rattle.ansi.specs.PhaseSteps.{step_of, block_step, mark_step, passed_to, block_bytes, Small};
+ghost use Rattle.ansi.specs.PhaseSteps.{step_of, mark_step, passed_to, block_bytes, StepsTo, Small};
 
 use refusals::Refusal;
 
@@ -67,7 +67,7 @@ impl Block<'_> {
     // A block at the tape's start.
     #[tactic(auto, unfolding(crate::specs::ReadingSteps::at_block, slices::specs::Words::bytes))]
     fn in_start(&self) -> Result<Phase, Refusal>
-        ensures { step_of self.now.store.now result ≡ block_step self.now phase.Start }
+        ensures { StepsTo self.now phase.Start result }
     {
         let x = self.bytes();
         if ansi_labels::is_volume(x) {
@@ -93,7 +93,7 @@ impl Block<'_> {
     // A block among the volume's labels.
     #[tactic(auto, using(crate::proofs::Walks::passing_none, crate::proofs::Walks::passing_some), unfolding(crate::specs::ReadingSteps::at_block, slices::specs::Words::bytes))]
     fn in_volume(&self, k: usize) -> Result<Phase, Refusal>
-        ensures { step_of self.now.store.now result ≡ block_step self.now (phase.Volume k) }
+        ensures { StepsTo self.now (phase.Volume k) result }
     {
         let x = self.bytes();
         match passed(x, b"VOL", b"UVL", k) {
@@ -105,7 +105,7 @@ impl Block<'_> {
     // A block behind HDR1.
     #[tactic(auto, using(crate::proofs::Walks::header_at), unfolding(crate::specs::ReadingSteps::at_block))]
     fn in_header(&self, h: usize) -> Result<Phase, Refusal>
-        ensures { step_of self.now.store.now result ≡ block_step self.now (phase.Header h) }
+        ensures { StepsTo self.now (phase.Header h) result }
     {
         let x = self.bytes();
         if ansi_labels::is_header2(x) {
@@ -118,7 +118,7 @@ impl Block<'_> {
     // A block among the header labels.
     #[tactic(auto, using(crate::proofs::Walks::passing_none, crate::proofs::Walks::passing_some), unfolding(crate::specs::ReadingSteps::at_block, slices::specs::Words::bytes))]
     fn in_headers(&self, h: usize, g: usize, k: usize) -> Result<Phase, Refusal>
-        ensures { step_of self.now.store.now result ≡ block_step self.now (phase.Headers h g k) }
+        ensures { StepsTo self.now (phase.Headers h g k) result }
     {
         let x = self.bytes();
         let next = passed(x, b"HDR", b"UHL", k).ok_or(Refusal::Labels)?;
@@ -129,7 +129,7 @@ impl Block<'_> {
     #[tactic(auto, unfolding(crate::specs::ReadingSteps::at_block))]
     fn in_blocks(&self, h: usize, m: usize) -> Result<Phase, Refusal>
         requires { m < 65536 }
-        ensures { step_of self.now.store.now result ≡ block_step self.now (phase.Blocks h m) }
+        ensures { StepsTo self.now (phase.Blocks h m) result }
     {
         let x = self.bytes();
         if ansi_labels::is_data(x) {
@@ -142,7 +142,7 @@ impl Block<'_> {
     // A block behind the data blocks.
     #[tactic(auto, using(crate::proofs::Walks::trailer_count), unfolding(crate::specs::ReadingSteps::at_block, crate::specs::ReadingSteps::closing, slices::specs::Words::bytes))]
     fn in_trailer(&self, h: usize, m: usize) -> Result<Phase, Refusal>
-        ensures { step_of self.now.store.now result ≡ block_step self.now (phase.Trailer h m) }
+        ensures { StepsTo self.now (phase.Trailer h m) result }
     {
         let x = self.bytes();
         if ansi_labels::is_trailer(x, slices::part(self.store, h, 80)) {
@@ -161,7 +161,7 @@ impl Block<'_> {
     // A block behind EOF1.
     #[tactic(auto, unfolding(crate::specs::ReadingSteps::at_block, slices::specs::Words::bytes))]
     fn in_second(&self) -> Result<Phase, Refusal>
-        ensures { step_of self.now.store.now result ≡ block_step self.now phase.Second }
+        ensures { StepsTo self.now phase.Second result }
     {
         let x = self.bytes();
         if ansi_labels::is_label(x, b"EOF2") {
@@ -174,7 +174,7 @@ impl Block<'_> {
     // A block among the trailer labels.
     #[tactic(auto, using(crate::proofs::Walks::passing_none, crate::proofs::Walks::passing_some), unfolding(crate::specs::ReadingSteps::at_block, slices::specs::Words::bytes))]
     fn in_trailers(&self, k: usize) -> Result<Phase, Refusal>
-        ensures { step_of self.now.store.now result ≡ block_step self.now (phase.Trailers k) }
+        ensures { StepsTo self.now (phase.Trailers k) result }
     {
         let x = self.bytes();
         let next = passed(x, b"EOF", b"UTL", k).ok_or(Refusal::Labels)?;
@@ -185,7 +185,7 @@ impl Block<'_> {
     #[tactic(auto, unfolding(crate::specs::ReadingSteps::at_block))]
     pub fn after(&self, phase: Phase) -> Result<Phase, Refusal>
         requires { Small phase }
-        ensures { step_of self.now.store.now result ≡ block_step self.now phase }
+        ensures { StepsTo self.now phase result }
     {
         match phase {
             Phase::Start => self.in_start(),
