@@ -1,7 +1,8 @@
 -- The reading in numbers, as the walk over a list does it: a label is told by where it begins in the store.
 use Rattle.std.specs.Prelude.{Ok, Err}
 use Rattle.refusals.specs.declared.Refusal.{Refusal}
-use Rattle.std.specs.Prelude.{cond, List, [], ◌∷◌, ℕ, suc, ◌<◌, take, drop, None, Option, Some, Result}
+use Rattle.std.specs.Prelude.{◌≡◌, cond, List, [], ◌∷◌, ℕ, suc, ◌<◌, take, drop, None, Option, Some, Result}
+use Rattle.ansi.specs.declared.phases.Block.{Block}
 use Rattle.ansi.specs.declared.phases.Phase.{Phase}
 use Rattle.ansi.specs.declared.phases.Phase.TheVariants as phase
 use Rattle.ansi_labels.specs.Labels.{is_label, is_numbered, label_number}
@@ -38,6 +39,14 @@ unfiled (stop r) = stop r
 -- what the block of so many bytes that begins at a place of the store does in a phase
 abbrev pub block_step : List ℕ → Phase → ℕ → ℕ → Step
 block_step s p from len = at_block (stage_of s p) (take len (drop from s))
+
+-- the bytes of a block
+abbrev pub block_bytes : Block → List ℕ
+block_bytes b = take b.len (drop b.from b.store.now)
+
+-- a block leads from one phase to another, or to a refusal
+abbrev pub StepsTo : Block → Phase → Result Phase Refusal → Type 0
+StepsTo b p r = step_of b.store.now r ≡ block_step b.store.now p b.from b.len
 
 -- what a mark does, without the file that it may make known
 abbrev pub mark_step : List ℕ → Phase → Step

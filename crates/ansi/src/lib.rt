@@ -11,7 +11,7 @@ ghost use Rattle.ansi.specs.PhaseSteps.{known_at};
 ghost use Rattle.ansi.specs.Answers.{all_bytes, front_in};
 ghost use Rattle.ansi.specs.Steps.{ReadsFiles, Walks, rows_length, at_end, HandsOut};
 
-use phases::Phase;
+use phases::{Block, Phase};
 use refusals::Refusal;
 use tape::Entry;
 
@@ -73,14 +73,21 @@ fn walk(list: &[u8], store: &[u8], count: usize, out: &mut [u8]) -> Result<usize
                     Err(refusal) => return Err(Stop { refusal, at }),
                 }
             }
-            Entry::Block(k, next) => match phases::after_block(phase, store, off, k) {
-                Ok(p) => {
-                    phase = p;
-                    off += k;
-                    place = next;
+            Entry::Block(len, next) => {
+                let block = Block {
+                    store,
+                    from: off,
+                    len,
+                };
+                match block.after(phase) {
+                    Ok(p) => {
+                        phase = p;
+                        off += len;
+                        place = next;
+                    }
+                    Err(refusal) => return Err(Stop { refusal, at }),
                 }
-                Err(refusal) => return Err(Stop { refusal, at }),
-            },
+            }
             Entry::Unreadable(_) => {
                 return Err(Stop {
                     refusal: Refusal::Labels,

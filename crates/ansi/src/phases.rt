@@ -1,8 +1,8 @@
 // How far an ANSI labelled tape is read, and what an element does then.
-ghost use Rattle.std.specs.Prelude.{◌≡◌, ◌+◌, ◌<◌, take, drop};
+ghost use Rattle.std.specs.Prelude.{◌≡◌, ◌<◌};
 ghost use Rattle.ansi.specs.declared.phases.Phase.TheVariants as phase;
 ghost use Rattle.ansi.specs.ReadingSteps.{opening};
-ghost use Rattle.ansi.specs.PhaseSteps.{step_of, block_step, mark_step, passed_to, Small};
+ghost use Rattle.ansi.specs.PhaseSteps.{step_of, mark_step, passed_to, block_bytes, StepsTo, Small};
 
 use refusals::Refusal;
 
@@ -49,146 +49,155 @@ fn passed(x: &[u8], w: &[u8], u: &[u8], k: usize) -> Option<usize>
     }
 }
 
-// A block at the tape's start.
-#[tactic(auto, unfolding(crate::specs::ReadingSteps::at_block, slices::specs::Words::bytes))]
-fn in_start(store: &[u8], from: usize, len: usize) -> Result<Phase, Refusal>
-    ensures { step_of store.now result ≡ block_step store.now phase.Start from len }
-{
-    let x = slices::part(store, from, len);
-    if ansi_labels::is_volume(x) {
-        Ok(Phase::Volume(2))
-    } else {
-        Err(Refusal::Labels)
+// A block: so many bytes from a place of the store on.
+#[derive(Clone, Copy)]
+pub struct Block<'a> {
+    pub store: &'a [u8],
+    pub from: usize,
+    pub len: usize,
+}
+
+impl Block<'_> {
+    fn bytes(&self) -> &[u8]
+        ensures { result.now ≡ block_bytes self.now }
+    {
+        slices::part(self.store, self.from, self.len)
     }
-}
 
-// A block where a file may begin.
-#[tactic(auto, using(crate::proofs::Walks::opens_at), unfolding(crate::specs::ReadingSteps::opening, slices::specs::Words::bytes))]
-fn begin_file(store: &[u8], from: usize, len: usize) -> Result<Phase, Refusal>
-    ensures { step_of store.now result ≡ opening (take len (drop from store.now)) }
-{
-    let x = slices::part(store, from, len);
-    if ansi_labels::is_label(x, b"HDR1") {
-        Ok(Phase::Header(from))
-    } else {
-        Err(Refusal::Labels)
-    }
-}
-
-// A block among the volume's labels.
-#[tactic(auto, using(crate::proofs::Walks::passing_none, crate::proofs::Walks::passing_some), unfolding(crate::specs::ReadingSteps::at_block, slices::specs::Words::bytes))]
-fn in_volume(store: &[u8], from: usize, len: usize, k: usize) -> Result<Phase, Refusal>
-    ensures { step_of store.now result ≡ block_step store.now (phase.Volume k) from len }
-{
-    let x = slices::part(store, from, len);
-    match passed(x, b"VOL", b"UVL", k) {
-        Some(next) => Ok(Phase::Volume(next)),
-        None => begin_file(store, from, len),
-    }
-}
-
-// A block behind HDR1.
-#[tactic(auto, using(crate::proofs::Walks::header_at), unfolding(crate::specs::ReadingSteps::at_block))]
-fn in_header(store: &[u8], from: usize, len: usize, h: usize) -> Result<Phase, Refusal>
-    ensures { step_of store.now result ≡ block_step store.now (phase.Header h) from len }
-{
-    let x = slices::part(store, from, len);
-    if ansi_labels::is_header2(x) {
-        Ok(Phase::Headers(h, from, 3))
-    } else {
-        Err(Refusal::Labels)
-    }
-}
-
-// A block among the header labels.
-#[tactic(auto, using(crate::proofs::Walks::passing_none, crate::proofs::Walks::passing_some), unfolding(crate::specs::ReadingSteps::at_block, slices::specs::Words::bytes))]
-fn in_headers(
-    store: &[u8],
-    from: usize,
-    len: usize,
-    h: usize,
-    g: usize,
-    k: usize,
-) -> Result<Phase, Refusal>
-    ensures { step_of store.now result ≡ block_step store.now (phase.Headers h g k) from len }
-{
-    let x = slices::part(store, from, len);
-    let next = passed(x, b"HDR", b"UHL", k).ok_or(Refusal::Labels)?;
-    Ok(Phase::Headers(h, g, next))
-}
-
-// A block among the data blocks.
-#[tactic(auto, unfolding(crate::specs::ReadingSteps::at_block))]
-fn in_blocks(store: &[u8], from: usize, len: usize, h: usize, m: usize) -> Result<Phase, Refusal>
-    requires { m < 65536 }
-    ensures { step_of store.now result ≡ block_step store.now (phase.Blocks h m) from len }
-{
-    let x = slices::part(store, from, len);
-    if ansi_labels::is_data(x) {
-        Ok(Phase::Blocks(h, m + 1))
-    } else {
-        Err(Refusal::Labels)
-    }
-}
-
-// A block behind the data blocks.
-#[tactic(auto, using(crate::proofs::Walks::trailer_count), unfolding(crate::specs::ReadingSteps::at_block, crate::specs::ReadingSteps::closing, slices::specs::Words::bytes))]
-fn in_trailer(store: &[u8], from: usize, len: usize, h: usize, m: usize) -> Result<Phase, Refusal>
-    ensures { step_of store.now result ≡ block_step store.now (phase.Trailer h m) from len }
-{
-    let x = slices::part(store, from, len);
-    if ansi_labels::is_trailer(x, slices::part(store, h, 80)) {
-        if ansi_labels::has_count(x, m) {
-            Ok(Phase::Second)
+    // A block at the tape's start.
+    #[tactic(auto, unfolding(crate::specs::ReadingSteps::at_block, slices::specs::Words::bytes))]
+    fn in_start(&self) -> Result<Phase, Refusal>
+        ensures { StepsTo self.now phase.Start result }
+    {
+        let x = self.bytes();
+        if ansi_labels::is_volume(x) {
+            Ok(Phase::Volume(2))
         } else {
-            Err(Refusal::BlockCount)
+            Err(Refusal::Labels)
         }
-    } else if ansi_labels::is_label(x, b"EOV1") {
-        Err(Refusal::EndOfVolume)
-    } else {
-        Err(Refusal::Labels)
     }
-}
 
-// A block behind EOF1.
-#[tactic(auto, unfolding(crate::specs::ReadingSteps::at_block, slices::specs::Words::bytes))]
-fn in_second(store: &[u8], from: usize, len: usize) -> Result<Phase, Refusal>
-    ensures { step_of store.now result ≡ block_step store.now phase.Second from len }
-{
-    let x = slices::part(store, from, len);
-    if ansi_labels::is_label(x, b"EOF2") {
-        Ok(Phase::Trailers(3))
-    } else {
-        Err(Refusal::Labels)
+    // A block where a file may begin.
+    #[tactic(auto, using(crate::proofs::Walks::opens_at), unfolding(crate::specs::ReadingSteps::opening, slices::specs::Words::bytes))]
+    fn begin_file(&self) -> Result<Phase, Refusal>
+        ensures { step_of self.now.store.now result ≡ opening (block_bytes self.now) }
+    {
+        let x = self.bytes();
+        if ansi_labels::is_label(x, b"HDR1") {
+            Ok(Phase::Header(self.from))
+        } else {
+            Err(Refusal::Labels)
+        }
     }
-}
 
-// A block among the trailer labels.
-#[tactic(auto, using(crate::proofs::Walks::passing_none, crate::proofs::Walks::passing_some), unfolding(crate::specs::ReadingSteps::at_block, slices::specs::Words::bytes))]
-fn in_trailers(store: &[u8], from: usize, len: usize, k: usize) -> Result<Phase, Refusal>
-    ensures { step_of store.now result ≡ block_step store.now (phase.Trailers k) from len }
-{
-    let x = slices::part(store, from, len);
-    let next = passed(x, b"EOF", b"UTL", k).ok_or(Refusal::Labels)?;
-    Ok(Phase::Trailers(next))
-}
+    // A block among the volume's labels.
+    #[tactic(auto, using(crate::proofs::Walks::passing_none, crate::proofs::Walks::passing_some), unfolding(crate::specs::ReadingSteps::at_block, slices::specs::Words::bytes))]
+    fn in_volume(&self, k: usize) -> Result<Phase, Refusal>
+        ensures { StepsTo self.now (phase.Volume k) result }
+    {
+        let x = self.bytes();
+        match passed(x, b"VOL", b"UVL", k) {
+            Some(next) => Ok(Phase::Volume(next)),
+            None => self.begin_file(),
+        }
+    }
 
-// The phase behind the block of so many bytes that begins at a place of the store.
-#[tactic(auto, unfolding(crate::specs::ReadingSteps::at_block))]
-pub fn after_block(phase: Phase, store: &[u8], from: usize, len: usize) -> Result<Phase, Refusal>
-    requires { Small phase }
-    ensures { step_of store.now result ≡ block_step store.now phase from len }
-{
-    match phase {
-        Phase::Start => in_start(store, from, len),
-        Phase::Volume(k) => in_volume(store, from, len, k),
-        Phase::Header(h) => in_header(store, from, len, h),
-        Phase::Headers(h, g, k) => in_headers(store, from, len, h, g, k),
-        Phase::Blocks(h, m) => in_blocks(store, from, len, h, m),
-        Phase::Trailer(h, m) => in_trailer(store, from, len, h, m),
-        Phase::Second => in_second(store, from, len),
-        Phase::Trailers(k) => in_trailers(store, from, len, k),
-        Phase::Between => begin_file(store, from, len),
-        Phase::Done => Err(Refusal::Labels),
+    // A block behind HDR1.
+    #[tactic(auto, using(crate::proofs::Walks::header_at), unfolding(crate::specs::ReadingSteps::at_block))]
+    fn in_header(&self, h: usize) -> Result<Phase, Refusal>
+        ensures { StepsTo self.now (phase.Header h) result }
+    {
+        let x = self.bytes();
+        if ansi_labels::is_header2(x) {
+            Ok(Phase::Headers(h, self.from, 3))
+        } else {
+            Err(Refusal::Labels)
+        }
+    }
+
+    // A block among the header labels.
+    #[tactic(auto, using(crate::proofs::Walks::passing_none, crate::proofs::Walks::passing_some), unfolding(crate::specs::ReadingSteps::at_block, slices::specs::Words::bytes))]
+    fn in_headers(&self, h: usize, g: usize, k: usize) -> Result<Phase, Refusal>
+        ensures { StepsTo self.now (phase.Headers h g k) result }
+    {
+        let x = self.bytes();
+        let next = passed(x, b"HDR", b"UHL", k).ok_or(Refusal::Labels)?;
+        Ok(Phase::Headers(h, g, next))
+    }
+
+    // A block among the data blocks.
+    #[tactic(auto, unfolding(crate::specs::ReadingSteps::at_block))]
+    fn in_blocks(&self, h: usize, m: usize) -> Result<Phase, Refusal>
+        requires { m < 65536 }
+        ensures { StepsTo self.now (phase.Blocks h m) result }
+    {
+        let x = self.bytes();
+        if ansi_labels::is_data(x) {
+            Ok(Phase::Blocks(h, m + 1))
+        } else {
+            Err(Refusal::Labels)
+        }
+    }
+
+    // A block behind the data blocks.
+    #[tactic(auto, using(crate::proofs::Walks::trailer_count), unfolding(crate::specs::ReadingSteps::at_block, crate::specs::ReadingSteps::closing, slices::specs::Words::bytes))]
+    fn in_trailer(&self, h: usize, m: usize) -> Result<Phase, Refusal>
+        ensures { StepsTo self.now (phase.Trailer h m) result }
+    {
+        let x = self.bytes();
+        if ansi_labels::is_trailer(x, slices::part(self.store, h, 80)) {
+            if ansi_labels::has_count(x, m) {
+                Ok(Phase::Second)
+            } else {
+                Err(Refusal::BlockCount)
+            }
+        } else if ansi_labels::is_label(x, b"EOV1") {
+            Err(Refusal::EndOfVolume)
+        } else {
+            Err(Refusal::Labels)
+        }
+    }
+
+    // A block behind EOF1.
+    #[tactic(auto, unfolding(crate::specs::ReadingSteps::at_block, slices::specs::Words::bytes))]
+    fn in_second(&self) -> Result<Phase, Refusal>
+        ensures { StepsTo self.now phase.Second result }
+    {
+        let x = self.bytes();
+        if ansi_labels::is_label(x, b"EOF2") {
+            Ok(Phase::Trailers(3))
+        } else {
+            Err(Refusal::Labels)
+        }
+    }
+
+    // A block among the trailer labels.
+    #[tactic(auto, using(crate::proofs::Walks::passing_none, crate::proofs::Walks::passing_some), unfolding(crate::specs::ReadingSteps::at_block, slices::specs::Words::bytes))]
+    fn in_trailers(&self, k: usize) -> Result<Phase, Refusal>
+        ensures { StepsTo self.now (phase.Trailers k) result }
+    {
+        let x = self.bytes();
+        let next = passed(x, b"EOF", b"UTL", k).ok_or(Refusal::Labels)?;
+        Ok(Phase::Trailers(next))
+    }
+
+    // The phase behind the block.
+    #[tactic(auto, unfolding(crate::specs::ReadingSteps::at_block))]
+    pub fn after(&self, phase: Phase) -> Result<Phase, Refusal>
+        requires { Small phase }
+        ensures { StepsTo self.now phase result }
+    {
+        match phase {
+            Phase::Start => self.in_start(),
+            Phase::Volume(k) => self.in_volume(k),
+            Phase::Header(h) => self.in_header(h),
+            Phase::Headers(h, g, k) => self.in_headers(h, g, k),
+            Phase::Blocks(h, m) => self.in_blocks(h, m),
+            Phase::Trailer(h, m) => self.in_trailer(h, m),
+            Phase::Second => self.in_second(),
+            Phase::Trailers(k) => self.in_trailers(k),
+            Phase::Between => self.begin_file(),
+            Phase::Done => Err(Refusal::Labels),
+        }
     }
 }

@@ -176,7 +176,7 @@ fn is_clear_of(row: &Row, rows: &[u64]) -> bool
 }
 
 // Whether no two rows share a file position. From the last row on, low is at most the first position of each row passed: a row that ends
-// by it is clear of them all, so rows in rising order take one walk.
+// by it is clear of them all, so rows in rising order take one walk. A loop, since `all` has no place for what goes from row to row.
 fn apart(rows: &[u64]) -> bool
     ensures { result ≡ lawfulness.apart (rows_of rows.now) }
 {

@@ -10,14 +10,13 @@ use native.Mathlib.Omega.{arith}
 use lib.ListN.{length, take, length-take}
 use Rattle.slices.proofs.Booleans.{and_parts, and_both}
 use Rattle.refusals.specs.declared.Refusal.{Refusal}
-use Rattle.refusals.specs.Refusals.{Answer, and_then, Shows}
-use Rattle.refusals.proofs.Numbers.{not_zero}
+use Rattle.refusals.specs.Refusals.{Answer, and_then}
 use Rattle.tape.specs.Tape.{Tape, cell_of, is_lawful_cell, lawful_tape, Encodes}
 use Rattle.tape.specs.ReadingSteps.{tape_of}
 use Rattle.tape.specs.Answers.{or_refused, element_count, Fronts, kept, keeping, lengths, kept_of}
 use Rattle.tape.specs.declared.Front.{Front}
 use Rattle.tape.specs.Again.{fronts_of, KeepsAgain}
-use Rattle.tape.specs.Steps.{Keeps, ShowsList, ShowsStore}
+use Rattle.tape.specs.Steps.{Keeps, KeptList, KeptStore}
 use Rattle.tape.proofs.Entries.{Bytes}
 use Rattle.tape.proofs.Encoding.{encodes_read, read_encoded}
 use Rattle.tape.proofs.Keeping.{Present, keeping_present, keeping_absent, list_front, store_front, front_within}
@@ -65,20 +64,23 @@ module _ (m : ℕ) (l s : List ℕ) (w : Bytes l) where
   kept_again f q n = sym (ap (λ (a : Answer Fronts). and_then a (λ g. keeping n g.list g.store)) q) ∙ keep_twice m n l s w
 
   -- what `kept_list` and `kept_store` hand out
-  pub parts_again : (x y : List ℕ) → ShowsList m l s x 0 → ShowsStore m l s y 0 → KeepsAgain m l s (record { list = x; store = y })
+  pub parts_again : (x y : List ℕ) → KeptList m l s (Ok x) → KeptStore m l s (Ok y) → KeepsAgain m l s (record { list = x; store = y })
   parts_again x y p q = go (keeping m l s) refl p q
     where
-      go : (a : Answer Fronts) → keeping m l s ≡ a → Shows (and_then a (λ f. Ok f.list)) x 0 → Shows (and_then a (λ f. Ok f.store)) y 0
+      go : (a : Answer Fronts) → keeping m l s ≡ a → Ok x ≡ and_then a (λ f. Ok f.list) → Ok y ≡ and_then a (λ f. Ok f.store)
           → KeepsAgain m l s (record { list = x; store = y })
-      go (Err r) e p q = absurd (not_zero r (sym p.refusal))
-      go (Ok f) e p q = rw (p.part, q.part) (kept_again f e)
+      go (Err r) e p q = cc
+      go (Ok f) e p q =
+          let u : x ≡ f.list = cc in
+          let v : y ≡ f.store = cc in
+          rw (u, v) (kept_again f e)
 
   -- of these parts they hand out what they hand out of the whole for the smaller number
-  pub list_twice : (n : ℕ) (x y z : List ℕ) (k : ℕ) → ShowsList m l s x 0 → ShowsStore m l s y 0 → ShowsList n x y z k → ShowsList (min m n) l s z k
-  list_twice n x y z k p q = subst (λ (a : Answer Fronts). Shows (and_then a (λ f. Ok f.list)) z k) (parts_again x y p q n)
+  pub list_twice : (n : ℕ) (x y : List ℕ) (z : Answer (List ℕ)) → KeptList m l s (Ok x) → KeptStore m l s (Ok y) → KeptList n x y z → KeptList (min m n) l s z
+  list_twice n x y z p q = subst (λ (a : Answer Fronts). z ≡ and_then a (λ f. Ok f.list)) (parts_again x y p q n)
 
-  pub store_twice : (n : ℕ) (x y z : List ℕ) (k : ℕ) → ShowsList m l s x 0 → ShowsStore m l s y 0 → ShowsStore n x y z k → ShowsStore (min m n) l s z k
-  store_twice n x y z k p q = subst (λ (a : Answer Fronts). Shows (and_then a (λ f. Ok f.store)) z k) (parts_again x y p q n)
+  pub store_twice : (n : ℕ) (x y : List ℕ) (z : Answer (List ℕ)) → KeptList m l s (Ok x) → KeptStore m l s (Ok y) → KeptStore n x y z → KeptStore (min m n) l s z
+  store_twice n x y z p q = subst (λ (a : Answer Fronts). z ≡ and_then a (λ f. Ok f.store)) (parts_again x y p q n)
 
   keeps : (a : Answer Front) → a ≡ kept_of m l s → keeping m l s ≡ and_then a (λ k. Ok (fronts_of k l s)) → Keeps m l s a
   keeps a h q =
@@ -102,8 +104,8 @@ module _ (m : ℕ) (l s : List ℕ) (w : Bytes l) where
 
 -- the parts of those lengths
 pub record Parts (m : ℕ) (l s : List ℕ) (f : Front) : Type 0 where
-  pub list : ShowsList m l s (take f.list l) 0
-  pub store : ShowsStore m l s (take f.store s) 0
+  pub list : KeptList m l s (Ok (take f.list l))
+  pub store : KeptStore m l s (Ok (take f.store s))
   pub in_list : f.list ≤ length l
   pub in_store : f.store ≤ length s
 
@@ -114,8 +116,8 @@ parts {m} {l} {s} {f} k =
     let x : f.list ≡ length (take f.list l) = ap (λ (j : Front). j.list) e in
     let y : f.store ≡ length (take f.store s) = ap (λ (j : Front). j.store) e in
     record {
-      list = rw q record { part = refl; refusal = refl };
-      store = rw q record { part = refl; refusal = refl };
+      list = rw q;
+      store = rw q;
       in_list = omega (arith, x, length-take f.list l);
       in_store = omega (arith, y, length-take f.store s);
     }

@@ -1,6 +1,6 @@
 -- What the answers of this crate say, and what keeping and finding a block owe.
 use Rattle.std.specs.Prelude.{◌≡◌, List, ℕ, length, Ok}
-use Rattle.refusals.specs.Refusals.{Answer, and_then, Shows}
+use Rattle.refusals.specs.Refusals.{Answer, and_then}
 use Rattle.tape.specs.declared.Front.{Front}
 use Rattle.tape.specs.Tape.{Tape, Encodes}
 use Rattle.tape.specs.declared.StorePart.{StorePart}
@@ -19,12 +19,12 @@ pub record Keeps (m : ℕ) (l s : List ℕ) (a : Answer Front) : Type 0 where
   pub bytes : keeping m l s ≡ and_then a (λ k. Ok (fronts_of k l s))
   pub again : (k : Front) → a ≡ Ok k → KeepsAgain m l s (fronts_of k l s)
 
--- the list that is kept, and the store, each beside the refusal's number
-abbrev pub ShowsList : ℕ → List ℕ → List ℕ → List ℕ → ℕ → Type 0
-ShowsList m l s x number = Shows (and_then (keeping m l s) (λ f. Ok f.list)) x number
+-- the list that is kept, and the store
+abbrev pub KeptList : ℕ → List ℕ → List ℕ → Answer (List ℕ) → Type 0
+KeptList m l s x = x ≡ and_then (keeping m l s) (λ f. Ok f.list)
 
-abbrev pub ShowsStore : ℕ → List ℕ → List ℕ → List ℕ → ℕ → Type 0
-ShowsStore m l s y number = Shows (and_then (keeping m l s) (λ f. Ok f.store)) y number
+abbrev pub KeptStore : ℕ → List ℕ → List ℕ → Answer (List ℕ) → Type 0
+KeptStore m l s y = y ≡ and_then (keeping m l s) (λ f. Ok f.store)
 
 -- what finding a block answers: its place, which holds it
 pub record FindsBlock (i d letter n : ℕ) (l s l' s' : List ℕ) (a : Answer StorePart) : Type 0 where

@@ -2,7 +2,7 @@
 #![tactic(auto)]
 
 ghost use Rattle.std.specs.Prelude.{◌≡◌, ◌+◌, ◌≤◌, Ok, length};
-ghost use Rattle.refusals.specs.Refusals.{and_then, Shows};
+ghost use Rattle.refusals.specs.Refusals.{and_then};
 ghost use Rattle.quantities.specs.Letters.{are_letters};
 ghost use Rattle.tape.specs.Tape.{max_elements};
 ghost use Rattle.std.specs.Iterator.{YieldsFirst, item_count};
@@ -10,7 +10,7 @@ ghost use Rattle.tape.specs.ReadingSteps.{number_at, entry_at, size, cells};
 ghost use Rattle.tape.specs.CellSteps.{cells_rest};
 ghost use Rattle.tape.specs.WalkSteps.{passed, cells_left, totals_from, reach, spot_at, spot_below};
 ghost use Rattle.tape.specs.Answers.{element_count, block_of};
-ghost use Rattle.tape.specs.Steps.{Keeps, ShowsList, ShowsStore, FindsBlock};
+ghost use Rattle.tape.specs.Steps.{Keeps, KeptList, KeptStore, FindsBlock};
 
 use quantities::BlockNumber;
 use refusals::Refusal;
@@ -130,6 +130,7 @@ fn sum_up(list: &[u8]) -> Option<Totals>
     let mut at: usize = 0;
     let mut elements: usize = 0;
     let mut bytes: usize = 0;
+    // By the place, since `Cells` ends at a wrong entry as it does at the end.
     while at < list.len() {
         if elements == 65536 {
             return None;
@@ -186,40 +187,20 @@ pub fn keep(list: &[u8], store: &[u8], n: usize) -> Result<Front, Refusal>
     Ok(walk(list, n.min(count)))
 }
 
-// A part that is handed out, empty where refused; the refusal's number, or 0, beside it.
-fn shown<'a>(part: Result<&'a [u8], Refusal>, refusal: &mut u64) -> &'a [u8]
-    ensures { Shows (and_then part.entry (λ p. Ok p.now)) result.now refusal.new }
+// The front of the list that keeping n elements keeps.
+pub fn kept_list<'a>(list: &'a [u8], store: &[u8], n: usize) -> Result<&'a [u8], Refusal>
+    ensures { KeptList n list.now store.now (and_then result (λ x. Ok x.now)) }
 {
-    match part {
-        Ok(bytes) => {
-            *refusal = 0;
-            bytes
-        }
-        Err(r) => {
-            *refusal = u64::from(r);
-            &[]
-        }
-    }
-}
-
-// The front of the list that keeping n elements keeps, empty where refused; the refusal's number, or 0, beside it.
-pub fn kept_list<'a>(list: &'a [u8], store: &[u8], n: usize, refusal: &mut u64) -> &'a [u8]
-    ensures { ShowsList n list.now store.now result.now refusal.new }
-{
-    shown(
-        keep(list, store, n).map(|front| &list[..front.list]),
-        refusal,
-    )
+    let front = keep(list, store, n)?;
+    Ok(&list[..front.list])
 }
 
 // The front of the store, likewise.
-pub fn kept_store<'a>(list: &[u8], store: &'a [u8], n: usize, refusal: &mut u64) -> &'a [u8]
-    ensures { ShowsStore n list.now store.now result.now refusal.new }
+pub fn kept_store<'a>(list: &[u8], store: &'a [u8], n: usize) -> Result<&'a [u8], Refusal>
+    ensures { KeptStore n list.now store.now (and_then result (λ y. Ok y.now)) }
 {
-    shown(
-        keep(list, store, n).map(|front| &store[..front.store]),
-        refusal,
-    )
+    let front = keep(list, store, n)?;
+    Ok(&store[..front.store])
 }
 
 // Where a block's bytes begin in the store, and their number.
@@ -255,7 +236,7 @@ pub fn are_letters(index: u8, data: u8, letter: u8) -> bool
         && (letter == index || letter == data)
 }
 
-// The block with a number, of a list with so many elements.
+// The block with a number, of a list with so many elements; they were counted when it was checked, and are not counted again.
 fn numbered(list: &[u8], count: usize, number: BlockNumber) -> Result<Spot, Refusal>
     requires { count ≤ max_elements }
     ensures { result ≡ spot_below count list.now number.0 }
@@ -309,8 +290,7 @@ pub fn find_block(
     })
 }
 
-// The bytes of the block with a letter and a number, a part of whichever store holds it, empty where refused; the refusal's number,
-// or 0, beside it.
+// The bytes of the block with a letter and a number, a part of whichever store holds it.
 pub fn block<'a>(
     index_list: &[u8],
     index_store: &'a [u8],
@@ -320,12 +300,11 @@ pub fn block<'a>(
     data_letter: u8,
     letter: u8,
     number: BlockNumber,
-    refusal: &mut u64,
-) -> &'a [u8]
-    ensures { Shows (block_of index_letter data_letter letter number.0 index_list.now index_store.now
-        data_list.now data_store.now) result.now refusal.new }
+) -> Result<&'a [u8], Refusal>
+    ensures { and_then result (λ x. Ok x.now) ≡ block_of index_letter data_letter letter number.0
+        index_list.now index_store.now data_list.now data_store.now }
 {
-    let found = find_block(
+    let part = find_block(
         index_list,
         index_store,
         data_list,
@@ -334,14 +313,11 @@ pub fn block<'a>(
         data_letter,
         letter,
         number,
-    );
-    let bytes = found.map(|part| {
-        let store = if part.on_index {
-            index_store
-        } else {
-            data_store
-        };
-        &store[part.from..part.from + part.size]
-    });
-    shown(bytes, refusal)
+    )?;
+    let store = if part.on_index {
+        index_store
+    } else {
+        data_store
+    };
+    Ok(&store[part.from..part.from + part.size])
 }

@@ -31,7 +31,7 @@ fn is_by_pattern(p: u8, b: u8) -> bool
 {
     match p {
         b'#' => b.is_ascii_digit(),
-        b'*' => b.is_ascii_hexdigit(),
+        b'*' => digits::hex::is_digit(b),
         _ => p == b,
     }
 }

@@ -16,7 +16,8 @@ pub struct Filled<'a> {
     pub data: Tables<'a>,
 }
 
-// Why an index construct does not fit: it does not follow the construct of the data partition, or a file's extents are lost.
+// Why an index construct does not fit: it does not follow the construct of the data partition, or a file's extents are lost. Both are
+// reasons: an Option of the file would have the first be none.
 #[derive(Clone, Copy, PartialEq, Eq, Debug)]
 pub enum Misfit {
     Apart,
