@@ -1,7 +1,12 @@
 -- A test of each number below a bound.
 use mathlib.Core.Path.{◌≡◌, refl, ap, ◌∙◌, sym}
-use mathlib.Core.Bool.{Bool, true, false, false≢true}
-use Prim.Native.Nat.{ℕ, zero, suc, ◌-◌, ◌<◌}
+use mathlib.Core.Bool.{Bool, true, false, ◌&&◌, false≢true}
+use mathlib.Core.List.{List}
+use Rattle.std.specs.List.{list_all}
+use Rattle.std.proofs.lemmas.List.Folds.{list_all_more}
+use lib.ListN.{length, take, get_or}
+use Prim.Native.Nat.{ℕ, zero, suc, ◌<◌, ◌≤◌}
+use Rattle.std.proofs.Common.{add-one}
 use native.Mathlib.Omega.{arith}
 use native.Mathlib.Nat.{not-suc-le-zero}
 use Rattle.children.specs.Children.{below}
@@ -23,16 +28,19 @@ module _ (f : ℕ → Bool) where
   below_all zero h = refl
   below_all (suc n) h = rw (h n) (below_all n h)
 
-  pub below_step : (n : ℕ) → 0 < n → f (n - 1) ≡ true → below n f ≡ below (n - 1) f
-  unfolding below
-  below_step zero h e = absurd (not-suc-le-zero h)
-  below_step (suc n) h e = let z : suc n - 1 ≡ n = omega arith in let q : f n ≡ true = rw z at e in rw (q, z)
-
-  pub below_zero : (n : ℕ) → n ≡ 0 → below n f ≡ true
-  unfolding below
-  below_zero n e = ap (λ (m : ℕ). below m f) e
-
 pub below_ext : (f g : ℕ → Bool) → ((k : ℕ) → f k ≡ g k) → (n : ℕ) → below n f ≡ below n g
 unfolding below
 below_ext f g h zero = refl
 below_ext f g h (suc n) = rw (h n, below_ext f g h n)
+
+-- each of the first n numbers of a list passes
+pub below_listed : (test : ℕ → Bool) (xs : List ℕ) (n : ℕ) → n ≤ length xs → list_all test (take n xs) ≡ below n (λ k. test (get_or xs k 0))
+unfolding below
+below_listed test xs zero h = refl
+below_listed test xs (suc n) h = rw (add-one n) at (list_all_more {X = ℕ} test xs n 0 h) ∙ swapped _ _ _ (below_listed test xs n (omega arith))
+  where
+    swapped : (a b c : Bool) → a ≡ b → (a && c) ≡ (c && b)
+    swapped true b true e = e
+    swapped false b true e = e
+    swapped true b false e = refl
+    swapped false b false e = refl

@@ -4,5 +4,6 @@ pub mod Counted
 pub mod Noted
 pub mod Seats
 pub mod Passed
+mod Next
 pub mod Named
 pub mod Found

@@ -1,6 +1,6 @@
 -- A row of which a part is passed: what is known of the elements before, by the place that was noted of each.
 use mathlib.Core.Path.{◌≡◌, refl, ap, ◌∙◌, sym}
-use mathlib.Core.Bool.{Bool, true, false, not, ◌&&◌, false≢true}
+use mathlib.Core.Bool.{Bool, true, false, not, ◌&&◌}
 use mathlib.Core.List.{List}
 use Prim.Native.Nat.{ℕ, ◌<◌, ◌≤◌}
 use native.Mathlib.Omega.{arith}
@@ -8,6 +8,8 @@ use borrow.Author.Tests.{eq-eqb, eqb-true, eqb-false}
 use lib.Dec.{eqb}
 use lib.ListN.{length, drop, get_or, set}
 use lib.Seq.{get_or-set_same, get_or-set_other}
+use Rattle.std.specs.Prelude.{None}
+use Rattle.std.specs.Bool.{then_some}
 use Rattle.xml.specs.Tree.{Forest, none, tag_head}
 use Rattle.elements.specs.Tags.{Tags, tags_at, tags_in}
 use Rattle.elements.specs.Reading.{forest_at, head_at, children_at, has_element}
@@ -44,14 +46,6 @@ module _ (s : List ℕ) (rs : List Rule) where
         inside = λ k. let e = z k in omega arith;
       }
 
-  -- a row that is not lawful
-  pub unlawful : (must i : ℕ) (seats : List ℕ) → lawful_children rs must (forest_at s i) ≡ false → ReadsRow s i rs must false seats
-  unlawful must i seats e =
-      record {
-        row = record { told = sym e; found = λ t. absurd (false≢true t) };
-        places = record { tags = λ t. absurd (false≢true t); place = λ t. absurd (false≢true t) };
-      }
-
   -- the next element is the one at n, and the row goes on at j'
   module _ (i j j' : ℕ) (seats : List ℕ) (n : ℕ) (p : Passed i j seats) (first : FirstOf s j n j') where
     abbrev named : List ℕ
@@ -60,17 +54,16 @@ module _ (s : List ℕ) (rs : List Rule) where
     abbrev fits : Bool
     fits = no_attribute (head_at s n) && may_hold (mark_of rs named) (head_at s n) (children_at s n)
 
-    pub unknown_next : (must : ℕ) → fits ≡ false → ReadsRow s i rs must false seats
+    pub unknown_next : (must : ℕ) → fits ≡ false → ReadsRow s i rs must None
     unfolding lawful_children all_known
     unknown_next must e =
         let z : all_known rs (forest_at s i) ≡ false = p.known ∙ ap (all_known rs) first.row ∙ rw e in
-        unlawful must i seats (rw z)
+        rw z
 
-    pub twice_next : (must k : ℕ) → k ≡ rule_number rs named → k < length rs → (get_or seats k 0 ≡ 0 → ⊥) → ReadsRow s i rs must false seats
+    pub twice_next : (must k : ℕ) → k ≡ rule_number rs named → k < length rs → (get_or seats k 0 ≡ 0 → ⊥) → ReadsRow s i rs must None
     unfolding lawful_children at_most_one join matching has_element
     twice_next must k e h q =
-        unlawful must i seats
-        (middle_false (all_known rs (forest_at s i)) _ (below must (λ j. has_element (pick rs j (forest_at s i)))) (below_false (λ (j : ℕ). at_most_one (pick rs j (forest_at s i))) (length rs) k h two))
+        middle_false (all_known rs (forest_at s i)) _ (below must (λ j. has_element (pick rs j (forest_at s i)))) (below_false (λ (j : ℕ). at_most_one (pick rs j (forest_at s i))) (length rs) k h two)
       where
         middle_false : (a b c : Bool) → b ≡ false → (a && b && c) ≡ false
         middle_false true b c e = rw e
@@ -117,9 +110,10 @@ module _ (s : List ℕ) (rs : List Rule) where
         rw (known_all, one)
         (below_ext (λ k. has_element (pick rs k (forest_at s i))) (λ k. not (eqb (get_or seats k 0) 0)) (λ k. ap has_element (all k) ∙ row_seat s (get_or seats k 0)) must)
 
-    pub all_passed : (must : ℕ) (ok : Bool) → ok ≡ below must (λ k. not (eqb (get_or seats k 0) 0)) → ReadsRow s i rs must ok seats
-    all_passed must ok o =
+    pub all_passed : (must : ℕ) (ok : Bool) → ok ≡ below must (λ k. not (eqb (get_or seats k 0) 0)) → ReadsRow s i rs must (then_some ok seats)
+    all_passed must true o =
         record {
-          row = record { told = o ∙ sym (told_all must); found = λ t. all };
-          places = record { tags = λ t. all_tags; place = λ t k. tag_place s (get_or seats k 0) (p.inside k) ∙ ap (first_place s) (sym (all_tags k)) };
+          row = record { lawful = told_all must ∙ sym o; found = all };
+          places = record { tags = all_tags; place = λ k. tag_place s (get_or seats k 0) (p.inside k) ∙ ap (first_place s) (sym (all_tags k)) };
         }
+    all_passed must false o = told_all must ∙ sym o

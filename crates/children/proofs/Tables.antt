@@ -1,18 +1,20 @@
 -- A table of rules, read from its front: the first rule ends with the first mark, and the others follow.
-use mathlib.Core.Path.{◌≡◌, refl, ap, ◌∙◌, sym}
-use mathlib.Core.Bool.{Bool, true, false, ◌&&◌, false≢true}
+use mathlib.Core.Path.{◌≡◌, refl, ap, ◌∙◌, sym, subst}
+use Rattle.std.specs.Prelude.{Option, None, Some}
+use Rattle.std.specs.List.{position_or_len}
+use mathlib.Core.Bool.{Bool, true, false, cond, ◌&&◌, false≢true}
+use borrow.Author.Tests.{ltb-true, ltb-false}
+use lib.Dec.{ltb}
 use mathlib.Core.List.{List, [], ◌∷◌}
-use Prim.Native.Nat.{ℕ, suc, ◌+◌, ◌-◌, ◌<◌, ◌≤◌}
+use Prim.Native.Nat.{ℕ, suc, ◌+◌, ◌<◌, ◌≤◌}
 use native.Mathlib.Omega.{arith}
 use native.Mathlib.Nat.{not-suc-le-zero, le_of_suc-le-suc}
-use lib.ListN.{length, take, drop, get_or, drop_of_length-le, length-drop}
-use lib.Seq.{drop-drop, get_or-drop}
+use lib.ListN.{length, take, drop, get_or, length-drop}
 use Rattle.slices.specs.Slices.{same}
 use Rattle.slices.proofs.Booleans.{and_right}
 use Rattle.xml.specs.Tree.{Head, Forest, front}
-use Rattle.xml.specs.ScanSteps.{Past}
 use Rattle.children.specs.Rules.{Rule, rule_number, mark_of}
-use Rattle.children.specs.RowSteps.{is_rule_mark, not_rule_mark, longer, rules}
+use Rattle.children.specs.RowSteps.{is_rule_mark, not_rule_mark, longer, rules, FirstMark, FindsRule}
 use Rattle.children.specs.Children.{no_attribute, may_hold}
 
 cut : (s : List ℕ) → front not_rule_mark s < length s
@@ -37,58 +39,78 @@ uncut (b ∷ s) h = go (is_rule_mark b) refl (uncut s) h
     go true e r g = absurd (not-suc-le-zero (simp e at g))
     go false e r g = simp e (ap (longer b) (r (le_of_suc-le-suc (simp e at g))))
 
--- at the rule that begins at i of a table, and whose mark is at e
-module _ (t : List ℕ) (i e : ℕ) (found : Past not_rule_mark t i e) where
-  rules_on : e < length t → rules (drop i t) ≡ record { name = take (e - i) (drop i t); mark = get_or t e 0 } ∷ rules (drop (e + 1) t)
-  rules_on h =
-      let F = front not_rule_mark (drop i t) in
-      let w : F ≡ e - i = omega (arith, found.found) in
-      let m : get_or (drop i t) F 0 ≡ get_or t e 0 = get_or-drop i t F 0 ∙ ap (λ (k : ℕ). get_or t k 0) (sym found.found) in
-      let z : i + suc F ≡ e + 1 = omega (arith, found.found) in
-      let d : drop (suc F) (drop i t) ≡ drop (e + 1) t = drop-drop (suc F) i t ∙ ap (λ (k : ℕ). drop k t) z in
-      let n : take F (drop i t) ≡ take (e - i) (drop i t) = ap (λ (k : ℕ). take k (drop i t)) w in
-      cut (drop i t) (omega (arith, found.found, length-drop i t)) ∙ rw (n, m, d)
+-- the first mark, in the library's words
+first_mark : (s : List ℕ) → front not_rule_mark s ≡ position_or_len is_rule_mark s
+unfolding front
+first_mark [] = refl
+first_mark (b ∷ s) = step (not_rule_mark b) _ _ (first_mark s)
+  where
+    step : (t : Bool) (m n : ℕ) → m ≡ n → cond t (suc m) 0 ≡ cond t (1 + n) 0
+    step true m n z = omega arith
+    step false m n z = refl
 
-  rules_off : length t ≤ e → rules (drop i t) ≡ []
-  rules_off h = uncut (drop i t) (omega (arith, found.found, length-drop i t))
+pub mark_position : (s : List ℕ) (r : Option ℕ)
+    → r ≡ cond (ltb (position_or_len is_rule_mark s) (length s)) (Some (position_or_len is_rule_mark s)) None → FirstMark s r
+mark_position s r e = go (ltb (position_or_len is_rule_mark s) (length s)) refl
+  where
+    go : (t : Bool) → ltb (position_or_len is_rule_mark s) (length s) ≡ t → FirstMark s r
+    go true q = rw (e, q) (sym (first_mark s), ltb-true _ _ q)
+    go false q = rw (e, q) (omega (arith, first_mark s, ltb-false _ _ q))
 
-  module _ (n : List ℕ) where
-    pub place_on : e < length t → same (take (e - i) (drop i t)) n ≡ false → rule_number (rules (drop i t)) n ≡ suc (rule_number (rules (drop (e + 1) t)) n)
-    unfolding rule_number
-    place_on h q = ap (λ (rs : List Rule). rule_number rs n) (rules_on h) ∙ rw q
+-- where its first mark stands
+pub rules_on : (t : List ℕ) (e : ℕ) → FirstMark t (Some e) → rules t ≡ record { name = take e t; mark = get_or t e 0 } ∷ rules (drop (e + 1) t)
+rules_on t e found =
+    let z : suc e ≡ e + 1 = omega arith in
+    subst (λ (m : ℕ). rules t ≡ record { name = take m t; mark = get_or t m 0 } ∷ rules (drop (m + 1) t)) (sym found.0)
+    (let y : suc (front not_rule_mark t) ≡ front not_rule_mark t + 1 = omega arith in rw (← y) (cut t (omega (arith, found.0, found.1))))
 
-    pub mark_on : e < length t → same (take (e - i) (drop i t)) n ≡ false → mark_of (rules (drop i t)) n ≡ mark_of (rules (drop (e + 1) t)) n
-    unfolding mark_of
-    mark_on h q = ap (λ (rs : List Rule). mark_of rs n) (rules_on h) ∙ rw q
+pub rules_off : (t : List ℕ) → FirstMark t None → rules t ≡ []
+rules_off t found = uncut t found
 
-    pub place_hit : e < length t → same (take (e - i) (drop i t)) n ≡ true → rule_number (rules (drop i t)) n ≡ 0
-    unfolding rule_number
-    place_hit h q = ap (λ (rs : List Rule). rule_number rs n) (rules_on h) ∙ rw q
+-- the rules before those that are left, k of them, are not for the name w
+pub record Searched (rs : List Rule) (w : List ℕ) (k : ℕ) (left : List Rule) : Type 0 where
+  pub number : rule_number rs w ≡ k + rule_number left w
+  pub mark : mark_of rs w ≡ mark_of left w
+  pub count : length rs ≡ k + length left
 
-    pub mark_hit : e < length t → same (take (e - i) (drop i t)) n ≡ true → mark_of (rules (drop i t)) n ≡ get_or t e 0
-    unfolding mark_of
-    mark_hit h q = ap (λ (rs : List Rule). mark_of rs n) (rules_on h) ∙ rw q
+module _ (rs : List Rule) (w : List ℕ) where
+  pub none_searched : Searched rs w 0 rs
+  none_searched = record { number = omega arith; mark = refl; count = omega arith }
 
-    pub place_off : length t ≤ e → rule_number (rules (drop i t)) n ≡ 0
-    unfolding rule_number
-    place_off h = ap (λ (rs : List Rule). rule_number rs n) (rules_off h)
+  module _ (k : ℕ) (left : List Rule) (s : Searched rs w k left) where
+    pub searched_more : (r : Rule) (on : List Rule) → left ≡ r ∷ on → same r.name w ≡ false → Searched rs w (k + 1) on
+    unfolding rule_number mark_of
+    searched_more r on e q =
+        let n : rule_number left w ≡ suc (rule_number on w) = ap (λ (l : List Rule). rule_number l w) e ∙ rw q in
+        let m : mark_of left w ≡ mark_of on w = ap (λ (l : List Rule). mark_of l w) e ∙ rw q in
+        let c : length left ≡ suc (length on) = ap (λ (l : List Rule). length l) e in
+        record { number = omega (arith, s.number); mark = s.mark ∙ m; count = omega (arith, s.count) }
 
-    pub mark_off : length t ≤ e → mark_of (rules (drop i t)) n ≡ 0
-    unfolding mark_of
-    mark_off h = ap (λ (rs : List Rule). mark_of rs n) (rules_off h)
+    pub searched_hit : (r : Rule) (on : List Rule) → left ≡ r ∷ on → same r.name w ≡ true → FindsRule rs w (Some (record { number = k; mark = r.mark }))
+    unfolding rule_number mark_of
+    searched_hit r on e q =
+        let n : rule_number left w ≡ 0 = ap (λ (l : List Rule). rule_number l w) e ∙ rw q in
+        let m : mark_of left w ≡ r.mark = ap (λ (l : List Rule). mark_of l w) e ∙ rw q in
+        (omega (arith, s.number), sym (s.mark ∙ m))
 
-module _ (t : List ℕ) (i : ℕ) (n : List ℕ) where
-  rules_end : length t ≤ i → rules (drop i t) ≡ []
-  unfolding rules
-  rules_end h = ap rules (drop_of_length-le t h)
+    pub searched_all : left ≡ [] → FindsRule rs w None
+    unfolding rule_number mark_of
+    searched_all e =
+        let n : rule_number left w ≡ 0 = ap (λ (l : List Rule). rule_number l w) e in
+        let m : mark_of left w ≡ 0 = ap (λ (l : List Rule). mark_of l w) e in
+        let c : length left ≡ 0 = ap (λ (l : List Rule). length l) e in
+        (omega (arith, s.number, s.count), s.mark ∙ m)
 
-  pub place_end : length t ≤ i → rule_number (rules (drop i t)) n ≡ 0
-  unfolding rule_number
-  place_end h = ap (λ (rs : List Rule). rule_number rs n) (rules_end h)
+-- the next rule of a table t, of which k rules are passed, and of which s is left
+module _ (t w : List ℕ) (k : ℕ) (s : List ℕ) (passed : Searched (rules t) w k (rules s)) (e : ℕ) (found : FirstMark s (Some e)) where
+  pub rule_hit : same (take e s) w ≡ true → FindsRule (rules t) w (Some (record { number = k; mark = get_or s e 0 }))
+  rule_hit q = searched_hit (rules t) w k (rules s) passed (record { name = take e s; mark = get_or s e 0 }) (rules (drop (e + 1) s)) (rules_on s e found) q
 
-  pub mark_end : length t ≤ i → mark_of (rules (drop i t)) n ≡ 0
-  unfolding mark_of
-  mark_end h = ap (λ (rs : List Rule). mark_of rs n) (rules_end h)
+  pub rule_passed : (on : List ℕ) → on ≡ drop (e + 1) s → k + length s ≤ length t → same (take e s) w ≡ false
+      → (k + 1 + length on ≤ length t) × Searched (rules t) w (k + 1) (rules on)
+  rule_passed on d h q =
+      rw d
+      (omega (arith, h, found.1, length-drop (e + 1) s), searched_more (rules t) w k (rules s) passed (record { name = take e s; mark = get_or s e 0 }) (rules (drop (e + 1) s)) (rules_on s e found) q)
 
 -- a rule of that mark is in the list, or the mark is 0
 listed : (rs : List Rule) (n : List ℕ) → (mark_of rs n ≡ 0 → ⊥) → rule_number rs n < length rs

@@ -1,10 +1,15 @@
 -- Children once each in any order, nothing else (01, LTFS label, Index): the one definition for every element that has children.
 use Rattle.std.specs.Prelude.{Bool, true, cond, not, ◌&&◌, ◌||◌, List, [], ℕ, zero, suc, eqb, length}
 use Rattle.slices.specs.Slices.{every, same}
+use Rattle.slices.specs.Words.{bytes}
 use Rattle.xml.specs.Bytes.{is_space}
 use Rattle.xml.specs.Tree.{Head, Tree, Forest, none, node}
 use Rattle.elements.specs.Reading.{has_element}
 use Rattle.children.specs.Rules.{Rule, rule_number, mark_of}
+
+-- a root: its name, and its one attribute
+abbrev pub is_root : List ℕ → Head → Bool
+is_root name h = same h.name name && same h.key (bytes "version")
 
 -- only the root has an attribute
 abbrev pub no_attribute : Head → Bool

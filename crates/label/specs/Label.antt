@@ -4,7 +4,6 @@ use Rattle.std.specs.Prelude.{Bool, ◌&&◌, List, [], ◌∷◌, ℕ, leb, len
 use Prim.Native.String.{String}
 use Rattle.refusals.specs.Refusals.{Answer, require, or_refuse}
 use Rattle.refusals.specs.declared.Refusal.TheVariants.{Structure, Value, Version, TooMany}
-use Rattle.slices.specs.Slices.{same}
 use Rattle.slices.specs.Words.{bytes}
 use Rattle.quantities.specs.Letters.{is_one_of}
 use Rattle.quantities.specs.Sizes.{is_block_size}
@@ -13,6 +12,7 @@ use Rattle.xml.specs.Tree.{Head, Forest, none, node}
 use Rattle.elements.specs.Reading.{forest_at}
 use Rattle.texts.specs.Decoded.{decoded}
 use Rattle.children.specs.Rules.{Rule, with_value, with_children}
+use Rattle.children.specs.Children as children
 use Rattle.children.specs.Children.{lawful_children, only, text_of_first, children_of_first}
 use Rattle.values.specs.Values.{number, boolean, letter, version, is_time, is_uuid, is_creator}
 
@@ -92,7 +92,7 @@ label_from release t =
     Ok (record { release = release; creator = decoded t.creator; time = t.time; uuid = t.uuid; location = l; index_letter = i; data_letter = d; block_size = b; compression = c })))))))))
 
 abbrev pub is_root : Head → Bool
-is_root h = same h.name (bytes "ltfslabel") && same h.key (bytes "version")
+is_root = children.is_root (bytes "ltfslabel")
 
 -- 5 for the root and its attribute, 7, the rest of 5, then the values
 unfoldable pub root_of : Head → Forest → Answer Label

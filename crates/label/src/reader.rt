@@ -6,7 +6,7 @@ ghost use Rattle.elements.specs.Tags.{tags_in};
 ghost use Rattle.elements.specs.Reading.{head_at, children_at};
 ghost use Rattle.texts.specs.Decoded.{decoded};
 ghost use Rattle.values.specs.Values.{number, letter, is_creator, is_time, is_uuid};
-ghost use Rattle.label.specs.Label.{letters_fit, label_from, is_root, root_of, label_of};
+ghost use Rattle.label.specs.Label.{letters_fit, label_from, root_of, label_of};
 ghost use Rattle.label.specs.TextPlaces.{places_in, text_places};
 ghost use Rattle.label.specs.Steps.{places_at, places_of, means, LieIn, texts_at, FindsTexts, ReadsLabel};
 
@@ -44,35 +44,42 @@ pub struct LabelFields {
 fn find_places(text: &[u8], n: usize) -> Option<Places>
     ensures { FindsTexts text.now (children_at text.now n) (tags_in (drop n text.now)) result }
 {
-    let root = children::read_row(
+    let [
+        creator,
+        time,
+        uuid,
+        location,
+        partitions,
+        block_size,
+        compression,
+        ..
+    ] = children::read_row(
         text,
         elements::first_child(text, n),
         b"creator=formattime=volumeuuid=location/partitions/blocksize=compression=",
         7,
-    );
-    if !root.ok {
-        return None;
-    }
-    let a = root.seats;
-    let location = children::read_row(text, elements::first_child(text, a[3]), b"partition=", 1);
-    if !location.ok {
-        return None;
-    }
-    let p = location.seats;
-    let partitions = children::read_row(text, elements::first_child(text, a[4]), b"index=data=", 2);
-    if !partitions.ok {
-        return None;
-    }
-    let q = partitions.seats;
+    )?;
+    let [location, ..] = children::read_row(
+        text,
+        elements::first_child(text, location),
+        b"partition=",
+        1,
+    )?;
+    let [index_letter, data_letter, ..] = children::read_row(
+        text,
+        elements::first_child(text, partitions),
+        b"index=data=",
+        2,
+    )?;
     Some(Places {
-        creator: a[0],
-        time: a[1],
-        uuid: a[2],
-        location: p[0],
-        index_letter: q[0],
-        data_letter: q[1],
-        block_size: a[5],
-        compression: a[6],
+        creator,
+        time,
+        uuid,
+        location,
+        index_letter,
+        data_letter,
+        block_size,
+        compression,
     })
 }
 
@@ -129,22 +136,14 @@ fn read_values(text: &[u8], p: Places, release: u64) -> Option<LabelFields>
     })
 }
 
-// Whether the root at n has its name and its attribute.
-#[tactic(auto, unfolding(slices::specs::Words::bytes))]
-fn is_root(text: &[u8], n: usize) -> bool
-    ensures { result ≡ is_root (head_at text.now n) }
-{
-    elements::name_is(text, n, b"ltfslabel") && elements::key_of(text, n) == b"version".as_slice()
-}
-
 // The root at n.
-#[tactic(auto, unfolding(crate::specs::Label::root_of))]
+#[tactic(auto, unfolding(crate::specs::Label::root_of, slices::specs::Words::bytes))]
 fn read_root(text: &[u8], n: usize) -> Result<LabelFields, Refusal>
     ensures says { means text.now result ≡ root_of (head_at text.now n) (children_at text.now n) }
     ensures inside { IfOk result (LieIn text.now) }
     ensures stands { IfOk result (λ f. places_of f ≡ places_in text.now (tags_in (drop n text.now))) }
 {
-    if !is_root(text, n) {
+    if !children::is_root(text, n, b"ltfslabel") {
         return Err(Refusal::Structure);
     }
     let version = values::read_version(elements::value_of(text, n));

@@ -1,52 +1,49 @@
 -- `find_places` meets its contract: three rows, two of them of children of the first.
-use Rattle.std.proofs.Common.{◌∙◌, sym, subst, drop}
-use borrow.Author.Tests.{not-true, not-false}
+use Rattle.std.proofs.Common.{◌≡◌, ℕ, List, false, subst, drop, arith}
+use Rattle.std.specs.Prelude.{None}
 use Rattle.slices.specs.Words.{bytes}
 use Rattle.elements.specs.Tags.{Tags, tags_in}
+use Rattle.elements.specs.TagSteps.{ChildrenFrom}
 use Rattle.elements.specs.Reading.{children_at}
 use Rattle.xml.specs.Tree.{Forest}
-use Rattle.children.specs.RowSteps.{is_rule_mark, rules, longer, Seated, PlacedSeats}
+use Rattle.children.specs.RowSteps.{is_rule_mark, rules, longer, Seated, PlacedSeats, RowAt}
+use Rattle.children.specs.Children.{lawful_children}
 use Rattle.label.specs.Label.{of_root}
-use Rattle.label.proofs.Shape.{no_root_row, no_location_row, shaped, found, standing}
-use Rattle.label.proofs.reader.find_places.Goals.{After-read_row-root}
+use Rattle.label.proofs.Shape.{no_root_row, no_location_row, no_partitions_row, shaped, found, standing}
 use Rattle.label.proofs.reader.find_places.Goals as goal
 
 -- the root's row, by its children
-root_row : (c : After-read_row-root) → Seated c.args.text.now of_root 7 (children_at c.args.text.now c.args.n) c.read_row-root.result.ok c.read_row-root.result.seats
-unfolding bytes rules longer is_rule_mark
-root_row c =
-    let r = c.read_row-root.result in
-    subst (λ (f : Forest). Seated c.args.text.now of_root 7 f r.ok r.seats) c.first_child.ensures.row c.read_row-root.ensures.row
+root_row : {s : List ℕ} {n j : ℕ} {a : List ℕ} → ChildrenFrom s n j → RowAt s j of_root 7 a → Seated s of_root 7 (children_at s n) a
+root_row {s = s} {a = a} first r = subst (λ (f : Forest). Seated s of_root 7 f a) first.row r.row
 
-pub returns-then-not-root : goal.returns-then-not-root
-returns-then-not-root c = no_root_row (root_row (goal.at.returns-then-not-root c).After-read_row-root) (not-true _ c.if-not-root.true)
-
-pub returns-then-not-location : goal.returns-then-not-location
+pub returns-in_err-creator : goal.returns-in_err-creator
 unfolding bytes rules longer is_rule_mark
-returns-then-not-location c =
-    no_location_row (root_row (goal.at.returns-then-not-location c).After-read_row-root) (not-false _ c.if-not-root.false) c.first_child-2.ensures.row c.read_row-location.ensures.row
-    (not-true _ c.if-not-location.true)
+returns-in_err-creator c =
+    let r : c.from_residual.result ≡ None = grind arith in
+    rw r (no_root_row _ (subst (λ (f : Forest). lawful_children of_root 7 f ≡ false) c.first_child.ensures.row c.in_err-creator.ensures))
 
-pub returns-then-not-partitions : goal.returns-then-not-partitions
+pub returns-in_err-location : goal.returns-in_err-location
 unfolding bytes rules longer is_rule_mark
-returns-then-not-partitions c =
-    sym (shaped (root_row (goal.at.returns-then-not-partitions c).After-read_row-root) (not-false _ c.if-not-root.false) c.first_child-2.ensures.row c.read_row-location.ensures.row
-    (not-false _ c.if-not-location.false) c.first_child-3.ensures.row c.read_row-partitions.ensures.row)
-    ∙ not-true _ c.if-not-partitions.true
+returns-in_err-location c =
+    let r : c.from_residual-in_err-location.result ≡ None = grind arith in
+    rw r (no_location_row (root_row c.first_child.ensures c.in_ok-creator.ensures) c.first_child-2.ensures.row c.in_err-location.ensures)
+
+pub returns-in_err-index_letter : goal.returns-in_err-index_letter
+unfolding bytes rules longer is_rule_mark
+returns-in_err-index_letter c =
+    let r : c.from_residual-in_err-index_letter.result ≡ None = grind arith in
+    rw r (no_partitions_row (root_row c.first_child.ensures c.in_ok-creator.ensures) c.first_child-2.ensures.row c.in_ok-location.ensures.row c.first_child-3.ensures.row c.in_err-index_letter.ensures)
 
 pub returns : goal.returns
 unfolding bytes rules longer is_rule_mark
 returns c =
     let s = c.args.text.now in
-    let r = c.read_row-root.result in
-    let A = root_row (goal.at.returns c).After-read_row-root in
-    let G : PlacedSeats s of_root (tags_in (drop c.args.n s)) r.ok r.seats
-    = subst (λ (g : Tags). PlacedSeats s of_root g r.ok r.seats) c.first_child.ensures.tags c.read_row-root.ensures.places in
-    let all = not-false _ c.if-not-root.false in
-    let place = not-false _ c.if-not-location.false in
-    let parts = not-false _ c.if-not-partitions.false in
-    record {
-      shaped = sym (shaped A all c.first_child-2.ensures.row c.read_row-location.ensures.row place c.first_child-3.ensures.row c.read_row-partitions.ensures.row) ∙ parts;
-      texts = found A all c.first_child-2.ensures.row c.read_row-location.ensures.row place c.first_child-3.ensures.row c.read_row-partitions.ensures.row parts;
-      places = standing A all c.first_child-2.ensures.row c.read_row-location.ensures.row place c.first_child-3.ensures.row c.read_row-partitions.ensures.row parts G;
-    }
+    let a = c.in_ok-creator.field-0 in
+    let A = root_row c.first_child.ensures c.in_ok-creator.ensures in
+    let G : PlacedSeats s of_root (tags_in (drop c.args.n s)) a
+    = subst (λ (g : Tags). PlacedSeats s of_root g a) c.first_child.ensures.tags c.in_ok-creator.ensures.places in
+    let X = c.first_child-2.ensures.row in
+    let P = c.in_ok-location.ensures.row in
+    let Y = c.first_child-3.ensures.row in
+    let Q = c.in_ok-index_letter.ensures.row in
+    record { shaped = shaped A X P Y Q; texts = found A X P Y Q; places = standing A X P Y Q G }
