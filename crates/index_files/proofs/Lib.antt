@@ -4,6 +4,7 @@ pub mod Meeting
 pub mod Names
 pub mod Accepted
 pub mod AllFiles
+pub mod Walking
 pub mod Asking
 pub mod Buffers
 pub mod Putting

@@ -1,6 +1,8 @@
 pub mod Names
 pub mod FileSteps
 pub mod RowSteps
+pub mod EachFile
+pub mod EachRow
 pub mod Asked
 pub mod Filling
 pub mod Whole

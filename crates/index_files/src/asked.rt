@@ -1,12 +1,12 @@
 // A file asked for by its number, and its rows.
-ghost use Rattle.std.specs.Prelude.{◌≡◌, length};
-ghost use Rattle.elements.specs.Reading.{forest_at};
-ghost use Rattle.index_values.specs.Tests.{rows_in};
 ghost use Rattle.index_values.specs.Steps.{given};
+ghost use Rattle.index_files.specs.EachRow.{rows_left};
 ghost use Rattle.index_files.specs.AskedSteps.{FindsFile, HeadOf};
 ghost use Rattle.index_files.specs.Steps.{LocatesFile, ReadsNumbered, PutsRows, PutsFileRows};
 
-use crate::{extent_rows, files, filling};
+use crate::extent_rows::EachRow;
+use crate::files::EachFile;
+use crate::filling;
 use elements::Span;
 use index_values::Partitions;
 use quantities::{BlockNumber, ByteCount};
@@ -24,16 +24,7 @@ pub struct FileHead {
 fn find(text: &[u8], k: u64) -> Result<usize, Refusal>
     ensures { FindsFile text.now k result }
 {
-    let mut i: usize = 38;
-    let mut left = k;
-    while let Some(found) = files::next_file(text, i) {
-        if left == 0 {
-            return Ok(found.at);
-        }
-        left -= 1;
-        i = found.next;
-    }
-    Err(Refusal::Missing)
+    EachFile::new(text).nth(k as usize).ok_or(Refusal::Missing)
 }
 
 // The k-th file of an index, once its text is read.
@@ -51,19 +42,6 @@ fn locate(
     find(text, k)
 }
 
-// How many rows there are from at on.
-pub(crate) fn count_rows(text: &[u8], at: usize) -> u64
-    ensures { result ≡ length (rows_in (forest_at text.now at)) }
-{
-    let mut i = at;
-    let mut n: u64 = 0;
-    while let Some(child) = elements::next_child(text, i) {
-        n += 1;
-        i = child.next;
-    }
-    n
-}
-
 // What the file whose tag is at n says.
 pub(crate) fn head_at(text: &[u8], n: usize) -> FileHead
     ensures { HeadOf text.now n result }
@@ -72,7 +50,7 @@ pub(crate) fn head_at(text: &[u8], n: usize) -> FileHead
     FileHead {
         length: ByteCount(index_values::number_named(text, at, b"length")),
         name: index_values::span_in(text, at, b"name"),
-        rows: count_rows(text, extent_rows::first_row(text, n)),
+        rows: EachRow::new(text, n).len(),
     }
 }
 
@@ -91,15 +69,15 @@ pub fn file(
     Ok(head_at(text, n))
 }
 
-// The rows from at on, into the front of out if it has room for all of them.
-fn put_rows(text: &[u8], at: usize, out: &mut [u64]) -> Result<u64, Refusal>
-    ensures { PutsRows (rows_in (forest_at text.now at)) out.old out.new result }
+// The rows that are left, into the front of out if it has room for all of them.
+fn put_rows(rows: EachRow, out: &mut [u64]) -> Result<u64, Refusal>
+    ensures { PutsRows (rows_left rows.entry) out.old out.new result }
 {
-    let n = count_rows(text, at);
+    let n = rows.len();
     if ((out.len() / 5) as u64) < n {
         return Err(Refusal::Short);
     }
-    filling::write_rows(text, at, out);
+    filling::write_rows(rows, out);
     Ok(n)
 }
 
@@ -116,5 +94,5 @@ pub fn rows(
     ensures { PutsFileRows text.now (given uuid.now volume) letter block out.old out.new k result }
 {
     let n = locate(text, uuid, volume, letter, block, k)?;
-    put_rows(text, extent_rows::first_row(text, n), out)
+    put_rows(EachRow::new(text, n), out)
 }

@@ -1,9 +1,11 @@
 // The rows of a file, one after the other.
-ghost use Rattle.std.specs.Prelude.{◌≡◌};
-ghost use Rattle.elements.specs.Reading.{forest_at};
+ghost use Rattle.std.specs.Prelude.{◌≡◌, ◌-◌, length};
+ghost use Rattle.std.specs.Iterator.{YieldsFirstBy, at_most};
+ghost use Rattle.elements.specs.Reading.{forest_at, children_at};
 ghost use Rattle.extents.specs.Rows.{five};
-ghost use Rattle.index_values.specs.Tests.{row_of};
+ghost use Rattle.index_values.specs.Tests.{row_of, extent_rows};
 ghost use Rattle.index_files.specs.RowSteps.{row_is, RowsFrom, RowAhead};
+ghost use Rattle.index_files.specs.EachRow.{rows_left};
 
 use index_names::EXTENT;
 use quantities::{BlockNumber, ByteCount};
@@ -71,4 +73,51 @@ pub fn next_row(text: &[u8], at: usize) -> Option<NextRow>
         row: row_from(text, elements::first_child(text, child.at)),
         next: child.next,
     })
+}
+
+// The rows of a file, one after the other.
+#[derive(Clone, Drop)]
+pub struct EachRow<'a> {
+    text: &'a [u8],
+    at: usize,
+}
+
+impl<'a> EachRow<'a> {
+    // Those of the file whose tag is at n.
+    pub fn new(text: &'a [u8], n: usize) -> EachRow<'a>
+        ensures { rows_left result ≡ extent_rows (children_at text.now n) }
+    {
+        EachRow {
+            text,
+            at: first_row(text, n),
+        }
+    }
+
+    // How many there are.
+    pub(crate) fn len(&self) -> u64
+        ensures { result ≡ length (rows_left self.now) }
+    {
+        // From tag to tag: count would read the numbers of each row.
+        let mut at = self.at;
+        let mut n: u64 = 0;
+        while let Some(child) = elements::next_child(self.text, at) {
+            n += 1;
+            at = child.next;
+        }
+        n
+    }
+}
+
+impl<'a> Iterator for EachRow<'a> {
+    type Item = Row;
+
+    ghost next_gives = { YieldsFirstBy row_is rows_left };
+
+    ghost remaining = { λ s. at_most (length s.text.now - s.at) };
+
+    fn next(&mut self) -> Option<Row> {
+        let found = next_row(self.text, self.at)?;
+        self.at = found.next;
+        Some(found.row)
+    }
 }

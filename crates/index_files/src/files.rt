@@ -1,7 +1,9 @@
 // The files of an index's text, one after the other.
-ghost use Rattle.std.specs.Prelude.{◌≡◌};
+ghost use Rattle.std.specs.Prelude.{◌≡◌, ◌-◌, length};
+ghost use Rattle.std.specs.Iterator.{at_most};
 ghost use Rattle.index_files.specs.Names.{names_file, names_skipped};
 ghost use Rattle.index_files.specs.FileSteps.{FileFrom};
+ghost use Rattle.index_files.specs.EachFile.{IsAt, GivesFile};
 
 use elements::{Child, Tag};
 
@@ -48,5 +50,34 @@ pub fn next_file(text: &[u8], at: usize) -> Option<Child>
                 i = n;
             }
         }
+    }
+}
+
+// The files of an index's text, one after the other: the places of their tags.
+#[derive(Clone, Drop)]
+pub struct EachFile<'a> {
+    text: &'a [u8],
+    at: usize,
+}
+
+impl<'a> EachFile<'a> {
+    pub fn new(text: &'a [u8]) -> EachFile<'a>
+        ensures { IsAt text.now 38 result }
+    {
+        EachFile { text, at: 38 }
+    }
+}
+
+impl<'a> Iterator for EachFile<'a> {
+    type Item = usize;
+
+    ghost next_gives = { GivesFile };
+
+    ghost remaining = { λ s. at_most (length s.text.now - s.at) };
+
+    fn next(&mut self) -> Option<usize> {
+        let found = next_file(self.text, self.at)?;
+        self.at = found.next;
+        Some(found.at)
     }
 }

@@ -8,6 +8,6 @@ mod filling;
 mod whole;
 
 pub use asked::{FileHead, file, rows};
-pub use extent_rows::{NextRow, Row, first_row, next_row};
-pub use files::next_file;
+pub use extent_rows::{EachRow, NextRow, Row, first_row, next_row};
+pub use files::{EachFile, next_file};
 pub use whole::read_whole;

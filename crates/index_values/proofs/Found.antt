@@ -1,7 +1,13 @@
 -- What is found by name in a row: in none of its elements, in the first one, or behind it.
-use mathlib.Core.Path.{◌≡◌, refl, ap, sym, ◌∙◌}
-use mathlib.Core.Bool.{true, false}
-use mathlib.Core.List.{List, []}
+use Rattle.std.specs.Prelude.{None, Option, Some, IfSome}
+use Rattle.std.specs.Fn.{CalledAt}
+use Rattle.std.specs.Iterator.{YieldsThen}
+use Rattle.std.specs.List.{FoldsTo}
+use denote.Param.Members.{Mut}
+use denote.Ref.{Bor}
+use mathlib.Core.Path.{◌≡◌, refl, ap, sym, ◌∙◌, subst}
+use mathlib.Core.Bool.{Bool, true, false}
+use mathlib.Core.List.{List, [], ◌∷◌}
 use Prim.Native.Nat.{ℕ}
 use lib.ListN.{drop}
 use Rattle.slices.specs.Slices.{same}
@@ -17,7 +23,9 @@ use Rattle.children.specs.Children.{matching}
 use Rattle.children.specs.Places.{tags_named, first_text}
 use Rattle.index_rows.proofs.Named.{same_flip}
 use Rattle.index_values.specs.Elements.{text_in, children_in}
-use Rattle.index_values.specs.Steps.{FoundStart, NoneFound}
+use Rattle.index_values.specs.declared.rows.EachStart.{EachStart}
+use Rattle.index_values.specs.EachStart.{GivesStart}
+use Rattle.index_values.specs.Steps.{FoundStart, NoneFound, Finds}
 
 module _ (name s : List ℕ) (i : ℕ) where
   -- where the text stands that is found
@@ -84,3 +92,21 @@ module _ {name s : List ℕ} {i m : ℕ} (w : SameRest name s i m) where
   rest_next {h} f e =
       let n : same (head_at s h.at).name name ≡ false = ap (λ (n : List ℕ). same n name) (sym f.shape.name.part) ∙ e in
       record { text = w.text ∙ text_next name s m f.first n; place = w.place ∙ place_next name s m f.first n; row = w.row ∙ row_next name s m f.first n }
+
+-- what find answers, after elements of other names
+module _ {F : Type 0} (g : Mut F (Bor Start × Unit {0}) Bool) (f : F) (name s : List ℕ) (i : ℕ)
+    (named : (h : Start) (b : Bool) (q : F) → CalledAt g f h b q → (q ≡ f) × (b ≡ same (part_at s h.name) name)) where
+  pub found_first : (xs : List Start) (e : EachStart) (r : Option Start) (u : EachStart) (last : F) → e.text.now ≡ s → SameRest name s i e.at
+      → YieldsThen GivesStart e xs r u → FoldsTo (λ p x q. CalledAt g p x false q) f xs last → IfSome r (λ x. (h : F) × CalledAt g last x true h)
+      → Finds s i name r
+  found_first [] e None u last reads w (t, y, z) p c =
+      let here = subst (λ (a : EachStart). GivesStart a None u) (sym y) z in
+      rest_none w (subst (λ (a : List ℕ). forest_at a e.at ≡ none) reads here.0)
+  found_first [] e (Some h) u last reads w (t, y, z) p (q, c) =
+      let here = subst (λ (a : EachStart). GivesStart a (Some h) u) (sym y) z in
+      let called = named h true q (subst (λ (a : F). CalledAt g a h true q) (sym p) c) in
+      rest_here w (subst (λ (a : List ℕ). ItemOf a e.at h u.at) reads here.0) (sym called.1)
+  found_first (x ∷ xs) e r u last reads w (t, (j, st, ys), z) (m, cl, fs) c =
+      let called = named x false m cl in
+      let on = subst (λ (a : F). FoldsTo (λ p x q. CalledAt g p x false q) a xs last) called.0 fs in
+      found_first xs j r u last (st.1 ∙ reads) (rest_next w (subst (λ (a : List ℕ). ItemOf a e.at x j.at) reads st.0) (sym called.1)) (t, ys, z) on c

@@ -3,3 +3,4 @@ pub mod Entries
 pub mod Tests
 pub mod Different
 pub mod Steps
+pub mod EachStart

@@ -1,25 +1,41 @@
 // What stands in a row of elements, found by name.
-ghost use Rattle.std.specs.Prelude.{◌≡◌};
+ghost use Rattle.std.specs.Prelude.{◌≡◌, ◌-◌, length};
+ghost use Rattle.std.specs.Iterator.{at_most};
 ghost use Rattle.elements.specs.Reading.{forest_at, children_at};
 ghost use Rattle.elements.specs.StartSteps.{Shape};
 ghost use Rattle.index_values.specs.Elements.{text_in, children_in};
 ghost use Rattle.index_values.specs.Entries.{number_or_zero};
 ghost use Rattle.index_values.specs.Steps.{Finds, TextFound};
+ghost use Rattle.index_values.specs.EachStart.{GivesStart};
 
 use elements::{Span, Start};
+
+// The elements of a row, one after the other, as their start tags show them.
+#[derive(Drop)]
+struct EachStart<'a> {
+    text: &'a [u8],
+    at: usize,
+}
+
+impl<'a> Iterator for EachStart<'a> {
+    type Item = Start;
+
+    ghost next_gives = { GivesStart };
+
+    ghost remaining = { λ s. at_most (length s.text.now - s.at) };
+
+    fn next(&mut self) -> Option<Start> {
+        let item = elements::next_item(self.text, self.at)?;
+        self.at = item.next;
+        Some(item.start)
+    }
+}
 
 // The first element of a name in the row at at.
 fn find(text: &[u8], at: usize, name: &[u8]) -> Option<Start>
     ensures { Finds text.now at name.now result }
 {
-    let mut i = at;
-    while let Some(item) = elements::next_item(text, i) {
-        if elements::part(text, item.start.name) == name {
-            return Some(item.start);
-        }
-        i = item.next;
-    }
-    None
+    EachStart { text, at }.find(|start| elements::part(text, start.name) == name)
 }
 
 // Where the text of the first element of a name in the row at at stands.

@@ -2,8 +2,6 @@
 use mathlib.Core.Path.{ap, sym, ◌∙◌}
 use Rattle.std.proofs.lemmas.Result.{err_from_is_err_and}
 use lib.ListN.{length}
-use Rattle.xml.specs.Tree.{Forest}
-use Rattle.index_values.specs.Tests.{rows_in}
 use Rattle.index_files.specs.AskedSteps.{file_found}
 use Rattle.index_files.specs.Filling.{with_room, rows_for}
 use Rattle.index_files.proofs.Putting.{put_refused, put_as}
@@ -19,5 +17,5 @@ pub returns : goal.returns
 returns c =
     let w = c.in_ok-n.ensures {u = tt} in
     put_as
-    (ap (λ (f : Forest). with_room 5 (length c.args.out.now) (rows_in f)) c.first_row.ensures.row ∙ ap (rows_for (length c.args.out.now)) w.file)
+    (ap (with_room 5 (length c.args.out.now)) c.new.ensures ∙ ap (rows_for (length c.args.out.now)) w.file)
     c.put_rows.ensures
