@@ -54,6 +54,7 @@ macro_rules! entry_sorts {
     };
 }
 
+// The sorts of the elements in an element of each kind, by the numbers of their names.
 static INDEX_SORTS: [Sort; 11] = [
     Sort::Creator,
     Sort::Uuid,
