@@ -5,14 +5,16 @@ use mathlib.Core.List.{List, [], ◌∷◌, ◌++◌, append-nil, append_assoc}
 use Prim.Native.Nat.{ℕ, suc, ◌+◌, ◌*◌, ◌≤◌}
 use native.Mathlib.Omega.{arith}
 use borrow.Author.Tests.{leb-true}
-use lib.Dec.{eqb, leb}
+use lib.Dec.{leb}
 use lib.ListN.{length, length-append}
 use Rattle.slices.specs.Slices.{every}
 use Rattle.slices.proofs.Booleans.{and_left, and_right}
 use Rattle.xml.specs.Tree.{Head, Forest, none, node, tag_head}
 use Rattle.elements.specs.Tags.{Tags, told, heads}
 use Rattle.extents.specs.declared.Row.{Row}
-use Rattle.index_names.specs.Sorts.{root, directory, file, holds_elements}
+use Rattle.index_names.specs.declared.Sort.{Sort}
+use Rattle.index_names.specs.declared.Sort.TheVariants.{File}
+use Rattle.index_names.specs.Sorts.{holds_elements, is_file}
 use Rattle.index_values.specs.Elements.{IndexElement, element, elements, sort_of}
 use Rattle.index_values.specs.Entries.{is_entry, uid_of, uids_of, many}
 use Rattle.index_values.specs.Tests.{few, extent_rows, rows_held}
@@ -33,8 +35,8 @@ module _ {A B : Type 0} (view : A → List B) where
 
 -- what an entry has is what its element has
 module _ (x : List ℕ) {B : Type 0} (view : Entry → List B) (item : IndexElement → List B)
-    (same : (s p : ℕ) (h : Head) (k : Tags) → each view (entry_itself x s p k) ≡ item (element s h (heads k))) where
-  pub each_law : (kind p n : ℕ) (f : Tags) → each view (entries_in x kind p n f) ≡ each item (elements kind (heads f))
+    (same : (s : Sort) (p : ℕ) (h : Head) (k : Tags) → each view (entry_itself x s p k) ≡ item (element s h (heads k))) where
+  pub each_law : (kind : Sort) (p n : ℕ) (f : Tags) → each view (entries_in x kind p n f) ≡ each item (elements kind (heads f))
   unfolding entries_in elements told each
   each_law kind p n none = refl
   each_law kind p n (node t k f) = go (λ m. each_law s (holder s p n) m k) (λ m. each_law kind p m f) (holds_elements s)
@@ -42,7 +44,7 @@ module _ (x : List ℕ) {B : Type 0} (view : Entry → List B) (item : IndexElem
       h : Head
       h = tag_head t
 
-      s : ℕ
+      s : Sort
       s = sort_of kind h
 
       one : List Entry
@@ -67,16 +69,11 @@ module _ (x : List ℕ) {B : Type 0} (view : Entry → List B) (item : IndexElem
           ∙ ap (λ (y : List B). item (element s h (heads k)) ++ y) (j (n + length one + 0))
 
 -- a file is an entry
-no_file : (s : ℕ) → is_entry s ≡ false → eqb s file ≡ false
-no_file s e = go (eqb s root) (eqb s directory) (eqb s file) e
-  where
-    go : (x y z : Bool) → (x || y || z) ≡ false → z ≡ false
-    go x y false e = refl
-    go true y true e = let z : ◌≡◌ {A = ℕ} 0 1 = cc in absurd (omega arith)
-    go false true true e = let z : ◌≡◌ {A = ℕ} 0 1 = cc in absurd (omega arith)
-    go false false true e = e
+no_file : (s : Sort) → is_entry s ≡ false → is_file s ≡ false
+no_file File e = e
+no_file _ e = refl
 
-held_none : (s : ℕ) (c : Forest) → eqb s file ≡ false → rows_held s c ≡ []
+held_none : (s : Sort) (c : Forest) → is_file s ≡ false → rows_held s c ≡ []
 unfolding rows_held
 held_none s c e = rw e
 
@@ -116,7 +113,7 @@ entry_rows_lem (e ∷ es) = ap (λ (y : List Row). e.rows ++ y) (entry_rows_lem 
 file_rows : (l : List IndexElement) → each rows_in l ≡ all_rows (files_of l)
 unfolding each rows_in rows_held files_of all_rows
 file_rows [] = refl
-file_rows (e ∷ l) = go (eqb e.sort file) (file_rows l)
+file_rows (e ∷ l) = go (is_file e.sort) (file_rows l)
   where
     go : (b : Bool) → each rows_in l ≡ all_rows (files_of l)
         → cond b (extent_rows e.kids) [] ++ each rows_in l ≡ all_rows (cond b (file_of e.kids ∷ files_of l) (files_of l))
@@ -128,7 +125,7 @@ mark_of : Entry → List ℕ
 mark_of e = cond e.is_file (0 ∷ []) []
 
 mark_in : IndexElement → List ℕ
-mark_in e = cond (eqb e.sort file) (0 ∷ []) []
+mark_in e = cond (is_file e.sort) (0 ∷ []) []
 
 marks_of : (es : List Entry) → length (each mark_of es) ≡ entry_files es
 unfolding each entry_files mark_of
@@ -142,14 +139,14 @@ marks_of (e ∷ es) = go e.is_file (marks_of es)
 marks_in : (l : List IndexElement) → length (each mark_in l) ≡ file_count l
 unfolding each many mark_in
 marks_in [] = refl
-marks_in (e ∷ l) = go (eqb e.sort file) (marks_in l)
+marks_in (e ∷ l) = go (is_file e.sort) (marks_in l)
   where
     go : (b : Bool) → length (each mark_in l) ≡ file_count l → length (cond b (0 ∷ []) [] ++ each mark_in l) ≡ cond b (suc (file_count l)) (file_count l)
     go true i = ap suc i
     go false i = i
 
 module _ (x : List ℕ) where
-  module _ (s p : ℕ) (h : Head) (k : Tags) where
+  module _ (s : Sort) (p : ℕ) (h : Head) (k : Tags) where
     same_uid : each uid_of_lem (entry_itself x s p k) ≡ uid_in (element s h (heads k))
     unfolding each uid_of_lem uid_in entry_with
     same_uid = go (is_entry s)
@@ -173,11 +170,11 @@ module _ (x : List ℕ) where
     unfolding each mark_of mark_in entry_with
     same_mark = go (is_entry s) refl
       where
-        go : (b : Bool) → is_entry s ≡ b → each mark_of (cond b (entry_of x s p k ∷ []) []) ≡ cond (eqb s file) (0 ∷ []) []
-        go true q = append-nil (cond (eqb s file) (0 ∷ []) [])
+        go : (b : Bool) → is_entry s ≡ b → each mark_of (cond b (entry_of x s p k ∷ []) []) ≡ cond (is_file s) (0 ∷ []) []
+        go true q = append-nil (cond (is_file s) (0 ∷ []) [])
         go false q = sym (ap (λ (b : Bool). cond b (0 ∷ []) []) (no_file s q))
 
-  module _ (kind p n : ℕ) (f : Tags) where
+  module _ (kind : Sort) (p n : ℕ) (f : Tags) where
     pub uids_agree : uids_in (entries_in x kind p n f) ≡ uids_of (elements kind (heads f))
     uids_agree = sym (uids_of_lem (entries_in x kind p n f)) ∙ each_law x uid_of_lem uid_in same_uid kind p n f ∙ uids_in_lem (elements kind (heads f))
 
@@ -192,7 +189,7 @@ pub rows_bounded : (l : List IndexElement) → every (λ e. few e.sort e.kids) l
 unfolding few files_of all_rows many
 rows_bounded [] e = omega arith
 rows_bounded (i ∷ l) e =
-    go (eqb i.sort file) (and_left _ (every (λ e. few e.sort e.kids) l) e) (rows_bounded l (and_right (few i.sort i.kids) _ e))
+    go (is_file i.sort) (and_left _ (every (λ e. few e.sort e.kids) l) e) (rows_bounded l (and_right (few i.sort i.kids) _ e))
   where
     go : (b : Bool) → (not b || leb (length (extent_rows i.kids)) 1024) ≡ true → length (all_rows (files_of l)) ≤ file_count l * 1024
         → length (all_rows (cond b (file_of i.kids ∷ files_of l) (files_of l))) ≤ cond b (suc (file_count l)) (file_count l) * 1024

@@ -24,7 +24,8 @@ use Rattle.elements.proofs.Rows.{row_end, row_close, node_open, node_empty, firs
 use Rattle.children.specs.Children.{children_of_first}
 use Rattle.elements.specs.Reading.{forest_at, head_at, children_at}
 use Rattle.values.specs.Values as values
-use Rattle.index_names.specs.Sorts.{index, file}
+use Rattle.index_names.specs.declared.Sort.TheVariants.{Index as index}
+use Rattle.index_names.specs.Sorts.{is_file}
 use Rattle.index_values.specs.Elements.{IndexElement, elements, text_in}
 use Rattle.index_values.specs.Entries.{number_or_zero, many, entries_of}
 use Rattle.index_values.specs.Tests.{Given}
@@ -74,7 +75,7 @@ module _ (g : Given) (letter block release : ℕ) (k : Forest) where
 pub files_length : (l : List IndexElement) → length (files_of l) ≡ file_count l
 unfolding files_of many
 files_length [] = refl
-files_length (e ∷ l) = go (eqb e.sort file) (files_length l)
+files_length (e ∷ l) = go (is_file e.sort) (files_length l)
   where
     go : (b : Bool) → length (files_of l) ≡ file_count l → length (cond b (file_of e.kids ∷ files_of l) (files_of l)) ≡ cond b (suc (file_count l)) (file_count l)
     go true i = ap suc i

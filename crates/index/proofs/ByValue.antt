@@ -1,10 +1,9 @@
 -- An index is read the same whichever way its numbers are spelled (02, Item 2): what a number means to a reader is its value.
 use Rattle.std.specs.Prelude.{Option}
-use mathlib.Core.Path.{◌≡◌, refl, ap, ap₂, sym, ◌∙◌, subst, fun_ext}
+use mathlib.Core.Path.{◌≡◌, refl, ap, ap₂, sym, ◌∙◌, fun_ext}
 use mathlib.Core.Bool.{Bool, true, false, cond, not, ◌&&◌, ◌||◌, false≢true}
 use mathlib.Core.List.{List, [], ◌∷◌, ◌++◌}
 use Prim.Native.Nat.{ℕ, suc}
-use borrow.Author.Tests.{eqb-true}
 use lib.Dec.{eqb, leb}
 use lib.ListN.{length}
 use Rattle.slices.specs.Slices.{every, same}
@@ -17,7 +16,9 @@ use Rattle.xml.specs.CheckSteps.{in_form}
 use Rattle.elements.specs.Reading.{forest_at, has_element}
 use Rattle.children.specs.Children.{below}
 use Rattle.values.specs.Values as values
-use Rattle.index_names.specs.Sorts.{index, file, generation, number_sort, uid, root_uid, holds_elements, skipped}
+use Rattle.index_names.specs.declared.Sort.{Sort}
+use Rattle.index_names.specs.declared.Sort.TheVariants.{Index as index, Generation, Number, Uid, RootUid}
+use Rattle.index_names.specs.Sorts.{holds_elements, is_file, is_skipped}
 use Rattle.index_names.specs.Tables.{must, repeats}
 use Rattle.index_values.specs.Elements.{IndexElement, element, name_number, sort_of, elements, text_in, children_in}
 use Rattle.index_values.specs.Entries.{or_zero, is_entry, uid_of, uids_of, many}
@@ -30,21 +31,17 @@ use Rattle.index.specs.Respelled.{head, is_number_name, is_number_sort, SameText
 -- ---- number elements
 
 -- the sorts one by one
-number_sorts : (P : ℕ → Type 0) → P number_sort → P generation → P uid → P root_uid → (s : ℕ) → is_number_sort s ≡ true → P s
-number_sorts P a b c d s = go (eqb s number_sort) refl (eqb s generation) refl (eqb s uid) refl (eqb s root_uid) refl
-  where
-    go : (w : Bool) → eqb s number_sort ≡ w → (x : Bool) → eqb s generation ≡ x → (y : Bool) → eqb s uid ≡ y → (z : Bool) → eqb s root_uid ≡ z
-        → (w || x || y || z) ≡ true → P s
-    go true p x q y r z t e = subst P (sym (eqb-true s number_sort p)) a
-    go false p true q y r z t e = subst P (sym (eqb-true s generation q)) b
-    go false p false q true r z t e = subst P (sym (eqb-true s uid r)) c
-    go false p false q false r true t e = subst P (sym (eqb-true s root_uid t)) d
-    go false p false q false r false t e = absurd (false≢true e)
+number_sorts : (P : Sort → Type 0) → P Number → P Generation → P Uid → P RootUid → (s : Sort) → is_number_sort s ≡ true → P s
+number_sorts P a b c d Number e = a
+number_sorts P a b c d Generation e = b
+number_sorts P a b c d Uid e = c
+number_sorts P a b c d RootUid e = d
+number_sorts P a b c d _ e = absurd (false≢true e)
 
-holds_no_elements : (s : ℕ) → is_number_sort s ≡ true → holds_elements s ≡ false
+holds_no_elements : (s : Sort) → is_number_sort s ≡ true → holds_elements s ≡ false
 holds_no_elements = number_sorts (λ s. holds_elements s ≡ false) refl refl refl refl
 
-module _ {kind : ℕ} {h : Head} where
+module _ {kind : Sort} {h : Head} where
   same_number : {t : List ℕ} → SameText kind h t → values.number h.text ≡ values.number t
   same_number same_bytes = refl
   same_number (same_value e z) = z
@@ -77,25 +74,25 @@ module _ {kind : ℕ} {h : Head} where
 
 -- rows in an element of some kind
 record Rows (f g : Forest) : Type 0 where
-  kind : ℕ
+  kind : Sort
   same_but : Respelled kind f g
 
-some_element : {kind : ℕ} {f g : Forest} → Respelled kind f g → has_element f ≡ has_element g
+some_element : {kind : Sort} {f g : Forest} → Respelled kind f g → has_element f ≡ has_element g
 unfolding has_element
 some_element end = refl
 some_element (next w k r) = refl
 
-as_often : {kind : ℕ} {f g : Forest} (j : ℕ) → Respelled kind f g → count j kind f ≡ count j kind g
+as_often : {kind : Sort} {f g : Forest} (j : ℕ) → Respelled kind f g → count j kind f ≡ count j kind g
 unfolding count
 as_often j end = refl
 as_often {kind} j (next {h = h} w k r) = ap (λ (n : ℕ). cond (eqb (name_number kind h) j) (suc n) n) (as_often j r)
 
-as_complete : {kind : ℕ} {f g : Forest} → Respelled kind f g → complete kind f ≡ complete kind g
+as_complete : {kind : Sort} {f g : Forest} → Respelled kind f g → complete kind f ≡ complete kind g
 unfolding complete
 as_complete {kind} r = ap (λ (n : ℕ → ℕ). repeats kind || below 16 (λ j. right_often (must kind) j (n j))) (fun_ext (λ (j : ℕ). as_often j r))
 
 module _ (x : List ℕ) where
-  number_in : {kind : ℕ} {f g : Forest} → Respelled kind f g → values.number (text_in x f) ≡ values.number (text_in x g)
+  number_in : {kind : Sort} {f g : Forest} → Respelled kind f g → values.number (text_in x f) ≡ values.number (text_in x g)
   unfolding text_in
   number_in end = refl
   number_in (next {h = h} {t = t} {f = f} {g = g} w k r) = go (same h.name x) (same_number w) (number_in r)
@@ -105,7 +102,7 @@ module _ (x : List ℕ) where
       go true e i = e
       go false e i = i
 
-  text_in_lem : {kind : ℕ} {f g : Forest} → is_number_name x ≡ false → Respelled kind f g → text_in x f ≡ text_in x g
+  text_in_lem : {kind : Sort} {f g : Forest} → is_number_name x ≡ false → Respelled kind f g → text_in x f ≡ text_in x g
   unfolding text_in
   text_in_lem e end = refl
   text_in_lem e (next {h = h} {t = t} {f = f} {g = g} w k r) = go (same h.name x) refl (text_in_lem e r)
@@ -114,7 +111,7 @@ module _ (x : List ℕ) where
       go true q i = same_bytes_lem (ap is_number_name (same_eq h.name x q) ∙ e) w
       go false q i = i
 
-  children_in_lem : {kind : ℕ} {f g : Forest} → Respelled kind f g → Rows (children_in x f) (children_in x g)
+  children_in_lem : {kind : Sort} {f g : Forest} → Respelled kind f g → Rows (children_in x f) (children_in x g)
   unfolding children_in
   children_in_lem {kind} end = record { kind = kind; same_but = end }
   children_in_lem {kind} (next {h = h} {c = c} {d = d} {f = f} {g = g} w k r) = go (same h.name x) (children_in_lem r)
@@ -125,17 +122,17 @@ module _ (x : List ℕ) where
 
 -- ---- what is in an element
 
-same_row : {kind : ℕ} {f g : Forest} → Respelled kind f g → row_of f ≡ row_of g
+same_row : {kind : Sort} {f g : Forest} → Respelled kind f g → row_of f ≡ row_of g
 unfolding row_of is_number_name bytes
 same_row r =
     rw (text_in_lem (bytes "partition") refl r, number_in (bytes "startblock") r, number_in (bytes "byteoffset") r, number_in (bytes "bytecount") r, number_in (bytes "fileoffset") r)
 
-same_rows : {kind : ℕ} {f g : Forest} → Respelled kind f g → rows_in f ≡ rows_in g
+same_rows : {kind : Sort} {f g : Forest} → Respelled kind f g → rows_in f ≡ rows_in g
 unfolding rows_in
 same_rows end = refl
 same_rows (next w k r) = ap₂ ◌∷◌ (same_row k) (same_rows r)
 
-module _ {kind : ℕ} {f g : Forest} (r : Respelled kind f g) where
+module _ {kind : Sort} {f g : Forest} (r : Respelled kind f g) where
   same_extents : extent_rows f ≡ extent_rows g
   same_extents = same_rows (children_in_lem (bytes "extentinfo") r).same_but
 
@@ -150,11 +147,11 @@ module _ {kind : ℕ} {f g : Forest} (r : Respelled kind f g) where
   unfolding uid_of
   same_uid = ap or_zero (number_in (bytes "fileuid") r)
 
-  as_few : (s : ℕ) → few s f ≡ few s g
+  as_few : (s : Sort) → few s f ≡ few s g
   unfolding few
   as_few s = rw same_extents
 
-  as_lawful : (v : Given) (s : ℕ) → lawful_file v s f ≡ lawful_file v s g
+  as_lawful : (v : Given) (s : Sort) → lawful_file v s f ≡ lawful_file v s g
   unfolding lawful_file few
   as_lawful v s = rw (same_extents, number_in (bytes "length") r)
 
@@ -162,14 +159,14 @@ module _ {kind : ℕ} {f g : Forest} (r : Respelled kind f g) where
 
 data Alike : List IndexElement → List IndexElement → Type 0 where
   none_left : Alike [] []
-  one_more : {kind : ℕ} {h : Head} {t : List ℕ} {c d : Forest} {l m : List IndexElement} → SameText kind h t → Respelled (sort_of kind h) c d → Alike l m
+  one_more : {kind : Sort} {h : Head} {t : List ℕ} {c d : Forest} {l m : List IndexElement} → SameText kind h t → Respelled (sort_of kind h) c d → Alike l m
       → Alike (element (sort_of kind h) h c ∷ l) (element (sort_of kind h) (head h.name h.key h.value t) d ∷ m)
 
 joined : {l m l' m' : List IndexElement} → Alike l m → Alike l' m' → Alike (l ++ l') (m ++ m')
 joined none_left y = y
 joined (one_more w k r) y = one_more w k (joined r y)
 
-all_alike : {kind : ℕ} {f g : Forest} → Respelled kind f g → Alike (elements kind f) (elements kind g)
+all_alike : {kind : Sort} {f g : Forest} → Respelled kind f g → Alike (elements kind f) (elements kind g)
 unfolding elements
 all_alike end = none_left
 all_alike {kind} (next {h = h} {c = c} {d = d} w k r) = one_more w k (joined (go (holds_elements (sort_of kind h)) (all_alike k)) (all_alike r))
@@ -180,14 +177,14 @@ all_alike {kind} (next {h = h} {c = c} {d = d} w k r) = one_more w k (joined (go
 
 -- a test that passes of both or of neither
 abbrev Agrees : (IndexElement → Bool) → Type 0
-Agrees p = (kind : ℕ) (h : Head) (t : List ℕ) (c d : Forest) → SameText kind h t → Respelled (sort_of kind h) c d
+Agrees p = (kind : Sort) (h : Head) (t : List ℕ) (c d : Forest) → SameText kind h t → Respelled (sort_of kind h) c d
     → p (element (sort_of kind h) h c) ≡ p (element (sort_of kind h) (head h.name h.key h.value t) d)
 
 every_alike : (p : IndexElement → Bool) → Agrees p → {l m : List IndexElement} → Alike l m → every p l ≡ every p m
 every_alike p f none_left = refl
 every_alike p f (one_more {kind} {h} {t} {c} {d} w k r) = ap₂ ◌&&◌ (f kind h t c d w k) (every_alike p f r)
 
-many_alike : (p : ℕ → Bool) {l m : List IndexElement} → Alike l m → many (λ e. p e.sort) l ≡ many (λ e. p e.sort) m
+many_alike : (p : Sort → Bool) {l m : List IndexElement} → Alike l m → many (λ e. p e.sort) l ≡ many (λ e. p e.sort) m
 unfolding many
 many_alike p none_left = refl
 many_alike p (one_more {kind} {h} w k r) = ap (λ (n : ℕ). cond (p (sort_of kind h)) (suc n) n) (many_alike p r)
@@ -204,7 +201,7 @@ files_alike (one_more {kind} {h} w k r) = rw (same_file k, files_alike r)
 
 rightly_alike : Agrees rightly
 unfolding rightly may_stand
-rightly_alike kind h t c d w k = rw (some_element k, as_complete k, same_blank (has_element d) (eqb (sort_of kind h) skipped || not (has_element d)) w)
+rightly_alike kind h t c d w k = rw (some_element k, as_complete k, same_blank (has_element d) (is_skipped (sort_of kind h) || not (has_element d)) w)
 
 module _ {k l : Forest} (r : Respelled index k l) where
   same_structured : structured k ≡ structured l
@@ -246,7 +243,7 @@ module _ {k l : Forest} (r : Respelled index k l) where
         text_in_lem (bytes "allowpolicyupdate") refl r,
         number_in (bytes "highestfileuid") r,
         many_alike is_entry (all_alike r),
-        many_alike (λ (s : ℕ). eqb s file) (all_alike r),
+        many_alike is_file (all_alike r),
         files_alike (all_alike r),
       )
 

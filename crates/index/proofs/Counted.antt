@@ -14,6 +14,7 @@ use lib.Dec.{eqb, leb, ltb}
 use lib.ListN.{length, get_or, set, length-set, get_or-replicate}
 use lib.Seq.{get_or-set_same, get_or-set_other}
 use Rattle.xml.specs.Tree.{Forest, none, node}
+use Rattle.index_names.specs.declared.Sort.{Sort}
 use Rattle.index_names.specs.Tables.{must, repeats}
 use Rattle.index_values.specs.Elements.{name_number}
 use Rattle.children.specs.Children.{below}
@@ -50,7 +51,7 @@ once_sat needed j n = go (ltb n 5000) refl
         simp (e, b, c)
 
 -- what is seen at the end of a row
-unfoldable pub tally : ℕ → List ℕ → Forest → List ℕ
+unfoldable pub tally : Sort → List ℕ → Forest → List ℕ
 tally kind m none = m
 tally kind m (node h c r) = tally kind (marked (name_number kind h) m) r
 
@@ -68,7 +69,7 @@ length_marked : (i : ℕ) (m : List ℕ) → length (marked i m) ≡ length m
 unfolding marked
 length_marked i m = length-set m i (one_more (get_or m i 0))
 
-tally_at : (kind : ℕ) (f : Forest) (j : ℕ) (m : List ℕ) (n : ℕ) → j < length m → get_or m j 0 ≡ sat n → get_or (tally kind m f) j 0 ≡ sat (n + count j kind f)
+tally_at : (kind : Sort) (f : Forest) (j : ℕ) (m : List ℕ) (n : ℕ) → j < length m → get_or m j 0 ≡ sat n → get_or (tally kind m f) j 0 ≡ sat (n + count j kind f)
 unfolding tally count
 tally_at kind none j m n h e = e ∙ ap sat (sym (add-zero n))
 tally_at kind (node x c r) j m n h e =
@@ -98,7 +99,7 @@ unfolding sat
 sat_zero = refl
 
 -- the test at the row's end is that of the counts
-pub done_counts : (kind : ℕ) (f : Forest) → row_done kind (tally kind none_seen f) ≡ complete kind f
+pub done_counts : (kind : Sort) (f : Forest) → row_done kind (tally kind none_seen f) ≡ complete kind f
 unfolding row_done complete
 done_counts kind f =
     ap (λ (b : Bool). repeats kind || b)

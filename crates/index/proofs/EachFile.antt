@@ -20,10 +20,13 @@ use Rattle.values.specs.Values as values
 use Rattle.elements.specs.Reading.{has_element}
 use Rattle.extents.specs.Lawful as extents
 use Rattle.extents.specs.Map.{lettered}
-use Rattle.index_names.specs.Sorts.{file, extentinfo, extent, skipped, unknown, holds_elements}
+use Rattle.index_names.specs.declared.Sort.{Sort}
+use Rattle.index_names.specs.declared.Sort.TheVariants.{File as file, ExtentInfo as extentinfo, Extent as extent}
+use Rattle.index_names.specs.Sorts.{holds_elements, is_file, is_skipped, is_unknown}
 use Rattle.index_names.specs.Rows.{count_once, some_any_number}
 use Rattle.index_names.specs.Tables.{times, entry_table, of_file, extentinfo_table, extent_table, table, sort, must, repeats}
 use Rattle.index_names.specs.Names.{names, number_in}
+use Rattle.index_names.proofs.ByKind.{is_file-true}
 use Rattle.index_rows.proofs.Named.{ruled, number_own}
 use Rattle.index_values.specs.Elements.{IndexElement, element, elements, name_number, sort_of, text_in, children_in}
 use Rattle.index_values.specs.Entries.{or_zero}
@@ -40,11 +43,11 @@ abbrev sound : IndexElement → Bool
 sound e = rightly e && has_value e
 
 -- the elements in an element of sort s
-abbrev pub within : ℕ → Forest → List IndexElement
+abbrev pub within : Sort → Forest → List IndexElement
 within s c = cond (holds_elements s) (elements s c) []
 
 -- a test that each element of a row passes: the first one, those in it, those behind it
-module _ (test : IndexElement → Bool) (kind : ℕ) (h : Head) (c r : Forest) (e : every test (elements kind (node h c r)) ≡ true) where
+module _ (test : IndexElement → Bool) (kind : Sort) (h : Head) (c r : Forest) (e : every test (elements kind (node h c r)) ≡ true) where
   pub here : test (element (sort_of kind h) h c) ≡ true
   unfolding elements
   here = and_left _ (every test (within (sort_of kind h) c ++ elements kind r)) e
@@ -71,12 +74,12 @@ letter_said (b ∷ []) e = go (is_letter b) refl e
 letter_said (b ∷ c ∷ t) e = absurd (false≢true e)
 
 -- an element whose structure is right is known, and complete if it holds elements
-module _ (s : ℕ) (h : Head) (c : Forest) (e : rightly (element s h c) ≡ true) where
-  right_fits : eqb s unknown ≡ false
+module _ (s : Sort) (h : Head) (c : Forest) (e : rightly (element s h c) ≡ true) where
+  right_fits : is_unknown s ≡ false
   unfolding rightly may_stand
   right_fits =
-      not-true (eqb s unknown)
-      (and_left _ (eqb (length h.key) 0) (and_left _ (cond (holds_elements s) (has_element c || every is_space h.text) (eqb s skipped || not (has_element c))) (and_left (may_stand s h c) (not (holds_elements s) || complete s c) e)))
+      not-true (is_unknown s)
+      (and_left _ (eqb (length h.key) 0) (and_left _ (cond (holds_elements s) (has_element c || every is_space h.text) (is_skipped s || not (has_element c))) (and_left (may_stand s h c) (not (holds_elements s) || complete s c) e)))
     where
       not-true : (b : Bool) → not b ≡ true → b ≡ false
       not-true true q = sym q
@@ -91,7 +94,7 @@ partition_valued : (j : ℕ) → j ≡ 1 → (t : List ℕ) → valued (sort ext
 unfolding sort table extent_table valued
 partition_valued j q t e = sym (ap (λ (n : ℕ). valued (sort extent n) t) q) ∙ e
 
-only_extents : (j : ℕ) → eqb (sort extentinfo j) unknown ≡ false → sort extentinfo j ≡ extent
+only_extents : (j : ℕ) → is_unknown (sort extentinfo j) ≡ false → sort extentinfo j ≡ extent
 unfolding sort table extentinfo_table
 only_extents zero e = refl
 only_extents (suc j) e = absurd (false≢true (sym e))
@@ -133,7 +136,7 @@ unfolding rows_in row_of
 rows_lettered no_element e = refl
 rows_lettered (node h c r) e = and_both _ _ first (rows_lettered r (behind sound extentinfo h c r e))
   where
-    s : ℕ
+    s : Sort
     s = sort_of extentinfo h
 
     right : rightly (element s h c) ≡ true
@@ -145,8 +148,8 @@ rows_lettered (node h c r) e = and_both _ _ first (rows_lettered r (behind sound
     first : is_letter (letter_or_zero (text_in (bytes "partition") c)) ≡ true
     first =
         extent_lettered c
-        (ap (λ (k : ℕ). every sound (elements k c)) (sym is_extent) ∙ inside sound extentinfo h c r e (ap (λ (k : ℕ). holds_elements k) is_extent))
-        (partition_there c (sym (ap (λ (k : ℕ). not (holds_elements k) || complete k c) is_extent) ∙ right_complete s h c right))
+        (ap (λ (k : Sort). every sound (elements k c)) (sym is_extent) ∙ inside sound extentinfo h c r e (ap (λ (k : Sort). holds_elements k) is_extent))
+        (partition_there c (sym (ap (λ (k : Sort). not (holds_elements k) || complete k c) is_extent) ∙ right_complete s h c right))
 
 -- in a file stands its extentinfo
 extentinfo_told : (n : List ℕ) → eqb (number_in (names file) n) 9 ≡ same n (bytes "extentinfo")
@@ -164,29 +167,29 @@ extents_sound (node h c r) e =
         → every sound (elements extentinfo (cond b c (children_in (bytes "extentinfo") r))) ≡ true
     go true q i =
         let z : sort_of file h ≡ extentinfo = extentinfo_sort (name_number file h) (eqb-true (name_number file h) 9 q) in
-        ap (λ (k : ℕ). every sound (elements k c)) (sym z) ∙ inside sound file h c r e (ap (λ (k : ℕ). holds_elements k) z)
+        ap (λ (k : Sort). every sound (elements k c)) (sym z) ∙ inside sound file h c r e (ap (λ (k : Sort). holds_elements k) z)
     go false q i = i
 
 -- what all elements pass, all elements of each file pass
 module _ (test : IndexElement → Bool) where
   abbrev files_pass : IndexElement → Bool
-  files_pass e = not (eqb e.sort file) || every test (elements file e.kids)
+  files_pass e = not (is_file e.sort) || every test (elements file e.kids)
 
-  files_inside : (kind : ℕ) (f : Forest) → every test (elements kind f) ≡ true → every files_pass (elements kind f) ≡ true
+  files_inside : (kind : Sort) (f : Forest) → every test (elements kind f) ≡ true → every files_pass (elements kind f) ≡ true
   unfolding elements
   files_inside kind no_element e = refl
   files_inside kind (node h c r) e =
-      and_both _ _ (own (eqb s file) refl)
+      and_both _ _ (own (is_file s) refl)
       (every_append files_pass (within s c) (elements kind r)
       ∙ and_both _ _ (below (holds_elements s) refl (files_inside s c)) (files_inside kind r (behind test kind h c r e)))
     where
-      s : ℕ
+      s : Sort
       s = sort_of kind h
 
-      own : (b : Bool) → eqb s file ≡ b → (not b || every test (elements file c)) ≡ true
+      own : (b : Bool) → is_file s ≡ b → (not b || every test (elements file c)) ≡ true
       own true q =
-          let z : s ≡ file = eqb-true s file q in
-          ap (λ (k : ℕ). every test (elements k c)) (sym z) ∙ inside test kind h c r e (ap (λ (k : ℕ). holds_elements k) z)
+          let z : s ≡ file = is_file-true s q in
+          ap (λ (k : Sort). every test (elements k c)) (sym z) ∙ inside test kind h c r e (ap (λ (k : Sort). holds_elements k) z)
       own false q = refl
 
       below : (b : Bool) → holds_elements s ≡ b → (every test (elements s c) ≡ true → every files_pass (elements s c) ≡ true) → every files_pass (cond b (elements s c) []) ≡ true
@@ -194,10 +197,10 @@ module _ (test : IndexElement → Bool) where
       below false o i = refl
 
 -- what each element passes that is a file, each file passes that the index says
-files_each : (test : File → Bool) (l : List IndexElement) → every (λ e. not (eqb e.sort file) || test (file_of e.kids)) l ≡ true → every test (files_of l) ≡ true
+files_each : (test : File → Bool) (l : List IndexElement) → every (λ e. not (is_file e.sort) || test (file_of e.kids)) l ≡ true → every test (files_of l) ≡ true
 unfolding files_of
 files_each test [] e = refl
-files_each test (x ∷ l) e = go (eqb x.sort file) (and_left _ _ e) (files_each test l (and_right (not (eqb x.sort file) || test (file_of x.kids)) _ e))
+files_each test (x ∷ l) e = go (is_file x.sort) (and_left _ _ e) (files_each test l (and_right (not (is_file x.sort) || test (file_of x.kids)) _ e))
   where
     go : (b : Bool) → (not b || test (file_of x.kids)) ≡ true → every test (files_of l) ≡ true → every test (cond b (file_of x.kids ∷ files_of l) (files_of l)) ≡ true
     go true q i = and_both _ _ q i
@@ -210,24 +213,24 @@ both_pass (x ∷ l) p q =
     let (c, d) = and_parts (has_value x) (every has_value l) q in
     and_both (sound x) (every sound l) (and_both (rightly x) (has_value x) a c) (both_pass l b d)
 
-pub files_lettered : (kind : ℕ) (k : Forest) → every rightly (elements kind k) ≡ true → every (λ e. valued e.sort e.head.text) (elements kind k) ≡ true
+pub files_lettered : (kind : Sort) (k : Forest) → every rightly (elements kind k) ≡ true → every (λ e. valued e.sort e.head.text) (elements kind k) ≡ true
     → every (λ f. lettered f.rows) (files_of (elements kind k)) ≡ true
 files_lettered kind k p q =
     files_each (λ f. lettered f.rows) (elements kind k)
-    (every_weaker (files_pass sound) (λ e. not (eqb e.sort file) || lettered (extent_rows e.kids)) weaker (elements kind k)
+    (every_weaker (files_pass sound) (λ e. not (is_file e.sort) || lettered (extent_rows e.kids)) weaker (elements kind k)
     (files_inside sound kind k (both_pass (elements kind k) p q)))
   where
-    weaker : (e : IndexElement) → files_pass sound e ≡ true → (not (eqb e.sort file) || lettered (extent_rows e.kids)) ≡ true
-    weaker e = go (eqb e.sort file)
+    weaker : (e : IndexElement) → files_pass sound e ≡ true → (not (is_file e.sort) || lettered (extent_rows e.kids)) ≡ true
+    weaker e = go (is_file e.sort)
       where
         go : (b : Bool) → (not b || every sound (elements file e.kids)) ≡ true → (not b || lettered (extent_rows e.kids)) ≡ true
         go true q = rows_lettered (children_in (bytes "extentinfo") e.kids) (extents_sound e.kids q)
         go false q = refl
 
-file_lawful : (g : Given) (s : ℕ) (c : Forest) → lawful_file g s c ≡ true
-    → (not (eqb s file) || (leb (length (extent_rows c)) 1024 && extents.lawful (length_of c) g.block_size (extent_rows c))) ≡ true
+file_lawful : (g : Given) (s : Sort) (c : Forest) → lawful_file g s c ≡ true
+    → (not (is_file s) || (leb (length (extent_rows c)) 1024 && extents.lawful (length_of c) g.block_size (extent_rows c))) ≡ true
 unfolding lawful_file few
-file_lawful g s c = go (eqb s file)
+file_lawful g s c = go (is_file s)
   where
     go : (b : Bool) → (not b || ((not b || leb (length (extent_rows c)) 1024) && extents.lawful (length_of c) g.block_size (extent_rows c))) ≡ true
         → (not b || (leb (length (extent_rows c)) 1024 && extents.lawful (length_of c) g.block_size (extent_rows c))) ≡ true
@@ -238,5 +241,5 @@ pub files_lawful : (g : Given) (l : List IndexElement) → all_lawful g l ≡ tr
     → every (λ f. leb (length f.rows) 1024 && extents.lawful f.length g.block_size f.rows) (files_of l) ≡ true
 files_lawful g l e =
     files_each (λ f. leb (length f.rows) 1024 && extents.lawful f.length g.block_size f.rows) l
-    (every_weaker (λ x. lawful_file g x.sort x.kids) (λ x. not (eqb x.sort file) || (leb (length (extent_rows x.kids)) 1024 && extents.lawful (length_of x.kids) g.block_size (extent_rows x.kids)))
+    (every_weaker (λ x. lawful_file g x.sort x.kids) (λ x. not (is_file x.sort) || (leb (length (extent_rows x.kids)) 1024 && extents.lawful (length_of x.kids) g.block_size (extent_rows x.kids)))
     (λ x. file_lawful g x.sort x.kids) l e)

@@ -13,7 +13,7 @@ use Rattle.xml.specs.Tree.{Forest, none, node}
 use Rattle.xml.proofs.Checked.{OfText, another, of_form}
 use Rattle.elements.specs.Reading.{forest_at}
 use Rattle.values.specs.Values as values
-use Rattle.index_names.specs.Sorts.{index}
+use Rattle.index_names.specs.declared.Sort.TheVariants.{Index as index}
 use Rattle.index_values.specs.Elements.{elements}
 use Rattle.index_values.specs.Tests.{Given, is_some}
 use Rattle.index.specs.Index.{structured, bounded, all_valued, all_own, all_lawful, stands_at, location_in, children_read, tag_read, root_read, caller_right, max_text, index_of}

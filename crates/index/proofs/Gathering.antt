@@ -1,17 +1,18 @@
 -- What is gathered, part by part.
 use mathlib.Core.Path.{◌≡◌, refl, ap, sym, ◌∙◌}
-use mathlib.Core.Bool.{Bool, true, false, cond, ◌&&◌, ◌||◌, and-true, and-false}
+use mathlib.Core.Bool.{Bool, true, false, cond, ◌&&◌, and-true, and-false}
 use mathlib.Core.List.{List, []}
 use Prim.Native.Nat.{ℕ, ◌+◌, ◌*◌}
 use native.Mathlib.Nat.{add-zero}
-use native.Mathlib.Omega.{arith}
-use lib.Dec.{eqb, leb}
+use lib.Dec.{leb}
 use lib.ListN.{length, set}
 use Rattle.extents.specs.declared.Row.{Row}
 use Rattle.extents.specs.Rows.{numbers_of}
 use Rattle.xml.specs.Tree.{Head, Forest}
 use Rattle.elements.specs.Tags.{Tags, heads}
-use Rattle.index_names.specs.Sorts.{root, directory, file}
+use Rattle.index_names.specs.declared.Sort.{Sort}
+use Rattle.index_names.specs.declared.Sort.TheVariants.{File}
+use Rattle.index_names.specs.Sorts.{is_file}
 use Rattle.index.specs.Structure.{may_stand}
 use Rattle.index_values.specs.Entries.{is_entry, uid_of}
 use Rattle.index_values.specs.Tests.{Given, valued, own, few, lawful_file, rows_held}
@@ -25,7 +26,7 @@ abbrev with_structure : Bool → Sums → Sums
 with_structure b a =
     record { structure = b; few = a.few; values = a.values; own = a.own; lawful = a.lawful; entries = a.entries; files = a.files; rows = a.rows }
 
-module _ (kind : ℕ) (m : List ℕ) (a : Sums) where
+module _ (kind : Sort) (m : List ℕ) (a : Sums) where
   pub ended_done : row_done kind m ≡ true → a ≡ ended_sums kind m a
   unfolding ended_sums
   ended_done e = sym (ap (λ (b : Bool). with_structure (a.structure && b) a) e ∙ ap (λ (b : Bool). with_structure b a) (and-true a.structure))
@@ -42,10 +43,10 @@ same_parts : {a1 a2 a3 a4 a5 b1 b2 b3 b4 b5 : Bool} {m1 m2 m3 n1 n2 n3 : ℕ}
     → a1 ≡ b1 → a2 ≡ b2 → a3 ≡ b3 → a4 ≡ b4 → a5 ≡ b5 → m1 ≡ n1 → m2 ≡ n2 → m3 ≡ n3 → pack a1 a2 a3 a4 a5 m1 m2 m3 ≡ pack b1 b2 b3 b4 b5 n1 n2 n3
 same_parts e1 e2 e3 e4 e5 e6 e7 e8 = cc
 
-pub begun_parts : (g : Given) (s : ℕ) (h : Head) (c : Forest) (a r : Sums)
+pub begun_parts : (g : Given) (s : Sort) (h : Head) (c : Forest) (a r : Sums)
     → r.structure ≡ (a.structure && may_stand s h c) → r.few ≡ a.few → r.values ≡ (a.values && valued s h.text)
     → r.own ≡ (a.own && own g s h.text) → r.lawful ≡ a.lawful
-    → r.entries ≡ cond (is_entry s) (one_more a.entries) a.entries → r.files ≡ cond (eqb s file) (one_more a.files) a.files
+    → r.entries ≡ cond (is_entry s) (one_more a.entries) a.entries → r.files ≡ cond (is_file s) (one_more a.files) a.files
     → r.rows ≡ a.rows → r ≡ begun g s h c a
 unfolding begun pack
 begun_parts g s h c a r e1 e2 e3 e4 e5 e6 e7 e8 = same_parts e1 e2 e3 e4 e5 e6 e7 e8
@@ -58,7 +59,7 @@ settled_parts x y n a r e1 e2 e3 e4 e5 e6 e7 e8 = same_parts e1 e2 e3 e4 e5 e6 e
 same_all : {a b : Sums} {u v e f o q : List ℕ} → a ≡ b → u ≡ v → e ≡ f → o ≡ q → gathered a u e o ≡ gathered b v f q
 same_all e1 e2 e3 e4 = cc
 
-module _ (x : List ℕ) (g : Given) (s : ℕ) (k : Tags) (p : ℕ) where
+module _ (x : List ℕ) (g : Given) (s : Sort) (k : Tags) (p : ℕ) where
   -- the end of an element, from the outcomes of the tests and the tables
   pub closed_parts : (b : Sums) (a r : Sums) (isFew isLawful : Bool) (n : ℕ) (u u' e e' o o' : List ℕ)
       → isFew ≡ few s (heads k) → isLawful ≡ lawful_file g s (heads k) → n ≡ length (rows_taken s (heads k)) → r ≡ settled isFew isLawful n a
@@ -69,14 +70,12 @@ module _ (x : List ℕ) (g : Given) (s : ℕ) (k : Tags) (p : ℕ) where
 
   -- an element that is no directory and no file leaves all as it is
   module _ (no : is_entry s ≡ false) where
-    no_file : eqb s file ≡ false
-    no_file = go (eqb s root) (eqb s directory) (eqb s file) no
+    no_file : is_file s ≡ false
+    no_file = go s no
       where
-        go : (x y z : Bool) → (x || y || z) ≡ false → z ≡ false
-        go x y false e = refl
-        go true y true e = let z : ◌≡◌ {A = ℕ} 0 1 = cc in absurd (omega arith)
-        go false true true e = let z : ◌≡◌ {A = ℕ} 0 1 = cc in absurd (omega arith)
-        go false false true e = e
+        go : (s : Sort) → is_entry s ≡ false → is_file s ≡ false
+        go File e = e
+        go _ e = refl
 
     none_taken : rows_taken s (heads k) ≡ []
     unfolding rows_taken rows_held few

@@ -17,7 +17,9 @@ use Rattle.elements.specs.Reading.{has_element}
 use Rattle.children.specs.Rules.{Rule, rule_number, mark_of}
 use Rattle.children.specs.Children.{no_attribute, may_hold as held_by, matching, all_known, pick, at_most_one, below, lawful_children}
 use Rattle.children.proofs.Below.{below_false}
-use Rattle.index_names.specs.Sorts.{index, extent, skipped, unknown, holds_elements}
+use Rattle.index_names.specs.declared.Sort.{Sort}
+use Rattle.index_names.specs.declared.Sort.TheVariants.{Index, Place, Root, Directory, Contents, File, ExtentInfo, Extent}
+use Rattle.index_names.specs.Sorts.{holds_elements, is_skipped, is_unknown}
 use Rattle.index_names.specs.Rows.{count_once}
 use Rattle.index_names.specs.Tables.{index_table, place_table, times, entry_table, of_directory, contents_table, of_file, extentinfo_table, extent_table, table, sort, must, repeats}
 use Rattle.index_names.specs.Names.{names, number_in}
@@ -27,24 +29,24 @@ use Rattle.index.specs.Structure.{may_stand, count, right_often, complete}
 use Rattle.index.proofs.Counted.{below_ext}
 
 -- the mark for what an element of a sort may hold
-abbrev pub mark : ℕ → ℕ
-mark s = cond (holds_elements s) 47 (cond (eqb s skipped) 42 61)
+abbrev pub mark : Sort → ℕ
+mark s = cond (holds_elements s) 47 (cond (is_skipped s) 42 61)
 
 -- the rules of a kind's names from number j on
-unfoldable pub rules_from : ℕ → ℕ → List (List ℕ) → List Rule
+unfoldable pub rules_from : Sort → ℕ → List (List ℕ) → List Rule
 rules_from kind j [] = []
 rules_from kind j (x ∷ xs) = record { name = x; mark = mark (sort kind j) } ∷ rules_from kind (suc j) xs
 
-abbrev pub rules_of : ℕ → List Rule
+abbrev pub rules_of : Sort → List Rule
 rules_of kind = rules_from kind 0 (names kind)
 
 -- each element of a row may stand there, and holds what it may
-unfoldable pub all_fit : ℕ → Forest → Bool
+unfoldable pub all_fit : Sort → Forest → Bool
 all_fit kind none = true
 all_fit kind (node h c r) = may_stand (sort_of kind h) h c && all_fit kind r
 
 -- a rule's number and mark are the name's
-module _ (kind : ℕ) where
+module _ (kind : Sort) where
   length_rules : (j : ℕ) (xs : List (List ℕ)) → length (rules_from kind j xs) ≡ length xs
   unfolding rules_from
   length_rules j [] = refl
@@ -93,14 +95,22 @@ agree : Bool → Bool → Bool
 agree true b = b
 agree false b = not b
 
-abbrev tabled : ℕ → Bool
+abbrev tabled : Sort → Bool
 tabled k =
     leb (must k) (length (names k)) && leb (length (names k)) 16
-    && below (suc (length (names k))) (λ j. agree (eqb (sort k j) unknown) (leb (length (names k)) j))
+    && below (suc (length (names k))) (λ j. agree (is_unknown (sort k j)) (leb (length (names k)) j))
 
-all_tabled : below 9 tabled ≡ true
+all_tabled : (kind : Sort) → holds_elements kind ≡ true → tabled kind ≡ true
 unfolding below agree names sort must count_once table index_table place_table times entry_table of_directory contents_table of_file extentinfo_table extent_table
-all_tabled = refl
+all_tabled Index e = refl
+all_tabled Place e = refl
+all_tabled Root e = refl
+all_tabled Directory e = refl
+all_tabled Contents e = refl
+all_tabled File e = refl
+all_tabled ExtentInfo e = refl
+all_tabled Extent e = refl
+all_tabled _ e = absurd (false≢true e)
 
 pub below_at : (f : ℕ → Bool) (n j : ℕ) → below n f ≡ true → j < n → f j ≡ true
 below_at f n j e h = split (λ (t : Bool). f j ≡ t → t ≡ true) (f j) (λ q z. refl) (λ q z. absurd (false≢true (sym (below_false f n j h q) ∙ e))) refl
@@ -153,7 +163,7 @@ once_two needed j n = go (ltb j needed)
             more : (n ≡ 1 → ⊥) → 1 ≤ n → 1 < n
             more d h = split (λ (t : Bool). ltb 1 n ≡ t → 1 < n) (ltb 1 n) (λ q z. ltb-true 1 n q) (λ q z. absurd (d (omega (arith, ltb-false 1 n q)))) refl
 
-module _ (kind : ℕ) (one : kind < 9) where
+module _ (kind : Sort) (one : holds_elements kind ≡ true) where
   abbrev rs : List Rule
   rs = rules_of kind
 
@@ -161,7 +171,7 @@ module _ (kind : ℕ) (one : kind < 9) where
   size = length (names kind)
 
   passed : tabled kind ≡ true
-  passed = below_at tabled 9 kind all_tabled one
+  passed = all_tabled kind one
 
   must_named : must kind ≤ size
   must_named = leb-true (must kind) size (and_left (leb (must kind) size) (leb size 16) (and_left (leb (must kind) size && leb size 16) _ passed))
@@ -170,16 +180,16 @@ module _ (kind : ℕ) (one : kind < 9) where
   size_most = leb-true size 16 (and_right (leb (must kind) size) (leb size 16) (and_left (leb (must kind) size && leb size 16) _ passed))
 
   -- a name that is none of the kind's has no sort
-  sorted : (n : List ℕ) → eqb (sort kind (number_in (names kind) n)) unknown ≡ leb size (number_in (names kind) n)
+  sorted : (n : List ℕ) → is_unknown (sort kind (number_in (names kind) n)) ≡ leb size (number_in (names kind) n)
   sorted n =
       agree_same _ _
-      (below_at (λ j. agree (eqb (sort kind j) unknown) (leb size j)) (suc size) (number_in (names kind) n)
+      (below_at (λ j. agree (is_unknown (sort kind j)) (leb size j)) (suc size) (number_in (names kind) n)
       (and_right (leb (must kind) size && leb size 16) _ passed) (omega (arith, number_most (names kind) n)))
 
   -- what an element may hold by its sort is what it may by its mark
-  held : (s : ℕ) (h : Head) (c : Forest) → cond (holds_elements s) (has_element c || every is_space h.text) (eqb s skipped || not (has_element c)) ≡ held_by (mark s) h c
+  held : (s : Sort) (h : Head) (c : Forest) → cond (holds_elements s) (has_element c || every is_space h.text) (is_skipped s || not (has_element c)) ≡ held_by (mark s) h c
   unfolding held_by
-  held s h c = go (holds_elements s) (eqb s skipped)
+  held s h c = go (holds_elements s) (is_skipped s)
     where
       go : (a b : Bool) → cond a (has_element c || every is_space h.text) (b || not (has_element c))
           ≡ cond (eqb (cond a 47 (cond b 42 61)) 61) (not (has_element c)) (cond (eqb (cond a 47 (cond b 42 61)) 47) (has_element c || every is_space h.text) (eqb (cond a 47 (cond b 42 61)) 42))
@@ -192,11 +202,11 @@ module _ (kind : ℕ) (one : kind < 9) where
   fits_rule h c =
       split (λ (t : Bool). leb size j ≡ t → may_stand (sort kind j) h c ≡ (no_attribute h && held_by (mark_of rs h.name) h c)) (leb size j)
       (λ q z.
-      let u : eqb (sort kind j) unknown ≡ true = sorted h.name ∙ q in
+      let u : is_unknown (sort kind j) ≡ true = sorted h.name ∙ q in
       let m : mark_of rs h.name ≡ 0 = mark_number kind 0 (names kind) h.name ∙ rw (le-ltb j size (leb-true size j q)) in
       rw (u, m) (sym (and-false (no_attribute h))))
       (λ q z.
-      let u : eqb (sort kind j) unknown ≡ false = sorted h.name ∙ q in
+      let u : is_unknown (sort kind j) ≡ false = sorted h.name ∙ q in
       let m : mark_of rs h.name ≡ mark (sort kind j) = mark_number kind 0 (names kind) h.name ∙ rw (lt-ltb j size (leb-false size j q), zero-add) in
       rw (u, m) (ap (λ (b : Bool). no_attribute h && b) (held (sort kind j) h c)))
       refl
@@ -240,7 +250,7 @@ module _ (kind : ℕ) (one : kind < 9) where
   unfolding all_fit may_stand count
   none_past j past none e = refl
   none_past j past (node h c r) e =
-      let u : eqb (sort_of kind h) unknown ≡ false = no (eqb (sort_of kind h) unknown) (and_left (not (eqb (sort_of kind h) unknown)) (no_attribute h) (and_left (not (eqb (sort_of kind h) unknown) && no_attribute h) _ (and_left (may_stand (sort_of kind h) h c) (all_fit kind r) e))) in
+      let u : is_unknown (sort_of kind h) ≡ false = no (is_unknown (sort_of kind h)) (and_left (not (is_unknown (sort_of kind h))) (no_attribute h) (and_left (not (is_unknown (sort_of kind h)) && no_attribute h) _ (and_left (may_stand (sort_of kind h) h c) (all_fit kind r) e))) in
       let l : name_number kind h < size = leb-false size (name_number kind h) (sym (sorted h.name) ∙ u) in
       ap (λ (b : Bool). cond b (suc (count j kind r)) (count j kind r)) (ne_eqb (name_number kind h) j (λ z. omega arith))
       ∙ none_past j past r (and_right (may_stand (sort_of kind h) h c) (all_fit kind r) e)
@@ -273,5 +283,5 @@ module _ (kind : ℕ) (one : kind < 9) where
           (below_cut b (must kind) 16 (omega (arith, must_named, size_most)) (λ j h. rw (le-ltb j (must kind) h))
           ∙ below_ext b (λ k. has_element (pick rs k f)) (must kind) (λ j h. rw (lt-ltb j (must kind) h) (sym (there j f))))
 
-pub row_lawful : (kind : ℕ) → holds_elements kind ≡ true → repeats kind ≡ false → (f : Forest) → (all_fit kind f && complete kind f) ≡ lawful_children (rules_of kind) (must kind) f
-row_lawful kind h single f = let l = leb-true kind extent (and_right (leb index kind) (leb kind extent) h) in lawful_row kind (omega arith) single f
+pub row_lawful : (kind : Sort) → holds_elements kind ≡ true → repeats kind ≡ false → (f : Forest) → (all_fit kind f && complete kind f) ≡ lawful_children (rules_of kind) (must kind) f
+row_lawful kind h single f = lawful_row kind h single f

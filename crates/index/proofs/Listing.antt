@@ -5,8 +5,8 @@ use mathlib.Core.List.{List, [], ◌∷◌, ◌++◌, append-nil, append_assoc}
 use Prim.Native.Nat.{ℕ, suc, ◌+◌, ◌*◌, ◌≤◌, ◌<◌}
 use native.Mathlib.Nat.{add-zero, zero-add}
 use native.Mathlib.Omega.{arith}
-use borrow.Author.Tests.{le-leb, leb-true, eqb-true}
-use lib.Dec.{eqb, leb}
+use borrow.Author.Tests.{le-leb, leb-true}
+use lib.Dec.{leb}
 use lib.ListN.{length, get_or, set, length-append}
 use lib.Seq.{sets, set_comm, length-sets}
 use Rattle.slices.specs.Slices.{every}
@@ -16,7 +16,9 @@ use Rattle.elements.specs.Tags.{Tags, told, heads}
 use Rattle.extents.specs.declared.Row.{Row}
 use Rattle.extents.specs.Rows.{numbers_of}
 use Rattle.extents.proofs.Rows.{length_numbers}
-use Rattle.index_names.specs.Sorts.{root, directory, file, extentinfo, extent, unknown, holds_elements}
+use Rattle.index_names.specs.declared.Sort.{Sort}
+use Rattle.index_names.specs.declared.Sort.TheVariants.{Unknown as unknown, File, ExtentInfo, Extent}
+use Rattle.index_names.specs.Sorts.{holds_elements, is_file}
 use Rattle.index_names.specs.Rows.{sorts_of}
 use Rattle.index_names.specs.Tables.{times, entry_table, of_file, extentinfo_table, extent_table, table, sort}
 use Rattle.index_values.specs.Elements.{IndexElement, elements, name_number, sort_of}
@@ -156,37 +158,34 @@ lists_append n files rows a y z l k i j =
     rows_long = ap length (rows_append k l) ∙ length-append (entry_rows l) (entry_rows k)
 
 -- no entry stands in a file: which sorts elements have there
-abbrev in_file : ℕ → Bool
-in_file s = eqb s file || eqb s extentinfo || eqb s extent
+abbrev in_file : Sort → Bool
+in_file File = true
+in_file ExtentInfo = true
+in_file Extent = true
+in_file _ = false
 
-abbrev none_below : ℕ → Bool
+abbrev none_below : Sort → Bool
 none_below s = not (is_entry s) && (not (holds_elements s) || in_file s)
 
-each_sort : (l : List ℕ) → every none_below l ≡ true → (j : ℕ) → none_below (get_or l j unknown) ≡ true
+each_sort : (l : List Sort) → every none_below l ≡ true → (j : ℕ) → none_below (get_or l j unknown) ≡ true
 each_sort [] e j = refl
 each_sort (s ∷ l) e Prim.Native.Nat.zero = and_left (none_below s) (every none_below l) e
 each_sort (s ∷ l) e (suc j) = each_sort l (and_right (none_below s) (every none_below l) e) j
 
-sorts_in : (kind : ℕ) → in_file kind ≡ true → (j : ℕ) → none_below (sort kind j) ≡ true
+sorts_in : (kind : Sort) → in_file kind ≡ true → (j : ℕ) → none_below (sort kind j) ≡ true
 unfolding sort table times entry_table of_file extentinfo_table extent_table
-sorts_in kind e j = go (eqb kind file) (eqb kind extentinfo) (eqb kind extent) refl refl refl e
-  where
-    at : (k : ℕ) → eqb kind k ≡ true → none_below (sort k j) ≡ true → none_below (sort kind j) ≡ true
-    at k q w = ap (λ (n : ℕ). none_below (sort n j)) (eqb-true kind k q) ∙ w
-
-    go : (x y z : Bool) → eqb kind file ≡ x → eqb kind extentinfo ≡ y → eqb kind extent ≡ z → (x || y || z) ≡ true → none_below (sort kind j) ≡ true
-    go true y z p q r o = at file p (each_sort (sorts_of (table file)) refl j)
-    go false true z p q r o = at extentinfo q (each_sort (sorts_of (table extentinfo)) refl j)
-    go false false true p q r o = at extent r (each_sort (sorts_of (table extent)) refl j)
-    go false false false p q r o = absurd (false≢true o)
+sorts_in File e j = each_sort (sorts_of (table File)) refl j
+sorts_in ExtentInfo e j = each_sort (sorts_of (table ExtentInfo)) refl j
+sorts_in Extent e j = each_sort (sorts_of (table Extent)) refl j
+sorts_in _ e j = absurd (false≢true e)
 
 module _ (x : List ℕ) where
-  alone : (kind : ℕ) → in_file kind ≡ true → (p n : ℕ) (f : Tags) → entries_in x kind p n f ≡ []
+  alone : (kind : Sort) → in_file kind ≡ true → (p n : ℕ) (f : Tags) → entries_in x kind p n f ≡ []
   unfolding entries_in
   alone kind e p n none = refl
   alone kind e p n (node r k f) = go (is_entry s) (holds_elements s) (sorts_in kind e (name_number kind (tag_head r))) (λ o q m. alone s o q m k) (λ m. alone kind e p m f)
     where
-      s : ℕ
+      s : Sort
       s = sort_of kind (tag_head r)
 
       go : (i h : Bool) → (not i && (not h || in_file s)) ≡ true → (in_file s ≡ true → (q m : ℕ) → entries_in x s q m k ≡ []) → ((m : ℕ) → entries_in x kind p m f ≡ [])
@@ -199,15 +198,15 @@ module _ (x : List ℕ) where
       go false true q a b = ap (λ (l : List Entry). l ++ entries_in x kind p (n + 0 + length l) f) (a q p (n + 0)) ∙ b (n + 0 + 0)
 
 -- rows of a file that are not too many
-rows_few : (s : ℕ) (c : Forest) → few s c ≡ true → length (rows_held s c) ≤ 1024
+rows_few : (s : Sort) (c : Forest) → few s c ≡ true → length (rows_held s c) ≤ 1024
 unfolding few rows_held
-rows_few s c e = go (eqb s file) e
+rows_few s c e = go (is_file s) e
   where
     go : (b : Bool) → (not b || leb (length (extent_rows c)) 1024) ≡ true → length (cond b (extent_rows c) []) ≤ 1024
     go true e = leb-true (length (extent_rows c)) 1024 e
     go false e = omega arith
 
-taken_few : (s : ℕ) (c : Forest) → few s c ≡ true → rows_taken s c ≡ rows_held s c
+taken_few : (s : Sort) (c : Forest) → few s c ≡ true → rows_taken s c ≡ rows_held s c
 unfolding rows_taken
 taken_few s c e = rw e
 
@@ -227,10 +226,10 @@ unfolding rows_put
 rows_room n l t h = rw (le-leb ((n + length l) * 5) (length t) h)
 
 -- an entry, with those in it, where what is in it came before its own numbers
-module _ (x : List ℕ) (g : Given) (s p : ℕ) (k : Tags) (a : All) (n files rows : ℕ) (inner : List Entry) (z : All)
+module _ (x : List ℕ) (g : Given) (s : Sort) (p : ℕ) (k : Tags) (a : All) (n files rows : ℕ) (inner : List Entry) (z : All)
     (is : is_entry s ≡ true) (en : a.sums.entries ≡ n) (ef : a.sums.files ≡ files) (er : a.sums.rows ≡ rows)
-    (fits : few s (heads k) ≡ true) (deep : eqb s file ≡ true → inner ≡ [])
-    (i : Lists (n + 1) (files + cond (eqb s file) 1 0) rows a inner z) where
+    (fits : few s (heads k) ≡ true) (deep : is_file s ≡ true → inner ≡ [])
+    (i : Lists (n + 1) (files + cond (is_file s) 1 0) rows a inner z) where
   abbrev e : Entry
   e = entry_of x s p k
 
@@ -238,23 +237,23 @@ module _ (x : List ℕ) (g : Given) (s p : ℕ) (k : Tags) (a : All) (n files ro
   held = rows_held s (heads k)
 
   -- a directory has no rows, and a file has no entries in it
-  no_rows : eqb s file ≡ false → held ≡ []
+  no_rows : is_file s ≡ false → held ≡ []
   unfolding rows_held
   no_rows q = rw q
 
   rows_swapped : held ++ entry_rows inner ≡ entry_rows inner ++ held
   unfolding entry_rows
-  rows_swapped = go (eqb s file) refl
+  rows_swapped = go (is_file s) refl
     where
-      go : (b : Bool) → eqb s file ≡ b → held ++ entry_rows inner ≡ entry_rows inner ++ held
+      go : (b : Bool) → is_file s ≡ b → held ++ entry_rows inner ≡ entry_rows inner ++ held
       go true q = ap (λ (l : List Entry). held ++ entry_rows l) (deep q) ∙ append-nil held ∙ sym (ap (λ (l : List Entry). entry_rows l ++ held) (deep q))
       go false q = ap (λ (l : List Row). l ++ entry_rows inner) (no_rows q) ∙ sym (ap (λ (l : List Row). entry_rows inner ++ l) (no_rows q) ∙ append-nil (entry_rows inner))
 
   nines_shifted : (m : ℕ) → nines_from m (rows + length held) inner ≡ nines_from m rows inner
   unfolding nines_from
-  nines_shifted m = go (eqb s file) refl
+  nines_shifted m = go (is_file s) refl
     where
-      go : (b : Bool) → eqb s file ≡ b → nines_from m (rows + length held) inner ≡ nines_from m rows inner
+      go : (b : Bool) → is_file s ≡ b → nines_from m (rows + length held) inner ≡ nines_from m rows inner
       go true q = ap (λ (l : List Entry). nines_from m (rows + length held) l) (deep q) ∙ sym (ap (λ (l : List Entry). nines_from m rows l) (deep q))
       go false q = ap (λ (j : ℕ). nines_from m j inner) (ap (λ (l : List Row). rows + length l) (no_rows q) ∙ add-zero rows)
 
@@ -282,9 +281,9 @@ module _ (x : List ℕ) (g : Given) (s p : ℕ) (k : Tags) (a : All) (n files ro
 
   lists_table : (n + suc (length inner)) * 9 ≤ length a.entry_table
       → cond (is_entry s) (entry_put a.sums.entries (nine a.sums.files a.sums.rows (entry_with x s p k (rows_taken s (heads k)))) z.entry_table) z.entry_table
-      ≡ sets a.entry_table (n * 9) (nine files rows e ++ nines_from (files + cond (eqb s file) 1 0) (rows + length held) inner)
+      ≡ sets a.entry_table (n * 9) (nine files rows e ++ nines_from (files + cond (is_file s) 1 0) (rows + length held) inner)
   lists_table h =
-      let d : ℕ = files + cond (eqb s file) 1 0 in
+      let d : ℕ = files + cond (is_file s) 1 0 in
       let w = i.entry_table (omega arith) in
       let m : length z.entry_table ≡ length a.entry_table = ap length w ∙ length-sets a.entry_table ((n + 1) * 9) (nines_from d rows inner) in
       let q : (n + 1) * 9 ≡ n * 9 + length (nine files rows e) = omega (arith, nine_length files rows e) in
@@ -324,20 +323,20 @@ module _ (x : List ℕ) (g : Given) (s p : ℕ) (k : Tags) (a : All) (n files ro
         row_table = lists_kept;
       }
 
-file_entry : (s : ℕ) → eqb s file ≡ true → is_entry s ≡ true
-file_entry s q = go (eqb s root) (eqb s directory)
-  where
-    go : (x y : Bool) → (x || y || eqb s file) ≡ true
-    go true y = refl
-    go false true = refl
-    go false false = q
+file_in : (s : Sort) → is_file s ≡ true → in_file s ≡ true
+file_in File q = refl
+file_in _ q = absurd (false≢true q)
+
+file_entry : (s : Sort) → is_file s ≡ true → is_entry s ≡ true
+file_entry File q = refl
+file_entry _ q = absurd (false≢true q)
 
 -- the start tag of an element: what is counted then
-begins : (s n files : ℕ) (e : Entry) → files ≤ n → n + length (cond (is_entry s) (e ∷ []) []) < 5000
+begins : (s : Sort) (n files : ℕ) (e : Entry) → files ≤ n → n + length (cond (is_entry s) (e ∷ []) []) < 5000
     → (cond (is_entry s) (one_more n) n ≡ n + length (cond (is_entry s) (e ∷ []) []))
-    × (cond (eqb s file) (one_more files) files ≡ files + cond (eqb s file) 1 0)
-    × (files + cond (eqb s file) 1 0 ≤ n + length (cond (is_entry s) (e ∷ []) []))
-begins s n files e h small = go (is_entry s) (eqb s file) (file_entry s) small
+    × (cond (is_file s) (one_more files) files ≡ files + cond (is_file s) 1 0)
+    × (files + cond (is_file s) 1 0 ≤ n + length (cond (is_entry s) (e ∷ []) []))
+begins s n files e h small = go (is_entry s) (is_file s) (file_entry s) small
   where
     go : (i f : Bool) → (f ≡ true → i ≡ true) → n + length (cond i (e ∷ []) []) < 5000
         → (cond i (one_more n) n ≡ n + length (cond i (e ∷ []) [])) × (cond f (one_more files) files ≡ files + cond f 1 0)
@@ -358,34 +357,34 @@ files_fewer (e ∷ l) = at e.is_file (files_fewer l)
 
 module _ (x : List ℕ) (g : Given) where
   -- an element, and those in it
-  abbrev inner : ℕ → ℕ → ℕ → Tags → List Entry
+  abbrev inner : Sort → ℕ → ℕ → Tags → List Entry
   inner s p n k = cond (holds_elements s) (entries_in x s (holder s p n) (n + length (entry_itself x s p k)) k) []
 
-  abbrev own : ℕ → ℕ → ℕ → Tags → List Entry
+  abbrev own : Sort → ℕ → ℕ → Tags → List Entry
   own s p n k = entry_itself x s p k ++ inner s p n k
 
-  entries_node : (kind p n : ℕ) (t : List ℕ) (k f : Tags)
+  entries_node : (kind : Sort) (p n : ℕ) (t : List ℕ) (k f : Tags)
       → entries_in x kind p n (node t k f) ≡ own (sort_of kind (tag_head t)) p n k ++ entries_in x kind p (n + length (own (sort_of kind (tag_head t)) p n k)) f
   unfolding entries_in
   entries_node kind p n t k f =
-      let s : ℕ = sort_of kind (tag_head t) in
+      let s : Sort = sort_of kind (tag_head t) in
       let e : n + length (entry_itself x s p k) + length (inner s p n k) ≡ n + length (own s p n k) = omega (arith, length-append (entry_itself x s p k) (inner s p n k)) in
       ap (λ (m : ℕ). entry_itself x s p k ++ (inner s p n k ++ entries_in x kind p m f)) e
       ∙ sym (append_assoc (entry_itself x s p k) (inner s p n k) (entries_in x kind p (n + length (own s p n k)) f))
 
-  file_empty : (s p n : ℕ) (k : Tags) → eqb s file ≡ true → inner s p n k ≡ []
+  file_empty : (s : Sort) (p n : ℕ) (k : Tags) → is_file s ≡ true → inner s p n k ≡ []
   file_empty s p n k q = go (holds_elements s)
     where
       go : (o : Bool) → cond o (entries_in x s (holder s p n) (n + length (entry_itself x s p k)) k) [] ≡ []
-      go true = alone x s (ap (λ (b : Bool). b || eqb s extentinfo || eqb s extent) q) (holder s p n) (n + length (entry_itself x s p k)) k
+      go true = alone x s (file_in s q) (holder s p n) (n + length (entry_itself x s p k)) k
       go false = refl
 
   -- by what is listed of those in it
-  module _ (s p : ℕ) (h : Head) (k : Tags) (a z : All) (n files rows : ℕ) (en : a.sums.entries ≡ n) (ef : a.sums.files ≡ files) (er : a.sums.rows ≡ rows)
+  module _ (s : Sort) (p : ℕ) (h : Head) (k : Tags) (a z : All) (n files rows : ℕ) (en : a.sums.entries ≡ n) (ef : a.sums.files ≡ files) (er : a.sums.rows ≡ rows)
       (fits : few s (heads k) ≡ true)
-      (i : Lists (n + length (entry_itself x s p k)) (files + cond (eqb s file) 1 0) rows (with_sums (begun g s h (heads k) a.sums) a) (inner s p n k) z)
+      (i : Lists (n + length (entry_itself x s p k)) (files + cond (is_file s) 1 0) rows (with_sums (begun g s h (heads k) a.sums) a) (inner s p n k) z)
       (low : rows + length (entry_rows (inner s p n k)) ≤ 8388608) where
-    rebased : (m j : ℕ) → n + length (entry_itself x s p k) ≡ m → files + cond (eqb s file) 1 0 ≡ j → Lists m j rows a (inner s p n k) z
+    rebased : (m j : ℕ) → n + length (entry_itself x s p k) ≡ m → files + cond (is_file s) 1 0 ≡ j → Lists m j rows a (inner s p n k) z
     rebased m j q w =
         subst (λ (m : ℕ). Lists m j rows a (inner s p n k) z) q
         (subst (λ (j : ℕ). Lists (n + length (entry_itself x s p k)) j rows a (inner s p n k) z) w
@@ -398,17 +397,17 @@ module _ (x : List ℕ) (g : Given) where
         go true q =
             subst (λ (l : List Entry). Lists n files rows a (l ++ inner s p n k) (after_element x g s k p a.sums z)) (sym (ap (λ (b : Bool). cond b (entry_of x s p k ∷ []) []) q))
             (lists_entry x g s p k a n files rows (inner s p n k) z q en ef er fits (file_empty s p n k)
-            (rebased (n + 1) (files + cond (eqb s file) 1 0) (ap (λ (b : Bool). n + length (cond b (entry_of x s p k ∷ []) [])) q) refl) low)
+            (rebased (n + 1) (files + cond (is_file s) 1 0) (ap (λ (b : Bool). n + length (cond b (entry_of x s p k ∷ []) [])) q) refl) low)
         go false q =
-            let f : eqb s file ≡ false = no_file q in
+            let f : is_file s ≡ false = no_file q in
             subst (λ (l : List Entry). Lists n files rows a (l ++ inner s p n k) (after_element x g s k p a.sums z)) (sym (ap (λ (b : Bool). cond b (entry_of x s p k ∷ []) []) q))
             (subst (Lists n files rows a (inner s p n k)) (sym (closed_other x g s k p q a.sums z))
             (rebased n files (ap (λ (b : Bool). n + length (cond b (entry_of x s p k ∷ []) [])) q ∙ add-zero n) (ap (λ (b : Bool). files + cond b 1 0) f ∙ add-zero files)))
           where
-            no_file : is_entry s ≡ false → eqb s file ≡ false
-            no_file e = at (eqb s file) refl
+            no_file : is_entry s ≡ false → is_file s ≡ false
+            no_file e = at (is_file s) refl
               where
-                at : (b : Bool) → eqb s file ≡ b → eqb s file ≡ false
+                at : (b : Bool) → is_file s ≡ b → is_file s ≡ false
                 at true w = absurd (false≢true (sym e ∙ file_entry s w))
                 at false w = w
 
@@ -416,18 +415,18 @@ module _ (x : List ℕ) (g : Given) where
   fit e = few e.sort e.kids
 
   -- the entries of a row are listed behind a
-  abbrev Law : ℕ → ℕ → Tags → List ℕ → All → Type 0
+  abbrev Law : Sort → ℕ → Tags → List ℕ → All → Type 0
   Law kind p f m a =
       (n files rows : ℕ) → a.sums.entries ≡ n → a.sums.files ≡ files → a.sums.rows ≡ rows → files ≤ n → n + length (entries_in x kind p n f) < 5000
       → rows + length (entry_rows (entries_in x kind p n f)) ≤ 8388608 → every fit (elements kind (heads f)) ≡ true
       → Lists n files rows a (entries_in x kind p n f) (sweep x g kind p m f a)
 
   -- by those in its first element and those of the rest of the row
-  module _ (kind p : ℕ) (t : List ℕ) (k f : Tags) (m : List ℕ) (a : All) where
+  module _ (kind : Sort) (p : ℕ) (t : List ℕ) (k f : Tags) (m : List ℕ) (a : All) where
     abbrev h : Head
     h = tag_head t
 
-    abbrev s : ℕ
+    abbrev s : Sort
     s = sort_of kind (tag_head t)
 
     abbrev q : ℕ
@@ -471,33 +470,33 @@ module _ (x : List ℕ) (g : Given) where
         own_rows : length (entry_rows l) ≡ length (entry_rows one) + length (entry_rows (inner s p n k))
         own_rows = ap length (rows_append (inner s p n k) one) ∙ length-append (entry_rows one) (entry_rows (inner s p n k))
 
-        counted : (cond (is_entry s) (one_more n) n ≡ n + length one) × (cond (eqb s file) (one_more files) files ≡ files + cond (eqb s file) 1 0)
-            × (files + cond (eqb s file) 1 0 ≤ n + length one)
+        counted : (cond (is_entry s) (one_more n) n ≡ n + length one) × (cond (is_file s) (one_more files) files ≡ files + cond (is_file s) 1 0)
+            × (files + cond (is_file s) 1 0 ≤ n + length one)
         counted = begins s n files (entry_of x s p k) le (omega (arith, long, own_long))
 
         entries_now : b.sums.entries ≡ n + length one
         entries_now = ap (λ (m : ℕ). cond (is_entry s) (one_more m) m) en ∙ counted.0
 
-        files_now : b.sums.files ≡ files + cond (eqb s file) 1 0
-        files_now = ap (λ (m : ℕ). cond (eqb s file) (one_more m) m) ef ∙ counted.1
+        files_now : b.sums.files ≡ files + cond (is_file s) 1 0
+        files_now = ap (λ (m : ℕ). cond (is_file s) (one_more m) m) ef ∙ counted.1
 
         inside_law : (o : Bool) → holds_elements s ≡ o
-            → Lists (n + length one) (files + cond (eqb s file) 1 0) rows b (cond o (entries_in x s (holder s p n) (n + length one) k) []) (cond o (sweep x g s q none_seen k b) b)
+            → Lists (n + length one) (files + cond (is_file s) 1 0) rows b (cond o (entries_in x s (holder s p n) (n + length one) k) []) (cond o (sweep x g s q none_seen k b) b)
         inside_law true o =
             let e : entries_in x s (holder s p n) (n + length one) k ≡ inner s p n k = sym (ap (λ (o : Bool). cond o (entries_in x s (holder s p n) (n + length one) k) []) o) in
             let w : entries_in x s q (n + length one) k ≡ entries_in x s (holder s p n) (n + length one) k = ap (λ (m : ℕ). entries_in x s (holder s p m) (n + length one) k) en in
-            subst (λ (u : List Entry). Lists (n + length one) (files + cond (eqb s file) 1 0) rows b u (sweep x g s q none_seen k b)) w
-            (inwards (n + length one) (files + cond (eqb s file) 1 0) rows entries_now files_now er counted.2
+            subst (λ (u : List Entry). Lists (n + length one) (files + cond (is_file s) 1 0) rows b u (sweep x g s q none_seen k b)) w
+            (inwards (n + length one) (files + cond (is_file s) 1 0) rows entries_now files_now er counted.2
             (omega (arith, long, own_long, ap length (w ∙ e))) (omega (arith, rows_long, own_rows, ap (λ (u : List Entry). length (entry_rows u)) (w ∙ e)))
             (inside fit kind h (heads k) (heads f) fits o))
-        inside_law false o = lists_none (n + length one) (files + cond (eqb s file) 1 0) rows b b entries_now files_now er refl refl refl
+        inside_law false o = lists_none (n + length one) (files + cond (is_file s) 1 0) rows b b entries_now files_now er refl refl refl
 
         first : Lists n files rows a l y
         first =
             own_lists s p h k a z n files rows en ef er (here fit kind h (heads k) (heads f) fits) (inside_law (holds_elements s) refl)
             (omega (arith, rows_long, own_rows))
 
-  pub lists_law : (kind p : ℕ) (f : Tags) (m : List ℕ) (a : All) → Law kind p f m a
+  pub lists_law : (kind : Sort) (p : ℕ) (f : Tags) (m : List ℕ) (a : All) → Law kind p f m a
   unfolding sweep entries_in after_row ended_sums
   lists_law kind p none m a n files rows en ef er le small low fits = lists_none n files rows a (after_row kind m a) en ef er refl refl refl
   lists_law kind p (node t k f) m a n files rows en ef er le small low fits =

@@ -4,8 +4,8 @@ use mathlib.Core.Bool.{Bool, true, false, cond, not, ◌&&◌, ◌||◌}
 use mathlib.Core.List.{List, [], ◌∷◌}
 use Prim.Native.Nat.{ℕ, ◌+◌, ◌*◌, ◌/◌, ◌≤◌, ◌<◌}
 use native.Mathlib.Omega.{arith}
-use borrow.Author.Tests.{le-leb, lt-leb, eqb-true, leb-true, leb-false}
-use lib.Dec.{eqb, leb}
+use borrow.Author.Tests.{le-leb, lt-leb, leb-true, leb-false}
+use lib.Dec.{leb}
 use lib.ListN.{length, take, get_or, set, length-take}
 use lib.Seq.{sets}
 use Rattle.tables.specs.Copying.{copied}
@@ -16,7 +16,9 @@ use Rattle.children.specs.RowSteps.{seat}
 use Rattle.extents.specs.declared.Row.{Row}
 use Rattle.extents.specs.Rows.{numbers_of}
 use Rattle.extents.proofs.Rows.{length_numbers}
-use Rattle.index_names.specs.Sorts.{file}
+use Rattle.index_names.specs.declared.Sort.{Sort}
+use Rattle.index_names.specs.Sorts.{is_file}
+use Rattle.index_names.proofs.ByKind.{is_file-true}
 use Rattle.index_rows.specs.Steps.{Placed, TagsPlaced, TextSeated}
 use Rattle.index_values.specs.Entries.{is_entry, number_or_zero, uid_of}
 use Rattle.index_values.specs.Tests.{length_of, few, extent_rows, rows_held}
@@ -32,19 +34,19 @@ same_nine : {a₁ a₂ a₃ a₄ a₅ a₆ a₇ a₈ a₉ b₁ b₄ b₅ b₆ b�
     → ◌≡◌ {A = List ℕ} (a₁ ∷ a₂ ∷ a₃ ∷ a₄ ∷ a₅ ∷ a₆ ∷ a₇ ∷ a₈ ∷ a₉ ∷ []) (b₁ ∷ a₂ ∷ a₃ ∷ b₄ ∷ b₅ ∷ b₆ ∷ b₇ ∷ a₈ ∷ b₉ ∷ [])
 same_nine e1 e4 e5 e6 e7 e9 = cc
 
-pub numbers_said : (x t : List ℕ) (sort p : ℕ) (b : Sums) (k : Tags) (l : List Row) → is_entry sort ≡ true → Placed x sort (heads k) t → TagsPlaced x sort k t
-    → (kind uid count long : ℕ) (name : Span) → kind ≡ cond (eqb sort file) 1 0 → uid ≡ uid_of (heads k) → TextSeated x (get_or t 1 0) name
-    → long ≡ cond (eqb sort file) (number_or_zero (text_of_first (seat x (get_or t 8 0)))) 0 → count ≡ length l
+pub numbers_said : (x t : List ℕ) (sort : Sort) (p : ℕ) (b : Sums) (k : Tags) (l : List Row) → is_entry sort ≡ true → Placed x sort (heads k) t → TagsPlaced x sort k t
+    → (kind uid count long : ℕ) (name : Span) → kind ≡ cond (is_file sort) 1 0 → uid ≡ uid_of (heads k) → TextSeated x (get_or t 1 0) name
+    → long ≡ cond (is_file sort) (number_or_zero (text_of_first (seat x (get_or t 8 0)))) 0 → count ≡ length l
     → ◌≡◌ {A = List ℕ} (kind ∷ p ∷ b.files ∷ uid ∷ name.from ∷ name.len ∷ long ∷ b.rows ∷ count ∷ []) (nine b.files b.rows (entry_with x sort p k l))
 unfolding nine entry_with
 numbers_said x t sort p b k l is placed tags kind uid count long name ek eu en el ec =
-    same_nine ek eu (ap (λ (w : Span). w.from) named) (ap (λ (w : Span). w.len) named) (el ∙ says (eqb sort file) refl) ec
+    same_nine ek eu (ap (λ (w : Span). w.from) named) (ap (λ (w : Span). w.len) named) (el ∙ says (is_file sort) refl) ec
   where
     named : name ≡ name_in x k
     named = en.place ∙ sym (name_stands sort is x k t tags)
 
-    says : (o : Bool) → eqb sort file ≡ o → cond o (number_or_zero (text_of_first (seat x (get_or t 8 0)))) 0 ≡ cond o (length_of (heads k)) 0
-    says true q = ap number_or_zero (sym (length_placed x (heads k) t (subst (λ (n : ℕ). Placed x n (heads k) t) (eqb-true sort file q) placed)))
+    says : (o : Bool) → is_file sort ≡ o → cond o (number_or_zero (text_of_first (seat x (get_or t 8 0)))) 0 ≡ cond o (length_of (heads k)) 0
+    says true q = ap number_or_zero (sym (length_placed x (heads k) t (subst (λ (n : Sort). Placed x n (heads k) t) (is_file-true sort q) placed)))
     says false q = refl
 
 -- the rows of a file that stand in the front of a table
@@ -72,9 +74,9 @@ rows_kept rows l n t h e = go (leb n (length t / 5)) refl (leb ((n + length l) *
     go false p false q = rw (small, p, q)
 
 -- not too many are taken
-pub taken_few : (s : ℕ) (c : Forest) → length (rows_taken s c) ≤ 1024
+pub taken_few : (s : Sort) (c : Forest) → length (rows_taken s c) ≤ 1024
 unfolding rows_taken rows_held few
-taken_few s c = go (eqb s file) (leb (length (extent_rows c)) 1024) refl
+taken_few s c = go (is_file s) (leb (length (extent_rows c)) 1024) refl
   where
     go : (a b : Bool) → leb (length (extent_rows c)) 1024 ≡ b → length (cond (not a || b) (cond a (extent_rows c) []) []) ≤ 1024
     go false b e = omega arith
@@ -82,7 +84,7 @@ taken_few s c = go (eqb s file) (leb (length (extent_rows c)) 1024) refl
     go true false e = omega arith
 
 -- an entry's numbers in their tables
-module _ (x : List ℕ) (sort p : ℕ) (b : Sums) (k : Tags) (l : List Row) (u e : List ℕ) where
+module _ (x : List ℕ) (sort : Sort) (p : ℕ) (b : Sums) (k : Tags) (l : List Row) (u e : List ℕ) where
   abbrev numbers : List ℕ
   numbers = nine b.files b.rows (entry_with x sort p k l)
 

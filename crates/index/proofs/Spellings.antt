@@ -14,7 +14,8 @@ use Rattle.xml.specs.CheckSteps.{require_form}
 use Rattle.elements.specs.Reading.{forest_at}
 use Rattle.values.specs.Values as values
 use Rattle.values.proofs.Uuids.{same_parts, same_respelled}
-use Rattle.index_names.specs.Sorts.{index}
+use Rattle.index_names.specs.declared.Sort.{Sort}
+use Rattle.index_names.specs.declared.Sort.TheVariants.{Index as index, Letter, Uuid}
 use Rattle.index_values.specs.Elements.{IndexElement, elements}
 use Rattle.index_values.specs.Entries.{or_zero}
 use Rattle.index_values.specs.Tests.{Given, is_some, own, lawful_file}
@@ -25,9 +26,11 @@ module _ (u w : List ℕ) (e : values.same_uuid u w ≡ true) (index_letter data
   abbrev with_uuid : List ℕ → Given
   with_uuid x = record { uuid = x; index_letter = index_letter; data_letter = data_letter; block_size = block_size }
 
-  own_respelled : (s : ℕ) (t : List ℕ) → own (with_uuid u) s t ≡ own (with_uuid w) s t
+  own_respelled : (s : Sort) (t : List ℕ) → own (with_uuid u) s t ≡ own (with_uuid w) s t
   unfolding own
-  own_respelled s t = rw (same_respelled u w t e)
+  own_respelled Letter t = refl
+  own_respelled Uuid t = same_respelled u w t e
+  own_respelled _ t = refl
 
   all_own_respelled : (l : List IndexElement) → all_own (with_uuid u) l ≡ all_own (with_uuid w) l
   all_own_respelled l = ap (λ (test : IndexElement → Bool). every test l) (fun_ext (λ (x : IndexElement). own_respelled x.sort x.head.text))

@@ -3,9 +3,6 @@ use mathlib.Core.Path.{◌≡◌, refl, ap, sym, ◌∙◌}
 use mathlib.Core.Bool.{Bool, true, false, cond}
 use mathlib.Core.List.{List}
 use Prim.Native.Nat.{ℕ, ◌≤◌}
-use native.Mathlib.Omega.{arith}
-use borrow.Author.Tests.{eqb-true}
-use lib.Dec.{eqb}
 use lib.ListN.{length, drop}
 use Rattle.xml.specs.Tree.{Forest, none}
 use Rattle.elements.specs.Tags.{Tags, heads, tags_at, tags_around, tags_in}
@@ -13,7 +10,9 @@ use Rattle.elements.specs.declared.tags.Tag.TheVariants.{Open, Empty}
 use Rattle.elements.proofs.ByTag.{row_told, children_told}
 use Rattle.elements.specs.Reading.{forest_at, head_at, children_at}
 use Rattle.elements.specs.TagSteps.{NextTag, FirstOf}
-use Rattle.index_names.specs.Sorts.{root, directory, file, holds_elements}
+use Rattle.index_names.specs.declared.Sort.{Sort}
+use Rattle.index_names.specs.declared.Sort.TheVariants.{Root, Directory, File}
+use Rattle.index_names.specs.Sorts.{holds_elements}
 use Rattle.index_values.specs.Elements.{name_number, sort_of}
 use Rattle.index_values.specs.Entries.{is_entry}
 use Rattle.index_values.specs.Tests.{Given}
@@ -28,24 +27,15 @@ use Rattle.xml.specs.FormSteps.{height}
 use Rattle.index.proofs.Gathering.{closed_other}
 
 -- the elements in an element of sort s are swept, if it holds elements
-abbrev inside : List ℕ → Given → ℕ → ℕ → Tags → All → All
+abbrev inside : List ℕ → Given → Sort → ℕ → Tags → All → All
 inside x g s p k a = cond (holds_elements s) (sweep x g s p none_seen k a) a
 
 -- directories and files hold elements
-pub no_entry : (s : ℕ) → holds_elements s ≡ false → is_entry s ≡ false
-no_entry s h = go (eqb s root) (eqb s directory) (eqb s file) refl refl refl
-  where
-    no : (k : ℕ) → eqb s k ≡ true → holds_elements k ≡ true → is_entry s ≡ false
-    no k q e =
-        let z : true ≡ false = sym e ∙ sym (ap holds_elements (eqb-true s k q)) ∙ h in
-        let y : ◌≡◌ {A = ℕ} 0 1 = cc in
-        absurd (omega arith)
-
-    go : (x y z : Bool) → eqb s root ≡ x → eqb s directory ≡ y → eqb s file ≡ z → is_entry s ≡ false
-    go true y z p q r = no root p refl
-    go false true z p q r = no directory q refl
-    go false false true p q r = no file r refl
-    go false false false p q r = rw (p, q, r)
+pub no_entry : (s : Sort) → holds_elements s ≡ false → is_entry s ≡ false
+no_entry Root h = h
+no_entry Directory h = h
+no_entry File h = h
+no_entry _ h = refl
 
 -- the children of an element, by its tag
 module _ {x : List ℕ} {i n : ℕ} where
@@ -60,13 +50,13 @@ module _ {x : List ℕ} {i n : ℕ} where
   pub inner_heads : NextTag x i (Open n) → forest_at x n ≡ heads (tags_in (drop n x))
   inner_heads t = row_told x n ∙ ap heads (sym (inner_open t))
 
-module _ (x : List ℕ) (g : Given) (kind p : ℕ) (m : List ℕ) (a : All) where
+module _ (x : List ℕ) (g : Given) (kind : Sort) (p : ℕ) (m : List ℕ) (a : All) where
   pub row_over : (f : Tags) → f ≡ none → sweep x g kind p m f a ≡ after_row kind m a
   unfolding sweep
   row_over f e = ap (λ (f : Tags). sweep x g kind p m f a) e
 
   -- the first element of the row at i, as the code goes past it: its sort, what is seen then, and what is gathered behind its start tag
-  module _ {i n j : ℕ} (first : FirstOf x i n j) (srt : ℕ) (m' : List ℕ) (b : Sums) (es : srt ≡ sort_of kind (head_at x n))
+  module _ {i n j : ℕ} (first : FirstOf x i n j) (srt : Sort) (m' : List ℕ) (b : Sums) (es : srt ≡ sort_of kind (head_at x n))
       (em : m' ≡ marked (name_number kind (head_at x n)) m) (eb : b ≡ begun g srt (head_at x n) (children_at x n) a.sums) where
     abbrev k : Tags
     k = tags_in (drop n x)
@@ -92,7 +82,7 @@ module _ (x : List ℕ) (g : Given) (kind p : ℕ) (m : List ℕ) (a : All) wher
 
 -- a walk over the row at a place, in an element of that kind in directory p, that has come to i: sweeping the whole row comes to the same as sweeping the
 -- rest of it, of which m is seen and the places t are noted, with what is gathered so far
-pub record Sweeping (x : Source) (kind at p depth : ℕ) (first w : Walk) (i : ℕ) (m t : List ℕ) : Type 0 where
+pub record Sweeping (x : Source) (kind : Sort) (at p depth : ℕ) (first w : Walk) (i : ℕ) (m t : List ℕ) : Type 0 where
   pub ahead : at ≤ i
   pub inside : i ≤ length x.text.now
   pub deep : height (forest_at x.text.now i) ≤ depth

@@ -1,17 +1,19 @@
 -- What a sweep of an index's children from the start says of the classes.
 use mathlib.Core.Path.{◌≡◌, refl, ap, sym, ◌∙◌, subst}
-use mathlib.Core.Bool.{Bool, true, false, cond, ◌&&◌, ◌||◌, and-false}
+use mathlib.Core.Bool.{Bool, true, false, cond, ◌&&◌, and-false}
 use mathlib.Core.List.{List, [], ◌∷◌}
 use Prim.Native.Nat.{ℕ, suc, ◌+◌, ◌≤◌, ◌<◌}
 use native.Mathlib.Nat.{zero-add}
 use native.Mathlib.Omega.{arith}
 use borrow.Author.Tests.{ltb-false, le-leb, lt-leb}
-use lib.Dec.{eqb, leb, ltb}
+use lib.Dec.{leb, ltb}
 use lib.ListN.{length, take, drop}
 use lib.Seq.{sets, sets-eq, length-sets, take-append_seam}
 use Rattle.elements.specs.Tags.{Tags, heads}
 use Rattle.slices.specs.Slices.{every}
-use Rattle.index_names.specs.Sorts.{index, root, directory, file}
+use Rattle.index_names.specs.declared.Sort.{Sort}
+use Rattle.index_names.specs.declared.Sort.TheVariants.{Index as index, Root, Directory, File}
+use Rattle.index_names.specs.Sorts.{is_file}
 use Rattle.index_values.specs.Elements.{IndexElement, elements}
 use Rattle.index.specs.Structure.{rightly}
 use Rattle.index_values.specs.Entries.{is_entry, many, uids_of, uid_of, entries_of}
@@ -57,17 +59,13 @@ uids_many (e ∷ l) = go (is_entry e.sort) (uids_many l)
 pub files_few : (l : List IndexElement) → file_count l ≤ entries_of l
 unfolding many
 files_few [] = omega arith
-files_few (e ∷ l) = go (files_few l) (eqb e.sort root) (eqb e.sort directory) (eqb e.sort file)
+files_few (e ∷ l) = go e.sort (files_few l)
   where
-    go : file_count l ≤ entries_of l → (a b d : Bool) → cond d (suc (file_count l)) (file_count l) ≤ cond (a || b || d) (suc (entries_of l)) (entries_of l)
-    go i true true true = omega arith
-    go i true true false = omega arith
-    go i true false true = omega arith
-    go i true false false = omega arith
-    go i false true true = omega arith
-    go i false true false = omega arith
-    go i false false true = omega arith
-    go i false false false = i
+    go : (s : Sort) → file_count l ≤ entries_of l → cond (is_file s) (suc (file_count l)) (file_count l) ≤ cond (is_entry s) (suc (entries_of l)) (entries_of l)
+    go Root i = omega arith
+    go Directory i = omega arith
+    go File i = omega arith
+    go _ i = i
 
 module _ (s : List ℕ) (g : Given) (k : Tags) (table e e' o o' : List ℕ) (a : Sums) (u : List ℕ)
     (swept : gathered a u e' o' ≡ sweep s g index 0 none_seen k (gathered nothing_yet table e o)) where
@@ -92,7 +90,7 @@ module _ (s : List ℕ) (g : Given) (k : Tags) (table e e' o o' : List ℕ) (a :
   files_counted : a.files ≡ sat (file_count l)
   unfolding begun settled ended_sums
   files_counted = ap (λ (x : All). x.sums.files) swept
-      ∙ count_law (λ e. eqb e.sort file) s g (λ x. x.files) (λ s h c x. refl) (λ p q n x. refl) (λ k m x. refl) index 0 k none_seen start refl
+      ∙ count_law (λ e. is_file e.sort) s g (λ x. x.files) (λ s h c x. refl) (λ p q n x. refl) (λ k m x. refl) index 0 k none_seen start refl
 
   few_is : a.few ≡ every (λ e. few e.sort e.kids) l
   few_is = ap (λ (x : All). x.sums.few) swept ∙ few_law s g index 0 k none_seen start

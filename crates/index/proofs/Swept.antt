@@ -10,6 +10,7 @@ use Rattle.slices.specs.Slices.{every}
 use Rattle.slices.proofs.Every.{every_append}
 use Rattle.xml.specs.Tree.{Head, Forest, none, node, tag_head}
 use Rattle.elements.specs.Tags.{Tags, told, heads}
+use Rattle.index_names.specs.declared.Sort.{Sort}
 use Rattle.index_names.specs.Sorts.{holds_elements}
 use Rattle.index_values.specs.Elements.{IndexElement, element, elements, name_number, sort_of}
 use Rattle.index.specs.Structure.{may_stand, complete, rightly}
@@ -41,10 +42,10 @@ mix true true true q r = refl
 module _ (x : List ℕ) (g : Given) where
   -- what the start tags alone decide is a fold over the elements
   module _ {B : Type 0} (view : Sums → B) (next : B → IndexElement → B)
-      (one : (s : ℕ) (h : Head) (c : Forest) (a : Sums) → view (begun g s h c a) ≡ next (view a) (element s h c))
+      (one : (s : Sort) (h : Head) (c : Forest) (a : Sums) → view (begun g s h c a) ≡ next (view a) (element s h c))
       (other : (y z : Bool) (n : ℕ) (a : Sums) → view (settled y z n a) ≡ view a)
-      (end : (kind : ℕ) (m : List ℕ) (a : Sums) → view (ended_sums kind m a) ≡ view a) where
-    pub fold_law : (kind p : ℕ) (f : Tags) (m : List ℕ) (a : All) → view (sweep x g kind p m f a).sums ≡ foldl next (view a.sums) (elements kind (heads f))
+      (end : (kind : Sort) (m : List ℕ) (a : Sums) → view (ended_sums kind m a) ≡ view a) where
+    pub fold_law : (kind : Sort) (p : ℕ) (f : Tags) (m : List ℕ) (a : All) → view (sweep x g kind p m f a).sums ≡ foldl next (view a.sums) (elements kind (heads f))
     unfolding sweep elements after_row after_element told
     fold_law kind p none m a = end kind m a.sums
     fold_law kind p (node t k f) m a =
@@ -58,7 +59,7 @@ module _ (x : List ℕ) (g : Given) where
         c : Forest
         c = heads k
 
-        s : ℕ
+        s : Sort
         s = sort_of kind h
 
         q : ℕ
@@ -77,13 +78,13 @@ module _ (x : List ℕ) (g : Given) where
 
   -- a flag that every element keeps or takes down, at its start tag or at its end
   module _ (view : Sums → Bool) (first last : IndexElement → Bool)
-      (one : (s : ℕ) (h : Head) (c : Forest) (a : Sums) → view (begun g s h c a) ≡ (view a && first (element s h c)))
-      (two : (s : ℕ) (h : Head) (c : Forest) (n : ℕ) (a : Sums) → view (settled (few s c) (lawful_file g s c) n a) ≡ (view a && last (element s h c)))
-      (end : (kind : ℕ) (m : List ℕ) (a : Sums) → view (ended_sums kind m a) ≡ view a) where
+      (one : (s : Sort) (h : Head) (c : Forest) (a : Sums) → view (begun g s h c a) ≡ (view a && first (element s h c)))
+      (two : (s : Sort) (h : Head) (c : Forest) (n : ℕ) (a : Sums) → view (settled (few s c) (lawful_file g s c) n a) ≡ (view a && last (element s h c)))
+      (end : (kind : Sort) (m : List ℕ) (a : Sums) → view (ended_sums kind m a) ≡ view a) where
     abbrev test : IndexElement → Bool
     test e = first e && last e
 
-    pub flag_law : (kind p : ℕ) (f : Tags) (m : List ℕ) (a : All) → view (sweep x g kind p m f a).sums ≡ (view a.sums && every test (elements kind (heads f)))
+    pub flag_law : (kind : Sort) (p : ℕ) (f : Tags) (m : List ℕ) (a : All) → view (sweep x g kind p m f a).sums ≡ (view a.sums && every test (elements kind (heads f)))
     unfolding sweep elements after_row after_element told
     flag_law kind p none m a = end kind m a.sums ∙ sym (and-true (view a.sums))
     flag_law kind p (node t k f) m a =
@@ -98,7 +99,7 @@ module _ (x : List ℕ) (g : Given) where
         c : Forest
         c = heads k
 
-        s : ℕ
+        s : Sort
         s = sort_of kind h
 
         q : ℕ
@@ -124,7 +125,7 @@ module _ (x : List ℕ) (g : Given) where
     at_start [] = refl
     at_start (e ∷ l) = ap (λ (b : Bool). b && every (λ e. t e && true) l) (and-true (t e)) ∙ ap (λ (b : Bool). t e && b) (at_start l)
 
-  module _ (kind p : ℕ) (f : Tags) (m : List ℕ) (a : All) where
+  module _ (kind : Sort) (p : ℕ) (f : Tags) (m : List ℕ) (a : All) where
     abbrev l : List IndexElement
     l = elements kind (heads f)
 
@@ -152,7 +153,7 @@ module _ (x : List ℕ) (g : Given) where
     lawful_law = flag_law (λ b. b.lawful) (λ e. true) (λ e. lawful_file g e.sort e.kids) (λ s h c a. sym (and-true a.lawful)) (λ s h c n a. refl) (λ k m a. refl) kind p f m a
 
   -- the structure: the row is complete, and every element in it and below is right
-  pub structure_law : (kind p : ℕ) (f : Tags) (m : List ℕ) (a : All)
+  pub structure_law : (kind : Sort) (p : ℕ) (f : Tags) (m : List ℕ) (a : All)
       → (sweep x g kind p m f a).sums.structure ≡ (a.sums.structure && (row_done kind (tally kind m (heads f)) && every rightly (elements kind (heads f))))
   unfolding sweep tally elements after_row ended_sums rightly begun after_element settled told
   structure_law kind p none m a = ap (λ (b : Bool). a.sums.structure && b) (sym (and-true (row_done kind m)))
@@ -165,7 +166,7 @@ module _ (x : List ℕ) (g : Given) where
       c : Forest
       c = heads k
 
-      s : ℕ
+      s : Sort
       s = sort_of kind h
 
       q : ℕ
@@ -217,9 +218,9 @@ module _ (test : IndexElement → Bool) where
       go false q i j = ap (λ (x : ℕ). foldl tick x l) (simp q) ∙ j ∙ simp q
 
   pub count_law : (x : List ℕ) (g : Given) (view : Sums → ℕ)
-      → ((s : ℕ) (h : Head) (c : Forest) (a : Sums) → view (begun g s h c a) ≡ cond (test (element s h c)) (one_more (view a)) (view a))
+      → ((s : Sort) (h : Head) (c : Forest) (a : Sums) → view (begun g s h c a) ≡ cond (test (element s h c)) (one_more (view a)) (view a))
       → ((y z : Bool) (n : ℕ) (a : Sums) → view (settled y z n a) ≡ view a)
-      → ((kind : ℕ) (m : List ℕ) (a : Sums) → view (ended_sums kind m a) ≡ view a) → (kind p : ℕ) (f : Tags) (m : List ℕ) (a : All) → view a.sums ≡ 0
+      → ((kind : Sort) (m : List ℕ) (a : Sums) → view (ended_sums kind m a) ≡ view a) → (kind : Sort) (p : ℕ) (f : Tags) (m : List ℕ) (a : All) → view a.sums ≡ 0
       → view (sweep x g kind p m f a).sums ≡ sat (many test (elements kind (heads f)))
   unfolding tick sat
   count_law x g view one other end kind p f m a z =

@@ -1,5 +1,5 @@
 -- The entries of an index: directories and files (01, Index), in text order, by their start tags; each with the directory that holds it.
-use Rattle.std.specs.Prelude.{Bool, cond, List, [], ◌∷◌, ◌++◌, ℕ, ◌+◌, eqb, length}
+use Rattle.std.specs.Prelude.{Bool, cond, List, [], ◌∷◌, ◌++◌, ℕ, ◌+◌, length}
 use Rattle.slices.specs.Words.{bytes}
 use Rattle.xml.specs.Tree.{none, node, tag_head}
 use Rattle.elements.specs.Tags.{Tags, heads, tags_at}
@@ -7,7 +7,9 @@ use Rattle.elements.specs.declared.heads.Span.{Span}
 use Rattle.children.specs.Children.{children_of_first}
 use Rattle.children.specs.Places.{tags_named, first_text}
 use Rattle.extents.specs.declared.Row.{Row}
-use Rattle.index_names.specs.Sorts.{index, file, holds_elements}
+use Rattle.index_names.specs.declared.Sort.{Sort}
+use Rattle.index_names.specs.declared.Sort.TheVariants.{Index as index}
+use Rattle.index_names.specs.Sorts.{holds_elements, is_file}
 use Rattle.index_values.specs.Elements.{sort_of}
 use Rattle.index_values.specs.Entries.{is_entry, uid_of}
 use Rattle.index_values.specs.Tests.{length_of, rows_held}
@@ -23,7 +25,7 @@ pub record Entry : Type 0 where
   pub rows : List Row
 
 -- the directory that holds what is in an element of that sort: it, with n entries before it, or else the one around it
-abbrev pub holder : ℕ → ℕ → ℕ → ℕ
+abbrev pub holder : Sort → ℕ → ℕ → ℕ
 holder sort p n = cond (is_entry sort) n p
 
 module _ (s : List ℕ) where
@@ -32,25 +34,25 @@ module _ (s : List ℕ) where
   name_in k = first_text s (tags_named (bytes "name") k)
 
   -- the entry that an element of that sort with those children is, in directory p, with rows l
-  unfoldable pub entry_with : ℕ → ℕ → Tags → List Row → Entry
+  unfoldable pub entry_with : Sort → ℕ → Tags → List Row → Entry
   entry_with sort p k l =
       record {
-        is_file = eqb sort file;
+        is_file = is_file sort;
         parent = p;
         fileuid = uid_of (heads k);
         name = name_in k;
-        length = cond (eqb sort file) (length_of (heads k)) 0;
+        length = cond (is_file sort) (length_of (heads k)) 0;
         rows = l;
       }
 
-  abbrev pub entry_of : ℕ → ℕ → Tags → Entry
+  abbrev pub entry_of : Sort → ℕ → Tags → Entry
   entry_of sort p k = entry_with sort p k (rows_held sort (heads k))
 
-  abbrev pub entry_itself : ℕ → ℕ → Tags → List Entry
+  abbrev pub entry_itself : Sort → ℕ → Tags → List Entry
   entry_itself sort p k = cond (is_entry sort) (entry_of sort p k ∷ []) []
 
   -- the entries of a row in an element of that kind, and those in them; the row is in directory p, and n entries come before it
-  unfoldable pub entries_in : ℕ → ℕ → ℕ → Tags → List Entry
+  unfoldable pub entries_in : Sort → ℕ → ℕ → Tags → List Entry
   entries_in kind p n none = []
   entries_in kind p n (node r k f) =
       let sort = sort_of kind (tag_head r) in

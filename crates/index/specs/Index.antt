@@ -12,7 +12,8 @@ use Rattle.xml.specs.CheckSteps.{require_form}
 use Rattle.elements.specs.Reading.{forest_at, has_element}
 use Rattle.values.specs.Values as values
 use Rattle.extents.specs.declared.Row.{Row}
-use Rattle.index_names.specs.Sorts.{index, file}
+use Rattle.index_names.specs.declared.Sort.TheVariants.{Index as index}
+use Rattle.index_names.specs.Sorts.{is_file}
 use Rattle.index_values.specs.Elements.{IndexElement, elements, text_in, children_in}
 use Rattle.index.specs.Structure.{complete, rightly}
 use Rattle.index_values.specs.Entries.{or_zero, number_or_zero, entries_of, uids_of, many}
@@ -60,10 +61,10 @@ file_of c = record { length = length_of c; name = text_in (bytes "name") c; rows
 -- files in text order
 unfoldable pub files_of : List IndexElement → List File
 files_of [] = []
-files_of (e ∷ l) = cond (eqb e.sort file) (file_of e.kids ∷ files_of l) (files_of l)
+files_of (e ∷ l) = cond (is_file e.sort) (file_of e.kids ∷ files_of l) (files_of l)
 
 abbrev pub file_count : List IndexElement → ℕ
-file_count l = many (λ e. eqb e.sort file) l
+file_count l = many (λ e. is_file e.sort) l
 
 abbrev pub is_true : Option Bool → Bool
 is_true None = false

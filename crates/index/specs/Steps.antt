@@ -13,7 +13,8 @@ use Rattle.elements.specs.Reading.{forest_at, head_at, children_at, part_at, Ins
 use Rattle.elements.specs.TagSteps.{Behind, FirstOf}
 use Rattle.elements.specs.StartSteps.{StartsElement}
 use Rattle.elements.specs.declared.starts.Start.{Start}
-use Rattle.index_names.specs.Sorts.{index}
+use Rattle.index_names.specs.declared.Sort.{Sort}
+use Rattle.index_names.specs.declared.Sort.TheVariants.{Index as index}
 use Rattle.children.specs.Children.{children_of_first}
 use Rattle.index_rows.specs.Steps.{noted, Placed, TagsPlaced}
 use Rattle.index_values.specs.Elements.{IndexElement, name_number, sort_of, elements}
@@ -98,7 +99,7 @@ pub record HeaderOf (s : List ℕ) (release : ℕ) (r : Gathered) (h : Header) :
   pub definite : (f : Tags) → TagsPlaced s index f r.places → Definite s (update_time_in s f) h
 
 -- the element whose tag is at n of the text s is met in such a row: what is seen then, and the places; and its sort
-pub record Meets (s : List ℕ) (kind n : ℕ) (m t m' t' : List ℕ) (sort : ℕ) : Type 0 where
+pub record Meets (s : List ℕ) (kind : Sort) (n : ℕ) (m t m' t' : List ℕ) (sort : Sort) : Type 0 where
   pub seen : m' ≡ marked (name_number kind (head_at s n)) m
   pub places : t' ≡ noted (name_number kind (head_at s n)) n t
   pub known : sort ≡ sort_of kind (head_at s n)
@@ -112,17 +113,17 @@ unfoldable pub rows_copied : List ℕ → ℕ → ℕ → List ℕ → List ℕ
 rows_copied rows count n t = cond (leb count 1024 && leb n (length t / 5)) (copied rows (count * 5) t (n * 5)) t
 
 -- the numbers of an entry of that sort, whose children stand at places t of the text x, where b was gathered before it
-abbrev pub SaysEntry : List ℕ → List ℕ → ℕ → ℕ → ℕ → Sums → ℕ → List ℕ → Type 0
+abbrev pub SaysEntry : List ℕ → List ℕ → ℕ → Sort → ℕ → Sums → ℕ → List ℕ → Type 0
 SaysEntry x t uid sort p b count r =
     (k : Tags) (l : List Row) → is_entry sort ≡ true → Placed x sort (heads k) t → TagsPlaced x sort k t → uid ≡ uid_of (heads k) → count ≡ length l
     → r ≡ nine b.files b.rows (entry_with x sort p k l)
 
 -- an entry's fileuid and its numbers are in their tables
-pub record PutsEntry (x : List ℕ) (sort p : ℕ) (b : Sums) (k : Tags) (l : List Row) (u u' e e' : List ℕ) : Type 0 where
+pub record PutsEntry (x : List ℕ) (sort : Sort) (p : ℕ) (b : Sums) (k : Tags) (l : List Row) (u u' e e' : List ℕ) : Type 0 where
   pub uids : u' ≡ cond (is_entry sort) (set u b.entries (uid_of (heads k))) u
   pub table : e' ≡ cond (is_entry sort) (entry_put b.entries (nine b.files b.rows (entry_with x sort p k l)) e) e
 
-abbrev pub EntryListed : List ℕ → List ℕ → ℕ → ℕ → Sums → ℕ → List ℕ → List ℕ → List ℕ → List ℕ → Type 0
+abbrev pub EntryListed : List ℕ → List ℕ → Sort → ℕ → Sums → ℕ → List ℕ → List ℕ → List ℕ → List ℕ → Type 0
 EntryListed x t sort p b count u u' e e' =
     (k : Tags) (l : List Row) → (is_entry sort ≡ true → Placed x sort (heads k) t) → (is_entry sort ≡ true → TagsPlaced x sort k t) → count ≡ length l
     → PutsEntry x sort p b k l u u' e e'
@@ -139,19 +140,19 @@ pub record SameTables (before after : Walk) : Type 0 where
   pub row_room : length after.row_table.now ≡ length before.row_table.now
 
 -- the end of an element of sort s in directory p, where b was gathered before it, and whose children stand at places t of the text
-pub record Closes (x : Source) (t : List ℕ) (s p : ℕ) (b : Sums) (before after : Walk) : Type 0 where
+pub record Closes (x : Source) (t : List ℕ) (s : Sort) (p : ℕ) (b : Sums) (before after : Walk) : Type 0 where
   pub same : SameTables before after
   pub gathers : (k : Tags) → (is_entry s ≡ true → Placed x.text.now s (heads k) t) → (is_entry s ≡ true → TagsPlaced x.text.now s k t)
       → all_of after ≡ after_element x.text.now (asked x) s k p b (all_of before)
 
 -- of one that has no children
-pub record ClosesEmpty (x : Source) (s p : ℕ) (b : Sums) (before after : Walk) : Type 0 where
+pub record ClosesEmpty (x : Source) (s : Sort) (p : ℕ) (b : Sums) (before after : Walk) : Type 0 where
   pub same : SameTables before after
   pub gathers : all_of after ≡ after_element x.text.now (asked x) s none p b (after_row s none_seen (all_of before))
 
 -- the walk over the row at a place of the text, in an element of that kind in directory p: what is gathered after it; where reading goes on; and the
 -- places of the row's elements
-pub record WalksRow (x : Source) (kind at p : ℕ) (before after : Walk) (r : Left) : Type 0 where
+pub record WalksRow (x : Source) (kind : Sort) (at p : ℕ) (before after : Walk) (r : Left) : Type 0 where
   pub same : SameTables before after
   pub gathers : all_of after ≡ sweep x.text.now (asked x) kind p none_seen (tags_at x.text.now at) (all_of before)
   pub behind : Behind x.text.now at r.at

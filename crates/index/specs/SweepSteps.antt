@@ -1,11 +1,12 @@
 -- What one walk over the elements gathers, step by step as the code does it; proofs/ says what that means for the whole text.
-use Rattle.std.specs.Prelude.{Bool, cond, ◌&&◌, ◌||◌, List, ℕ, ◌+◌, ◌*◌, length, get_or, set, replicate, eqb, leb, ltb}
+use Rattle.std.specs.Prelude.{Bool, cond, ◌&&◌, ◌||◌, List, ℕ, ◌+◌, ◌*◌, length, get_or, set, replicate, leb, ltb}
 use Rattle.std.proofs.lemmas.List.Edits.{sets}
 use Rattle.xml.specs.Tree.{Head, Forest, none, node, tag_head}
 use Rattle.elements.specs.Tags.{Tags, heads}
 use Rattle.extents.specs.declared.Row.{Row}
 use Rattle.extents.specs.Rows.{numbers_of}
-use Rattle.index_names.specs.Sorts.{file, holds_elements}
+use Rattle.index_names.specs.declared.Sort.{Sort}
+use Rattle.index_names.specs.Sorts.{holds_elements, is_file}
 use Rattle.index_names.specs.Tables.{must, repeats}
 use Rattle.index_values.specs.Elements.{name_number, sort_of}
 use Rattle.children.specs.Children.{below}
@@ -46,10 +47,10 @@ unfoldable pub marked : ℕ → List ℕ → List ℕ
 marked j m = set m j (one_more (get_or m j 0))
 
 -- a row in an element of that kind is over
-unfoldable pub row_done : ℕ → List ℕ → Bool
+unfoldable pub row_done : Sort → List ℕ → Bool
 row_done kind m = repeats kind || below 16 (λ j. right_often (must kind) j (get_or m j 0))
 
-unfoldable pub ended_sums : ℕ → List ℕ → Sums → Sums
+unfoldable pub ended_sums : Sort → List ℕ → Sums → Sums
 ended_sums kind m a =
     record {
       structure = a.structure && row_done kind m;
@@ -62,11 +63,11 @@ ended_sums kind m a =
       rows = a.rows;
     }
 
-unfoldable pub after_row : ℕ → List ℕ → All → All
+unfoldable pub after_row : Sort → List ℕ → All → All
 after_row kind m a = with_sums (ended_sums kind m a.sums) a
 
 -- the start tag of an element of sort s
-unfoldable pub begun : Given → ℕ → Head → Forest → Sums → Sums
+unfoldable pub begun : Given → Sort → Head → Forest → Sums → Sums
 begun g s h c a =
     record {
       structure = a.structure && may_stand s h c;
@@ -75,7 +76,7 @@ begun g s h c a =
       own = a.own && own g s h.text;
       lawful = a.lawful;
       entries = cond (is_entry s) (one_more a.entries) a.entries;
-      files = cond (eqb s file) (one_more a.files) a.files;
+      files = cond (is_file s) (one_more a.files) a.files;
       rows = a.rows;
     }
 
@@ -105,7 +106,7 @@ rows_put n l t = cond (leb ((n + length l) * 5) (length t)) (sets t (n * 5) (num
 module _ (x : List ℕ) (g : Given) where
   -- the end of an element of sort s with the children k, in directory p, where b was gathered before it: its extents are tested, its rows taken, and
   -- an entry's numbers are known
-  unfoldable pub after_element : ℕ → Tags → ℕ → Sums → All → All
+  unfoldable pub after_element : Sort → Tags → ℕ → Sums → All → All
   after_element s k p b a =
       let l = rows_taken s (heads k) in
       record {
@@ -116,7 +117,7 @@ module _ (x : List ℕ) (g : Given) where
       }
 
   -- the rest of a row in an element of that kind, in directory p, of which m is seen
-  unfoldable pub sweep : ℕ → ℕ → List ℕ → Tags → All → All
+  unfoldable pub sweep : Sort → ℕ → List ℕ → Tags → All → All
   sweep kind p m none a = after_row kind m a
   sweep kind p m (node r k f) a =
       let s = sort_of kind (tag_head r) in

@@ -5,7 +5,7 @@ ghost use Rattle.elements.specs.Reading.{forest_at};
 ghost use Rattle.index.specs.Steps.{SumsUp, Surveys};
 
 use crate::walk::{Source, Sums, Walk};
-use index_names::INDEX;
+use index_names::Sort;
 use refusals::Refusal;
 
 // How many directories and files an index has, how many of them files, and how many rows these; and the places of the index's children.
@@ -69,7 +69,7 @@ pub fn survey(
         entry_table,
         row_table,
     };
-    let left = walk.row(source, at, INDEX, 64, 0);
+    let left = walk.row(source, at, Sort::Index, 64, 0);
     let sums = walk.sums;
     sum_up(walk.uids, sums)?;
     let places = left.places;

@@ -1,21 +1,20 @@
 // The walk over an index's elements.
-ghost use Rattle.std.specs.Prelude.{◌≡◌, cond, ◌≤◌, length, eqb};
+ghost use Rattle.std.specs.Prelude.{◌≡◌, cond, ◌≤◌, length};
 ghost use Rattle.xml.specs.FormSteps.{height};
 ghost use Rattle.elements.specs.Reading.{forest_at, head_at, children_at};
 ghost use Rattle.elements.specs.StartSteps.{Shape};
-ghost use Rattle.index_names.specs.Sorts.{holds_elements};
+ghost use Rattle.index_names.specs.Sorts.{holds_elements, is_file};
 ghost use Rattle.index_values.specs.Elements.{name_number};
 ghost use Rattle.index.specs.Structure.{may_stand, right_often};
 ghost use Rattle.children.specs.Children.{text_of_first};
 ghost use Rattle.children.specs.RowSteps.{seat};
-ghost use Rattle.index_names.specs.Sorts.{file};
 ghost use Rattle.index_values.specs.Entries.{is_entry, number_or_zero};
 ghost use Rattle.index.specs.Entries.{holder};
 ghost use Rattle.index.specs.SweepSteps.{one_more, more_rows, marked, row_done, ended_sums, begun, settled};
 ghost use Rattle.index.specs.Steps.{asked, Meets, GoesOn, rows_copied, SaysEntry, EntryListed, Closes, ClosesEmpty, WalksRow};
 
 use elements::{Next, Start};
-use index_names::{DIRECTORY, EXTENT, FILE, INDEX, ROOT, SKIPPED, UNKNOWN};
+use index_names::Sort;
 use index_values::{Judged, Partitions};
 
 // An index's text, and the volume that it is to be of.
@@ -84,7 +83,7 @@ fn is_once(needed: usize, j: usize, n: u64) -> bool
 
 // Whether a row in an element of a kind is complete, by how often each name was seen.
 #[tactic(auto, unfolding(crate::specs::SweepSteps::row_done))]
-fn is_done(kind: usize, seen: &[u64; 16]) -> bool
+fn is_done(kind: Sort, seen: &[u64; 16]) -> bool
     ensures { result ≡ row_done kind seen.now }
 {
     let needed = index_names::must_in(kind);
@@ -93,7 +92,7 @@ fn is_done(kind: usize, seen: &[u64; 16]) -> bool
 
 // The row is over.
 #[tactic(auto, unfolding(crate::specs::SweepSteps::ended_sums))]
-fn finish(kind: usize, seen: &[u64; 16], a: Sums) -> Sums
+fn finish(kind: Sort, seen: &[u64; 16], a: Sums) -> Sums
     ensures { result ≡ ended_sums kind seen.now a }
 {
     Sums {
@@ -103,33 +102,50 @@ fn finish(kind: usize, seen: &[u64; 16], a: Sums) -> Sums
 }
 
 // Whether elements of a sort hold elements.
-fn is_open(sort: usize) -> bool
+fn is_open(sort: Sort) -> bool
     ensures { result ≡ holds_elements sort }
 {
-    (INDEX..=EXTENT).contains(&sort)
+    matches!(
+        sort,
+        Sort::Index
+            | Sort::Place
+            | Sort::Root
+            | Sort::Directory
+            | Sort::Contents
+            | Sort::File
+            | Sort::ExtentInfo
+            | Sort::Extent
+    )
 }
 
 // Whether an element may stand where it does, as one of a sort, and holds what it may.
 #[tactic(auto, unfolding(crate::specs::Structure::may_stand))]
-fn fits_at(text: &[u8], h: Start, sort: usize) -> bool
+fn fits_at(text: &[u8], h: Start, sort: Sort) -> bool
     requires { Shape text.now h }
     ensures { result ≡ may_stand sort (head_at text.now h.at) (children_at text.now h.at) }
 {
-    if sort == UNKNOWN || !h.plain {
+    if matches!(sort, Sort::Unknown) || !h.plain {
         return false;
     }
     if is_open(sort) {
         !h.leaf || elements::is_blank(elements::part(text, h.text))
     } else {
-        sort == SKIPPED || h.leaf
+        matches!(sort, Sort::Skipped) || h.leaf
     }
 }
 
 // Whether elements of a sort are directories or files.
-fn is_entry(sort: usize) -> bool
+fn is_entry(sort: Sort) -> bool
     ensures { result ≡ is_entry sort }
 {
-    matches!(sort, ROOT | DIRECTORY | FILE)
+    matches!(sort, Sort::Root | Sort::Directory | Sort::File)
+}
+
+// Whether they are files.
+fn is_file(sort: Sort) -> bool
+    ensures { result ≡ is_file sort }
+{
+    matches!(sort, Sort::File)
 }
 
 // One more where it is one of those that are counted.
@@ -141,7 +157,7 @@ fn bump_if(one: bool, n: u64) -> u64
 
 // The start tag of an element of a sort.
 #[tactic(auto, unfolding(crate::specs::SweepSteps::begun))]
-fn enter(source: Source<'_>, h: Start, sort: usize, a: Sums) -> Sums
+fn enter(source: Source<'_>, h: Start, sort: Sort, a: Sums) -> Sums
     requires { Shape source.text.now h }
     ensures { result ≡ begun (asked source.entry) sort (head_at source.entry.text.now h.at)
         (children_at source.entry.text.now h.at) a }
@@ -152,7 +168,7 @@ fn enter(source: Source<'_>, h: Start, sort: usize, a: Sums) -> Sums
         values: a.values & index_values::is_valued(sort, raw),
         own: a.own & index_values::is_own(source.uuid, source.volume, sort, raw),
         entries: bump_if(is_entry(sort), a.entries),
-        files: bump_if(sort == FILE, a.files),
+        files: bump_if(is_file(sort), a.files),
         ..a
     }
 }
@@ -194,10 +210,10 @@ fn keep_rows(rows: &[u64; 5120], count: usize, row_table: &mut [u64], n: u64)
 }
 
 // The length that a file says, by the place of that element; 0 of a directory.
-fn length_of(text: &[u8], sort: usize, place: usize) -> u64
-    ensures { result ≡ cond (eqb sort file) (number_or_zero (text_of_first (seat text.now place))) 0 }
+fn length_of(text: &[u8], sort: Sort, place: usize) -> u64
+    ensures { result ≡ cond (is_file sort) (number_or_zero (text_of_first (seat text.now place))) 0 }
 {
-    if sort == FILE {
+    if is_file(sort) {
         index_values::number_placed(text, place)
     } else {
         0
@@ -209,7 +225,7 @@ fn entry_numbers(
     text: &[u8],
     places: &[usize; 16],
     uid: u64,
-    sort: usize,
+    sort: Sort,
     parent: u64,
     prior: Sums,
     count: usize,
@@ -218,7 +234,7 @@ fn entry_numbers(
 {
     let name = index_rows::span_at(text, places[1]);
     [
-        u64::from(sort == FILE),
+        u64::from(is_file(sort)),
         parent,
         prior.files,
         uid,
@@ -236,7 +252,7 @@ fn list_entry(
     places: &[usize; 16],
     uids: &mut [u64; 4096],
     entry_table: &mut [u64],
-    sort: usize,
+    sort: Sort,
     parent: u64,
     prior: Sums,
     count: usize,
@@ -257,7 +273,7 @@ fn list_entry(
 }
 
 // The number of an element among the names of its row, in an element of a kind.
-fn number_at(text: &[u8], h: Start, kind: usize) -> usize
+fn number_at(text: &[u8], h: Start, kind: Sort) -> usize
     requires { Shape text.now h }
     ensures { result ≡ name_number kind (head_at text.now h.at) }
 {
@@ -265,7 +281,7 @@ fn number_at(text: &[u8], h: Start, kind: usize) -> usize
 }
 
 // An element of such a row is met: its name is seen, its place noted; its sort.
-fn meet(text: &[u8], h: Start, kind: usize, seen: &mut [u64; 16], places: &mut [usize; 16]) -> usize
+fn meet(text: &[u8], h: Start, kind: Sort, seen: &mut [u64; 16], places: &mut [usize; 16]) -> Sort
     requires { Shape text.now h }
     ensures { Meets text.now kind h.at seen.old places.old seen.new places.new result }
 {
@@ -287,7 +303,7 @@ fn behind(text: &[u8], h: Start) -> usize
 }
 
 // The directory that holds what is in an element of a sort: it, if it is an entry, else the one around it.
-fn directory_in(sort: usize, parent: u64, number: u64) -> u64
+fn directory_in(sort: Sort, parent: u64, number: u64) -> u64
     ensures { result ≡ holder sort parent number }
 {
     if is_entry(sort) { number } else { parent }
@@ -299,7 +315,7 @@ impl Walk<'_> {
         &mut self,
         source: Source<'_>,
         places: &[usize; 16],
-        sort: usize,
+        sort: Sort,
         parent: u64,
         prior: Sums,
     )
@@ -321,7 +337,7 @@ impl Walk<'_> {
     }
 
     // The end of one that has an empty tag.
-    fn close_empty(&mut self, source: Source<'_>, sort: usize, parent: u64, prior: Sums)
+    fn close_empty(&mut self, source: Source<'_>, sort: Sort, parent: u64, prior: Sums)
         ensures { ClosesEmpty source.entry sort parent prior self.old self.new }
     {
         self.sums = finish(sort, &[0; 16], self.sums);
@@ -333,7 +349,7 @@ impl Walk<'_> {
         &mut self,
         source: Source<'_>,
         at: usize,
-        kind: usize,
+        kind: Sort,
         depth: usize,
         parent: u64,
     ) -> Left

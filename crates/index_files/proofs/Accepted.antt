@@ -20,7 +20,7 @@ use Rattle.xml.proofs.Form.{form_reads, in_form_lem}
 use Rattle.elements.specs.Reading.{forest_at}
 use Rattle.elements.proofs.Roots.{root_row}
 use Rattle.values.specs.Values as values
-use Rattle.index_names.specs.Sorts.{index}
+use Rattle.index_names.specs.declared.Sort.TheVariants.{Index as index}
 use Rattle.index_values.specs.Elements.{elements}
 use Rattle.index.specs.Structure.{complete, rightly}
 use Rattle.index_values.specs.Entries.{or_zero}

@@ -23,7 +23,7 @@ use Rattle.extents.specs.Lawful.{lawful}
 use Rattle.extents.specs.Map.{byte_at, lettered, byte_map}
 use Rattle.extents.proofs.Rows.{rows_numbers, length_numbers}
 use Rattle.extents.proofs.Mapping.{numbers_mapped}
-use Rattle.index_names.specs.Sorts.{index}
+use Rattle.index_names.specs.declared.Sort.TheVariants.{Index as index}
 use Rattle.index_values.specs.Elements.{IndexElement, elements}
 use Rattle.index_values.specs.Entries.{uids_of}
 use Rattle.index_values.specs.Tests.{Given, valued}

@@ -13,7 +13,9 @@ use Rattle.elements.specs.Tags.{Tags, tags_of, tags_at, text_place}
 use Rattle.elements.specs.Reading.{Inside}
 use Rattle.children.specs.Children.{matching, children_of_first}
 use Rattle.children.specs.Places.{tags_named, first_text}
-use Rattle.index_names.specs.Sorts.{index, holds_elements}
+use Rattle.index_names.specs.declared.Sort.{Sort}
+use Rattle.index_names.specs.declared.Sort.TheVariants.{Index as index}
+use Rattle.index_names.specs.Sorts.{holds_elements}
 use Rattle.index_values.specs.Elements.{sort_of}
 use Rattle.index_values.specs.Entries.{is_entry}
 use Rattle.index.specs.Entries.{Entry, holder, name_in, entry_with, entry_of, entry_itself, entries_in, index_entries}
@@ -113,14 +115,14 @@ module _ (s : List ℕ) where
   inside_append [] k none_left b = b
   inside_append (e ∷ l) k (one_more h a) b = one_more h (inside_append l k a b)
 
-  entries_inside : (kind p n : ℕ) (f : Tags) → Short (length s) f → AllInside (entries_in s kind p n f)
+  entries_inside : (kind : Sort) (p n : ℕ) (f : Tags) → Short (length s) f → AllInside (entries_in s kind p n f)
   unfolding entries_in entry_with
   entries_inside kind p n none end = none_left
   entries_inside kind p n (node r k f) (next h a b) =
       inside_append one _ (itself (is_entry sort))
       (inside_append _ _ (within (holds_elements sort) (entries_inside sort (holder sort p n) (n + length one) k a)) (entries_inside kind p _ f b))
     where
-      sort : ℕ
+      sort : Sort
       sort = sort_of kind (tag_head r)
 
       one : List Entry
@@ -160,7 +162,7 @@ module _ (s : List ℕ) where
       let m : n + suc (length l) ≡ suc n + length l = omega arith in
       one_entry h (before_append (suc n) l k a (subst (λ (j : ℕ). AllBefore j k) m b))
 
-  entries_before : (kind p n : ℕ) (f : Tags) → p ≤ n - 1 → AllBefore n (entries_in s kind p n f)
+  entries_before : (kind : Sort) (p n : ℕ) (f : Tags) → p ≤ n - 1 → AllBefore n (entries_in s kind p n f)
   unfolding entries_in entry_with
   entries_before kind p n none h = no_entry
   entries_before kind p n (node r k f) h =
@@ -168,7 +170,7 @@ module _ (s : List ℕ) where
       (before_append (n + length one) _ _ (within (holds_elements sort) (entries_before sort (holder sort p n) (n + length one) k (held (is_entry sort))))
       (entries_before kind p _ f (omega (arith, h))))
     where
-      sort : ℕ
+      sort : Sort
       sort = sort_of kind (tag_head r)
 
       one : List Entry

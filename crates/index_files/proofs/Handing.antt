@@ -24,7 +24,7 @@ use Rattle.children.specs.Children.{children_of_first}
 use Rattle.extents.specs.declared.Row.{Row}
 use Rattle.extents.specs.Rows.{numbers_of}
 use Rattle.extents.proofs.Rows.{length_numbers}
-use Rattle.index_names.specs.Sorts.{index}
+use Rattle.index_names.specs.declared.Sort.TheVariants.{Index as index}
 use Rattle.index_values.specs.Elements.{IndexElement, elements}
 use Rattle.index_values.specs.Entries.{entries_of}
 use Rattle.index_values.specs.Tests.{Given}

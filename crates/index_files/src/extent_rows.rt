@@ -7,7 +7,7 @@ ghost use Rattle.index_values.specs.Tests.{row_of, extent_rows};
 ghost use Rattle.index_files.specs.RowSteps.{row_is, RowsFrom, RowAhead};
 ghost use Rattle.index_files.specs.EachRow.{rows_left};
 
-use index_names::EXTENT;
+use index_names::Sort;
 use quantities::{BlockNumber, ByteCount};
 
 // An extent: its partition's letter (ASCII), its first block, where in that block it begins, how many bytes it has, and where in the
@@ -54,7 +54,7 @@ pub fn first_row(text: &[u8], n: usize) -> usize
 fn row_from(text: &[u8], at: usize) -> Row
     ensures { row_is result ≡ row_of (forest_at text.now at) }
 {
-    let places = index_rows::read_row(text, at, EXTENT).places;
+    let places = index_rows::read_row(text, at, Sort::Extent).places;
     Row {
         letter: u64::from(index_values::letter_said(index_rows::text_at(text, places[1]))),
         startblock: BlockNumber(index_values::number_placed(text, places[2])),

@@ -1,4 +1,3 @@
 pub mod ByKind
 pub mod Numbered
-pub mod Fields
 pub mod Ordered

@@ -1,14 +1,12 @@
 -- The number of a name, found by comparing it with one after another.
 use mathlib.Core.Bool.{Bool, true, false, cond}
-use mathlib.Core.Path.{◌≡◌, refl, ap, sym, ◌∙◌}
+use mathlib.Core.Path.{◌≡◌, refl, ap, ◌∙◌}
 use mathlib.Core.List.{List, [], ◌∷◌, ◌++◌}
 use Prim.Native.Nat.{ℕ, suc, ◌+◌, ◌<◌, ◌≤◌}
 use native.Mathlib.Omega.{arith}
 use lib.ListN.{length}
 use Rattle.slices.specs.Slices.{same}
-use Rattle.index_names.specs.Rows.{TableRow, names_of}
-use Rattle.index_names.specs.Names.{names, number_in}
-use Rattle.index_names.proofs.ByKind.{Other, no_table}
+use Rattle.index_names.specs.Names.{number_in}
 
 module _ (n x : List ℕ) (xs : List (List ℕ)) where
   -- the first one has it
@@ -53,11 +51,3 @@ module _ (xs ys : List (List ℕ)) (n : List ℕ) (m : ℕ) (e : m ≡ number_in
 
   pub number_behind : length xs ≤ m → (k : ℕ) → k ≡ number_in ys n → length xs + k ≡ number_in (xs ++ ys) n
   number_behind h k q = ap (λ (k : ℕ). length xs + k) q ∙ behind xs ys n (omega (arith, e, h))
-
--- among the names of a kind
-pub number_kind : (k m : ℕ) (n : List ℕ) (r : ℕ) → k ≡ m → r ≡ number_in (names m) n → r ≡ number_in (names k) n
-number_kind k m n r e q = q ∙ ap (λ (k : ℕ). number_in (names k) n) (sym e)
-
-pub number_other : (k : ℕ) (n : List ℕ) → Other k → 0 ≡ number_in (names k) n
-unfolding names number_in
-number_other k n o = ap (λ (t : List TableRow). number_in (names_of t) n) (sym (no_table k o))

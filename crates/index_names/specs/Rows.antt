@@ -2,6 +2,7 @@
 use Rattle.std.specs.Prelude.{Bool, true, false, cond, ◌||◌, List, [], ◌∷◌, map, ℕ, suc}
 use Prim.Native.String.{String}
 use Rattle.slices.specs.Words.{bytes}
+use Rattle.index_names.specs.declared.Sort.{Sort}
 
 pub data Often : Type 0 where
   Once : Often
@@ -10,23 +11,23 @@ pub data Often : Type 0 where
 
 pub record TableRow : Type 0 where
   pub name : List ℕ
-  pub sort : ℕ
+  pub sort : Sort
   pub often : Often
 
-abbrev pub once : String → ℕ → TableRow
+abbrev pub once : String → Sort → TableRow
 once word what = record { name = bytes word; sort = what; often = Once }
 
-abbrev pub at_most_once : String → ℕ → TableRow
+abbrev pub at_most_once : String → Sort → TableRow
 at_most_once word what = record { name = bytes word; sort = what; often = AtMostOnce }
 
-abbrev pub any_number : String → ℕ → TableRow
+abbrev pub any_number : String → Sort → TableRow
 any_number word what = record { name = bytes word; sort = what; often = AnyNumber }
 
 -- the columns
 abbrev pub names_of : List TableRow → List (List ℕ)
 names_of = map (λ r. r.name)
 
-abbrev pub sorts_of : List TableRow → List ℕ
+abbrev pub sorts_of : List TableRow → List Sort
 sorts_of = map (λ r. r.sort)
 
 abbrev pub is_once : Often → Bool

@@ -2,377 +2,303 @@
 #![tactic(auto)]
 
 ghost use Rattle.std.specs.Prelude.{◌≡◌};
-ghost use Rattle.index_names.specs.Sorts as sorts;
-ghost use Rattle.index_names.specs.Rows.{names_of};
-ghost use Rattle.index_names.specs.Tables.{times, entry_table, table, sort, must, repeats};
+ghost use Rattle.index_names.specs.Rows.{names_of, sorts_of};
+ghost use Rattle.index_names.specs.Tables.{entry_table, table, sort, must, repeats};
 ghost use Rattle.index_names.specs.Names.{number_in, names};
-ghost use Rattle.index_names.specs.Steps.{packed};
 
-// What an element is: one that may not stand where it does; one that holds elements, from INDEX to EXTENT; one that is skipped; or a value,
-// from COMMENT on.
-pub const UNKNOWN: usize = 0;
+// What an element is.
+#[derive(Clone, Copy, PartialEq, Eq, Debug)]
+pub enum Sort {
+    // One that may not stand where it does.
+    Unknown,
+    // Elements that hold elements; a place is a location or a previousgenerationlocation, the root the root directory.
+    Index,
+    Place,
+    Root,
+    Directory,
+    Contents,
+    File,
+    ExtentInfo,
+    Extent,
+    // A dataplacementpolicy or extendedattributes: anything may be in it.
+    Skipped,
+    // Values.
+    Comment,
+    Creator,
+    Uuid,
+    Generation,
+    Time,
+    Boolean,
+    Number,
+    Letter,
+    Name,
+    RootName,
+    Uid,
+    RootUid,
+}
 
-pub const INDEX: usize = 1;
+// The sorts of what a directory or a file begins with, and then of its own.
+macro_rules! entry_sorts {
+    ($uid:ident, $name:ident, $($own:ident),*) => {
+        [
+            Sort::$uid,
+            Sort::$name,
+            Sort::Time,
+            Sort::Time,
+            Sort::Time,
+            Sort::Time,
+            Sort::Time,
+            Sort::Boolean,
+            $(Sort::$own),*
+        ]
+    };
+}
 
-pub const PLACE: usize = 2;
+// The sorts of the elements in an element of each kind, by the numbers of their names.
+static INDEX_SORTS: [Sort; 11] = [
+    Sort::Creator,
+    Sort::Uuid,
+    Sort::Generation,
+    Sort::Time,
+    Sort::Place,
+    Sort::Boolean,
+    Sort::Number,
+    Sort::Root,
+    Sort::Comment,
+    Sort::Place,
+    Sort::Skipped,
+];
 
-pub const ROOT: usize = 3;
+static PLACE_SORTS: [Sort; 2] = [Sort::Letter, Sort::Number];
 
-pub const DIRECTORY: usize = 4;
+static ROOT_SORTS: [Sort; 10] = entry_sorts!(RootUid, RootName, Contents, Skipped);
 
-pub const CONTENTS: usize = 5;
+static DIRECTORY_SORTS: [Sort; 10] = entry_sorts!(Uid, Name, Contents, Skipped);
 
-pub const FILE: usize = 6;
+static CONTENTS_SORTS: [Sort; 2] = [Sort::Directory, Sort::File];
 
-pub const EXTENTINFO: usize = 7;
+static FILE_SORTS: [Sort; 11] = entry_sorts!(Uid, Name, Number, ExtentInfo, Skipped);
 
-pub const EXTENT: usize = 8;
+static EXTENTINFO_SORTS: [Sort; 1] = [Sort::Extent];
 
-pub const SKIPPED: usize = 9;
+static EXTENT_SORTS: [Sort; 5] = [
+    Sort::Number,
+    Sort::Letter,
+    Sort::Number,
+    Sort::Number,
+    Sort::Number,
+];
 
-pub const COMMENT: usize = 10;
-
-pub const CREATOR: usize = 11;
-
-pub const UUID: usize = 12;
-
-pub const GENERATION: usize = 13;
-
-pub const TIME: usize = 14;
-
-pub const BOOLEAN: usize = 15;
-
-pub const NUMBER: usize = 16;
-
-pub const LETTER: usize = 17;
-
-pub const NAME: usize = 18;
-
-pub const ROOT_NAME: usize = 19;
-
-pub const UID: usize = 20;
-
-pub const ROOT_UID: usize = 21;
-
-// The table of each kind as a number: the sorts of its rows, five bits each, and from bit 60 on how many must be there, which are the first ones.
-const INDEX_ROWS: usize = CREATOR
-    | UUID << 5
-    | GENERATION << 10
-    | TIME << 15
-    | PLACE << 20
-    | BOOLEAN << 25
-    | NUMBER << 30
-    | ROOT << 35
-    | COMMENT << 40
-    | PLACE << 45
-    | SKIPPED << 50
-    | 8 << 60;
-
-const PLACE_ROWS: usize = LETTER | NUMBER << 5 | 2 << 60;
-
-// The five times and readonly, of directory and file.
-const ENTRY_ROWS: usize = TIME << 10
-    | TIME << 15
-    | TIME << 20
-    | TIME << 25
-    | TIME << 30
-    | BOOLEAN << 35;
-
-const ROOT_ROWS: usize = ROOT_UID
-    | ROOT_NAME << 5
-    | ENTRY_ROWS
-    | CONTENTS << 40
-    | SKIPPED << 45
-    | 9 << 60;
-
-const DIRECTORY_ROWS: usize = UID
-    | NAME << 5
-    | ENTRY_ROWS
-    | CONTENTS << 40
-    | SKIPPED << 45
-    | 9 << 60;
-
-const CONTENTS_ROWS: usize = DIRECTORY | FILE << 5;
-
-const FILE_ROWS: usize = UID
-    | NAME << 5
-    | ENTRY_ROWS
-    | NUMBER << 40
-    | EXTENTINFO << 45
-    | SKIPPED << 50
-    | 9 << 60;
-
-const EXTENTINFO_ROWS: usize = EXTENT;
-
-const EXTENT_ROWS: usize = NUMBER
-    | LETTER << 5
-    | NUMBER << 10
-    | NUMBER << 15
-    | NUMBER << 20
-    | 5 << 60;
-
-// The number of a name among those of an index.
+// The number of a name among those of an index. Here and below names are compared one after the other: a loop over a table of them takes twice the
+// instructions for a name, and in a match each byte is tested by itself, in more cases than the check proves.
+#[tactic(auto, unfolding(crate::specs::Names::names, crate::specs::Names::number_in, crate::specs::Tables::table, crate::specs::Tables::index_table, slices::specs::Words::bytes))]
 fn in_index(name: &[u8]) -> usize
-    ensures { result ≡ number_in (names sorts.index) name.now }
+    ensures { result ≡ number_in (names Sort.Index) name.now }
 {
     if slices::same(name, b"creator") {
-        return 0;
+        0
+    } else if slices::same(name, b"volumeuuid") {
+        1
+    } else if slices::same(name, b"generationnumber") {
+        2
+    } else if slices::same(name, b"updatetime") {
+        3
+    } else if slices::same(name, b"location") {
+        4
+    } else if slices::same(name, b"allowpolicyupdate") {
+        5
+    } else if slices::same(name, b"highestfileuid") {
+        6
+    } else if slices::same(name, b"directory") {
+        7
+    } else if slices::same(name, b"comment") {
+        8
+    } else if slices::same(name, b"previousgenerationlocation") {
+        9
+    } else if slices::same(name, b"dataplacementpolicy") {
+        10
+    } else {
+        11
     }
-    if slices::same(name, b"volumeuuid") {
-        return 1;
-    }
-    if slices::same(name, b"generationnumber") {
-        return 2;
-    }
-    if slices::same(name, b"updatetime") {
-        return 3;
-    }
-    if slices::same(name, b"location") {
-        return 4;
-    }
-    if slices::same(name, b"allowpolicyupdate") {
-        return 5;
-    }
-    if slices::same(name, b"highestfileuid") {
-        return 6;
-    }
-    if slices::same(name, b"directory") {
-        return 7;
-    }
-    if slices::same(name, b"comment") {
-        return 8;
-    }
-    if slices::same(name, b"previousgenerationlocation") {
-        return 9;
-    }
-    if slices::same(name, b"dataplacementpolicy") {
-        return 10;
-    }
-    11
 }
 
 // The number of a name among those of a place.
+#[tactic(auto, unfolding(crate::specs::Names::names, crate::specs::Names::number_in, crate::specs::Tables::table, crate::specs::Tables::place_table, slices::specs::Words::bytes))]
 fn in_place(name: &[u8]) -> usize
-    ensures { result ≡ number_in (names sorts.location) name.now }
+    ensures { result ≡ number_in (names Sort.Place) name.now }
 {
     if slices::same(name, b"partition") {
-        return 0;
+        0
+    } else if slices::same(name, b"startblock") {
+        1
+    } else {
+        2
     }
-    if slices::same(name, b"startblock") {
-        return 1;
-    }
-    2
-}
-
-// The number of a name among the five times.
-fn in_times(name: &[u8]) -> usize
-    ensures { result ≡ number_in (names_of times) name.now }
-{
-    if slices::same(name, b"creationtime") {
-        return 0;
-    }
-    if slices::same(name, b"changetime") {
-        return 1;
-    }
-    if slices::same(name, b"modifytime") {
-        return 2;
-    }
-    if slices::same(name, b"accesstime") {
-        return 3;
-    }
-    if slices::same(name, b"backuptime") {
-        return 4;
-    }
-    5
 }
 
 // The number of a name among those that directory and file have.
+#[tactic(auto, unfolding(crate::specs::Names::names, crate::specs::Names::number_in, crate::specs::Tables::times, crate::specs::Tables::entry_table, slices::specs::Words::bytes))]
 fn in_entry(name: &[u8]) -> usize
-    ensures { result ≡ number_in (names_of (entry_table sorts.uid sorts.name)) name.now }
+    ensures { result ≡ number_in (names_of (entry_table Sort.Uid Sort.Name)) name.now }
 {
     if slices::same(name, b"fileuid") {
-        return 0;
+        0
+    } else if slices::same(name, b"name") {
+        1
+    } else if slices::same(name, b"creationtime") {
+        2
+    } else if slices::same(name, b"changetime") {
+        3
+    } else if slices::same(name, b"modifytime") {
+        4
+    } else if slices::same(name, b"accesstime") {
+        5
+    } else if slices::same(name, b"backuptime") {
+        6
+    } else if slices::same(name, b"readonly") {
+        7
+    } else {
+        8
     }
-    if slices::same(name, b"name") {
-        return 1;
-    }
-    let j = in_times(name);
-    if j < 5 {
-        return 2 + j;
-    }
-    if slices::same(name, b"readonly") {
-        return 7;
-    }
-    8
 }
 
 // The number of a name among those of a directory, the root directory too.
 fn in_directory(name: &[u8]) -> usize
-    ensures { result ≡ number_in (names sorts.directory) name.now }
+    ensures { result ≡ number_in (names Sort.Directory) name.now }
 {
     let j = in_entry(name);
     if j < 8 {
-        return j;
+        j
+    } else if slices::same(name, b"contents") {
+        8
+    } else if slices::same(name, b"extendedattributes") {
+        9
+    } else {
+        10
     }
-    if slices::same(name, b"contents") {
-        return 8;
-    }
-    if slices::same(name, b"extendedattributes") {
-        return 9;
-    }
-    10
 }
 
 // The number of a name among those of contents.
+#[tactic(auto, unfolding(crate::specs::Names::names, crate::specs::Names::number_in, crate::specs::Tables::table, crate::specs::Tables::contents_table, slices::specs::Words::bytes))]
 fn in_contents(name: &[u8]) -> usize
-    ensures { result ≡ number_in (names sorts.contents) name.now }
+    ensures { result ≡ number_in (names Sort.Contents) name.now }
 {
     if slices::same(name, b"directory") {
-        return 0;
+        0
+    } else if slices::same(name, b"file") {
+        1
+    } else {
+        2
     }
-    if slices::same(name, b"file") {
-        return 1;
-    }
-    2
 }
 
 // The number of a name among those of a file.
 fn in_file(name: &[u8]) -> usize
-    ensures { result ≡ number_in (names sorts.file) name.now }
+    ensures { result ≡ number_in (names Sort.File) name.now }
 {
     let j = in_entry(name);
     if j < 8 {
-        return j;
+        j
+    } else if slices::same(name, b"length") {
+        8
+    } else if slices::same(name, b"extentinfo") {
+        9
+    } else if slices::same(name, b"extendedattributes") {
+        10
+    } else {
+        11
     }
-    if slices::same(name, b"length") {
-        return 8;
-    }
-    if slices::same(name, b"extentinfo") {
-        return 9;
-    }
-    if slices::same(name, b"extendedattributes") {
-        return 10;
-    }
-    11
 }
 
 // The number of a name among those of an extentinfo.
+#[tactic(auto, unfolding(crate::specs::Names::names, crate::specs::Names::number_in, crate::specs::Tables::table, crate::specs::Tables::extentinfo_table, slices::specs::Words::bytes))]
 fn in_extentinfo(name: &[u8]) -> usize
-    ensures { result ≡ number_in (names sorts.extentinfo) name.now }
+    ensures { result ≡ number_in (names Sort.ExtentInfo) name.now }
 {
-    if slices::same(name, b"extent") {
-        return 0;
-    }
-    1
+    if slices::same(name, b"extent") { 0 } else { 1 }
 }
 
 // The number of a name among those of an extent.
+#[tactic(auto, unfolding(crate::specs::Names::names, crate::specs::Names::number_in, crate::specs::Tables::table, crate::specs::Tables::extent_table, slices::specs::Words::bytes))]
 fn in_extent(name: &[u8]) -> usize
-    ensures { result ≡ number_in (names sorts.extent) name.now }
+    ensures { result ≡ number_in (names Sort.Extent) name.now }
 {
     if slices::same(name, b"fileoffset") {
-        return 0;
+        0
+    } else if slices::same(name, b"partition") {
+        1
+    } else if slices::same(name, b"startblock") {
+        2
+    } else if slices::same(name, b"byteoffset") {
+        3
+    } else if slices::same(name, b"bytecount") {
+        4
+    } else {
+        5
     }
-    if slices::same(name, b"partition") {
-        return 1;
-    }
-    if slices::same(name, b"startblock") {
-        return 2;
-    }
-    if slices::same(name, b"byteoffset") {
-        return 3;
-    }
-    if slices::same(name, b"bytecount") {
-        return 4;
-    }
-    5
 }
 
-// The number of a name among those in an element of a kind.
-pub fn number_in(kind: usize, name: &[u8]) -> usize
+// The number of a name among those in an element of a kind; behind the last one where it is none of them.
+#[tactic(auto, unfolding(crate::specs::Tables::table, crate::specs::Tables::times, crate::specs::Tables::entry_table, crate::specs::Tables::of_directory, crate::specs::Names::names, crate::specs::Names::number_in))]
+pub fn number_in(kind: Sort, name: &[u8]) -> usize
     ensures { result ≡ number_in (names kind) name.now }
 {
-    if kind == FILE {
-        return in_file(name);
+    match kind {
+        Sort::Index => in_index(name),
+        Sort::Place => in_place(name),
+        Sort::Root | Sort::Directory => in_directory(name),
+        Sort::Contents => in_contents(name),
+        Sort::File => in_file(name),
+        Sort::ExtentInfo => in_extentinfo(name),
+        Sort::Extent => in_extent(name),
+        _ => 0,
     }
-    if kind == EXTENT {
-        return in_extent(name);
-    }
-    if kind == ROOT {
-        return in_directory(name);
-    }
-    if kind == DIRECTORY {
-        return in_directory(name);
-    }
-    if kind == CONTENTS {
-        return in_contents(name);
-    }
-    if kind == EXTENTINFO {
-        return in_extentinfo(name);
-    }
-    if kind == INDEX {
-        return in_index(name);
-    }
-    if kind == PLACE {
-        return in_place(name);
-    }
-    0
 }
 
-// The table of a kind; 0, no row, of what holds no elements.
-fn rows_of(kind: usize) -> usize
-    ensures { result ≡ packed (table kind) }
+// The sorts of the elements in an element of a kind, by their numbers; none of what holds no elements.
+#[tactic(auto, unfolding(crate::specs::Tables::table, crate::specs::Tables::index_table, crate::specs::Tables::place_table, crate::specs::Tables::times, crate::specs::Tables::entry_table, crate::specs::Tables::of_directory, crate::specs::Tables::contents_table, crate::specs::Tables::of_file, crate::specs::Tables::extentinfo_table, crate::specs::Tables::extent_table))]
+fn sorts_of(kind: Sort) -> &'static [Sort]
+    ensures { result.now ≡ sorts_of (table kind) }
 {
-    if kind == FILE {
-        return FILE_ROWS;
+    match kind {
+        Sort::Index => &INDEX_SORTS,
+        Sort::Place => &PLACE_SORTS,
+        Sort::Root => &ROOT_SORTS,
+        Sort::Directory => &DIRECTORY_SORTS,
+        Sort::Contents => &CONTENTS_SORTS,
+        Sort::File => &FILE_SORTS,
+        Sort::ExtentInfo => &EXTENTINFO_SORTS,
+        Sort::Extent => &EXTENT_SORTS,
+        _ => &[],
     }
-    if kind == EXTENT {
-        return EXTENT_ROWS;
-    }
-    if kind == ROOT {
-        return ROOT_ROWS;
-    }
-    if kind == DIRECTORY {
-        return DIRECTORY_ROWS;
-    }
-    if kind == CONTENTS {
-        return CONTENTS_ROWS;
-    }
-    if kind == EXTENTINFO {
-        return EXTENTINFO_ROWS;
-    }
-    if kind == INDEX {
-        return INDEX_ROWS;
-    }
-    if kind == PLACE {
-        return PLACE_ROWS;
-    }
-    0
 }
 
 // The sort of the element of number j in an element of a kind.
-pub fn sort_in(kind: usize, j: usize) -> usize
+#[tactic(auto, unfolding(crate::specs::Tables::sort))]
+pub fn sort_in(kind: Sort, j: usize) -> Sort
     ensures { result ≡ sort kind j }
 {
-    if 11 < j {
-        return UNKNOWN;
-    }
-    (rows_of(kind) >> (5 * j)) % 32
+    sorts_of(kind).get(j).copied().unwrap_or(Sort::Unknown)
 }
 
 // How many of the elements in an element of a kind must be there.
-pub fn must_in(kind: usize) -> usize
+#[tactic(auto, unfolding(crate::specs::Tables::must, crate::specs::Rows::count_once, crate::specs::Tables::table, crate::specs::Tables::index_table, crate::specs::Tables::place_table, crate::specs::Tables::times, crate::specs::Tables::entry_table, crate::specs::Tables::of_directory, crate::specs::Tables::contents_table, crate::specs::Tables::of_file, crate::specs::Tables::extentinfo_table, crate::specs::Tables::extent_table))]
+pub fn must_in(kind: Sort) -> usize
     ensures { result ≡ must kind }
 {
-    rows_of(kind) >> 60
+    match kind {
+        Sort::Index => 8,
+        Sort::Place => 2,
+        Sort::Root | Sort::Directory | Sort::File => 9,
+        Sort::Extent => 5,
+        _ => 0,
+    }
 }
 
 // Whether elements of one name may come again in an element of a kind.
-pub fn may_repeat(kind: usize) -> bool
+#[tactic(auto, unfolding(crate::specs::Tables::repeats, crate::specs::Rows::some_any_number, crate::specs::Tables::table, crate::specs::Tables::index_table, crate::specs::Tables::place_table, crate::specs::Tables::times, crate::specs::Tables::entry_table, crate::specs::Tables::of_directory, crate::specs::Tables::contents_table, crate::specs::Tables::of_file, crate::specs::Tables::extentinfo_table, crate::specs::Tables::extent_table))]
+pub fn may_repeat(kind: Sort) -> bool
     ensures { result ≡ repeats kind }
 {
-    if kind == CONTENTS {
-        return true;
-    }
-    kind == EXTENTINFO
+    matches!(kind, Sort::Contents | Sort::ExtentInfo)
 }

@@ -15,6 +15,7 @@ use Rattle.elements.specs.TagSteps.{FirstOf}
 use Rattle.elements.proofs.ByTag.{no_tags}
 use Rattle.children.specs.RowSteps.{seat, tag_seat}
 use Rattle.children.proofs.Seats.{seat_none, seat_some, tag_none, tag_some}
+use Rattle.index_names.specs.declared.Sort.{Sort}
 use Rattle.index_names.specs.Names.{names, number_in}
 use Rattle.index_rows.specs.Steps.{first_by, noted, Placed, TagsPlaced}
 
@@ -35,7 +36,7 @@ noted_other i j n t e = go (ltb i 16 && eqb (get_or t i 0) 0)
     go false = refl
 
 -- an element has a name, and the one at a place stands alone there
-module _ {A : Type 0} (name : A → List ℕ) (alone : ℕ → Tree A) (empty : alone 0 ≡ none) (kind : ℕ) where
+module _ {A : Type 0} (name : A → List ℕ) (alone : ℕ → Tree A) (empty : alone 0 ≡ none) (kind : Sort) where
   -- the first element of number j: the one noted, or else the first in what is left of the row
   abbrev still : List ℕ → ℕ → Tree A → Tree A
   still t j f = cond (eqb (get_or t j 0) 0) (first_by name kind j f) (alone (get_or t j 0))
@@ -95,7 +96,7 @@ module _ {A : Type 0} (name : A → List ℕ) (alone : ℕ → Tree A) (empty : 
               ap (λ (x : ℕ). noted x n t) same ∙ ap (λ (b : Bool). cond b (set t j n) t) v in
               rw (y, z)
 
-module _ (s : List ℕ) (kind : ℕ) where
+module _ (s : List ℕ) (kind : Sort) where
   -- so far the places of the row at i are noted, and the row at m is left of it: by heads and by tags
   pub record Noting (i m : ℕ) (t : List ℕ) : Type 0 where
     pub heads : NotingBy (λ h. h.name) (seat s) (seat_none s 0 refl) kind (forest_at s i) (forest_at s m) t
@@ -127,7 +128,7 @@ module _ (s : List ℕ) (kind : ℕ) where
       (by_all (λ r. (tag_head r).name) (tag_seat s) (tag_none s 0 refl) kind f f (replicate 16 0) e (by_none (λ r. (tag_head r).name) (tag_seat s) (tag_none s 0 refl) kind f))
 
 -- an element of number i at n, before the row at k
-module _ (s : List ℕ) (kind i : ℕ) (t t' : List ℕ) {m n k : ℕ} (first : FirstOf s m n k) (en : i ≡ number_in (names kind) (head_at s n).name) (et : t' ≡ noted i n t) where
+module _ (s : List ℕ) (kind : Sort) (i : ℕ) (t t' : List ℕ) {m n k : ℕ} (first : FirstOf s m n k) (en : i ≡ number_in (names kind) (head_at s n).name) (et : t' ≡ noted i n t) where
   pub noting_more : (o : ℕ) → Noting s kind o m t → Noting s kind o k t'
   noting_more o w =
       let there : n ≡ 0 → ⊥ = λ e. omega (arith, first.place) in

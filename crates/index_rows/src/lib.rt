@@ -9,6 +9,7 @@ ghost use Rattle.children.specs.RowSteps.{seat};
 ghost use Rattle.index_rows.specs.Steps.{noted, Placed, TextSeated};
 
 use elements::{Next, Span};
+use index_names::Sort;
 
 // A part of a text that lies in it, so that nothing is tested for each element.
 pub fn lying(text: &[u8], span: Span) -> &[u8]
@@ -37,7 +38,7 @@ pub fn note(places: &mut [usize; 16], j: usize, at: usize)
 }
 
 // The row at at, in an element of a kind.
-pub fn read_row(text: &[u8], at: usize, kind: usize) -> RowPlaces
+pub fn read_row(text: &[u8], at: usize, kind: Sort) -> RowPlaces
     ensures { Placed text.now kind (forest_at text.now at) result.places × Behind text.now at result.at }
 {
     let mut i = at;

@@ -1,14 +1,18 @@
 -- Directories and files (01, Index).
-use Rattle.std.specs.Prelude.{Bool, cond, ◌||◌, List, [], ◌∷◌, ℕ, suc, eqb, Option, unwrap_or}
+use Rattle.std.specs.Prelude.{Bool, true, false, cond, List, [], ◌∷◌, ℕ, suc, Option, unwrap_or}
 use Rattle.slices.specs.Words.{bytes}
 use Rattle.values.specs.Values as values
 use Rattle.xml.specs.Tree.{Forest}
-use Rattle.index_names.specs.Sorts.{root, directory, file}
+use Rattle.index_names.specs.declared.Sort.{Sort}
+use Rattle.index_names.specs.declared.Sort.TheVariants.{Root, Directory, File}
 use Rattle.index_values.specs.Elements.{IndexElement, text_in}
 
 -- a directory, the root among them, or a file
-abbrev pub is_entry : ℕ → Bool
-is_entry s = eqb s root || eqb s directory || eqb s file
+abbrev pub is_entry : Sort → Bool
+is_entry Root = true
+is_entry Directory = true
+is_entry File = true
+is_entry _ = false
 
 -- what a text says as a number, 0 where it says none
 abbrev pub or_zero : Option ℕ → ℕ

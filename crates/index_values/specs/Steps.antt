@@ -11,7 +11,8 @@ use Rattle.extents.specs.Rows as numbers
 use Rattle.extents.specs.declared.Row.{Row}
 use Rattle.extents.specs.Map.{max_rows}
 use Rattle.index_rows.specs.Steps.{Placed}
-use Rattle.index_names.specs.Sorts.{file}
+use Rattle.index_names.specs.declared.Sort.{Sort}
+use Rattle.index_names.specs.declared.Sort.TheVariants.{File}
 use Rattle.index_values.specs.declared.tests.Partitions.{Partitions}
 use Rattle.index_values.specs.Elements.{text_in, children_in}
 use Rattle.index_values.specs.declared.tests.Judged.{Judged}
@@ -48,16 +49,16 @@ pub record RowsRead (rows : List Row) (out : List ℕ) (n : ℕ) : Type 0 where
   pub many : max_rows < n → max_rows < length rows
 
 -- the rows that are taken of an element of sort s: those that it has, if they are not too many
-unfoldable pub rows_taken : ℕ → Forest → List Row
+unfoldable pub rows_taken : Sort → Forest → List Row
 rows_taken s c = cond (few s c) (rows_held s c) []
 
 -- the two tests of the extents of an element of sort s with the children c, and the rows taken, which stand in the front of out
-pub record Tested (s : ℕ) (c : Forest) (v : Partitions) (out : List ℕ) (r : Judged) : Type 0 where
+pub record Tested (s : Sort) (c : Forest) (v : Partitions) (out : List ℕ) (r : Judged) : Type 0 where
   pub few : r.few ≡ few s c
   pub lawful : (u : List ℕ) → r.lawful ≡ lawful_file (given u v) s c
   pub count : r.count ≡ length (rows_taken s c)
   pub rows : take (r.count * 5) out ≡ numbers.numbers_of (rows_taken s c)
 
 -- of any element whose children stand at places t of the text x
-abbrev pub TestsExtents : List ℕ → List ℕ → ℕ → Partitions → List ℕ → Judged → Type 0
-TestsExtents x t s v out r = (c : Forest) → (s ≡ file → Placed x file c t) → Tested s c v out r
+abbrev pub TestsExtents : List ℕ → List ℕ → Sort → Partitions → List ℕ → Judged → Type 0
+TestsExtents x t s v out r = (c : Forest) → (s ≡ File → Placed x File c t) → Tested s c v out r

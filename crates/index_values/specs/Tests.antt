@@ -8,7 +8,9 @@ use Rattle.values.specs.Values as values
 use Rattle.extents.specs.declared.Row.{Row}
 use Rattle.extents.specs.Lawful as extents
 use Rattle.extents.specs.Map.{max_rows}
-use Rattle.index_names.specs.Sorts.{file, creator, uuid, generation, time, boolean_sort, number_sort, letter_sort, name, root_name, uid, root_uid}
+use Rattle.index_names.specs.declared.Sort.{Sort}
+use Rattle.index_names.specs.declared.Sort.TheVariants.{Creator, Uuid, Generation, Time, Boolean, Number, Letter, Name, RootName, Uid, RootUid}
+use Rattle.index_names.specs.Sorts.{is_file}
 use Rattle.index_values.specs.Elements.{text_in, children_in}
 use Rattle.index_values.specs.Entries.{or_zero, number_or_zero}
 
@@ -24,29 +26,29 @@ is_some None = false
 is_some (Some x) = true
 
 -- 6: the value of an element of sort s with that text. A fileuid is 1 in the root directory, else at least 2
-unfoldable pub valued : ℕ → List ℕ → Bool
-valued s t =
-    cond (eqb s time) (values.is_time t)
-    (cond (eqb s number_sort) (is_some (values.number t))
-    (cond (eqb s boolean_sort) (is_some (values.boolean t))
-    (cond (eqb s name) (values.is_name (decoded t))
-    (cond (eqb s uid) (leb 2 (number_or_zero t))
-    (cond (eqb s letter_sort) (is_some (values.letter t))
-    (cond (eqb s creator) (values.is_creator (decoded t))
-    (cond (eqb s uuid) (values.is_uuid t)
-    (cond (eqb s generation) (leb 1 (number_or_zero t))
-    (cond (eqb s root_name) (values.is_root_name (decoded t))
-    (cond (eqb s root_uid) (eqb (number_or_zero t) 1) true))))))))))
+unfoldable pub valued : Sort → List ℕ → Bool
+valued Time t = values.is_time t
+valued Number t = is_some (values.number t)
+valued Boolean t = is_some (values.boolean t)
+valued Name t = values.is_name (decoded t)
+valued Uid t = leb 2 (number_or_zero t)
+valued Letter t = is_some (values.letter t)
+valued Creator t = values.is_creator (decoded t)
+valued Uuid t = values.is_uuid t
+valued Generation t = leb 1 (number_or_zero t)
+valued RootName t = values.is_root_name (decoded t)
+valued RootUid t = eqb (number_or_zero t) 1
+valued _ t = true
 
 -- the letter that a text says, 0 where it says none
 abbrev pub letter_or_zero : List ℕ → ℕ
 letter_or_zero t = or_zero (values.letter t)
 
 -- 8: the volume's UUID, and letters of its two partitions
-unfoldable pub own : Given → ℕ → List ℕ → Bool
-own g s t =
-    cond (eqb s letter_sort) (eqb (letter_or_zero t) g.index_letter || eqb (letter_or_zero t) g.data_letter)
-    (cond (eqb s uuid) (values.same_uuid t g.uuid) true)
+unfoldable pub own : Given → Sort → List ℕ → Bool
+own g Letter t = eqb (letter_or_zero t) g.index_letter || eqb (letter_or_zero t) g.data_letter
+own g Uuid t = values.same_uuid t g.uuid
+own g _ t = true
 
 -- the row of an extent
 unfoldable pub row_of : Forest → Row
@@ -72,13 +74,13 @@ abbrev pub length_of : Forest → ℕ
 length_of c = number_or_zero (text_in (bytes "length") c)
 
 -- 15
-unfoldable pub few : ℕ → Forest → Bool
-few s c = not (eqb s file) || leb (length (extent_rows c)) max_rows
+unfoldable pub few : Sort → Forest → Bool
+few s c = not (is_file s) || leb (length (extent_rows c)) max_rows
 
 -- 11: a file's extents, not too many, are lawful for its length and the block size
-unfoldable pub lawful_file : Given → ℕ → Forest → Bool
-lawful_file g s c = not (eqb s file) || (few s c && extents.lawful (length_of c) g.block_size (extent_rows c))
+unfoldable pub lawful_file : Given → Sort → Forest → Bool
+lawful_file g s c = not (is_file s) || (few s c && extents.lawful (length_of c) g.block_size (extent_rows c))
 
 -- the rows of a file; any other element has none
-unfoldable pub rows_held : ℕ → Forest → List Row
-rows_held s c = cond (eqb s file) (extent_rows c) []
+unfoldable pub rows_held : Sort → Forest → List Row
+rows_held s c = cond (is_file s) (extent_rows c) []

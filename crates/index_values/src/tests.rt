@@ -16,10 +16,7 @@ ghost use Rattle.index_values.specs.Steps.{RowsRead, TestsExtents, given};
 
 use crate::rows;
 use elements::Next;
-use index_names::{
-    BOOLEAN, CREATOR, EXTENT, FILE, GENERATION, LETTER, NAME, NUMBER, ROOT_NAME, ROOT_UID, TIME,
-    UID, UUID,
-};
+use index_names::Sort;
 use quantities::ByteCount;
 
 // The label's letters, and the block size.
@@ -38,22 +35,22 @@ pub fn letter_said(raw: &[u8]) -> u8
 }
 
 // Whether the text of an element of a sort is a lawful value.
-#[tactic(auto, using(std::proofs::lemmas::Bool::Decides::nat_tests), unfolding(crate::specs::Tests::valued))]
-pub fn is_valued(sort: usize, raw: &[u8]) -> bool
+#[tactic(auto, unfolding(crate::specs::Tests::valued))]
+pub fn is_valued(sort: Sort, raw: &[u8]) -> bool
     ensures { result ≡ valued sort raw.now }
 {
     match sort {
-        TIME => values::is_time(raw),
-        NUMBER => values::read_number(raw).is_some(),
-        BOOLEAN => values::read_boolean(raw).is_some(),
-        NAME => values::is_name(raw),
-        UID => 2 <= rows::number_said(raw),
-        LETTER => values::read_letter(raw).is_some(),
-        CREATOR => values::is_creator(raw),
-        UUID => values::is_uuid(raw),
-        GENERATION => 1 <= rows::number_said(raw),
-        ROOT_NAME => values::is_root_name(raw),
-        ROOT_UID => rows::number_said(raw) == 1,
+        Sort::Time => values::is_time(raw),
+        Sort::Number => values::read_number(raw).is_some(),
+        Sort::Boolean => values::read_boolean(raw).is_some(),
+        Sort::Name => values::is_name(raw),
+        Sort::Uid => 2 <= rows::number_said(raw),
+        Sort::Letter => values::read_letter(raw).is_some(),
+        Sort::Creator => values::is_creator(raw),
+        Sort::Uuid => values::is_uuid(raw),
+        Sort::Generation => 1 <= rows::number_said(raw),
+        Sort::RootName => values::is_root_name(raw),
+        Sort::RootUid => rows::number_said(raw) == 1,
         _ => true,
     }
 }
@@ -66,13 +63,13 @@ fn is_own_letter(b: u8, volume: Partitions) -> bool
 }
 
 // Whether what the text of an element of a sort names is the volume's.
-#[tactic(auto, using(std::proofs::lemmas::Bool::Decides::nat_tests), unfolding(crate::specs::Tests::own))]
-pub fn is_own(uuid: &[u8], volume: Partitions, sort: usize, raw: &[u8]) -> bool
+#[tactic(auto, unfolding(crate::specs::Tests::own))]
+pub fn is_own(uuid: &[u8], volume: Partitions, sort: Sort, raw: &[u8]) -> bool
     ensures { result ≡ own (given uuid.now volume) sort raw.now }
 {
     match sort {
-        LETTER => is_own_letter(letter_said(raw), volume),
-        UUID => values::same_uuid(raw, uuid),
+        Sort::Letter => is_own_letter(letter_said(raw), volume),
+        Sort::Uuid => values::same_uuid(raw, uuid),
         _ => true,
     }
 }
@@ -96,7 +93,7 @@ fn put_row(text: &[u8], from: usize, out: &mut [u64], at: usize) -> usize
     requires { at + 5 ≤ length out.old }
     ensures { (out.new ≡ sets out.old at (five (row_of (forest_at text.now from)))) × Behind text.now from result }
 {
-    let row = index_rows::read_row(text, from, EXTENT);
+    let row = index_rows::read_row(text, from, Sort::Extent);
     let places = row.places;
     let letter = letter_said(index_rows::text_at(text, places[1]));
     tables::put(out, at, u64::from(letter));
@@ -156,18 +153,18 @@ pub fn judge(
     text: &[u8],
     places: &[usize; 16],
     out: &mut [u64; 5120],
-    sort: usize,
+    sort: Sort,
     volume: Partitions,
 ) -> Judged
     ensures { TestsExtents text.now places.now sort volume out.new result }
 {
-    if sort != FILE {
+    let Sort::File = sort else {
         return Judged {
             few: true,
             lawful: true,
             count: 0,
         };
-    }
+    };
     let count = read_rows(text, index_rows::row_at(text, places[9]), out);
     if 1024 < count {
         return Judged {

@@ -5,7 +5,7 @@ use Rattle.std.proofs.lemmas.Result.{err_from_is_err_and}
 use Rattle.xml.specs.Tree.{Forest}
 use Rattle.elements.specs.Tags.{tags_at}
 use Rattle.elements.specs.Reading.{forest_at}
-use Rattle.index_names.specs.Sorts.{index}
+use Rattle.index_names.specs.declared.Sort.TheVariants.{Index as index}
 use Rattle.index_values.specs.Elements.{elements}
 use Rattle.index.specs.Index.{stands_at, location_of}
 use Rattle.index.proofs.Surveying.{files_few}

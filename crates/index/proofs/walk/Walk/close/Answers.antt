@@ -3,6 +3,7 @@ use mathlib.Core.Path.{refl, ap, sym, ◌∙◌, subst}
 use Prim.Native.Nat.{ℕ, ◌*◌}
 use lib.ListN.{take}
 use Rattle.elements.specs.Tags.{heads}
+use Rattle.index_names.specs.declared.Sort.{Sort}
 use Rattle.index_rows.specs.Steps.{Placed}
 use Rattle.index_values.specs.Entries.{is_entry}
 use Rattle.index_values.specs.Steps.{rows_taken}
@@ -21,7 +22,7 @@ returns c =
       same = record { entry_table = refl; row_table = refl; entry_room = c.list_entry.auto.entry_table; row_room = c.keep_rows.auto.row_table };
       gathers = λ k placed tags.
           let f = heads k in
-          let v = c.judge-v.ensures f (λ q. subst (λ (j : ℕ). Placed s j f t) q (placed (ap is_entry q))) in
+          let v = c.judge-v.ensures f (λ q. subst (λ (j : Sort). Placed s j f t) q (placed (ap is_entry q))) in
           let l = rows_taken a.sort f in
           let o = w.row_table.now in
           closed_parts s (asked a.source) a.sort k a.parent a.prior w.sums _ _ _ _ w.uids.now _ w.entry_table.now _ o _
