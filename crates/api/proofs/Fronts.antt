@@ -1,7 +1,7 @@
 -- What is told with a refusal of a text's form, and of whose label.
-use Rattle.std.specs.Prelude.{Err}
+use Rattle.std.specs.Prelude.{Err, Ok}
 use mathlib.Core.Path.{◌≡◌, refl, sym, ap, ◌∙◌}
-use mathlib.Core.Bool.{false≢true}
+use mathlib.Core.Bool.{Bool, true, false, false≢true}
 use mathlib.Core.List.{List}
 use mathlib.Core.Logic.{◌⊎◌, inl, inr}
 use Prim.Native.Nat.{ℕ, suc}
@@ -11,10 +11,10 @@ use borrow.Author.Tests.{eq-eqb}
 use Rattle.refusals.specs.declared.Refusal.{Refusal}
 use Rattle.refusals.specs.declared.Refusal.TheVariants.{Form}
 use Rattle.refusals.specs.declared.Place.{Place}
-use Rattle.refusals.specs.Refusals.{Answer, number_of, place_of}
+use Rattle.refusals.specs.Refusals.{Answer, require, shown_number, number_of, place_of, left_at}
 use Rattle.refusals.proofs.Places.{Another, form_or_another}
 use Rattle.refusals.proofs.Refusing.{Refuses}
-use Rattle.xml.specs.CheckSteps.{front}
+use Rattle.xml.specs.CheckSteps.{in_form, front, require_form}
 use Rattle.xml.proofs.Form.{same_form, in_form_lem}
 use Rattle.xml.proofs.Checked.{OfText, leaves_form}
 use Rattle.labels.proofs.TextFronts.{OfLabels, Whose}
@@ -26,6 +26,14 @@ use Rattle.api.specs.Fronts.{TellsFront, WithFront, TellsSide, WithSide}
 -- another number than 4, where a refusal has it
 not_four : (r : Refusal) {k : ℕ} → Another r → k ≡ number_of r → k ≡ 4 → ⊥
 not_four r x h z = false≢true (sym x.0 ∙ eq-eqb (number_of r) 4 (sym h ∙ z))
+
+-- the number of a refusal of the form is the same whatever follows the check
+pub form_number : (s : List ℕ) {k : ℕ} → k ≡ shown_number (require_form s (Ok (tt {0}))) → k ≡ shown_number (require_form s (Ok s))
+form_number s {k} h = go (in_form s) h
+  where
+    go : (b : Bool) → k ≡ shown_number (require b (Form (left_at (front s))) (Ok (tt {0}))) → k ≡ shown_number (require b (Form (left_at (front s))) (Ok s))
+    go true h = h
+    go false h = h
 
 module _ {s : List ℕ} where
   pub no_front : TellsFront s 0 0

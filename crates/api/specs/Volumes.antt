@@ -3,6 +3,7 @@ use Rattle.refusals.specs.declared.Refusal.{Refusal}
 use Rattle.std.specs.Prelude.{◌≡◌, List, [], ◌∷◌, ℕ, get_or, None, Option, Result, Some}
 use Rattle.verdict.specs.Verdict.{Break, Cut}
 use Rattle.volume.specs.Volume.{verdict_in}
+use Rattle.volume.specs.declared.search.FoundCut.{FoundCut}
 use Rattle.volume.specs.Answers.{VerdictOwes, rescued, Rescues}
 use Rattle.api.specs.Outputs.{Shown}
 use Rattle.api.specs.Fronts.{WithSide}

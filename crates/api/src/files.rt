@@ -1,5 +1,6 @@
 // Texts, and the bytes of files.
-ghost use Rattle.std.specs.Prelude.{◌≡◌};
+ghost use Rattle.std.specs.Prelude.{◌≡◌, Ok};
+ghost use Rattle.xml.specs.CheckSteps.{require_form};
 ghost use Rattle.extents.specs.Map.{byte_map};
 ghost use Rattle.api.specs.Outputs.{Shown};
 ghost use Rattle.api.specs.Files.{byte_place, ChecksForm};
@@ -9,17 +10,27 @@ use extents::Stored;
 use quantities::ByteCount;
 use refusals::Refusal;
 
+// What the check of the XML form answers.
+fn form(text: &[u8]) -> Result<(), Refusal>
+    ensures { result ≡ require_form text.now (Ok tt) }
+{
+    xml::check(text)?;
+    Ok(())
+}
+
+// What goes with a text in the form.
+fn no_front(_: ()) -> u64
+    ensures { result ≡ 0 }
+{
+    0
+}
+
 // Whether a text is in the XML form.
 #[unsafe(no_mangle)]
 pub extern "C" fn klapouzen_check_form(text: &[u8], front: &mut u64) -> u64
     ensures { ChecksForm text.now result front.new }
 {
-    outputs::tell(
-        xml::check(text).map_err(Refusal::from),
-        |()| 0,
-        outputs::front,
-        front,
-    )
+    outputs::tell(form(text), no_front, outputs::front, front)
 }
 
 // Whether the byte is stored; its letter, its block, and where in the block.

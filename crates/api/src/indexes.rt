@@ -2,7 +2,7 @@
 ghost use Rattle.std.specs.Prelude.{◌≡◌};
 ghost use Rattle.index.specs.Steps.{back_of};
 ghost use Rattle.api.specs.Indexes.{back_numbers, ReadsIndexOut, ReadsFileOut, FillsRows, ReadsWholeOut, ReadsConstructOut};
-ghost use Rattle.api.specs.Steps.{header_numbers, construct_numbers, Counts};
+ghost use Rattle.api.specs.Steps.{header_numbers, construct_numbers, head_numbers};
 
 use crate::outputs;
 use index::{Header, Location};
@@ -132,8 +132,8 @@ pub extern "C" fn klapouzen_read_rows(
         block_size,
     };
     let filled = index_files::rows(text, uuid, volume, letter, BlockNumber(block), file, rows);
-    *place = filled.err().map_or(0, outputs::front);
-    outputs::tell(filled, |n| n, |_| 0, count)
+    *place = outputs::front_of(&filled);
+    outputs::tell_number(filled, count)
 }
 
 // All of an index's text: its header, nine numbers of each entry into the front of entries, and five of each row into the front of rows.

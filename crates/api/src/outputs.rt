@@ -1,6 +1,6 @@
 // What a function tells in its outputs, and the number that it returns.
 ghost use Rattle.std.specs.Prelude.{◌≡◌, ◌-◌, ◌≤◌, ◌++◌, ◌∷◌, [], replicate, MatchResult};
-ghost use Rattle.refusals.specs.Refusals.{number_of, place_of};
+ghost use Rattle.refusals.specs.Refusals.{number_of, place_of, shown_place};
 ghost use Rattle.api.specs.Outputs.{bit, one, Shown};
 
 use refusals::Refusal;
@@ -36,6 +36,13 @@ pub(crate) fn tell_count(answer: Result<usize, Refusal>, count: &mut u64) -> u64
     tell(answer, |n| n as u64, |_| 0, count)
 }
 
+// A number, 0 where refused.
+pub(crate) fn tell_number(answer: Result<u64, Refusal>, number: &mut u64) -> u64
+    ensures { Shown 1 one answer result (one number.new) }
+{
+    tell(answer, |n| n, |_| 0, number)
+}
+
 // Zeros, where nothing goes with a refusal.
 pub(crate) fn zeros<const N: usize>(_: Refusal) -> [u64; N]
     ensures { result ≡ replicate N 0 }
@@ -48,6 +55,16 @@ pub(crate) fn front(refusal: Refusal) -> u64
     ensures { result ≡ (place_of refusal).front }
 {
     refusals::place_told(refusal).front as u64
+}
+
+// The front that goes with an answer: 0 where nothing is refused.
+pub(crate) fn front_of(answer: &Result<u64, Refusal>) -> u64
+    ensures { result ≡ (shown_place answer.now).front }
+{
+    match answer {
+        Ok(_) => 0,
+        Err(refusal) => front(*refusal),
+    }
 }
 
 // Zeros, and behind them the front.
