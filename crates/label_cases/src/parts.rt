@@ -24,13 +24,13 @@ pub fn number_case(file: &mut File) -> bool {
     }
 }
 
-// Whether the next 16 numbers of a file are the seats.
-fn seats_as(file: &mut File, seats: &[usize; 16]) -> bool {
-    let mut good = true;
-    for seat in seats {
-        good &= case_files::number(file) as usize == *seat;
+// The next 16 numbers of a file.
+fn seats_of(file: &mut File) -> [usize; 16] {
+    let mut seats = [0usize; 16];
+    for seat in &mut seats {
+        *seat = case_files::number(file) as usize;
     }
-    good
+    seats
 }
 
 // A text, a place in it, a table of rules and how many of them are required; whether the row there is lawful, and where each child stands.
@@ -42,7 +42,9 @@ pub fn row_case(file: &mut File) -> bool {
     let t = case_files::bytes(file, &mut table);
     let must = case_files::number(file) as usize;
     let lawful = case_files::number(file);
-    let row = children::read_row(&text[..n], at, &table[..t], must);
-    let seated = seats_as(file, &row.seats);
-    u64::from(row.ok) == lawful && (lawful == 0 || seated)
+    let seats = seats_of(file);
+    match children::read_row(&text[..n], at, &table[..t], must) {
+        Some(found) => lawful == 1 && found == seats,
+        None => lawful == 0,
+    }
 }
