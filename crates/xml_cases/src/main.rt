@@ -5,58 +5,17 @@
 mod lines;
 mod tally;
 
-use lines::Made;
 use std::rt::Files;
 use std::{fs, io};
-use tally::{Tally, judge, none, report};
-
-// The head of a group, whose name begins at its third byte.
-fn begin(rt: &impl Print, tally: Tally, line: &[u8]) -> io::Result<Tally> {
-    report(rt, tally)?;
-    if 2 <= line.len() {
-        rt.write_all(&line[2..])?;
-    }
-    Ok(none(true))
-}
-
-// The text that a case's line made.
-fn judge_made(
-    rt: &impl Print,
-    tally: Tally,
-    kind: u8,
-    text: &[u8],
-    made: Made,
-) -> io::Result<Tally> {
-    let end = made.end;
-    if end <= text.len() {
-        judge(rt, tally, kind, &text[..end], made.left)
-    } else {
-        Ok(tally)
-    }
-}
-
-// A line of a file: the head of a group, or a case.
-fn run_line(rt: &impl Print, tally: Tally, line: &[u8]) -> io::Result<Tally> {
-    let kind = lines::byte(line, 0);
-    if kind == b'#' {
-        return begin(rt, tally, line);
-    }
-    let mut text = [0u8; 8192];
-    let start = lines::start(kind, &mut text);
-    let made = lines::decode(line, 2, &mut text, start);
-    judge_made(rt, tally, kind, &text[..], made)
-}
+use tally::Judge;
 
 // The lines of a file.
 fn run_lines(rt: &impl Print, file: &[u8]) -> io::Result<()> {
-    let mut tally = none(false);
-    let mut at: usize = 0;
-    while at < file.len() {
-        let end = lines::end(file, at);
-        tally = run_line(rt, tally, &file[at..end])?;
-        at = end + 1;
+    let mut judge = Judge::new(rt);
+    for line in file.split_inclusive(|b| *b == b'\n') {
+        judge.line(line.strip_suffix(b"\n").unwrap_or(line))?;
     }
-    report(rt, tally)
+    judge.report()
 }
 
 // The file with this name. Where it cannot be opened, the error is printed too, behind that name.
@@ -68,7 +27,7 @@ fn run(rt: &(impl Files + Print + Eprint), path: &str) -> io::Result<()> {
             return Err(e);
         }
     };
-    let mut room = lines::room();
+    let mut room = [0u8; 262144];
     let n = case_files::read_full(&mut file, &mut room);
     run_lines(rt, &room[..n])
 }

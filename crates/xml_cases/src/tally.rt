@@ -1,45 +1,36 @@
-// The cases of a group: how many gave what they must.
-use std::io;
+// The cases of a file, judged, and for each group how many gave what they must.
+use crate::lines::{Expected, Line, Text};
+use std::{fmt, io};
 
-// Whether a group has begun; its texts in the form, and those that are not.
+// What a text gave that gave what it must.
 #[derive(Clone, Copy)]
-pub(crate) struct Tally {
-    begun: bool,
-    good: u64,
+enum Given {
+    InForm,
+    Refused,
+}
+
+// How many cases of a group gave what they must.
+#[derive(Clone, Copy, Default)]
+struct Tally {
+    in_form: u64,
     refused: u64,
 }
 
-pub(crate) fn none(begun: bool) -> Tally {
-    Tally {
-        begun,
-        good: 0,
-        refused: 0,
+impl Tally {
+    fn count(&mut self, given: Given) {
+        match given {
+            Given::InForm => self.in_form = self.in_form.wrapping_add(1),
+            Given::Refused => self.refused = self.refused.wrapping_add(1),
+        }
     }
 }
 
-fn one_good(tally: Tally) -> Tally {
-    let good = std::num::wrapping_add_u64(tally.good, 1);
-    Tally {
-        begun: tally.begun,
-        good,
-        refused: tally.refused,
+impl fmt::Display for Tally {
+    fn fmt<W: fmt::Write>(&self, f: &mut fmt::Formatter<W>) -> fmt::Result {
+        let in_form = self.in_form;
+        let refused = self.refused;
+        write!(f, "{in_form} in the form, {refused} refused")
     }
-}
-
-fn one_refused(tally: Tally) -> Tally {
-    let refused = std::num::wrapping_add_u64(tally.refused, 1);
-    Tally {
-        begun: tally.begun,
-        good: tally.good,
-        refused,
-    }
-}
-
-// A case that gave something else.
-fn say(rt: &impl Print, what: &[u8], text: &[u8]) -> io::Result<()> {
-    rt.write_all(b"\n  ")?;
-    rt.write_all(what)?;
-    rt.write_all(text)
 }
 
 // Whether the text is in the form, or can still be: all of it begins a text in the form.
@@ -52,84 +43,73 @@ fn fits(text: &[u8]) -> bool {
 
 // Whether each front of the text can still be in the form.
 fn fronts_fit(text: &[u8]) -> bool {
-    let mut k: usize = 0;
-    while k < text.len() {
-        if !fits(&text[..k]) {
-            return false;
-        }
-        k += 1;
-    }
-    true
+    (0..text.len()).all(|k| fits(&text[..k]))
 }
 
-// A text in the form.
-fn in_form(rt: &impl Print, tally: Tally, text: &[u8]) -> io::Result<Tally> {
-    match xml::check(text) {
-        Ok(()) => Ok(one_good(tally)),
-        Err(_) => {
-            say(rt, b"refused: ", text)?;
-            Ok(tally)
-        }
+// What the text gives; where it is something else than it must, the words for that.
+fn judged(expected: Expected, text: &Text) -> Result<Given, &'static str> {
+    match (expected, xml::check(text.as_slice())) {
+        (Expected::InFormByFronts | Expected::InForm, Ok(())) => Ok(Given::InForm),
+        (Expected::InFormByFronts | Expected::InForm, Err(_)) => Err("refused"),
+        (Expected::NotInForm | Expected::LeavesAtMark, Ok(())) => Err("in the form"),
+        (Expected::NotInForm, Err(_)) => Ok(Given::Refused),
+        (Expected::LeavesAtMark, Err(e)) if e.front == text.mark => Ok(Given::Refused),
+        (Expected::LeavesAtMark, Err(_)) => Err("refused elsewhere"),
     }
 }
 
-// A text that is not in the form.
-fn not_in_form(rt: &impl Print, tally: Tally, text: &[u8]) -> io::Result<Tally> {
-    match xml::check(text) {
-        Ok(()) => {
-            say(rt, b"in the form: ", text)?;
-            Ok(tally)
-        }
-        Err(_) => Ok(one_refused(tally)),
-    }
+// Judges the cases of a file line by line. Those before its first group are not counted.
+#[derive(Drop)]
+pub(crate) struct Judge<'a, R: Print> {
+    rt: &'a R,
+    tally: Option<Tally>,
 }
 
-// A text that leaves the form where so many bytes are left.
-fn leaves(rt: &impl Print, tally: Tally, text: &[u8], left: usize) -> io::Result<Tally> {
-    match xml::check(text) {
-        Ok(()) => {
-            say(rt, b"in the form: ", text)?;
-            Ok(tally)
+impl<'a, R: Print> Judge<'a, R> {
+    pub(crate) fn new(rt: &'a R) -> Judge<'a, R> {
+        Judge { rt, tally: None }
+    }
+
+    // The head of a group, or a case.
+    pub(crate) fn line(&mut self, line: &[u8]) -> io::Result<()> {
+        match Line::from(line) {
+            Line::Group(name) => self.begin(name),
+            Line::Case(expected, text) => self.case(expected, &text),
         }
-        Err(e) => {
-            if std::num::wrapping_sub_usize(text.len(), e.front) == left {
-                return Ok(one_refused(tally));
+    }
+
+    fn begin(&mut self, name: &[u8]) -> io::Result<()> {
+        self.report()?;
+        self.tally = Some(Tally::default());
+        self.rt.write_all(name)
+    }
+
+    fn case(&mut self, expected: Expected, text: &Text) -> io::Result<()> {
+        if matches!(expected, Expected::InFormByFronts) && !fronts_fit(text.as_slice()) {
+            self.say("a front refused", text)?;
+        }
+        match judged(expected, text) {
+            Ok(given) => {
+                if let Some(tally) = &mut self.tally {
+                    tally.count(given);
+                }
+                Ok(())
             }
-            say(rt, b"refused elsewhere: ", text)?;
-            Ok(tally)
+            Err(what) => self.say(what, text),
         }
     }
-}
 
-// A case of this kind.
-pub(crate) fn judge(
-    rt: &impl Print,
-    tally: Tally,
-    kind: u8,
-    text: &[u8],
-    left: usize,
-) -> io::Result<Tally> {
-    if kind == b'+' {
-        if !fronts_fit(text) {
-            say(rt, b"a front refused: ", text)?;
+    // A case that gave something else.
+    fn say(&self, what: &str, text: &Text) -> io::Result<()> {
+        print!(self.rt; "\n  {what}: ")?;
+        self.rt.write_all(text.as_slice())
+    }
+
+    // The end of a group's line.
+    pub(crate) fn report(&self) -> io::Result<()> {
+        match self.tally {
+            Some(tally) => println!(self.rt; ": {tally}"),
+            None => Ok(()),
         }
-        return in_form(rt, tally, text);
     }
-    if kind == b'=' {
-        return in_form(rt, tally, text);
-    }
-    if kind == b'!' {
-        return not_in_form(rt, tally, text);
-    }
-    leaves(rt, tally, text, left)
-}
-
-// The end of a group's line.
-pub(crate) fn report(rt: &impl Print, tally: Tally) -> io::Result<()> {
-    if !tally.begun {
-        return Ok(());
-    }
-    let good = tally.good;
-    let refused = tally.refused;
-    println!(rt; ": {good} in the form, {refused} refused")
 }

@@ -1,7 +1,0 @@
--- `room` has its length.
-use Rattle.std.proofs.Common.{ℕ, sym}
-use lib.ListN.{length-replicate}
-use Rattle.xml_cases.proofs.lines.room.Goals as goal
-
-pub returns : goal.returns
-returns c = sym (length-replicate {A = ℕ} 262144 0)
