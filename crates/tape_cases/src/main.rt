@@ -19,6 +19,49 @@ fn check_case(file: &mut File) -> bool {
     }
 }
 
+// A block list and its store.
+#[derive(Clone, Copy)]
+struct Tape<'a> {
+    list: &'a [u8],
+    store: &'a [u8],
+}
+
+impl<'a> Tape<'a> {
+    // What is kept of the first n elements.
+    fn kept(self, n: usize) -> Tape<'a> {
+        let mut told: u64 = 99;
+        Tape {
+            list: tape::kept_list(self.list, self.store, n, &mut told),
+            store: tape::kept_store(self.list, self.store, n, &mut told),
+        }
+    }
+
+    // Whether keeping n elements tells this refusal each time, and answers these fronts.
+    fn keeps(self, n: usize, refusal: u64, fronts: Tape<'_>) -> bool {
+        let mut of_list: u64 = 99;
+        let mut of_store: u64 = 99;
+        tape::kept_list(self.list, self.store, n, &mut of_list) == fronts.list
+            && of_list == refusal
+            && tape::kept_store(self.list, self.store, n, &mut of_store) == fronts.store
+            && of_store == refusal
+    }
+
+    // Whether the lengths of the fronts are told so.
+    fn keeps_lengths(self, n: usize, refusal: u64, fronts: Tape<'_>) -> bool {
+        match tape::keep(self.list, self.store, n) {
+            Ok(front) => {
+                refusal == 0 && front.list == fronts.list.len() && front.store == fronts.store.len()
+            }
+            Err(r) => u64::from(r) == refusal,
+        }
+    }
+
+    // Whether the fronts are the same where more elements are kept first, and where more are kept of the fronts.
+    fn keeps_through(self, more: usize, n: usize, fronts: Tape<'_>) -> bool {
+        self.kept(more).keeps(n, 0, fronts) && fronts.keeps(more, 0, fronts)
+    }
+}
+
 // A list, a store and a number of elements; the refusal and the two fronts expected.
 fn keep_case(file: &mut File) -> bool {
     let mut list = [0u8; 4096];
@@ -31,56 +74,19 @@ fn keep_case(file: &mut File) -> bool {
     let a = case_files::bytes(file, &mut list_front);
     let mut store_front = [0u8; 24576];
     let b = case_files::bytes(file, &mut store_front);
-    let (list, store) = (&list[..l], &store[..s]);
-    let (list_front, store_front) = (&list_front[..a], &store_front[..b]);
-    lengths_as(list, store, n, refusal, a, b)
-        && fronts_as(list, store, n, refusal, list_front, store_front)
-        && (refusal != 0 || twice_as(list, store, n, list_front, store_front))
-}
-
-fn fronts_as(
-    list: &[u8],
-    store: &[u8],
-    n: usize,
-    refusal: u64,
-    list_front: &[u8],
-    store_front: &[u8],
-) -> bool {
-    let mut of_list: u64 = 99;
-    let mut of_store: u64 = 99;
-    tape::kept_list(list, store, n, &mut of_list) == list_front
-        && of_list == refusal
-        && tape::kept_store(list, store, n, &mut of_store) == store_front
-        && of_store == refusal
-}
-
-// The same fronts where more elements are kept first, and where more are kept of the fronts.
-fn twice_as(list: &[u8], store: &[u8], n: usize, list_front: &[u8], store_front: &[u8]) -> bool {
+    let tape = Tape {
+        list: &list[..l],
+        store: &store[..s],
+    };
+    let fronts = Tape {
+        list: &list_front[..a],
+        store: &store_front[..b],
+    };
     let more = if n < 65536 { n + 1 } else { n };
-    through_as(list, store, usize::MAX, n, list_front, store_front)
-        && through_as(list, store, more, n, list_front, store_front)
-}
-
-fn through_as(
-    list: &[u8],
-    store: &[u8],
-    more: usize,
-    n: usize,
-    list_front: &[u8],
-    store_front: &[u8],
-) -> bool {
-    let mut told: u64 = 99;
-    let l = tape::kept_list(list, store, more, &mut told);
-    let s = tape::kept_store(list, store, more, &mut told);
-    fronts_as(l, s, n, 0, list_front, store_front)
-        && fronts_as(list_front, store_front, more, 0, list_front, store_front)
-}
-
-fn lengths_as(list: &[u8], store: &[u8], n: usize, refusal: u64, a: usize, b: usize) -> bool {
-    match tape::keep(list, store, n) {
-        Ok(front) => refusal == 0 && front.list == a && front.store == b,
-        Err(r) => u64::from(r) == refusal,
-    }
+    tape.keeps_lengths(n, refusal, fronts)
+        && tape.keeps(n, refusal, fronts)
+        && (refusal != 0
+            || (tape.keeps_through(usize::MAX, n, fronts) && tape.keeps_through(more, n, fronts)))
 }
 
 // Two lists with their stores, three letters and a number; the refusal and the bytes expected.
