@@ -4,20 +4,11 @@
 // with a point ends a tree.
 #![tactic(auto)]
 
-ghost use Rattle.std.specs.Prelude.{◌≡◌, length};
-
 use elements::Tag;
 use std::io;
 
 fn put(rt: &impl Print, s: &[u8]) -> io::Result<()> {
     rt.write_all(s)
-}
-
-// An index's text may be as long.
-fn room() -> [u8; 1048576]
-    ensures { 1048576 ≡ length result }
-{
-    [0u8; 1048576]
 }
 
 // A text with references, decoded.
@@ -85,7 +76,8 @@ fn put_tree(rt: &impl Print, text: &[u8]) -> io::Result<()> {
 }
 
 fn main(rt: HostRuntime) -> io::Result<()> {
-    let mut text = room();
+    // An index's text may be as long.
+    let mut text = [0u8; 1048576];
     for _ in 0..u64::MAX {
         let n = case_files::bytes(&mut rt.stdin(), &mut text);
         if n == 0 {
