@@ -28,14 +28,35 @@ fn numbers_as(f: LabelFields, release: u64, g: Given) -> bool {
         && f.compression == g.compression
 }
 
-// Whether a text reads as the values expected.
-fn says(text: &[u8], release: u64, creator: &[u8], time: &[u8], uuid: &[u8], g: Given) -> bool {
-    label::read(text).is_ok_and(|f| {
-        means(part(text, f.creator), creator)
-            && part(text, f.time) == time
-            && part(text, f.uuid) == uuid
-            && numbers_as(f, release, g)
-    })
+// What a label says, or is to say.
+#[derive(Clone, Copy)]
+struct Fields<'a> {
+    creator: &'a [u8],
+    time: &'a [u8],
+    uuid: &'a [u8],
+    given: Given,
+}
+
+impl<'a> Fields<'a> {
+    // Whether a text reads as a label of version 2.0.R that says these.
+    fn are_read(self, text: &[u8], release: u64) -> bool {
+        label::read(text).is_ok_and(|f| {
+            means(part(text, f.creator), self.creator)
+                && part(text, f.time) == self.time
+                && part(text, f.uuid) == self.uuid
+                && numbers_as(f, release, self.given)
+        })
+    }
+
+    // Whether a label is written to out as expected, and reads back, version 2.0.1; out is compared whole.
+    fn are_written(self, out: &mut [u8], refusal: u64, after: &[u8]) -> bool {
+        let written = label_writer::write(out, self.creator, self.time, self.uuid, self.given);
+        let as_expected = match written {
+            Ok(n) => refusal == 0 && out.get(..n).is_some_and(|text| self.are_read(text, 1)),
+            Err(r) => u64::from(r) == refusal,
+        };
+        as_expected && &*out == after
+    }
 }
 
 fn is_refused(text: &[u8], refusal: u64) -> bool {
@@ -74,41 +95,17 @@ pub fn read_case(file: &mut File) -> bool {
     let t = case_files::bytes(file, &mut time);
     let mut uuid = [0u8; 64];
     let u = case_files::bytes(file, &mut uuid);
-    let g = given(file);
-    if refusal != 0 {
-        return is_refused(&text[..n], refusal);
-    }
-    says(
-        &text[..n],
-        release,
-        &creator[..c],
-        &time[..t],
-        &uuid[..u],
-        g,
-    )
-}
-
-// Whether the first n bytes read as the values that were given, version 2.0.1.
-fn reads_back(out: &[u8], n: usize, creator: &[u8], time: &[u8], uuid: &[u8], g: Given) -> bool {
-    out.get(..n)
-        .is_some_and(|text| says(text, 1, creator, time, uuid, g))
-}
-
-// Whether a label is written to out as expected, and reads back; out is compared whole.
-fn written_as(
-    out: &mut [u8],
-    creator: &[u8],
-    time: &[u8],
-    uuid: &[u8],
-    g: Given,
-    refusal: u64,
-    after: &[u8],
-) -> bool {
-    let as_expected = match label_writer::write(out, creator, time, uuid, g) {
-        Ok(n) => refusal == 0 && reads_back(out, n, creator, time, uuid, g),
-        Err(r) => u64::from(r) == refusal,
+    let fields = Fields {
+        creator: &creator[..c],
+        time: &time[..t],
+        uuid: &uuid[..u],
+        given: given(file),
     };
-    as_expected && &*out == after
+    if refusal == 0 {
+        fields.are_read(&text[..n], release)
+    } else {
+        is_refused(&text[..n], refusal)
+    }
 }
 
 // The fields of a label and a buffer; the refusal and the buffer's content expected.
@@ -119,41 +116,53 @@ pub fn write_case(file: &mut File) -> bool {
     let t = case_files::bytes(file, &mut time);
     let mut uuid = [0u8; 64];
     let u = case_files::bytes(file, &mut uuid);
-    let g = given(file);
+    let fields = Fields {
+        creator: &creator[..c],
+        time: &time[..t],
+        uuid: &uuid[..u],
+        given: given(file),
+    };
     let mut out = [0u8; 4096];
     let b = case_files::bytes(file, &mut out);
     let refusal = case_files::number(file);
     let mut after = [0u8; 4096];
     let a = case_files::bytes(file, &mut after);
-    written_as(
-        &mut out[..b],
-        &creator[..c],
-        &time[..t],
-        &uuid[..u],
-        g,
-        refusal,
-        &after[..a],
-    )
+    fields.are_written(&mut out[..b], refusal, &after[..a])
 }
 
-// Whether the labels agree; no where one of the texts is no label.
-fn agree(v: &[u8], s: &[u8], w: &[u8], t: &[u8]) -> bool {
-    match (label::read(s), label::read(t)) {
-        (Ok(f), Ok(g)) => label::labels_agree(v, s, f, w, t, g),
+// A side's VOL1 and the text of its label.
+#[derive(Clone, Copy)]
+struct Side<'a> {
+    vol1: &'a [u8],
+    text: &'a [u8],
+}
+
+// Whether the labels of two sides agree; no where one of the texts is no label.
+fn agree(index: Side<'_>, data: Side<'_>) -> bool {
+    match (label::read(index.text), label::read(data.text)) {
+        (Ok(f), Ok(g)) => label::labels_agree(index.vol1, index.text, f, data.vol1, data.text, g),
         _ => false,
     }
 }
 
 // VOL1 and label text of the index side, and of the data side; whether they agree.
 pub fn agreement_case(file: &mut File) -> bool {
-    let mut v = [0u8; 128];
-    let a = case_files::bytes(file, &mut v);
-    let mut s = [0u8; 4096];
-    let b = case_files::bytes(file, &mut s);
-    let mut w = [0u8; 128];
-    let c = case_files::bytes(file, &mut w);
-    let mut t = [0u8; 4096];
-    let d = case_files::bytes(file, &mut t);
+    let mut index_vol1 = [0u8; 128];
+    let iv = case_files::bytes(file, &mut index_vol1);
+    let mut index_text = [0u8; 4096];
+    let it = case_files::bytes(file, &mut index_text);
+    let mut data_vol1 = [0u8; 128];
+    let dv = case_files::bytes(file, &mut data_vol1);
+    let mut data_text = [0u8; 4096];
+    let dt = case_files::bytes(file, &mut data_text);
     let expected = case_files::number(file);
-    u64::from(agree(&v[..a], &s[..b], &w[..c], &t[..d])) == expected
+    let index = Side {
+        vol1: &index_vol1[..iv],
+        text: &index_text[..it],
+    };
+    let data = Side {
+        vol1: &data_vol1[..dv],
+        text: &data_text[..dt],
+    };
+    u64::from(agree(index, data)) == expected
 }
