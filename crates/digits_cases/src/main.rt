@@ -39,25 +39,30 @@ fn show_hex(rt: &impl Print) -> io::Result<()> {
 }
 
 fn main(rt: HostRuntime) -> io::Result<()> {
-    show_read(&rt, b"0")?;
-    show_read(&rt, b"7")?;
-    show_read(&rt, b"10")?;
-    show_read(&rt, b"1024")?;
-    show_read(&rt, b"999999999999")?;
-    show_read(&rt, b"18446744073709551615")?;
-    show_read(&rt, b"18446744073709551616")?;
-    show_read(&rt, b"18446744073709551620")?;
-    show_read(&rt, b"99999999999999999999")?;
-    show_read(&rt, b"100000000000000000000")?;
-    show_read(&rt, b"007")?;
-    show_read(&rt, b"00")?;
-    show_read(&rt, b"")?;
-    show_read(&rt, b" 7")?;
-    show_read(&rt, b"7 ")?;
-    show_read(&rt, b"+7")?;
-    show_read(&rt, b"-7")?;
-    show_read(&rt, b"7/")?;
-    show_read(&rt, b"7:")?;
+    let texts: [&[u8]; 19] = [
+        b"0",
+        b"7",
+        b"10",
+        b"1024",
+        b"999999999999",
+        b"18446744073709551615",
+        b"18446744073709551616",
+        b"18446744073709551620",
+        b"99999999999999999999",
+        b"100000000000000000000",
+        b"007",
+        b"00",
+        b"",
+        b" 7",
+        b"7 ",
+        b"+7",
+        b"-7",
+        b"7/",
+        b"7:",
+    ];
+    for text in texts {
+        show_read(&rt, text)?;
+    }
     show_written(&rt, 0, 23)?;
     show_written(&rt, 0, 24)?;
     show_written(&rt, 12345, 19)?;

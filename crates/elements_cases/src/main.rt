@@ -13,11 +13,6 @@ fn line(rt: &impl Print, s: &[u8]) -> io::Result<()> {
     put(rt, b"\n")
 }
 
-fn number(rt: &impl Print, n: usize) -> io::Result<()> {
-    put(rt, b" ")?;
-    rt.print(n)
-}
-
 fn indent(rt: &impl Print, depth: usize) -> io::Result<()> {
     for _ in 0..depth {
         put(rt, b"  ")?;
@@ -115,22 +110,16 @@ fn tags(text: &[u8], at: usize) -> usize {
     }
 }
 
-// What the element at n has in all: the bytes of its name, attribute and text.
-fn said(rt: &impl Print, text: &[u8], n: usize) -> io::Result<()> {
-    number(rt, elements::name_of(text, n).len())?;
-    number(rt, elements::key_of(text, n).len())?;
-    number(rt, elements::value_of(text, n).len())?;
-    number(rt, elements::text_of(text, n).len())
-}
-
-// The front of a text: its tags, where its first element is left, and what that says.
+// The front of a text: its tags, where its first element is left, and the bytes of what that says: its name, attribute and text.
 fn front(rt: &impl Print, part: &[u8]) -> io::Result<()> {
-    number(rt, part.len())?;
-    put(rt, b":")?;
-    number(rt, tags(part, 0))?;
-    number(rt, elements::leave(part, 1))?;
-    said(rt, part, 1)?;
-    line(rt, b"")
+    let len = part.len();
+    let tags = tags(part, 0);
+    let end = elements::leave(part, 1);
+    let name = elements::name_of(part, 1).len();
+    let key = elements::key_of(part, 1).len();
+    let value = elements::value_of(part, 1).len();
+    let text = elements::text_of(part, 1).len();
+    println!(rt; " {len}: {tags} {end} {name} {key} {value} {text}")
 }
 
 // The same for each front of a text.
@@ -146,20 +135,16 @@ fn show_decoded(rt: &impl Print, raw: &[u8]) -> io::Result<()> {
     let mut out = [b'.'; 16];
     put(rt, raw)?;
     put(rt, b" = ")?;
-    match texts::decode(raw, &mut out, 2) {
-        Ok(end) => {
-            put(rt, &out)?;
-            number(rt, end)?;
-        }
-        Err(_) => {
-            put(rt, &out)?;
-            put(rt, b" refused")?;
-        }
+    let decoded = texts::decode(raw, &mut out, 2);
+    put(rt, &out)?;
+    match decoded {
+        Ok(end) => print!(rt; " {end}")?,
+        Err(_) => put(rt, b" refused")?,
     }
-    number(rt, texts::decoded_len(raw))?;
-    number(rt, texts::code_points(raw))?;
-    number(rt, usize::from(texts::decoded_byte(raw, 1)))?;
-    line(rt, b"")
+    let len = texts::decoded_len(raw);
+    let points = texts::code_points(raw);
+    let second = texts::decoded_byte(raw, 1);
+    println!(rt; " {len} {points} {second}")
 }
 
 fn show_same(rt: &impl Print, a: &[u8], b: &[u8]) -> io::Result<()> {
