@@ -6,6 +6,8 @@ ghost use Rattle.slices.specs.Slices.{written};
 ghost use Rattle.texts.specs.Decoded.{decoded};
 ghost use Rattle.paths.specs.Paths.{entry_count, parent_of, name_of, is_placed, path_down, path_for};
 ghost use Rattle.paths.specs.Steps.{is_answer, size_for, path_bytes, HasPath, EndsAt, WritesLast, Delivers};
+ghost use Rattle.paths.specs.EachUp.{GoesFrom, CanGoUp, GoesUp};
+ghost use Rattle.std.specs.Iterator.{at_most};
 
 use refusals::Refusal;
 
@@ -54,17 +56,26 @@ impl<'a> Table<'a> {
         parent < n && from <= self.text.len() && len <= self.text.len() - from
     }
 
+    // The entry and those above it.
+    fn up(&self, entry: usize) -> EachUp<'a>
+        ensures { GoesFrom self.now entry result }
+    {
+        EachUp {
+            table: *self,
+            n: entry,
+        }
+    }
+
     // Whether each entry on the way up is placed.
     fn is_path(&self, entry: usize) -> bool
         requires { entry < entry_count self.now.entries.now }
         ensures { result ≡ is_answer (path_down self.now.text.now self.now.entries.now entry) }
     {
-        let mut n = entry;
-        while n != 0 {
+        // A for: all would need the list of these entries in specs/, for this test alone.
+        for n in self.up(entry) {
             if !self.is_placed(n) {
                 return false;
             }
-            n = self.parent_of(n);
         }
         true
     }
@@ -84,11 +95,9 @@ impl<'a> Table<'a> {
         requires { HasPath self.now.text.now self.now.entries.now entry }
         ensures { result ≡ size_for room (path_bytes self.now.text.now self.now.entries.now entry) }
     {
-        let mut n = entry;
         let mut left = room;
-        while n != 0 {
+        for n in self.up(entry) {
             left = left.checked_sub(self.added_len(n))?;
-            n = self.parent_of(n);
         }
         Some(room - left)
     }
@@ -113,12 +122,37 @@ impl<'a> Table<'a> {
         requires { EndsAt self.now.text.now self.now.entries.now entry len out.old }
         ensures { out.new ≡ written 0 (path_bytes self.now.text.now self.now.entries.now entry) out.old }
     {
-        let mut n = entry;
         let mut end = len;
-        while n != 0 {
+        for n in self.up(entry) {
             end = self.put_last(n, out, end);
-            n = self.parent_of(n);
         }
+    }
+}
+
+// An entry and the directories that hold it, one after the other up to the root, which is left out; one whose parent is not before it is the last.
+#[derive(Drop)]
+struct EachUp<'a> {
+    table: Table<'a>,
+    n: usize,
+}
+
+impl<'a> Iterator for EachUp<'a> {
+    type Item = usize;
+
+    ghost can_next = { CanGoUp };
+
+    ghost next_gives = { GoesUp };
+
+    ghost remaining = { λ s. at_most s.n };
+
+    fn next(&mut self) -> Option<usize> {
+        let n = self.n;
+        if n == 0 {
+            return None;
+        }
+        let parent = self.table.parent_of(n);
+        self.n = if parent < n { parent } else { 0 };
+        Some(n)
     }
 }
 

@@ -1,11 +1,13 @@
 -- The extents of an index that reads lie on what is kept where the tables say so.
 use Rattle.std.specs.Prelude.{None, Option, Some, Ok}
+use Rattle.std.specs.List.{position_or_len}
+use Rattle.std.specs.Option.{option_map}
 use mathlib.Core.Path.{◌≡◌, refl, sym, ap, subst, ◌∙◌}
-use mathlib.Core.Bool.{Bool, true, false, ◌&&◌}
+use mathlib.Core.Bool.{Bool, true, false, cond, not, ◌&&◌}
 use mathlib.Core.List.{List, [], ◌∷◌, map}
-use Prim.Native.Nat.{ℕ, suc, ◌+◌, ◌≤◌}
+use Prim.Native.Nat.{ℕ, suc, ◌+◌, ◌≤◌, ◌<◌}
 use native.Mathlib.Omega.{arith}
-use borrow.Author.Tests.{leb-true, eq-eqb, ne_eqb}
+use borrow.Author.Tests.{leb-true, ltb-true, ltb-false, lt-ltb, le-ltb, eq-eqb, ne_eqb}
 use lib.Dec.{leb, ltb}
 use lib.ListN.{length, take}
 use Rattle.refusals.specs.Refusals.{Answer}
@@ -106,32 +108,46 @@ module _ (w : Partitions) (ri : List ℕ) (ki : ℕ) (rd : List ℕ) (kd : ℕ) 
   pub row_neither : (r.letter ≡ w.index_letter → ⊥) → (r.letter ≡ w.data_letter → ⊥) → false ≡ lies_in w ri ki rd kd r
   row_neither n m = rw (ne_eqb _ _ n, ne_eqb _ _ m)
 
--- rows one after the other
-module _ (P : Row → Bool) (all : Bool) (l : List Row) (h : all ≡ every P l) where
-  pub every_end : l ≡ [] → true ≡ all
-  every_end e = sym (h ∙ ap (every P) e)
+-- a place one further on
+place_on : (p m k : ℕ) → option_map (λ n. k + n) (cond (ltb (1 + p) (suc m)) (Some (1 + p)) None) ≡ option_map (λ n. suc k + n) (cond (ltb p m) (Some p) None)
+place_on p m k = go (ltb p m) refl
+  where
+    go : (b : Bool) → ltb p m ≡ b → option_map (λ n. k + n) (cond (ltb (1 + p) (suc m)) (Some (1 + p)) None) ≡ option_map (λ n. suc k + n) (cond (ltb p m) (Some p) None)
+    go true e =
+        let h : 1 + p < suc m = omega (arith, ltb-true p m e) in
+        let n : k + (1 + p) ≡ suc k + p = omega arith in
+        rw (e, lt-ltb (1 + p) (suc m) h) (ap Some n)
+    go false e =
+        let h : suc m ≤ 1 + p = omega (arith, ltb-false p m e) in
+        rw (e, le-ltb (1 + p) (suc m) h) refl
 
-  pub every_stop : (x : Row) (m : List Row) → l ≡ x ∷ m → P x ≡ false → false ≡ all
-  every_stop x m e f = sym (h ∙ ap (every P) e ∙ rw f)
+-- the first file that fails a test of its rows is the first that passes the opposite one
+module _ (Q : List Row → Bool) where
+  abbrev pub fails : Forest → Bool
+  fails c = not (Q (extent_rows c))
 
-  pub every_on : (x : Row) (m : List Row) → l ≡ x ∷ m → P x ≡ true → all ≡ every P m
-  every_on x m e f = h ∙ ap (every P) e ∙ rw f
+  abbrev pub first_place : List Forest → Option ℕ
+  first_place l = cond (ltb (position_or_len fails l) (length l)) (Some (position_or_len fails l)) None
 
--- files one after the other
-module _ (Q : List Row → Bool) (all : Option ℕ) (k : ℕ) (l : List Forest) (h : all ≡ first_failing Q k (map extent_rows l)) where
-  pub lost_end : l ≡ [] → None ≡ all
+  failing_from : (k : ℕ) (l : List Forest) → option_map (λ n. k + n) (first_place l) ≡ first_failing Q k (map extent_rows l)
   unfolding first_failing
-  lost_end e = sym (h ∙ ap (λ (x : List Forest). first_failing Q k (map extent_rows x)) e)
+  failing_from k [] = refl
+  failing_from k (c ∷ l) = go (Q (extent_rows c)) refl (failing_from (suc k) l)
+    where
+      go : (b : Bool) → Q (extent_rows c) ≡ b → option_map (λ n. suc k + n) (first_place l) ≡ first_failing Q (suc k) (map extent_rows l)
+          → option_map (λ n. k + n) (first_place (c ∷ l)) ≡ first_failing Q k (map extent_rows (c ∷ l))
+      go false e i =
+          let z : k + 0 ≡ k = omega arith in
+          let h : ltb 0 (suc (length l)) ≡ true = lt-ltb 0 (suc (length l)) (omega arith) in
+          rw e (ap (λ (b : Bool). option_map (λ n. k + n) (cond b (Some 0) None)) h ∙ ap Some z)
+      go true e i = rw e (place_on (position_or_len fails l) (length l) k ∙ i)
 
-  pub lost_stop : (c : Forest) (m : List Forest) → l ≡ c ∷ m → Q (extent_rows c) ≡ false → Some k ≡ all
-  unfolding first_failing
-  lost_stop c m e f = sym (h ∙ ap (λ (x : List Forest). first_failing Q k (map extent_rows x)) e ∙ rw f)
-
-  pub lost_on : (c : Forest) (m : List Forest) → l ≡ c ∷ m → Q (extent_rows c) ≡ true → all ≡ first_failing Q (k + 1) (map extent_rows m)
-  unfolding first_failing
-  lost_on c m e f =
-      let z : suc k ≡ k + 1 = omega arith in
-      h ∙ ap (λ (x : List Forest). first_failing Q k (map extent_rows x)) e ∙ rw f (ap (λ (n : ℕ). first_failing Q n (map extent_rows m)) z)
+  pub first_lost_lem : (l : List Forest) (r : Option ℕ) → r ≡ first_place l → r ≡ first_failing Q 0 (map extent_rows l)
+  first_lost_lem l r e = e ∙ go (first_place l) ∙ failing_from 0 l
+    where
+      go : (o : Option ℕ) → o ≡ option_map (λ n. 0 + n) o
+      go None = refl
+      go (Some n) = let z : n ≡ 0 + n = omega arith in ap Some z
 
 rows_of_files : (l : List Forest) → rows_of_each (map file_of l) ≡ map extent_rows l
 unfolding rows_of_each

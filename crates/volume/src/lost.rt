@@ -8,7 +8,7 @@ ghost use Rattle.volume.specs.Readers.{lies_on, LosesOn};
 
 use crate::filling::Tables;
 use constructs::Bounds;
-use index_files::Row;
+use index_files::{EachFile, EachRow, Row};
 use index_values::Partitions;
 
 // What is kept of a volume: so many elements of each partition, and how far data blocks reach from each of them on.
@@ -47,29 +47,14 @@ impl Kept<'_> {
     fn has_file(&self, text: &[u8], n: usize) -> bool
         ensures { result ≡ every (lies_on self.now) (extent_rows (children_at text.now n)) }
     {
-        let mut at = index_files::first_row(text, n);
-        while let Some(found) = index_files::next_row(text, at) {
-            if !self.has_row(found.row) {
-                return false;
-            }
-            at = found.next;
-        }
-        true
+        EachRow::new(text, n).all(|row| self.has_row(row))
     }
 
     // The number of the first file of the index with that text whose extents do not.
     pub fn first_lost(&self, text: &[u8]) -> Option<u64>
         ensures { LosesOn text.now self.now result }
     {
-        let mut at: usize = 38;
-        let mut k: u64 = 0;
-        while let Some(found) = index_files::next_file(text, at) {
-            if !self.has_file(text, found.at) {
-                return Some(k);
-            }
-            k += 1;
-            at = found.next;
-        }
-        None
+        let k = EachFile::new(text).position(|n| !self.has_file(text, n))?;
+        Some(k as u64)
     }
 }
