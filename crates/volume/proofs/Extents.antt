@@ -20,7 +20,7 @@ use Rattle.extents.specs.declared.Row.{Row}
 use Rattle.extents.specs.Lawful.{row_lawful, lawful, each_lawful, apart, row_end, last_block}
 use Rattle.constructs.specs.ReachSteps.{lies_by}
 use Rattle.constructs.proofs.Lying.{lies_by_lem}
-use Rattle.index_names.specs.Sorts.{index}
+use Rattle.index_names.specs.declared.Sort.TheVariants.{Index as index}
 use Rattle.index_values.specs.Elements.{elements}
 use Rattle.index_values.specs.Tests.{Given, extent_rows}
 use Rattle.index.specs.Index as text
