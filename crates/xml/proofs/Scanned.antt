@@ -43,9 +43,14 @@ module _ {t : List ℕ} {i : ℕ} where
       record { runs = λ ns. run_on t i p ns h (f ns) ∙ s.runs ns; ends = later i (i + 1) (length t) (omega arith) r s.ends }
 
   -- the same where the byte is b
+  pub scan_at : {p : Mode} {σ to : List (List ℕ) → State} {r : Scan} (b : ℕ) → i < length t → b ≡ get_or t i 0
+      → ((ns : List (List ℕ)) → form_step p ns b ≡ σ ns) → Scans t (i + 1) σ to r → Scans t i (at p) to r
+  scan_at {p} b h e f s = scan_step h (λ ns. ap (form_step p ns) (sym e) ∙ f ns) s
+
+  -- and is not 0
   pub scan_on : {p : Mode} {σ to : List (List ℕ) → State} {r : Scan} (b : ℕ) → b ≡ get_or t i 0 → 0 < b
       → ((ns : List (List ℕ)) → form_step p ns b ≡ σ ns) → Scans t (i + 1) σ to r → Scans t i (at p) to r
-  scan_on {p} b e h f s = scan_step (stands t i b e h) (λ ns. ap (form_step p ns) (sym e) ∙ f ns) s
+  scan_on b e h f s = scan_at b (stands t i b e h) e f s
 
   -- the byte b does not fit, or there is none
   pub scan_refused : {p : Mode} {to : List (List ℕ) → State} (b : ℕ) → b ≡ get_or t i 0 → i ≤ length t → ended p ≡ broken 0

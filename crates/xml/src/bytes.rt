@@ -120,10 +120,10 @@ pub(crate) fn word_end(text: &[u8], from: usize, word: &[u8]) -> Result<usize, U
 {
     let mut i = from;
     for c in word {
-        if i == text.len() || text[i] != *c {
-            return Err(Unread(text.len() - i));
+        match text.get(i) {
+            Some(b) if *b == *c => i += 1,
+            _ => return Err(Unread(text.len() - i)),
         }
-        i += 1;
     }
     Ok(i)
 }

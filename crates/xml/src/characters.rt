@@ -14,24 +14,15 @@ fn tail_end(text: &[u8], from: usize, lo: u8, hi: u8, n: usize) -> Result<usize,
     let mut i = from;
     let mut low = lo;
     let mut high = hi;
-    let mut left = n;
-    while i < text.len() {
-        let b = text[i];
-        if b < low {
-            return Err(Unread(text.len() - i));
+    for _ in 0..=n {
+        match text.get(i) {
+            Some(b) if low <= *b && *b <= high => i += 1,
+            _ => return Err(Unread(text.len() - i)),
         }
-        if high < b {
-            return Err(Unread(text.len() - i));
-        }
-        i += 1;
-        if left == 0 {
-            return Ok(i);
-        }
-        left -= 1;
         low = 128;
         high = 191;
     }
-    Err(Unread(text.len() - i))
+    Ok(i)
 }
 
 // A character after its first byte, 239.
@@ -111,8 +102,7 @@ pub(crate) fn value_end(text: &[u8], from: usize, q: u8) -> Result<usize, Unread
     ensures { Scans text.now from (at (value q)) (at valued) result }
 {
     let mut i = from;
-    while i < text.len() {
-        let b = text[i];
+    while let Some(&b) = text.get(i) {
         if b == q {
             return Ok(i + 1);
         }
@@ -144,14 +134,15 @@ fn three_bytes(b: u8, c: u8, d: u8) -> bool
     requires { (224 ≤ b) × (b < 240) }
     ensures { Completes b (c ∷ d ∷ []) result }
 {
-    if !continues(c) || !continues(d) {
-        return false;
-    }
-    match b {
-        224 => 160 <= c,
-        237 => c <= 159,
-        239 => c < 191,
-        _ => true,
+    if continues(c) && continues(d) {
+        match b {
+            224 => 160 <= c,
+            237 => c <= 159,
+            239 => c < 191,
+            _ => true,
+        }
+    } else {
+        false
     }
 }
 
@@ -160,10 +151,14 @@ fn four_bytes(b: u8, c: u8, d: u8, e: u8) -> bool
     requires { 240 ≤ b }
     ensures { Completes b (c ∷ d ∷ e ∷ []) result }
 {
-    if !continues(c) || !continues(d) || !continues(e) {
-        return false;
+    if continues(c) && continues(d) && continues(e) {
+        match b {
+            240 => 144 <= c,
+            _ => b < 244,
+        }
+    } else {
+        false
     }
-    if b < 241 { 144 <= c } else { b < 244 }
 }
 
 // The end of characters of text from `from` on, of one byte and of more. It stops at the latest at one that is under a further rule or not well-formed,
@@ -220,8 +215,7 @@ pub(crate) fn text_end(text: &[u8], from: usize) -> Result<usize, Unread>
 {
     let mut i = past_chars(text, from);
     let mut n: usize = 0;
-    while i < text.len() {
-        let b = text[i];
+    while let Some(&b) = text.get(i) {
         if b == b'<' {
             return Ok(i + 1);
         }

@@ -121,7 +121,7 @@ fn elements<'a>(text: &'a [u8], from: usize, name: &'a [u8]) -> Result<(), Unrea
     let mut depth: usize = 1;
     let mut i = from;
     let mut children = false;
-    while i < text.len() {
+    loop {
         let (turn, j) = next_tag(text, i, children, depth, names[depth - 1])?;
         i = j;
         match turn {
@@ -140,7 +140,6 @@ fn elements<'a>(text: &'a [u8], from: usize, name: &'a [u8]) -> Result<(), Unrea
             }
         }
     }
-    Err(Unread(text.len() - i))
 }
 
 // What follows the declaration.
