@@ -1,5 +1,5 @@
 -- `elements` meets its contract. Invariant: in the elements whose names are at the first d places, the outcome from i on is the same.
-use mathlib.Core.Path.{refl, ◌∙◌, sym}
+use mathlib.Core.Path.{refl, ◌∙◌}
 use lib.ListN.{replicate}
 use borrow.Author.Rules.{rules}
 use Rattle.std.proofs.lemmas.Result.{err_from_is_err_and}
@@ -24,8 +24,11 @@ loop-turn-preserved-in-Inside c =
 pub returns-then-depth-eq1 : goal.returns-then-depth-eq1
 returns-then-depth-eq1 c =
     let j = c.in_ok-turn.j in
-    c.finish.ensures
-    ∙ sym (root_ended c.loop-turn.invariant c.next_tag.ensures j (tells (c.in_ok-turn.turn, j) Outside c.in_ok-turn.was c.in-Outside.is) c.if-depth-eq1.true)
+    let y = c.finish.ensures in
+    record {
+      runs = root_ended c.loop-turn.invariant c.next_tag.ensures j (tells (c.in_ok-turn.turn, j) Outside c.in_ok-turn.was c.in-Outside.is) c.if-depth-eq1.true ∙ y.runs;
+      ends = y.ends;
+    }
 
 pub loop-turn-preserved : goal.loop-turn-preserved
 loop-turn-preserved c =
@@ -35,4 +38,5 @@ loop-turn-preserved c =
 pub returns-in_err-turn : goal.returns-in_err-turn
 returns-in_err-turn c =
     let p = err_from_is_err_and c.from_residual.result c.from_residual.ensures.1 in
-    rw (p.1, p.2) (sym (stopped c.loop-turn.invariant c.next_tag.ensures c.in_err-turn.field-0.0 c.in_err-turn.was))
+    let z = stopped c.loop-turn.invariant c.next_tag.ensures c.in_err-turn.field-0.0 c.in_err-turn.was in
+    rw (p.1, p.2) (record { runs = z.0; ends = z.1 })

@@ -1,28 +1,34 @@
 -- `tail_end` meets its contract. Invariant: a scan from i on, where the bytes that are left of n and the last one are to follow, is a scan from `from` on.
-use mathlib.Core.Path.{◌≡◌, refl}
+use mathlib.Core.Path.{◌≡◌, refl, ap, ◌∙◌, sym}
 use Prim.Native.Nat.{◌+◌, ◌-◌}
 use native.Mathlib.Omega.{arith}
+use lib.ListN.{length}
 use borrow.Author.Rules.{rules}
-use borrow.Author.Tests.{lt-ltb, le-ltb, eq-eqb, ne_eqb}
+use Rattle.std.specs.Option.{is_some}
+use borrow.Author.Tests.{lt-ltb, le-ltb, ltb-false, eq-eqb, ne_eqb}
 use Rattle.xml.specs.CheckSteps.{form_step, ended}
 use Rattle.xml.proofs.Scanned.{scan_refused, scan_at, scan_done, scan_out}
 use Rattle.xml.proofs.characters.tail_end.Goals as goal
-use Rattle.xml.proofs.characters.tail_end.Goals.{in_default-via-in-Some+then-low-b+else-b-high, in_default-via-in-Some+else-low-b, in_default-via-in_default}
 
 pub returns-in_default : goal.returns-in_default
 unfolding form_step ended
 returns-in_default c =
     let l = c.loop in
-    elim c.in_default.branch [
-      | in_default-via-in-Some+then-low-b+else-b-high w ↦
-          let g = w.in-Some.ensures.lookup in
-          λ p. l.invariant.1 p _ (scan_refused w.in-Some.b.now (g.4 (omega arith) 0) (search rules) refl (λ ns. simp (le-ltb _ _ w.if-low-b.true, lt-ltb _ _ w.if-b-high.false)))
-      | in_default-via-in-Some+else-low-b w ↦
-          let g = w.in-Some.ensures.lookup in
-          λ p. l.invariant.1 p _ (scan_refused w.in-Some.b.now (g.4 (omega arith) 0) (search rules) refl (λ ns. simp (lt-ltb _ _ w.if-low-b.false)))
-      | in_default-via-in_default w ↦
-          λ p. l.invariant.1 p _ (scan_out (search rules) w.in_default.ensures.lookup.3 refl)
-    ]
+    let g = c.in-Some.ensures.lookup in
+    λ p. l.invariant.1 p _ (scan_refused c.in-Some.b.now (g.4 (omega arith) 0) (search rules) refl (λ ns. simp (le-ltb _ _ c.if-low-b.true, lt-ltb _ _ c.if-b-high.false)))
+
+pub returns-in_default-2 : goal.returns-in_default-2
+unfolding form_step ended
+returns-in_default-2 c =
+    let l = c.loop in
+    let g = c.in-Some.ensures.lookup in
+    λ p. l.invariant.1 p _ (scan_refused c.in-Some.b.now (g.4 (omega arith) 0) (search rules) refl (λ ns. simp (lt-ltb _ _ c.if-low-b.false)))
+
+pub returns-in_default-3 : goal.returns-in_default-3
+unfolding form_step ended
+returns-in_default-3 c =
+    let n = ltb-false c.loop.i (length c.args.text.now) (sym c.get.ensures.lookup.0 ∙ ap is_some c.in_default.is) in
+    λ p. c.loop.invariant.1 p _ (scan_out (search rules) n refl)
 
 pub loop-preserved : goal.loop-preserved
 unfolding form_step
