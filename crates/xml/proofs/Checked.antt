@@ -2,7 +2,8 @@
 use mathlib.Core.Path.{◌≡◌, refl, sym, ap, ◌∙◌}
 use mathlib.Core.Bool.{Bool, true, false, false≢true}
 use mathlib.Core.List.{List}
-use Prim.Native.Nat.{ℕ, ◌-◌}
+use Prim.Native.Nat.{ℕ, ◌-◌, ◌≤◌}
+use native.Mathlib.Omega.{arith}
 use lib.Dec.{eqb}
 use lib.ListN.{length}
 use borrow.Author.Tests.{eq-eqb}
@@ -14,6 +15,7 @@ use Rattle.std.specs.Prelude.{Result, Ok, Err}
 use Rattle.xml.specs.declared.FormError.{FormError}
 use Rattle.xml.specs.Form.{LeavesForm}
 use Rattle.xml.specs.CheckSteps.{Outcome, good, broken, form, is_good, in_form, read_of, front, require_form, form_checked}
+use Rattle.xml.specs.ScanSteps.{outcome_of, FrontIn}
 use Rattle.xml.proofs.Form.{same_form, longest_front}
 
 module _ (s : List ℕ) where
@@ -24,6 +26,17 @@ module _ (s : List ℕ) where
   pub broken_checked : (u : ℕ) → form s ≡ broken u → Err (record { front = length s - u }) ≡ form_checked s
   unfolding in_form front
   broken_checked u e = rw e
+
+  abbrev left_at_place : ℕ → Result (Unit {0}) FormError
+  left_at_place k = Err (record { front = k })
+
+  -- what an end of s shows
+  pub ends_checked : (r : Result (Unit {0}) FormError) → form s ≡ outcome_of s r → FrontIn (length s) r → r ≡ form_checked s
+  ends_checked (Ok u) e h = good_checked e
+  ends_checked (Err r) e h =
+      let g : r.front ≤ length s = h in
+      let n : r.front ≡ length s - (length s - r.front) = omega (arith, g) in
+      ap left_at_place n ∙ broken_checked (length s - r.front) e
 
   pub checked_good : Ok tt ≡ form_checked s → in_form s ≡ true
   checked_good e = go (in_form s) refl

@@ -85,8 +85,3 @@ longest_run s u e =
     let (n, z, f) = longest s (word before declaration) [] u (tt, tt) e in
     let y : length s - u ≡ n = omega (arith, z) in
     rw y f
-
--- no more bytes are unread than there are
-pub unread_inside : (s : List ℕ) (u : ℕ) → form s ≡ broken u → u ≤ length s
-unfolding form declaration bytes
-unread_inside s u e = let (n, z, f) = longest s (word before declaration) [] u (tt, tt) e in omega (arith, z)

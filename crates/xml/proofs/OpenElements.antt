@@ -14,7 +14,7 @@ use lib.ListN.{length, drop, get_or, set, length-set}
 use lib.Seq.{get_or-set_same, get_or-set_other}
 use Rattle.xml.specs.CheckSteps.{at, content, blank, after, outside, Outcome, broken, form_run}
 use Rattle.xml.specs.ScanSteps.{held, Turns, ToldAhead, OpensIf, told, turn_state}
-use Rattle.xml.specs.declared.bytes.Unread.{Unread}
+use Rattle.xml.specs.declared.FormError.{FormError}
 use Rattle.xml.specs.declared.Turn.{Turn}
 use Rattle.xml.specs.declared.Turn.TheVariants.{Opened, Inside, Outside}
 
@@ -65,9 +65,9 @@ pub first : (t : List ℕ) (m : Bor (List ℕ)) (xs : List (Bor (List ℕ))) (i 
 unfolding names
 first t m xs i h l = record { inside = h; some = omega arith; few = omega arith; room = ap suc l; runs = refl }
 
-module _ {t : List ℕ} {o : Outcome} {xs : List (Bor (List ℕ))} {d i : ℕ} {c : Bool} {r : Result (Turn × ℕ) Unread} (x : Stands t o xs d i c)
+module _ {t : List ℕ} {o : Outcome} {xs : List (Bor (List ℕ))} {d i : ℕ} {c : Bool} {r : Result (Turn × ℕ) FormError} (x : Stands t o xs d i c)
     (y : Turns t i (inner_name xs d) (ltb d 64) (at (content (held c))) (λ ns. suc (length ns) ≡ d) r) where
-  turn : (s : Result (Turn × ℕ) Unread) → r ≡ s → o ≡ told t (turn_state (inner_name xs d) (names xs (d - 1))) s
+  turn : (s : Result (Turn × ℕ) FormError) → r ≡ s → o ≡ told t (turn_state (inner_name xs d) (names xs (d - 1))) s
   turn s e =
       let h : 0 < d = omega (arith, x.some) in
       x.runs ∙ ap (λ (ns : List (List ℕ)). form_run (at (content (held c)) ns) (drop i t)) (names_split xs d h)
@@ -128,5 +128,5 @@ module _ {t : List ℕ} {o : Outcome} {xs : List (Bor (List ℕ))} {d i : ℕ} {
       let z : d - 1 ≡ 0 = omega arith in
       turn (Ok (Outside, j)) g ∙ ap (λ (k : ℕ). form_run (outside (names xs k)) (drop j t)) z
 
-  pub stopped : (u : Unread) → r ≡ Err u → o ≡ broken u.0
-  stopped u g = turn (Err u) g
+  pub stopped : (u : FormError) → r ≡ Err u → (o ≡ broken (length t - u.front)) × (u.front ≤ length t)
+  stopped u g = (turn (Err u) g, subst (ToldAhead i (length t)) g y.ends)

@@ -10,7 +10,7 @@ use lib.Seq.{drop-drop}
 use Rattle.xml.specs.Bytes.{is_ascii_letter}
 use Rattle.xml.specs.CheckSteps.{Mode, State, stop, at, reads, form_step, broken, ended, form_run}
 use Rattle.xml.specs.ScanSteps.{Past, Scan, Scans, Between, goes_on}
-use Rattle.xml.specs.declared.bytes.Unread.{Unread}
+use Rattle.xml.specs.declared.FormError.{FormError}
 use Rattle.xml.proofs.Classes.{letter_high}
 use Rattle.xml.proofs.Past.{past_ahead}
 use Rattle.xml.proofs.Runs.{run_word}
@@ -25,7 +25,7 @@ inside_letter t i e = inside t i (λ z. omega (arith, letter_high (get_or t i 0)
 
 later : (i j n : ℕ) → i ≤ j → (r : Scan) → Between j n r → Between i n r
 later i j n h (Ok k) b = (omega arith, b.1)
-later i j n h (Err u) b = tt
+later i j n h (Err u) b = b
 
 module _ {t : List ℕ} {i : ℕ} where
   -- the scan ends where it is
@@ -43,21 +43,26 @@ module _ {t : List ℕ} {i : ℕ} where
       record { runs = λ ns. run_on t i p ns h (f ns) ∙ s.runs ns; ends = later i (i + 1) (length t) (omega arith) r s.ends }
 
   -- the same where the byte is b
+  pub scan_at : {p : Mode} {σ to : List (List ℕ) → State} {r : Scan} (b : ℕ) → i < length t → b ≡ get_or t i 0
+      → ((ns : List (List ℕ)) → form_step p ns b ≡ σ ns) → Scans t (i + 1) σ to r → Scans t i (at p) to r
+  scan_at {p} b h e f s = scan_step h (λ ns. ap (form_step p ns) (sym e) ∙ f ns) s
+
+  -- and is not 0
   pub scan_on : {p : Mode} {σ to : List (List ℕ) → State} {r : Scan} (b : ℕ) → b ≡ get_or t i 0 → 0 < b
       → ((ns : List (List ℕ)) → form_step p ns b ≡ σ ns) → Scans t (i + 1) σ to r → Scans t i (at p) to r
-  scan_on {p} b e h f s = scan_step (stands t i b e h) (λ ns. ap (form_step p ns) (sym e) ∙ f ns) s
+  scan_on b e h f s = scan_at b (stands t i b e h) e f s
 
   -- the byte b does not fit, or there is none
   pub scan_refused : {p : Mode} {to : List (List ℕ) → State} (b : ℕ) → b ≡ get_or t i 0 → i ≤ length t → ended p ≡ broken 0
-      → ((ns : List (List ℕ)) → form_step p ns b ≡ stop) → Scans t i (at p) to (Err (record { 0 = length t - i }))
-  scan_refused {p} b e h n f = record { runs = λ ns. run_refused t i p ns h n (ap (form_step p ns) (sym e) ∙ f ns); ends = tt }
+      → ((ns : List (List ℕ)) → form_step p ns b ≡ stop) → Scans t i (at p) to (Err (record { front = i }))
+  scan_refused {p} b e h n f = record { runs = λ ns. run_refused t i p ns h n (ap (form_step p ns) (sym e) ∙ f ns); ends = h }
 
-  pub scan_out : {p : Mode} {to : List (List ℕ) → State} → i ≤ length t → length t ≤ i → ended p ≡ broken 0 → Scans t i (at p) to (Err (record { 0 = length t - i }))
-  scan_out {p} h g n = record { runs = λ ns. run_out t i p ns g ∙ n ∙ ap broken (omega arith); ends = tt }
+  pub scan_out : {p : Mode} {to : List (List ℕ) → State} → i ≤ length t → length t ≤ i → ended p ≡ broken 0 → Scans t i (at p) to (Err (record { front = i }))
+  scan_out {p} h g n = record { runs = λ ns. run_out t i p ns g ∙ n ∙ ap broken (omega arith); ends = h }
 
   -- the byte before stopped the machine
-  pub scan_stopped : {σ to : List (List ℕ) → State} → i < length t → ((ns : List (List ℕ)) → σ ns ≡ stop) → Scans t (i + 1) σ to (Err (record { 0 = length t - i }))
-  scan_stopped h e = record { runs = λ ns. run_stopped t i h (e ns); ends = tt }
+  pub scan_stopped : {σ to : List (List ℕ) → State} → i < length t → ((ns : List (List ℕ)) → σ ns ≡ stop) → Scans t (i + 1) σ to (Err (record { front = i }))
+  scan_stopped h e = record { runs = λ ns. run_stopped t i h (e ns); ends = omega arith }
 
   -- bytes at which the machine stays
   pub scan_past : {f : ℕ → Bool} {p : Mode} {to : List (List ℕ) → State} {j : ℕ} {r : Scan}
@@ -86,8 +91,8 @@ module _ {t : List ℕ} {i : ℕ} where
       let z : (i ≤ j) × (j ≤ length t) = subst (Between i (length t)) e x.ends in
       record { runs = λ ns. x.runs ns ∙ ap (goes_on t (b ns)) e ∙ y.runs ns; ends = later i j (length t) z.0 s y.ends }
 
-  pub scan_broken : {a b c : List (List ℕ) → State} {r : Scan} (u : Unread) → Scans t i a b r → r ≡ Err u → Scans t i a c (Err u)
-  scan_broken {b = b} u x e = record { runs = λ ns. x.runs ns ∙ ap (goes_on t (b ns)) e; ends = tt }
+  pub scan_broken : {a b c : List (List ℕ) → State} {r : Scan} (u : FormError) → Scans t i a b r → r ≡ Err u → Scans t i a c (Err u)
+  scan_broken {b = b} u x e = record { runs = λ ns. x.runs ns ∙ ap (goes_on t (b ns)) e; ends = subst (Between i (length t)) e x.ends }
 
   pub scan_bounds : {a b : List (List ℕ) → State} {r : Scan} (j : ℕ) → Scans t i a b r → r ≡ Ok j → (i ≤ j) × (j ≤ length t)
   scan_bounds j x e = subst (Between i (length t)) e x.ends

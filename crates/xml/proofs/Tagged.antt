@@ -13,7 +13,7 @@ use Rattle.xml.specs.Bytes.{is_ascii_letter, is_name_byte}
 use Rattle.xml.specs.Tree.{front}
 use Rattle.xml.specs.CheckSteps.{Mode, name, tag, content, blank, State, stop, at, leave, form_step, ended, form_run}
 use Rattle.xml.specs.ScanSteps.{Past, Scans, ScansTag, ToldFrom, Starts, part, told, tag_state}
-use Rattle.xml.specs.declared.bytes.Unread.{Unread}
+use Rattle.xml.specs.declared.FormError.{FormError}
 use Rattle.xml.specs.declared.tags.TagEnd.{TagEnd}
 use Rattle.xml.specs.declared.tags.TagEnd.TheVariants.{Open, Empty}
 use Rattle.xml.proofs.Classes.{letter_name}
@@ -22,20 +22,20 @@ use Rattle.xml.proofs.Scanning.{run_on, run_as}
 use Rattle.xml.proofs.Runs.{run_to}
 
 -- what a scan told, by a name for it
-pub tells : {A : Type 0} {r : Result (A × ℕ) Unread} (p : A × ℕ) (a : A) → r ≡ Ok p → p.0 ≡ a → r ≡ Ok (a, p.1)
+pub tells : {A : Type 0} {r : Result (A × ℕ) FormError} (p : A × ℕ) (a : A) → r ≡ Ok p → p.0 ≡ a → r ≡ Ok (a, p.1)
 tells {A} p a e f = e ∙ ap (λ (w : A). Ok (w, p.1)) f
 
-later : (i j n : ℕ) → i ≤ j → (r : Result (TagEnd × ℕ) Unread) → ToldFrom j n r → ToldFrom i n r
+later : (i j n : ℕ) → i ≤ j → (r : Result (TagEnd × ℕ) FormError) → ToldFrom j n r → ToldFrom i n r
 later i j n h (Ok p) b = (omega arith, b.1)
-later i j n h (Err u) b = tt
+later i j n h (Err u) b = b
 
 module _ {t : List ℕ} {i : ℕ} where
   -- a scan, and then the rest of the tag
-  pub tags_after : {a b : List (List ℕ) → State} {r : Result (TagEnd × ℕ) Unread} (j : ℕ) → Scans t i a b (Ok j) → ScansTag t j b r → ScansTag t i a r
+  pub tags_after : {a b : List (List ℕ) → State} {r : Result (TagEnd × ℕ) FormError} (j : ℕ) → Scans t i a b (Ok j) → ScansTag t j b r → ScansTag t i a r
   tags_after {r = r} j x y = record { runs = λ ns. x.runs ns ∙ y.runs ns; ends = later i j (length t) x.ends.0 r y.ends }
 
-  pub tags_broken : {a b : List (List ℕ) → State} {u : Unread} → Scans t i a b (Err u) → ScansTag t i a (Err u)
-  tags_broken x = record { runs = x.runs; ends = tt }
+  pub tags_broken : {a b : List (List ℕ) → State} {u : FormError} → Scans t i a b (Err u) → ScansTag t i a (Err u)
+  tags_broken x = record { runs = x.runs; ends = x.ends }
 
   pub tags_open : (j : ℕ) {a : List (List ℕ) → State} → Scans t i a (at (content blank)) (Ok j) → ScansTag t i a (Ok (Open, j))
   tags_open j x = record { runs = x.runs; ends = x.ends }
@@ -97,7 +97,7 @@ module _ (t : List ℕ) (i e : ℕ) (l : i < length t) (h : is_ascii_letter (get
   starts p ns f = f ∙ simp h
 
   -- the start tag, by how its rest ended
-  pub starts_open : {r : Result (TagEnd × ℕ) Unread} (n : Bor (List ℕ)) (j : ℕ) → n.now ≡ part t i e → ScansTag t e (at tag) r → r ≡ Ok (Open, j)
+  pub starts_open : {r : Result (TagEnd × ℕ) FormError} (n : Bor (List ℕ)) (j : ℕ) → n.now ≡ part t i e → ScansTag t e (at tag) r → r ≡ Ok (Open, j)
       → Starts t i (Ok (Some n, j))
   starts_open n j m x g =
       let b : (e ≤ j) × (j ≤ length t) = subst (ToldFrom e (length t)) g x.ends in
@@ -107,7 +107,7 @@ module _ (t : List ℕ) (i e : ℕ) (l : i < length t) (h : is_ascii_letter (get
         ends = (omega (arith, front_rest), b.1);
       }
 
-  pub starts_empty : {r : Result (TagEnd × ℕ) Unread} (j : ℕ) → ScansTag t e (at tag) r → r ≡ Ok (Empty, j) → Starts t i (Ok (None, j))
+  pub starts_empty : {r : Result (TagEnd × ℕ) FormError} (j : ℕ) → ScansTag t e (at tag) r → r ≡ Ok (Empty, j) → Starts t i (Ok (None, j))
   unfolding leave
   starts_empty j x g =
       let b : (e ≤ j) × (j ≤ length t) = subst (ToldFrom e (length t)) g x.ends in
@@ -116,6 +116,6 @@ module _ (t : List ℕ) (i e : ℕ) (l : i < length t) (h : is_ascii_letter (get
         ends = (omega (arith, front_rest), b.1);
       }
 
-  pub starts_broken : {r : Result (TagEnd × ℕ) Unread} (u : Unread) → ScansTag t e (at tag) r → r ≡ Err u → Starts t i (Err u)
+  pub starts_broken : {r : Result (TagEnd × ℕ) FormError} (u : FormError) → ScansTag t e (at tag) r → r ≡ Err u → Starts t i (Err u)
   starts_broken u x g =
-      record { runs = λ p ns n f. run_named p ns (starts p ns f) ∙ x.runs (part t i e ∷ ns) ∙ ap (told t (tag_state (part t i e ∷ ns))) g; ends = tt }
+      record { runs = λ p ns n f. run_named p ns (starts p ns f) ∙ x.runs (part t i e ∷ ns) ∙ ap (told t (tag_state (part t i e ∷ ns))) g; ends = subst (ToldFrom e (length t)) g x.ends }

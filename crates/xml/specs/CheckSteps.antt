@@ -6,7 +6,6 @@ use Rattle.slices.specs.Words.{bytes}
 use Rattle.refusals.specs.declared.Refusal.TheVariants.{Form}
 use Rattle.xml.specs.Bytes.{is_space, is_ascii_letter, is_name_byte, declaration}
 use Rattle.xml.specs.declared.FormError.{FormError}
-use Rattle.xml.specs.declared.bytes.Unread.{Unread}
 
 -- what an element holds so far: white space alone; text that ends in 0, 1, or 2 or more `]`; elements
 pub data Held : Type 0 where
@@ -192,8 +191,3 @@ module _ {A : Type 0} where
 -- what `check` answers
 abbrev pub form_checked : List ℕ → Result (Unit {0}) FormError
 form_checked s = cond (in_form s) (Ok tt) (Err (record { front = front s }))
-
--- the outcome that an end shows
-abbrev pub outcome_of : Result (Unit {0}) Unread → Outcome
-outcome_of (Ok u) = good
-outcome_of (Err r) = broken r.0

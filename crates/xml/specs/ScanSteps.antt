@@ -4,8 +4,8 @@ use Rattle.std.specs.Borrow.{Bor}
 use Rattle.slices.specs.Slices.{within}
 use Rattle.xml.specs.Bytes.{is_space, is_ascii_letter, is_name_byte}
 use Rattle.xml.specs.Tree.{front}
-use Rattle.xml.specs.CheckSteps.{Held, blank, children, words, Mode, name, content, opens, State, stop, at, char, tag_end, outside, leave, form_step, Outcome, broken, ended, form_run}
-use Rattle.xml.specs.declared.bytes.Unread.{Unread}
+use Rattle.xml.specs.CheckSteps.{Held, blank, children, words, Mode, name, content, opens, State, stop, at, char, tag_end, outside, leave, form_step, Outcome, good, broken, ended, form_run}
+use Rattle.xml.specs.declared.FormError.{FormError}
 use Rattle.xml.specs.declared.tags.TagEnd.{TagEnd}
 use Rattle.xml.specs.declared.tags.TagEnd.TheVariants.{Open, Empty}
 use Rattle.xml.specs.declared.Turn.{Turn}
@@ -37,19 +37,19 @@ pub record Along (f : ℕ → Bool) (t : List ℕ) (i j : ℕ) : Type 0 where
 abbrev pub first : Mode → ℕ → List (List ℕ) → State
 first p b ns = char p ns b
 
--- the position that a scan came to, or how many bytes are unread
+-- the position that a scan came to, or the one where the text leaves the form
 abbrev pub Scan : Type 0
-Scan = Result ℕ Unread
+Scan = Result ℕ FormError
 
 -- the outcome where a scan that leads to the state σ ended so
 abbrev pub goes_on : List ℕ → State → Scan → Outcome
 goes_on t σ (Ok i) = form_run σ (drop i t)
-goes_on t σ (Err u) = broken u.0
+goes_on t σ (Err e) = broken (length t - e.front)
 
 -- from i on, and not past n
 abbrev pub Between : ℕ → ℕ → Scan → Type 0
 Between i n (Ok j) = (i ≤ j) × (j ≤ n)
-Between i n (Err u) = Unit {0}
+Between i n (Err e) = e.front ≤ n
 
 -- a scan of t from i on, where the machine is at `from`, to where it is at `to`, whatever elements are open
 pub record Scans (t : List ℕ) (i : ℕ) (from to : List (List ℕ) → State) (r : Scan) : Type 0 where
@@ -78,19 +78,19 @@ part t i j = take (j - i) (drop i t)
 -- A scan that tells something, beside the position that it came to.
 module _ {A : Type 0} where
   -- the outcome where one that leads to the states `to` ended so
-  abbrev pub told : List ℕ → (A → State) → Result (A × ℕ) Unread → Outcome
+  abbrev pub told : List ℕ → (A → State) → Result (A × ℕ) FormError → Outcome
   told t to (Ok p) = form_run (to p.0) (drop p.1 t)
-  told t to (Err u) = broken u.0
+  told t to (Err e) = broken (length t - e.front)
 
   -- from i on, and not past n
-  abbrev pub ToldFrom : ℕ → ℕ → Result (A × ℕ) Unread → Type 0
+  abbrev pub ToldFrom : ℕ → ℕ → Result (A × ℕ) FormError → Type 0
   ToldFrom i n (Ok p) = (i ≤ p.1) × (p.1 ≤ n)
-  ToldFrom i n (Err u) = Unit {0}
+  ToldFrom i n (Err e) = e.front ≤ n
 
   -- ahead of i, and not past n
-  abbrev pub ToldAhead : ℕ → ℕ → Result (A × ℕ) Unread → Type 0
+  abbrev pub ToldAhead : ℕ → ℕ → Result (A × ℕ) FormError → Type 0
   ToldAhead i n (Ok p) = (i < p.1) × (p.1 ≤ n)
-  ToldAhead i n (Err u) = Unit {0}
+  ToldAhead i n (Err e) = e.front ≤ n
 
 -- behind a start tag in the elements ns, its own first
 abbrev pub tag_state : List (List ℕ) → TagEnd → State
@@ -98,12 +98,12 @@ tag_state ns Open = at (content blank) ns
 tag_state ns Empty = leave ns
 
 -- the rest of a start tag, from i on, where the machine is at `from`
-pub record ScansTag (t : List ℕ) (i : ℕ) (from : List (List ℕ) → State) (r : Result (TagEnd × ℕ) Unread) : Type 0 where
+pub record ScansTag (t : List ℕ) (i : ℕ) (from : List (List ℕ) → State) (r : Result (TagEnd × ℕ) FormError) : Type 0 where
   pub runs : (ns : List (List ℕ)) → form_run (from ns) (drop i t) ≡ told t (tag_state ns) r
   pub ends : ToldFrom i (length t) r
 
 -- the `>` or `/>` of a start tag at i, wherever only one of them may be
-abbrev pub ShutsTag : List ℕ → ℕ → Result (TagEnd × ℕ) Unread → Type 0
+abbrev pub ShutsTag : List ℕ → ℕ → Result (TagEnd × ℕ) FormError → Type 0
 ShutsTag t i r =
     (p : Mode) → ended p ≡ broken 0 → ((ns : List (List ℕ)) → form_step p ns (get_or t i 0) ≡ tag_end ns (get_or t i 0)) → ScansTag t i (at p) r
 
@@ -113,7 +113,7 @@ start_state ns (Some n) = at (content blank) (n.now ∷ ns)
 start_state ns None = outside ns
 
 -- a start tag from i on, at a place where only one may be
-pub record Starts (t : List ℕ) (i : ℕ) (r : Result (Option (Bor (List ℕ)) × ℕ) Unread) : Type 0 where
+pub record Starts (t : List ℕ) (i : ℕ) (r : Result (Option (Bor (List ℕ)) × ℕ) FormError) : Type 0 where
   pub runs : (p : Mode) (ns : List (List ℕ)) → ended p ≡ broken 0
       → form_step p ns (get_or t i 0) ≡ cond (is_ascii_letter (get_or t i 0)) (at (name (get_or t i 0 ∷ [])) ns) stop → form_run (at p ns) (drop i t) ≡ told t (start_state ns) r
   pub ends : ToldAhead i (length t) r
@@ -125,18 +125,18 @@ turn_state n ns Inside = at (content children) (n ∷ ns)
 turn_state n ns Outside = outside ns
 
 -- an element opens only where one may
-abbrev pub OpensIf : Bool → Result (Turn × ℕ) Unread → Type 0
+abbrev pub OpensIf : Bool → Result (Turn × ℕ) FormError → Type 0
 OpensIf begins (Ok p) = elim p.0 [ Opened m ↦ begins ≡ true | Inside ↦ Unit {0} | Outside ↦ Unit {0} ]
-OpensIf begins (Err u) = Unit {0}
+OpensIf begins (Err e) = Unit {0}
 
 -- the next tag of the element n, from i on, where the machine is at `from`, in all elements around n that are as `around` says
-pub record Turns (t : List ℕ) (i : ℕ) (n : List ℕ) (begins : Bool) (from : List (List ℕ) → State) (around : List (List ℕ) → Type 0) (r : Result (Turn × ℕ) Unread) : Type 0 where
+pub record Turns (t : List ℕ) (i : ℕ) (n : List ℕ) (begins : Bool) (from : List (List ℕ) → State) (around : List (List ℕ) → Type 0) (r : Result (Turn × ℕ) FormError) : Type 0 where
   pub runs : (ns : List (List ℕ)) → around ns → form_run (from (n ∷ ns)) (drop i t) ≡ told t (turn_state n ns) r
   pub ends : ToldAhead i (length t) r
   pub opens_if : OpensIf begins r
 
 -- a tag of the element n from behind its `<` on, where an element may begin or not
-abbrev pub OpensTurn : List ℕ → ℕ → List ℕ → Bool → Result (Turn × ℕ) Unread → Type 0
+abbrev pub OpensTurn : List ℕ → ℕ → List ℕ → Bool → Result (Turn × ℕ) FormError → Type 0
 OpensTurn t i n begins r = (o : Bool) → Turns t i n begins (at (opens o)) (λ ns. (o && ltb (suc (length ns)) 64) ≡ begins) r
 
 -- an element with children so far, or with white space alone
@@ -145,10 +145,25 @@ held true = children
 held false = blank
 
 -- the content of an element from i on, up to its next `<`, behind which an element may begin or not
-pub record Reaches (t : List ℕ) (i : ℕ) (some : Bool) (r : Result (Bool × ℕ) Unread) : Type 0 where
+pub record Reaches (t : List ℕ) (i : ℕ) (some : Bool) (r : Result (Bool × ℕ) FormError) : Type 0 where
   pub runs : (ns : List (List ℕ)) → form_run (at (content (held some)) ns) (drop i t) ≡ told t (λ o. at (opens o) ns) r
   pub ends : ToldFrom i (length t) r
 
 -- what follows in the element n at that depth, up to the end of its next tag
-abbrev pub NextTurn : List ℕ → ℕ → List ℕ → Bool → ℕ → Result (Turn × ℕ) Unread → Type 0
+abbrev pub NextTurn : List ℕ → ℕ → List ℕ → Bool → ℕ → Result (Turn × ℕ) FormError → Type 0
 NextTurn t i n some depth r = Turns t i n (ltb depth 64) (at (content (held some))) (λ ns. suc (length ns) ≡ depth) r
+
+-- the outcome that an end of t shows
+abbrev pub outcome_of : List ℕ → Result (Unit {0}) FormError → Outcome
+outcome_of t (Ok u) = good
+outcome_of t (Err e) = broken (length t - e.front)
+
+-- not past n
+abbrev pub FrontIn : ℕ → Result (Unit {0}) FormError → Type 0
+FrontIn n (Ok u) = Unit {0}
+FrontIn n (Err e) = e.front ≤ n
+
+-- what is read of t from i on, where the machine is at σ, up to the end
+pub record Ends (t : List ℕ) (i : ℕ) (σ : State) (r : Result (Unit {0}) FormError) : Type 0 where
+  pub runs : form_run σ (drop i t) ≡ outcome_of t r
+  pub ends : FrontIn (length t) r

@@ -4,6 +4,8 @@ ghost use Rattle.xml.specs.Bytes.{is_space, is_name_byte};
 ghost use Rattle.xml.specs.CheckSteps.{Mode, at, reads};
 ghost use Rattle.xml.specs.ScanSteps.{is_text, kind_of, up_to, Past, Along, Scans};
 
+use super::FormError;
+
 // The kind of each byte: `a` a letter, `b` another byte of a name, `c` another byte that text has under no further rule, `d` white space, `e` any
 // other byte.
 static KINDS: [u8; 256] = *b"\
@@ -109,21 +111,17 @@ pub(crate) fn past_text(text: &[u8], from: usize) -> usize
     skip(text, from, b'd')
 }
 
-// A byte does not fit, or there is none, and so many bytes are unread.
-#[derive(Clone, Copy)]
-pub(crate) struct Unread(pub(crate) usize);
-
 // Past the bytes of a word.
-pub(crate) fn word_end(text: &[u8], from: usize, word: &[u8]) -> Result<usize, Unread>
+pub(crate) fn word_end(text: &[u8], from: usize, word: &[u8]) -> Result<usize, FormError>
     requires { from ≤ length text.now }
     ensures { (p : Mode) → Scans text.now from (at (reads p word.now)) (at p) result }
 {
     let mut i = from;
     for c in word {
-        if i == text.len() || text[i] != *c {
-            return Err(Unread(text.len() - i));
+        match text.get(i) {
+            Some(b) if *b == *c => i += 1,
+            _ => return Err(FormError { front: i }),
         }
-        i += 1;
     }
     Ok(i)
 }

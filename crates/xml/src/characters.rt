@@ -4,50 +4,42 @@ ghost use Rattle.slices.specs.Slices.{within};
 ghost use Rattle.xml.specs.CheckSteps.{Mode, at, more, lead239, amp, amp_a, value, valued, content, words, opens};
 ghost use Rattle.xml.specs.ScanSteps.{Scans, Completes, TextTo, first};
 
-use super::bytes::{Unread, byte, kind, past_text, word_end};
+use super::FormError;
+use super::bytes::{byte, kind, past_text, word_end};
 
 // The rest of a character: a byte from lo to hi, then n bytes from 128 to 191.
-fn tail_end(text: &[u8], from: usize, lo: u8, hi: u8, n: usize) -> Result<usize, Unread>
+fn tail_end(text: &[u8], from: usize, lo: u8, hi: u8, n: usize) -> Result<usize, FormError>
     requires { from ≤ length text.now }
     ensures { (p : Mode) → Scans text.now from (at (more p lo hi n)) (at p) result }
 {
     let mut i = from;
     let mut low = lo;
     let mut high = hi;
-    let mut left = n;
-    while i < text.len() {
-        let b = text[i];
-        if b < low {
-            return Err(Unread(text.len() - i));
+    for _ in 0..=n {
+        match text.get(i) {
+            Some(b) if low <= *b && *b <= high => i += 1,
+            _ => return Err(FormError { front: i }),
         }
-        if high < b {
-            return Err(Unread(text.len() - i));
-        }
-        i += 1;
-        if left == 0 {
-            return Ok(i);
-        }
-        left -= 1;
         low = 128;
         high = 191;
     }
-    Err(Unread(text.len() - i))
+    Ok(i)
 }
 
 // A character after its first byte, 239.
-fn end_239(text: &[u8], from: usize) -> Result<usize, Unread>
+fn end_239(text: &[u8], from: usize) -> Result<usize, FormError>
     requires { from ≤ length text.now }
     ensures { (p : Mode) → Scans text.now from (at (lead239 p)) (at p) result }
 {
     match byte(text, from) {
         128..=190 => tail_end(text, from + 1, 128, 191, 0),
         191 => tail_end(text, from + 1, 128, 189, 0),
-        _ => Err(Unread(text.len() - from)),
+        _ => Err(FormError { front: from }),
     }
 }
 
 // A character after its first byte, b, which is no ASCII.
-fn wide_end(text: &[u8], i: usize, b: u8) -> Result<usize, Unread>
+fn wide_end(text: &[u8], i: usize, b: u8) -> Result<usize, FormError>
     requires { (i < length text.now) × (128 ≤ b) }
     ensures { (p : Mode) → Scans text.now (i + 1) (first p b) (at p) result }
 {
@@ -60,24 +52,24 @@ fn wide_end(text: &[u8], i: usize, b: u8) -> Result<usize, Unread>
         240 => tail_end(text, i + 1, 144, 191, 2),
         241..=243 => tail_end(text, i + 1, 128, 191, 2),
         244 => tail_end(text, i + 1, 128, 143, 2),
-        _ => Err(Unread(text.len() - i)),
+        _ => Err(FormError { front: i }),
     }
 }
 
 // A reference after `&a`.
-fn reference_a_end(text: &[u8], from: usize) -> Result<usize, Unread>
+fn reference_a_end(text: &[u8], from: usize) -> Result<usize, FormError>
     requires { from ≤ length text.now }
     ensures { (p : Mode) → Scans text.now from (at (amp_a p)) (at p) result }
 {
     match byte(text, from) {
         b'm' => word_end(text, from + 1, b"p;"),
         b'p' => word_end(text, from + 1, b"os;"),
-        _ => Err(Unread(text.len() - from)),
+        _ => Err(FormError { front: from }),
     }
 }
 
 // A reference after `&`.
-fn reference_end(text: &[u8], from: usize) -> Result<usize, Unread>
+fn reference_end(text: &[u8], from: usize) -> Result<usize, FormError>
     requires { from ≤ length text.now }
     ensures { (p : Mode) → Scans text.now from (at (amp p)) (at p) result }
 {
@@ -86,42 +78,41 @@ fn reference_end(text: &[u8], from: usize) -> Result<usize, Unread>
         b'l' => word_end(text, from + 1, b"t;"),
         b'g' => word_end(text, from + 1, b"t;"),
         b'q' => word_end(text, from + 1, b"uot;"),
-        _ => Err(Unread(text.len() - from)),
+        _ => Err(FormError { front: from }),
     }
 }
 
 // The character whose first byte, at i, is b, or the reference.
 #[inline(always)]
-fn char_end(text: &[u8], i: usize, b: u8) -> Result<usize, Unread>
+fn char_end(text: &[u8], i: usize, b: u8) -> Result<usize, FormError>
     requires { i < length text.now }
     ensures { (p : Mode) → Scans text.now (i + 1) (first p b) (at p) result }
 {
     match b {
         b'&' => reference_end(text, i + 1),
         b'\t' | b'\n' | b'\r' => Ok(i + 1),
-        0..=31 => Err(Unread(text.len() - i)),
+        0..=31 => Err(FormError { front: i }),
         32..=127 => Ok(i + 1),
         _ => wide_end(text, i, b),
     }
 }
 
 // The rest of an attribute's value that ends with the quote q.
-pub(crate) fn value_end(text: &[u8], from: usize, q: u8) -> Result<usize, Unread>
+pub(crate) fn value_end(text: &[u8], from: usize, q: u8) -> Result<usize, FormError>
     requires { from ≤ length text.now }
     ensures { Scans text.now from (at (value q)) (at valued) result }
 {
     let mut i = from;
-    while i < text.len() {
-        let b = text[i];
+    while let Some(&b) = text.get(i) {
         if b == q {
             return Ok(i + 1);
         }
         if b == b'<' {
-            return Err(Unread(text.len() - i));
+            return Err(FormError { front: i });
         }
         i = char_end(text, i, b)?;
     }
-    Err(Unread(text.len() - i))
+    Err(FormError { front: i })
 }
 
 // Whether b may follow the first byte of a character.
@@ -144,14 +135,15 @@ fn three_bytes(b: u8, c: u8, d: u8) -> bool
     requires { (224 ≤ b) × (b < 240) }
     ensures { Completes b (c ∷ d ∷ []) result }
 {
-    if !continues(c) || !continues(d) {
-        return false;
-    }
-    match b {
-        224 => 160 <= c,
-        237 => c <= 159,
-        239 => c < 191,
-        _ => true,
+    if continues(c) && continues(d) {
+        match b {
+            224 => 160 <= c,
+            237 => c <= 159,
+            239 => c < 191,
+            _ => true,
+        }
+    } else {
+        false
     }
 }
 
@@ -160,10 +152,14 @@ fn four_bytes(b: u8, c: u8, d: u8, e: u8) -> bool
     requires { 240 ≤ b }
     ensures { Completes b (c ∷ d ∷ e ∷ []) result }
 {
-    if !continues(c) || !continues(d) || !continues(e) {
-        return false;
+    if continues(c) && continues(d) && continues(e) {
+        match b {
+            240 => 144 <= c,
+            _ => b < 244,
+        }
+    } else {
+        false
     }
-    if b < 241 { 144 <= c } else { b < 244 }
 }
 
 // The end of characters of text from `from` on, of one byte and of more. It stops at the latest at one that is under a further rule or not well-formed,
@@ -214,14 +210,13 @@ fn past_chars(text: &[u8], from: usize) -> usize
 }
 
 // The rest of an element's text, with the `<` behind it.
-pub(crate) fn text_end(text: &[u8], from: usize) -> Result<usize, Unread>
+pub(crate) fn text_end(text: &[u8], from: usize) -> Result<usize, FormError>
     requires { from ≤ length text.now }
     ensures { Scans text.now from (at (content (words 0))) (at (opens false)) result }
 {
     let mut i = past_chars(text, from);
     let mut n: usize = 0;
-    while i < text.len() {
-        let b = text[i];
+    while let Some(&b) = text.get(i) {
         if b == b'<' {
             return Ok(i + 1);
         }
@@ -230,11 +225,11 @@ pub(crate) fn text_end(text: &[u8], from: usize) -> Result<usize, Unread>
             i += 1;
         } else {
             if b == b'>' && n == 2 {
-                return Err(Unread(text.len() - i));
+                return Err(FormError { front: i });
             }
             n = 0;
             i = past_wide(text, char_end(text, i, b)?);
         }
     }
-    Err(Unread(text.len() - i))
+    Err(FormError { front: i })
 }

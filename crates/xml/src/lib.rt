@@ -1,17 +1,17 @@
 // The XML form (01, The XML form): whether a text is in it, and if not, where it leaves the form (02, Item 6).
 #![tactic(auto)]
 
-ghost use Rattle.std.specs.Prelude.{◌≡◌, ◌&&◌, [], ◌∷◌, ◌≤◌, ltb, length, drop};
+ghost use Rattle.std.specs.Prelude.{◌≡◌, ◌&&◌, [], ◌∷◌, ◌≤◌, ltb, length};
 ghost use Rattle.refusals.specs.Refusals.{left_at};
 ghost use Rattle.refusals.specs.declared.Refusal.TheVariants.{Form};
-ghost use Rattle.xml.specs.CheckSteps.{at, before, after, content, blank, form_run, form, outcome_of, form_checked};
-ghost use Rattle.xml.specs.ScanSteps.{OpensTurn, Reaches, NextTurn};
+ghost use Rattle.xml.specs.CheckSteps.{at, before, after, content, blank, form_checked};
+ghost use Rattle.xml.specs.ScanSteps.{OpensTurn, Reaches, NextTurn, Ends};
 
 mod bytes;
 mod characters;
 mod tags;
 
-use bytes::{Unread, byte, past_spaces, word_end};
+use bytes::{byte, past_spaces, word_end};
 use characters::text_end;
 use refusals::{Place, Refusal};
 use tags::{byte_end, end_tag, inner_tag, start_tag};
@@ -48,7 +48,7 @@ fn read_tag<'a>(
     from: usize,
     begins: bool,
     name: &[u8],
-) -> Result<(Turn<'a>, usize), Unread>
+) -> Result<(Turn<'a>, usize), FormError>
     requires { from ≤ length text.now }
     ensures { OpensTurn text.now from name.now begins result }
 {
@@ -57,7 +57,7 @@ fn read_tag<'a>(
         return Ok((Turn::Outside, j));
     }
     if !begins {
-        return Err(Unread(text.len() - from));
+        return Err(FormError { front: from });
     }
     match inner_tag(text, from)? {
         (Some(opened), j) => Ok((Turn::Opened(opened), j)),
@@ -67,7 +67,7 @@ fn read_tag<'a>(
 
 // The content of an element up to its next `<`: the position behind that, and whether there is no text before it, so that an element may begin. The
 // element has children already or not.
-fn next_markup(text: &[u8], from: usize, children: bool) -> Result<(bool, usize), Unread>
+fn next_markup(text: &[u8], from: usize, children: bool) -> Result<(bool, usize), FormError>
     requires { from ≤ length text.now }
     ensures { Reaches text.now from children result }
 {
@@ -76,7 +76,7 @@ fn next_markup(text: &[u8], from: usize, children: bool) -> Result<(bool, usize)
         return Ok((true, i + 1));
     }
     if children {
-        return Err(Unread(text.len() - i));
+        return Err(FormError { front: i });
     }
     let j = text_end(text, i)?;
     Ok((false, j))
@@ -90,7 +90,7 @@ fn next_tag<'a>(
     children: bool,
     depth: usize,
     name: &[u8],
-) -> Result<(Turn<'a>, usize), Unread>
+) -> Result<(Turn<'a>, usize), FormError>
     requires { from ≤ length text.now }
     ensures { NextTurn text.now from name.now children depth result }
 {
@@ -100,28 +100,28 @@ fn next_tag<'a>(
 }
 
 // White space after the root element.
-fn finish(text: &[u8], from: usize) -> Result<(), Unread>
+fn finish(text: &[u8], from: usize) -> Result<(), FormError>
     requires { from ≤ length text.now }
-    ensures { outcome_of result ≡ form_run (at after []) (drop from text.now) }
+    ensures { Ends text.now from (at after []) result }
 {
     let i = past_spaces(text, from);
     if i == text.len() {
         Ok(())
     } else {
-        Err(Unread(text.len() - i))
+        Err(FormError { front: i })
     }
 }
 
 // The content of the root element, which has this name, and what follows it.
-fn elements<'a>(text: &'a [u8], from: usize, name: &'a [u8]) -> Result<(), Unread>
+fn elements<'a>(text: &'a [u8], from: usize, name: &'a [u8]) -> Result<(), FormError>
     requires { from ≤ length text.now }
-    ensures { outcome_of result ≡ form_run (at (content blank) (name.now ∷ [])) (drop from text.now) }
+    ensures { Ends text.now from (at (content blank) (name.now ∷ [])) result }
 {
     let mut names = [name; 64];
     let mut depth: usize = 1;
     let mut i = from;
     let mut children = false;
-    while i < text.len() {
+    loop {
         let (turn, j) = next_tag(text, i, children, depth, names[depth - 1])?;
         i = j;
         match turn {
@@ -140,13 +140,12 @@ fn elements<'a>(text: &'a [u8], from: usize, name: &'a [u8]) -> Result<(), Unrea
             }
         }
     }
-    Err(Unread(text.len() - i))
 }
 
 // What follows the declaration.
-fn root(text: &[u8], from: usize) -> Result<(), Unread>
+fn root(text: &[u8], from: usize) -> Result<(), FormError>
     requires { from ≤ length text.now }
-    ensures { outcome_of result ≡ form_run (at before []) (drop from text.now) }
+    ensures { Ends text.now from (at before []) result }
 {
     let i = byte_end(text, from, b'<')?;
     match start_tag(text, i)? {
@@ -155,22 +154,10 @@ fn root(text: &[u8], from: usize) -> Result<(), Unread>
     }
 }
 
-// The whole text.
-fn read_all(text: &[u8]) -> Result<(), Unread>
-    ensures { outcome_of result ≡ form text.now }
-{
-    let j = word_end(text, 0, b"<?xml version=\"1.0\" encoding=\"UTF-8\"?>")?;
-    root(text, j)
-}
-
 // Whether the text is in the form.
 pub fn check(text: &[u8]) -> Result<(), FormError>
     ensures { result ≡ form_checked text.now }
 {
-    match read_all(text) {
-        Ok(()) => Ok(()),
-        Err(unread) => Err(FormError {
-            front: text.len() - unread.0,
-        }),
-    }
+    let i = word_end(text, 0, b"<?xml version=\"1.0\" encoding=\"UTF-8\"?>")?;
+    root(text, i)
 }

@@ -3,11 +3,12 @@ ghost use Rattle.std.specs.Prelude.{◌≡◌, List, ℕ, ◌≤◌, length, get
 ghost use Rattle.xml.specs.CheckSteps.{at, key, keyed, equals, valued, tag, closed, reads, leave};
 ghost use Rattle.xml.specs.ScanSteps.{Scans, ScansByte, ScansTag, ShutsTag, Starts};
 
-use super::bytes::{Unread, byte, kind, past_name, past_spaces, word_end};
+use super::FormError;
+use super::bytes::{byte, kind, past_name, past_spaces, word_end};
 use super::characters::value_end;
 
 // White space, and then the byte b.
-pub(crate) fn byte_end(text: &[u8], from: usize, b: u8) -> Result<usize, Unread>
+pub(crate) fn byte_end(text: &[u8], from: usize, b: u8) -> Result<usize, FormError>
     requires { from ≤ length text.now }
     ensures { ScansByte text.now from b result }
 {
@@ -15,12 +16,12 @@ pub(crate) fn byte_end(text: &[u8], from: usize, b: u8) -> Result<usize, Unread>
     if i < text.len() && text[i] == b {
         Ok(i + 1)
     } else {
-        Err(Unread(text.len() - i))
+        Err(FormError { front: i })
     }
 }
 
 // An attribute's value in quotes, from behind the `=` on.
-fn quoted_end(text: &[u8], from: usize) -> Result<usize, Unread>
+fn quoted_end(text: &[u8], from: usize) -> Result<usize, FormError>
     requires { from ≤ length text.now }
     ensures { Scans text.now from (at equals) (at valued) result }
 {
@@ -29,12 +30,12 @@ fn quoted_end(text: &[u8], from: usize) -> Result<usize, Unread>
     if q == b'"' || q == b'\'' {
         value_end(text, i + 1, q)
     } else {
-        Err(Unread(text.len() - i))
+        Err(FormError { front: i })
     }
 }
 
 // An attribute, from behind the first letter of its name on.
-fn attribute_end(text: &[u8], from: usize) -> Result<usize, Unread>
+fn attribute_end(text: &[u8], from: usize) -> Result<usize, FormError>
     requires { from ≤ length text.now }
     ensures { Scans text.now from (at key) (at valued) result }
 {
@@ -51,7 +52,7 @@ enum TagEnd {
 }
 
 // The `>` or `/>` of a start tag, and the position behind it.
-fn close(text: &[u8], from: usize) -> Result<(TagEnd, usize), Unread>
+fn close(text: &[u8], from: usize) -> Result<(TagEnd, usize), FormError>
     requires { from ≤ length text.now }
     ensures { ShutsTag text.now from result }
 {
@@ -60,18 +61,18 @@ fn close(text: &[u8], from: usize) -> Result<(TagEnd, usize), Unread>
         return Ok((TagEnd::Open, from + 1));
     }
     if b != b'/' {
-        return Err(Unread(text.len() - from));
+        return Err(FormError { front: from });
     }
     let i = from + 1;
     if byte(text, i) == b'>' {
         Ok((TagEnd::Empty, i + 1))
     } else {
-        Err(Unread(text.len() - i))
+        Err(FormError { front: i })
     }
 }
 
 // The rest of a start tag, from the end of its name on.
-fn tag_end(text: &[u8], from: usize) -> Result<(TagEnd, usize), Unread>
+fn tag_end(text: &[u8], from: usize) -> Result<(TagEnd, usize), FormError>
     requires { from ≤ length text.now }
     ensures { ScansTag text.now from (at tag) result }
 {
@@ -85,12 +86,12 @@ fn tag_end(text: &[u8], from: usize) -> Result<(TagEnd, usize), Unread>
 
 // A start tag, from the first letter of its name on: the name of the element that it opens, or none of an empty-element tag; and the position
 // behind the tag.
-pub(crate) fn start_tag(text: &[u8], from: usize) -> Result<(Option<&[u8]>, usize), Unread>
+pub(crate) fn start_tag(text: &[u8], from: usize) -> Result<(Option<&[u8]>, usize), FormError>
     requires { from ≤ length text.now }
     ensures { Starts text.now from result }
 {
     if kind(byte(text, from)) != b'a' {
-        return Err(Unread(text.len() - from));
+        return Err(FormError { front: from });
     }
     let e = past_name(text, from);
     match tag_end(text, e)? {
@@ -100,7 +101,7 @@ pub(crate) fn start_tag(text: &[u8], from: usize) -> Result<(Option<&[u8]>, usiz
 }
 
 // The same; quicker where the tag has a name alone, as most have.
-pub(crate) fn inner_tag(text: &[u8], from: usize) -> Result<(Option<&[u8]>, usize), Unread>
+pub(crate) fn inner_tag(text: &[u8], from: usize) -> Result<(Option<&[u8]>, usize), FormError>
     requires { from ≤ length text.now }
     ensures { Starts text.now from result }
 {
@@ -114,7 +115,7 @@ pub(crate) fn inner_tag(text: &[u8], from: usize) -> Result<(Option<&[u8]>, usiz
 }
 
 // The end tag of an element with this name, from behind its `</` on. Where the name is another, `word_end` finds its first byte that does not fit.
-pub(crate) fn end_tag(text: &[u8], from: usize, name: &[u8]) -> Result<usize, Unread>
+pub(crate) fn end_tag(text: &[u8], from: usize, name: &[u8]) -> Result<usize, FormError>
     requires { from ≤ length text.now }
     ensures { Scans text.now from (at (reads closed name.now)) leave result }
 {

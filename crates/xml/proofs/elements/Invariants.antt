@@ -6,8 +6,8 @@ use Rattle.xml.specs.CheckSteps.{at, content, blank, form_run}
 use Rattle.xml.proofs.OpenElements.{Stands}
 use Rattle.xml.proofs.elements.Given as goal
 
-abbrev pub invariant-loop-i : goal.invariant-loop-i
-invariant-loop-i l = Stands l.text (form_run (at (content blank) (l.name ∷ [])) (drop l.from l.text)) l.names l.depth l.i l.children
+abbrev pub invariant-loop-turn : goal.invariant-loop-turn
+invariant-loop-turn l = Stands l.text (form_run (at (content blank) (l.name ∷ [])) (drop l.from l.text)) l.names l.depth l.i l.children
 
-abbrev pub decreases-loop-i : goal.decreases-loop-i
-decreases-loop-i l = length l.text - l.i
+abbrev pub decreases-loop-turn : goal.decreases-loop-turn
+decreases-loop-turn l = length l.text - l.i

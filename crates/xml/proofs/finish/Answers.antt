@@ -1,6 +1,6 @@
 -- `finish` meets its contract: white space up to the end, or a byte that does not fit.
 use mathlib.Core.List.{[]}
-use mathlib.Core.Path.{refl, ◌∙◌, sym}
+use mathlib.Core.Path.{refl, ◌∙◌}
 use Prim.Native.Nat.{◌<◌}
 use native.Mathlib.Omega.{arith}
 use lib.ListN.{length}
@@ -16,7 +16,10 @@ pub returns-then-i-text : goal.returns-then-i-text
 unfolding ended
 returns-then-i-text c =
     let t = c.args.text.now in
-    sym (run_past is_space after [] (after_stay []) t c.args.from c.past_spaces-i.result c.past_spaces-i.ensures ∙ run_out t c.past_spaces-i.result after [] (search rules))
+    record {
+      runs = run_past is_space after [] (after_stay []) t c.args.from c.past_spaces-i.result c.past_spaces-i.ensures ∙ run_out t c.past_spaces-i.result after [] (search rules);
+      ends = tt;
+    }
 
 pub returns-else-i-text : goal.returns-else-i-text
 unfolding form_step
@@ -25,4 +28,7 @@ returns-else-i-text c =
     let i = c.past_spaces-i.result in
     let e = c.past_spaces-i.ensures in
     let h : i < length t = omega (arith, e.inside) in
-    sym (run_past is_space after [] (after_stay []) t c.args.from i e ∙ run_on t i after [] h (simp (past_stop e h)) ∙ run_stopped t i h refl)
+    record {
+      runs = run_past is_space after [] (after_stay []) t c.args.from i e ∙ run_on t i after [] h (simp (past_stop e h)) ∙ run_stopped t i h refl;
+      ends = e.inside;
+    }

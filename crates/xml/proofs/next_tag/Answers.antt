@@ -25,4 +25,4 @@ pub returns-in_err-alone : goal.returns-in_err-alone
 returns-in_err-alone c =
     let p = err_from_is_err_and c.from_residual.result c.from_residual.ensures.1 in
     let x = c.in_err-alone.ensures in
-    rw (p.1, p.2) (turns_broken c.in_err-alone.field-0.0 x.runs)
+    rw (p.1, p.2) (turns_broken c.in_err-alone.field-0.0 x.runs x.ends)

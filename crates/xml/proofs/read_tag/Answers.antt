@@ -11,7 +11,7 @@ use Rattle.xml.specs.CheckSteps.{at, opens, closed, reads, innermost, form_step,
 use Rattle.xml.proofs.Scanning.{run_on, run_refused}
 use Rattle.xml.proofs.Scanned.{stands}
 use Rattle.xml.proofs.Tagged.{tells}
-use Rattle.xml.proofs.Turned.{turns_outside, turns_unread, turns_opened, turns_inside, turns_cut}
+use Rattle.xml.proofs.Turned.{turns_outside, turns_left, turns_opened, turns_inside, turns_cut}
 use Rattle.xml.proofs.read_tag.Goals as goal
 
 pub overflow_add-from : goal.overflow_add-from
@@ -44,7 +44,7 @@ returns-in_err-j c =
     let h = stands t i c.byte.result e (search rules) in
     let p = err_from_is_err_and c.from_residual.result c.from_residual.ensures.1 in
     rw (p.1, p.2)
-    (λ o. turns_unread {b = at (reads closed n)} (i + 1) (search rules) (λ ns. run_on t i (opens o) (n ∷ ns) h (ap (form_step (opens o) (n ∷ ns)) (sym e ∙ c.if-byte-eq47.true))) c.end_tag.ensures c.in_err-j.field-0.0 c.in_err-j.was)
+    (λ o. turns_left {b = at (reads closed n)} (i + 1) (search rules) (λ ns. run_on t i (opens o) (n ∷ ns) h (ap (form_step (opens o) (n ∷ ns)) (sym e ∙ c.if-byte-eq47.true))) c.end_tag.ensures c.in_err-j.field-0.0 c.in_err-j.was)
 
 pub returns-then-not-begins : goal.returns-then-not-begins
 unfolding form_step ended
@@ -54,7 +54,7 @@ returns-then-not-begins c =
     let n = c.args.name.now in
     let e = c.byte.ensures in
     let no : c.args.begins ≡ false = c.if-not-begins.true in
-    λ o. record { runs = λ ns f. run_refused t i (opens o) (n ∷ ns) (search rules) refl (simp (← e, ne_eqb _ _ c.if-byte-eq47.false, f, no, and-false)); ends = tt; opens_if = tt }
+    λ o. record { runs = λ ns f. run_refused t i (opens o) (n ∷ ns) (search rules) refl (simp (← e, ne_eqb _ _ c.if-byte-eq47.false, f, no, and-false)); ends = c.requires; opens_if = tt }
 
 pub returns-in-Some-default : goal.returns-in-Some-default
 unfolding form_step ended

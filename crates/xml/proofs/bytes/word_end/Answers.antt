@@ -1,29 +1,36 @@
 -- `word_end` meets its contract. Invariant: what is left of the word is read from i on.
-use mathlib.Core.Path.{refl, ◌∙◌}
+use mathlib.Core.Path.{refl, ap, ◌∙◌, sym}
+use native.Mathlib.Omega.{arith}
+use lib.ListN.{length}
+use borrow.Author.Tests.{ltb-false}
 use borrow.Author.Rules.{rules}
+use Rattle.std.specs.Option.{is_some}
 use Rattle.xml.proofs.Scanning.{word_out, word_refused, word_on, word_done}
 use Rattle.xml.proofs.bytes.word_end.Goals as goal
-use Rattle.xml.proofs.bytes.word_end.Goals.{then-i-text-via-then-i-text, then-i-text-via-else-i-text+then-text-i}
 
 pub loop-c-init : goal.loop-c-init
 loop-c-init c = (search rules, search rules, λ p ns. refl)
 
-pub returns-then-i-text : goal.returns-then-i-text
-returns-then-i-text c =
+pub returns-in_default : goal.returns-in_default
+returns-in_default c =
     let l = c.loop-c in
     let a = c.args in
-    elim c.then-i-text.branch [
-      | then-i-text-via-then-i-text w ↦
-          λ p. record { runs = λ ns. l.invariant.2 p ns ∙ word_out a.text.now l.i a.word.now l.c-index p ns (search rules) (search rules) (search rules); ends = tt }
-      | then-i-text-via-else-i-text+then-text-i w ↦
-          λ p. record { runs = λ ns. l.invariant.2 p ns ∙ word_refused a.text.now l.i a.word.now l.c-index p ns (search rules) (search rules) w.if-text-i.true; ends = tt }
-    ]
+    let g = c.in-Some.ensures.lookup in
+    λ p. record { runs = λ ns. l.invariant.2 p ns ∙ word_refused a.text.now l.i a.word.now l.c-index p ns g.3.0 (search rules) (λ z. c.if-b-c.false (g.4 (omega arith) 0 ∙ z)); ends = l.invariant.1 }
+
+pub returns-in_default-2 : goal.returns-in_default-2
+returns-in_default-2 c =
+    let l = c.loop-c in
+    let a = c.args in
+    let n = ltb-false l.i (length a.text.now) (sym c.get.ensures.lookup.0 ∙ ap is_some c.in_default.is) in
+    λ p. record { runs = λ ns. l.invariant.2 p ns ∙ word_out a.text.now l.i a.word.now l.c-index p ns (search rules) n (search rules); ends = l.invariant.1 }
 
 pub loop-c-preserved : goal.loop-c-preserved
 loop-c-preserved c =
     let l = c.loop-c in
     let a = c.args in
-    (search rules, search rules, λ p ns. l.invariant.2 p ns ∙ word_on a.text.now l.i a.word.now l.c-index p ns (search rules) (search rules) c.if-text-i.false)
+    let g = c.in-Some.ensures.lookup in
+    (search rules, omega (arith, g.3.0), λ p ns. l.invariant.2 p ns ∙ word_on a.text.now l.i a.word.now l.c-index p ns g.3.0 (search rules) (sym (g.4 (omega arith) 0) ∙ c.if-b-c.true))
 
 pub returns : goal.returns
 returns c =

@@ -6,7 +6,6 @@ use borrow.Author.Rules.{rules}
 use Rattle.xml.specs.CheckSteps.{form_step, ended}
 use Rattle.xml.proofs.Scanned.{stands, scan_refused, scan_on}
 use Rattle.xml.proofs.characters.end_239.Goals as goal
-use Rattle.xml.proofs.characters.end_239.Goals.{in_default-via-then-this-lt128, in_default-via-else-this-lt128+else-this-lt191}
 
 pub overflow_add-from : goal.overflow_add-from
 overflow_add-from c =
@@ -42,11 +41,9 @@ returns-in-128-to-190 c =
 
 pub returns-in_default : goal.returns-in_default
 unfolding form_step ended
-returns-in_default c =
-    elim c.in_default.branch [
-      | in_default-via-then-this-lt128 w ↦
-          λ p. scan_refused c.byte.result c.byte.ensures (search rules) refl (λ ns. simp (lt-ltb c.byte.result 128 (omega arith)))
-      | in_default-via-else-this-lt128+else-this-lt191 w ↦
-          λ p. scan_refused c.byte.result c.byte.ensures (search rules) refl
-          (λ ns. simp (le-ltb c.byte.result 128 (omega arith), le-ltb c.byte.result 191 (omega arith), le-ltb c.byte.result 192 (omega arith)))
-    ]
+returns-in_default c = λ p. scan_refused c.byte.result c.byte.ensures (search rules) refl (λ ns. simp (lt-ltb c.byte.result 128 (omega arith)))
+
+pub returns-in_default-2 : goal.returns-in_default-2
+unfolding form_step ended
+returns-in_default-2 c =
+    λ p. scan_refused c.byte.result c.byte.ensures (search rules) refl (λ ns. simp (le-ltb c.byte.result 128 (omega arith), le-ltb c.byte.result 191 (omega arith), le-ltb c.byte.result 192 (omega arith)))

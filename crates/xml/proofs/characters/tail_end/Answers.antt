@@ -1,41 +1,50 @@
--- `tail_end` meets its contract. Invariant: a scan from i on, where `left` more bytes are to follow, is a scan from `from` on.
-use mathlib.Core.Path.{refl}
-use lib.ListN.{get_or}
-use borrow.Author.Tests.{eq-eqb, ne_eqb, lt-ltb, le-ltb}
+-- `tail_end` meets its contract. Invariant: a scan from i on, where the bytes that are left of n and the last one are to follow, is a scan from `from` on.
+use mathlib.Core.Path.{◌≡◌, refl, ap, ◌∙◌, sym}
+use Prim.Native.Nat.{◌+◌, ◌-◌}
+use native.Mathlib.Omega.{arith}
+use lib.ListN.{length}
 use borrow.Author.Rules.{rules}
+use Rattle.std.specs.Option.{is_some}
+use borrow.Author.Tests.{lt-ltb, le-ltb, ltb-false, eq-eqb, ne_eqb}
 use Rattle.xml.specs.CheckSteps.{form_step, ended}
-use Rattle.xml.proofs.Scanned.{scan_refused, scan_step, scan_done, scan_out}
+use Rattle.xml.proofs.Scanned.{scan_refused, scan_at, scan_done, scan_out}
 use Rattle.xml.proofs.characters.tail_end.Goals as goal
 
-pub loop-i-init : goal.loop-i-init
-loop-i-init c = (search rules, search rules, λ p r x. x)
-
-pub returns-then-b-low : goal.returns-then-b-low
+pub returns-in_default : goal.returns-in_default
 unfolding form_step ended
-returns-then-b-low c =
-    let l = c.loop-i in
-    λ p. l.invariant.2 p _ (scan_refused (get_or c.args.text.now l.i 0) refl (search rules) refl (λ ns. simp (lt-ltb _ _ c.if-b-low.true)))
+returns-in_default c =
+    let l = c.loop in
+    let g = c.in-Some.ensures.lookup in
+    λ p. l.invariant.1 p _ (scan_refused c.in-Some.b.now (g.4 (omega arith) 0) (search rules) refl (λ ns. simp (le-ltb _ _ c.if-low-b.true, lt-ltb _ _ c.if-b-high.false)))
 
-pub returns-then-high-b : goal.returns-then-high-b
+pub returns-in_default-2 : goal.returns-in_default-2
 unfolding form_step ended
-returns-then-high-b c =
-    let l = c.loop-i in
-    λ p. l.invariant.2 p _ (scan_refused (get_or c.args.text.now l.i 0) refl (search rules) refl (λ ns. simp (le-ltb _ _ c.if-b-low.false, lt-ltb _ _ c.if-high-b.true)))
+returns-in_default-2 c =
+    let l = c.loop in
+    let g = c.in-Some.ensures.lookup in
+    λ p. l.invariant.1 p _ (scan_refused c.in-Some.b.now (g.4 (omega arith) 0) (search rules) refl (λ ns. simp (lt-ltb _ _ c.if-low-b.false)))
 
-pub returns-then-left-eq0 : goal.returns-then-left-eq0
+pub returns-in_default-3 : goal.returns-in_default-3
+unfolding form_step ended
+returns-in_default-3 c =
+    let n = ltb-false c.loop.i (length c.args.text.now) (sym c.get.ensures.lookup.0 ∙ ap is_some c.in_default.is) in
+    λ p. c.loop.invariant.1 p _ (scan_out (search rules) n refl)
+
+pub loop-preserved : goal.loop-preserved
 unfolding form_step
-returns-then-left-eq0 c =
-    let l = c.loop-i in
-    λ p. l.invariant.2 p _ (scan_step (search rules) (λ ns. simp (le-ltb _ _ c.if-b-low.false, le-ltb _ _ c.if-high-b.false, eq-eqb _ _ c.if-left-eq0.true)) (scan_done (search rules)))
+loop-preserved c =
+    let l = c.loop in
+    let g = c.in-Some.ensures.lookup in
+    let n : c.args.n - (l.counter + 1) ≡ c.args.n - l.counter - 1 = omega arith in
+    let z : c.args.n - l.counter ≡ 0 → ⊥ = λ z. omega arith in (
+      omega (arith, g.3.0),
+      λ p r x. l.invariant.1 p r (scan_at c.in-Some.b.now g.3.0 (g.4 (omega arith) 0) (λ ns. simp (le-ltb _ _ c.if-low-b.true, le-ltb _ _ c.if-b-high.true, ne_eqb _ _ z)) (rw n at x)),
+    )
 
-pub loop-i-preserved : goal.loop-i-preserved
+pub returns-in-Some : goal.returns-in-Some
 unfolding form_step
-loop-i-preserved c =
-    let l = c.loop-i in
-    (search rules, search rules, λ p r x. l.invariant.2 p r (scan_step (search rules) (λ ns. simp (le-ltb _ _ c.if-b-low.false, le-ltb _ _ c.if-high-b.false, ne_eqb _ _ c.if-left-eq0.false)) x))
-
-pub returns : goal.returns
-unfolding ended
-returns c =
-    let l = c.loop-i in
-    λ p. l.invariant.2 p _ (scan_out (search rules) (search rules) refl)
+returns-in-Some c =
+    let l = c.loop in
+    let g = c.in-Some.ensures.lookup in
+    let z : c.args.n - l.counter ≡ 0 = omega arith in
+    λ p. l.invariant.1 p _ (scan_at c.in-Some.b.now g.3.0 (g.4 (omega arith) 0) (λ ns. simp (le-ltb _ _ c.if-low-b.true, le-ltb _ _ c.if-b-high.true, eq-eqb _ _ z)) (scan_done (omega (arith, g.3.0))))

@@ -5,7 +5,6 @@ use native.Mathlib.Omega.{arith}
 use Rattle.xml.proofs.Leads.{lead_two, lead_224, lead_three, lead_237, lead_239, lead_240, lead_four, lead_244, lead_low, lead_high}
 use Rattle.xml.proofs.Scanned.{scan_stopped, scan_from}
 use Rattle.xml.proofs.characters.wide_end.Goals as goal
-use Rattle.xml.proofs.characters.wide_end.Goals.{in_default-via-then-b-lt194, in_default-via-else-b-lt194+else-b-lt224+else-b-lt237+else-b-lt244}
 
 pub returns-in-194-to-223 : goal.returns-in-194-to-223
 returns-in-194-to-223 c = λ p. scan_from (λ ns. lead_two p ns c.args.b (omega arith) (omega arith)) (c.tail_end-in-194-to-223.ensures p)
@@ -34,8 +33,7 @@ returns-in-225-to-236 c =
     λ p. scan_from (λ ns. lead_three p ns c.args.b h.0 h.1 h.2) (c.tail_end-in-225-to-236.ensures p)
 
 pub returns-in_default : goal.returns-in_default
-returns-in_default c =
-    elim c.in_default.branch [
-      | in_default-via-then-b-lt194 w ↦ λ p. scan_stopped (omega arith) (λ ns. lead_low p ns c.args.b (omega arith) (omega arith))
-      | in_default-via-else-b-lt194+else-b-lt224+else-b-lt237+else-b-lt244 w ↦ λ p. scan_stopped (omega arith) (λ ns. lead_high p ns c.args.b (omega arith))
-    ]
+returns-in_default c = λ p. scan_stopped (omega arith) (λ ns. lead_low p ns c.args.b (omega arith) (omega arith))
+
+pub returns-in_default-2 : goal.returns-in_default-2
+returns-in_default-2 c = λ p. scan_stopped (omega arith) (λ ns. lead_high p ns c.args.b (omega arith))

@@ -29,12 +29,6 @@ returns-then-byte-eq62 c =
     let g = stands t (c.args.from + 1) c.byte.result c.byte.ensures (search rules) in
     λ p n f. tags_empty (c.args.from + 1 + 1) (scan_step h (λ ns. f ns ∙ ap (tag_end ns) (sym c.byte-b.ensures ∙ c.if-b-ne47.false)) (scan_on c.byte.result c.byte.ensures (search rules) (λ ns. ap (form_step slash ns) c.if-byte-eq62.true) (scan_done (search rules))))
 
-pub overflow_sub-result-else-byte-eq62 : goal.overflow_sub-result-else-byte-eq62
-overflow_sub-result-else-byte-eq62 c =
-    let t = c.args.text.now in
-    let h = stands t c.args.from c.byte-b.result c.byte-b.ensures (search rules) in
-    search rules
-
 pub returns-else-byte-eq62 : goal.returns-else-byte-eq62
 unfolding tag_end form_step ended
 returns-else-byte-eq62 c =

@@ -18,7 +18,7 @@ returns-then-kind-ne97 c =
     let t = c.args.text.now in
     let i = c.args.from in
     let l : is_ascii_letter (get_or t i 0) ≡ false = no_letter c.kind.result (get_or t i 0) (c.kind.ensures ∙ ap kind_of c.byte.ensures) c.if-kind-ne97.true in
-    record { runs = λ p ns n f. run_refused t i p ns (search rules) n (f ∙ simp l); ends = tt }
+    record { runs = λ p ns n f. run_refused t i p ns (search rules) n (f ∙ simp l); ends = c.requires }
 
 pub returns-in-Open-default : goal.returns-in-Open-default
 returns-in-Open-default c =
