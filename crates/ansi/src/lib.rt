@@ -14,6 +14,7 @@ ghost use Rattle.ansi.specs.Steps.{ReadsFiles, Walks, rows_length, at_end, Hands
 use phases::{Block, Phase};
 use refusals::Refusal;
 use tape::Entry;
+use writing::Text;
 
 // Adds the file that a mark, element at, makes known, and answers where the rows end then.
 fn note(out: &mut [u8], end: usize, phase: Phase, store: &[u8], at: usize) -> usize
@@ -21,13 +22,16 @@ fn note(out: &mut [u8], end: usize, phase: Phase, store: &[u8], at: usize) -> us
     ensures { AddsAtMost 36 out.old end (all_bytes (known_at store.now at phase)) out.new result }
 {
     match phase {
-        Phase::Headers(h, g, _) => rows::add_file(
-            out,
-            end,
-            slices::part(store, h, 80),
-            slices::part(store, g, 80),
-            at + 1,
-        ),
+        Phase::Headers(h, g, _) => {
+            let mut rows = Text::behind(out, end);
+            rows::add_file(
+                &mut rows,
+                slices::part(store, h, 80),
+                slices::part(store, g, 80),
+                at + 1,
+            );
+            rows.len()
+        }
         _ => end,
     }
 }

@@ -1,17 +1,17 @@
 // The LTFS label, written.
 #![tactic(auto)]
 
-ghost use Rattle.std.specs.Prelude.{◌≡◌, ◌&&◌, ◌≤◌, length, take};
+ghost use Rattle.std.specs.Prelude.{◌≡◌, ◌&&◌};
 ghost use Rattle.xml.specs.CheckSteps.{in_form};
 ghost use Rattle.values.specs.Values.{is_creator, is_time, is_uuid};
 ghost use Rattle.writing.specs.Writing.{Writes};
-ghost use Rattle.writing.specs.Steps.{Adds};
-ghost use Rattle.label_writer.specs.Text.{escape, escaped, boolean_word, texts, letters, size_and_compression, label_of_given, are_numbers, is_lawful_label};
-ghost use Rattle.label_writer.specs.Steps.{ComposesText, WritesText};
+ghost use Rattle.writing.specs.Steps.{GrowsBy};
+ghost use Rattle.label_writer.specs.Text.{escape, escaped, boolean_word, texts, letters, size_and_compression, label_of_given, label_text, are_numbers, is_lawful_label};
+ghost use Rattle.label_writer.specs.Steps.{WritesText};
 
 use label::letters_fit;
 use refusals::Refusal;
-use writing::{add, add_number};
+use writing::Text;
 
 // The fields of a label that are numbers: its letters, its block size, and whether it is compressed.
 #[derive(Clone, Copy)]
@@ -24,88 +24,81 @@ pub struct Given {
 }
 
 // Adds a byte of a creator.
-#[tactic(auto, unfolding(crate::specs::Text::escape, slices::specs::Words::bytes), using(writing::proofs::Adding::adds_as))]
-fn add_escape(out: &mut [u8], at: usize, b: u8) -> usize
-    ensures { Adds out.old at (escape b) out.new result }
+#[tactic(auto, unfolding(crate::specs::Text::escape, slices::specs::Words::bytes), using(writing::proofs::Pieces::grows_as))]
+fn add_escape(text: &mut Text<'_>, b: u8)
+    ensures { GrowsBy text.old (escape b) text.new }
 {
     match b {
-        b'&' => add(out, at, b"&amp;"),
-        b'<' => add(out, at, b"&lt;"),
-        b'>' => add(out, at, b"&gt;"),
-        _ => add(out, at, &[b]),
+        b'&' => text.add(b"&amp;"),
+        b'<' => text.add(b"&lt;"),
+        b'>' => text.add(b"&gt;"),
+        _ => text.add(&[b]),
     }
 }
 
 // Adds a creator.
-fn add_escaped(out: &mut [u8], at: usize, s: &[u8]) -> usize
-    ensures { Adds out.old at (escaped s.now) out.new result }
+fn add_escaped(text: &mut Text<'_>, s: &[u8])
+    ensures { GrowsBy text.old (escaped s.now) text.new }
 {
-    let mut end = at;
     for b in s {
-        end = add_escape(out, end, *b);
+        add_escape(text, *b);
     }
-    end
 }
 
 // Adds a boolean.
 #[tactic(auto, unfolding(crate::specs::Text::boolean_word, slices::specs::Words::bytes))]
-fn add_word(out: &mut [u8], at: usize, c: bool) -> usize
-    ensures { Adds out.old at (boolean_word c) out.new result }
+fn add_word(text: &mut Text<'_>, c: bool)
+    ensures { GrowsBy text.old (boolean_word c) text.new }
 {
-    let word: &[u8] = if c { b"true" } else { b"false" };
-    add(out, at, word)
+    text.add(if c { b"true" } else { b"false" });
 }
 
 // Adds the creator, the time and the UUID.
-fn add_texts(out: &mut [u8], from: usize, creator: &[u8], time: &[u8], uuid: &[u8]) -> usize
-    ensures { Adds out.old from (texts creator.now time.now uuid.now) out.new result }
+fn add_texts(text: &mut Text<'_>, creator: &[u8], time: &[u8], uuid: &[u8])
+    ensures { GrowsBy text.old (texts creator.now time.now uuid.now) text.new }
 {
-    let mut at = add(out, from, b"<creator>");
-    at = add_escaped(out, at, creator);
-    at = add(out, at, b"</creator><formattime>");
-    at = add(out, at, time);
-    at = add(out, at, b"</formattime><volumeuuid>");
-    at = add(out, at, uuid);
-    add(out, at, b"</volumeuuid>")
+    text.add(b"<creator>");
+    add_escaped(text, creator);
+    text.add(b"</creator><formattime>");
+    text.add(time);
+    text.add(b"</formattime><volumeuuid>");
+    text.add(uuid);
+    text.add(b"</volumeuuid>");
 }
 
 // Adds the location and the partitions.
-fn add_letters(out: &mut [u8], from: usize, location: u8, index: u8, other: u8) -> usize
-    ensures { Adds out.old from (letters location index other) out.new result }
+fn add_letters(text: &mut Text<'_>, location: u8, index: u8, other: u8)
+    ensures { GrowsBy text.old (letters location index other) text.new }
 {
-    let mut at = add(out, from, b"<location><partition>");
-    at = add(out, at, &[location]);
-    at = add(out, at, b"</partition></location><partitions><index>");
-    at = add(out, at, &[index]);
-    at = add(out, at, b"</index><data>");
-    at = add(out, at, &[other]);
-    add(out, at, b"</data></partitions>")
+    text.add(b"<location><partition>");
+    text.add(&[location]);
+    text.add(b"</partition></location><partitions><index>");
+    text.add(&[index]);
+    text.add(b"</index><data>");
+    text.add(&[other]);
+    text.add(b"</data></partitions>");
 }
 
 // Adds the block size and the compression.
-fn add_numbers(out: &mut [u8], from: usize, size: u64, compression: bool) -> usize
-    ensures { Adds out.old from (size_and_compression size compression) out.new result }
+fn add_numbers(text: &mut Text<'_>, size: u64, compression: bool)
+    ensures { GrowsBy text.old (size_and_compression size compression) text.new }
 {
-    let mut at = add(out, from, b"<blocksize>");
-    at = add_number(out, at, size);
-    at = add(out, at, b"</blocksize><compression>");
-    at = add_word(out, at, compression);
-    add(out, at, b"</compression>")
+    text.add(b"<blocksize>");
+    text.add_number(size);
+    text.add(b"</blocksize><compression>");
+    add_word(text, compression);
+    text.add(b"</compression>");
 }
 
-// Writes the text of a label to the front of a buffer that has room for it. A buffer and a place in it, since no heap is used.
-fn compose(out: &mut [u8], creator: &[u8], time: &[u8], uuid: &[u8], g: Given) -> usize
-    ensures { ComposesText (label_of_given creator.now time.now uuid.now g) out.old out.new result }
+// Adds the text of a label.
+fn compose(text: &mut Text<'_>, creator: &[u8], time: &[u8], uuid: &[u8], g: Given)
+    ensures { GrowsBy text.old (label_text (label_of_given creator.now time.now uuid.now g)) text.new }
 {
-    let mut at = add(
-        out,
-        0,
-        b"<?xml version=\"1.0\" encoding=\"UTF-8\"?>\n<ltfslabel version=\"2.0.1\">",
-    );
-    at = add_texts(out, at, creator, time, uuid);
-    at = add_letters(out, at, g.location, g.index_letter, g.data_letter);
-    at = add_numbers(out, at, g.block_size, g.compression);
-    add(out, at, b"</ltfslabel>\n")
+    text.add(b"<?xml version=\"1.0\" encoding=\"UTF-8\"?>\n<ltfslabel version=\"2.0.1\">");
+    add_texts(text, creator, time, uuid);
+    add_letters(text, g.location, g.index_letter, g.data_letter);
+    add_numbers(text, g.block_size, g.compression);
+    text.add(b"</ltfslabel>\n");
 }
 
 // Whether bytes are a creator.
@@ -143,16 +136,14 @@ fn is_lawful(creator: &[u8], time: &[u8], uuid: &[u8], g: Given) -> bool
     are_texts(creator, time, uuid) && are_numbers(g)
 }
 
-// Writes the first n bytes of a text that is in the XML form to the front of out.
-fn deliver(out: &mut [u8], text: &[u8], n: usize) -> Result<usize, Refusal>
-    requires { n ≤ length text.now }
-    ensures { Writes (in_form (take n text.now)) (take n text.now) out.old out.new result }
+// Writes a text that is in the XML form to the front of out.
+fn deliver(out: &mut [u8], text: &[u8]) -> Result<usize, Refusal>
+    ensures { Writes (in_form text.now) text.now out.old out.new result }
 {
-    let part = &text[..n];
-    if xml::check(part).is_err() {
+    if xml::check(text).is_err() {
         return Err(Refusal::Caller);
     }
-    slices::put(out, 0, part)
+    slices::put(out, 0, text)
 }
 
 // Writes an LTFS label of version 2.0.1 to the front of out.
@@ -168,7 +159,8 @@ pub fn write(
     if !is_lawful(creator, time, uuid, g) {
         return Err(Refusal::Caller);
     }
-    let mut text = [0u8; 4096];
-    let n = compose(&mut text, creator, time, uuid, g);
-    deliver(out, &text, n)
+    let mut buffer = [0u8; 4096];
+    let mut text = Text::new(&mut buffer);
+    compose(&mut text, creator, time, uuid, g);
+    deliver(out, text.bytes())
 }

@@ -10,4 +10,4 @@ use Rattle.ansi.proofs.FileBytes.{file_bytes_lem}
 use Rattle.ansi.proofs.rows.add_file.Goals as goal
 
 pub returns : goal.returns
-returns c = the_same (ap₂ (λ (x y : List ℕ). (x ++ y) ++ big_endian 8 c.args.first) c.part.ensures c.part-2.ensures ∙ file_bytes_lem c.args.h.now c.args.g.now c.args.first) (within (omega (arith, ap length c.part.ensures, ap length c.part-2.ensures, length-take 17 (drop 4 c.args.h.now), length-take 11 (drop 4 c.args.g.now))) (then (then c.add-at.ensures c.add-at-2.ensures) c.add_number.ensures))
+returns c = the_same (ap₂ (λ (x y : List ℕ). (x ++ y) ++ big_endian 8 c.args.first) c.part.ensures c.part-2.ensures ∙ file_bytes_lem c.args.h.now c.args.g.now c.args.first) (within (omega (arith, ap length c.part.ensures, ap length c.part-2.ensures, length-take 17 (drop 4 c.args.h.now), length-take 11 (drop 4 c.args.g.now))) (then (then c.add.ensures c.add-2.ensures) c.add_big_endian.ensures))
