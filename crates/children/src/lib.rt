@@ -28,7 +28,7 @@ fn rule_end(table: &[u8]) -> Option<usize>
     table.iter().position(|b| is_mark(*b))
 }
 
-// The rule for a name.
+// The rule for a name. The rules are counted by hand: an iterator over them would be a type with an item of its own, for this loop alone.
 pub fn place_of(table: &[u8], name: &[u8]) -> Option<RuleFound>
     ensures { FindsRule (rules table.now) name.now result }
 {

@@ -2,7 +2,7 @@
 use Rattle.std.specs.Prelude.{Bool, false, cond, ◌&&◌, List, [], ◌∷◌, ◌++◌, ℕ, ◌-◌, eqb, leb, length, None, Option, Some, Err, Ok}
 use Rattle.refusals.specs.Refusals.{Answer, require, and_then}
 use Rattle.refusals.specs.declared.Refusal.TheVariants.{Caller, TooMany, Structure, Version, Value, Foreign, Extents, Location}
-use Rattle.slices.specs.Slices.{every, same}
+use Rattle.slices.specs.Slices.{every}
 use Rattle.slices.specs.Words.{bytes}
 use Rattle.quantities.specs.Letters.{are_letters}
 use Rattle.quantities.specs.Sizes.{is_block_size}
@@ -11,6 +11,7 @@ use Rattle.xml.specs.Tree.{Head, Forest, none as no_element, node}
 use Rattle.xml.specs.CheckSteps.{require_form}
 use Rattle.elements.specs.Reading.{forest_at, has_element}
 use Rattle.values.specs.Values as values
+use Rattle.children.specs.Children as children
 use Rattle.extents.specs.declared.Row.{Row}
 use Rattle.index_names.specs.declared.Sort.TheVariants.{Index as index}
 use Rattle.index_names.specs.Sorts.{is_file}
@@ -124,7 +125,7 @@ children_read g letter block release k =
 
 -- the root's name and its one attribute
 abbrev pub is_root : Head → Bool
-is_root h = same h.name (bytes "ltfsindex") && same h.key (bytes "version")
+is_root = children.is_root (bytes "ltfsindex")
 
 -- 5 for them, then 7 for the attribute's value, then the rest
 unfoldable pub tag_read : Given → ℕ → ℕ → Head → Forest → Answer Index

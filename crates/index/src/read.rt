@@ -5,7 +5,7 @@ ghost use Rattle.xml.specs.FormSteps.{height};
 ghost use Rattle.xml.specs.CheckSteps.{good, form};
 ghost use Rattle.elements.specs.Reading.{forest_at, head_at, children_at};
 ghost use Rattle.index_values.specs.Steps.{given};
-ghost use Rattle.index.specs.Index.{is_true, is_root, location_of, back_at, stands_at, caller_right, index_of};
+ghost use Rattle.index.specs.Index.{is_true, location_of, back_at, stands_at, caller_right, index_of};
 ghost use Rattle.index.specs.Steps.{address_of, back_of, HeaderOf, ReadsIndex, ReadsAll, ReadsChildren, ReadsTag, ReadsRoot};
 
 use crate::survey;
@@ -128,14 +128,6 @@ fn read_children(
     Ok(head_from(source.text, release, &found))
 }
 
-// Whether the tag at n has the root's name and its one attribute.
-#[tactic(auto, unfolding(slices::specs::Words::bytes))]
-fn is_root(text: &[u8], n: usize) -> bool
-    ensures { result ≡ is_root (head_at text.now n) }
-{
-    elements::name_is(text, n, b"ltfsindex") && elements::key_of(text, n) == b"version".as_slice()
-}
-
 // The index whose root's tag is at n.
 fn read_tag(
     source: Source<'_>,
@@ -149,7 +141,7 @@ fn read_tag(
         entry_table.old entry_table.new row_table.old row_table.new result }
 {
     let text = source.text;
-    if !is_root(text, n) {
+    if !children::is_root(text, n, b"ltfsindex") {
         return Err(Refusal::Structure);
     }
     let release = values::read_version(elements::value_of(text, n)).ok_or(Refusal::Version)?;

@@ -6,6 +6,7 @@ use Rattle.std.specs.Prelude.{◌≡◌, Err, ℕ, Result, Some}
 use Rattle.refusals.specs.declared.Refusal.{Refusal}
 use Rattle.refusals.specs.declared.Refusal.TheVariants.{Version}
 use Rattle.std.proofs.lemmas.Result.{err_from_is_err_and}
+use Rattle.slices.specs.Words.{bytes}
 use Rattle.xml.specs.FormSteps.{height}
 use Rattle.xml.specs.Tree.{Forest}
 use Rattle.elements.specs.Reading.{head_at, children_at}
@@ -16,12 +17,14 @@ use Rattle.index.proofs.Answers.{into_refused, same_into, same_tags, root_refuse
 use Rattle.index.proofs.read.read_tag.Goals as goal
 
 pub returns-then-not-is_root : goal.returns-then-not-is_root
+unfolding bytes
 returns-then-not-is_root c =
     let a = c.args in
     let s = a.source.text.now in
     into_refused (root_refused (asked a.source) a.place.letter a.place.block.0 (head_at s a.n) (children_at s a.n) (sym c.is_root.ensures ∙ c.if-not-is_root.true))
 
 pub returns-in_err-release : goal.returns-in_err-release
+unfolding bytes
 returns-in_err-release c =
     let a = c.args in
     let s = a.source.text.now in
@@ -36,6 +39,7 @@ pub read_children-requires : goal.read_children-requires
 read_children-requires c = (c.first_child-at.ensures.inside, subst (λ (k : Forest). height k ≤ 64) (sym c.first_child-at.ensures.row) c.requires)
 
 pub returns : goal.returns
+unfolding bytes
 returns c =
     let a = c.args in
     let s = a.source.text.now in
