@@ -37,7 +37,7 @@ fn element(rt: &impl Print, text: &[u8], n: usize, depth: usize) -> io::Result<(
     line(rt, b"]")
 }
 
-// Each element from at on, by its nesting.
+// Each element from at on, by its nesting. A loop, since each tag says where the next one is looked for; an iterator is no plainer here.
 fn walk(rt: &impl Print, text: &[u8], at: usize) -> io::Result<()> {
     let mut i = at;
     let mut depth: usize = 0;
@@ -75,7 +75,7 @@ fn child(rt: &impl Print, text: &[u8], n: usize) -> io::Result<()> {
     line(rt, b"")
 }
 
-// The elements of the row at at alone.
+// The elements of the row at at alone; a loop as above.
 fn row(rt: &impl Print, text: &[u8], at: usize) -> io::Result<()> {
     let mut i = at;
     while let Some(next) = elements::next_child(text, i) {
@@ -93,7 +93,7 @@ fn children(rt: &impl Print, text: &[u8], at: usize) -> io::Result<()> {
     }
 }
 
-// How many tags there are from at on.
+// How many tags there are from at on; a loop as above.
 fn tags(text: &[u8], at: usize) -> usize {
     let mut i = at;
     let mut n: usize = 0;

@@ -51,6 +51,7 @@ fn put_element(rt: &impl Print, text: &[u8], n: usize) -> io::Result<()> {
     Ok(())
 }
 
+// The tree of a text, behind its declaration. A loop, since each tag says where the next one is looked for; an iterator is no plainer here.
 fn put_tree(rt: &impl Print, text: &[u8]) -> io::Result<()> {
     let mut i: usize = 38;
     loop {

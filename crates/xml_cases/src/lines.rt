@@ -51,7 +51,7 @@ pub(crate) struct Text {
 }
 
 impl Text {
-    // The front, and then what is spelled. A text with no mark has it behind the front.
+    // The front, and then what is spelled. A text with no mark has it behind the front. The loop is no for, since an escape takes two signs more.
     fn new(front: &[u8], spelled: &[u8]) -> Text {
         let mut text = Text {
             bytes: [0; 8192],
