@@ -1,5 +1,9 @@
 -- Scans put together: from one byte, from a run of bytes, from one scan and the next.
-use Rattle.std.specs.Prelude.{Ok, Err}
+use Rattle.std.specs.Prelude.{Option, Some, None, Ok, Err, unwrap_or}
+use Rattle.std.specs.Option.{is_some, option_map}
+use Rattle.std.specs.Borrow.{Bor}
+use borrow.Author.Tests.{ltb-false}
+use lib.Dec.{ltb}
 use mathlib.Core.Path.{◌≡◌, refl, ap, ◌∙◌, sym, subst}
 use mathlib.Core.Bool.{Bool, true}
 use mathlib.Core.List.{List, ◌++◌}
@@ -22,6 +26,13 @@ stands t i b e h = inside t i (λ z. omega (arith, e, z))
 
 pub inside_letter : (t : List ℕ) (i : ℕ) → is_ascii_letter (get_or t i 0) ≡ true → i < length t
 inside_letter t i e = inside t i (λ z. omega (arith, letter_high (get_or t i 0) e, z))
+
+-- what `get` found, and that it found none
+pub found : {r : Option (Bor ℕ)} {v : ℕ} (b : Bor ℕ) → r ≡ Some b → unwrap_or (option_map (λ x. x.now) r) 0 ≡ v → b.now ≡ v
+found b e h = sym (ap (λ (o : Option (Bor ℕ)). unwrap_or (option_map (λ x. x.now) o) 0) e) ∙ h
+
+pub found_none : {r : Option (Bor ℕ)} (i n : ℕ) → r ≡ None → is_some r ≡ ltb i n → n ≤ i
+found_none i n e h = ltb-false i n (sym h ∙ ap is_some e)
 
 later : (i j n : ℕ) → i ≤ j → (r : Scan) → Between j n r → Between i n r
 later i j n h (Ok k) b = (omega arith, b.1)

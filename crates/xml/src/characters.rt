@@ -61,9 +61,9 @@ fn reference_a_end(text: &[u8], from: usize) -> Result<usize, FormError>
     requires { from ≤ length text.now }
     ensures { (p : Mode) → Scans text.now from (at (amp_a p)) (at p) result }
 {
-    match byte(text, from) {
-        b'm' => word_end(text, from + 1, b"p;"),
-        b'p' => word_end(text, from + 1, b"os;"),
+    match text.get(from) {
+        Some(b'm') => word_end(text, from + 1, b"p;"),
+        Some(b'p') => word_end(text, from + 1, b"os;"),
         _ => Err(FormError { front: from }),
     }
 }
@@ -73,11 +73,11 @@ fn reference_end(text: &[u8], from: usize) -> Result<usize, FormError>
     requires { from ≤ length text.now }
     ensures { (p : Mode) → Scans text.now from (at (amp p)) (at p) result }
 {
-    match byte(text, from) {
-        b'a' => reference_a_end(text, from + 1),
-        b'l' => word_end(text, from + 1, b"t;"),
-        b'g' => word_end(text, from + 1, b"t;"),
-        b'q' => word_end(text, from + 1, b"uot;"),
+    match text.get(from) {
+        Some(b'a') => reference_a_end(text, from + 1),
+        Some(b'l') => word_end(text, from + 1, b"t;"),
+        Some(b'g') => word_end(text, from + 1, b"t;"),
+        Some(b'q') => word_end(text, from + 1, b"uot;"),
         _ => Err(FormError { front: from }),
     }
 }
@@ -163,7 +163,7 @@ fn four_bytes(b: u8, c: u8, d: u8, e: u8) -> bool
 }
 
 // The end of characters of text from `from` on, of one byte and of more. It stops at the latest at one that is under a further rule or not well-formed,
-// or at the last three bytes.
+// or at the last three bytes. By index: a turn passes one to four bytes.
 fn past_wide(text: &[u8], from: usize) -> usize
     requires { from ≤ length text.now }
     ensures { TextTo text.now from result }

@@ -13,10 +13,9 @@ pub(crate) fn byte_end(text: &[u8], from: usize, b: u8) -> Result<usize, FormErr
     ensures { ScansByte text.now from b result }
 {
     let i = past_spaces(text, from);
-    if i < text.len() && text[i] == b {
-        Ok(i + 1)
-    } else {
-        Err(FormError { front: i })
+    match text.get(i) {
+        Some(c) if *c == b => Ok(i + 1),
+        _ => Err(FormError { front: i }),
     }
 }
 

@@ -1,10 +1,9 @@
 -- `word_end` meets its contract. Invariant: what is left of the word is read from i on.
-use mathlib.Core.Path.{refl, ap, ◌∙◌, sym}
+use mathlib.Core.Path.{refl, ◌∙◌, sym}
 use native.Mathlib.Omega.{arith}
 use lib.ListN.{length}
-use borrow.Author.Tests.{ltb-false}
 use borrow.Author.Rules.{rules}
-use Rattle.std.specs.Option.{is_some}
+use Rattle.xml.proofs.Scanned.{found_none}
 use Rattle.xml.proofs.Scanning.{word_out, word_refused, word_on, word_done}
 use Rattle.xml.proofs.bytes.word_end.Goals as goal
 
@@ -22,7 +21,7 @@ pub returns-in_default-2 : goal.returns-in_default-2
 returns-in_default-2 c =
     let l = c.loop-c in
     let a = c.args in
-    let n = ltb-false l.i (length a.text.now) (sym c.get.ensures.lookup.0 ∙ ap is_some c.in_default.is) in
+    let n = found_none l.i (length a.text.now) c.in_default.is c.get.ensures.lookup.0 in
     λ p. record { runs = λ ns. l.invariant.2 p ns ∙ word_out a.text.now l.i a.word.now l.c-index p ns (search rules) n (search rules); ends = l.invariant.1 }
 
 pub loop-c-preserved : goal.loop-c-preserved

@@ -1,13 +1,12 @@
 -- `tail_end` meets its contract. Invariant: a scan from i on, where the bytes that are left of n and the last one are to follow, is a scan from `from` on.
-use mathlib.Core.Path.{◌≡◌, refl, ap, ◌∙◌, sym}
+use mathlib.Core.Path.{◌≡◌, refl}
 use Prim.Native.Nat.{◌+◌, ◌-◌}
 use native.Mathlib.Omega.{arith}
 use lib.ListN.{length}
 use borrow.Author.Rules.{rules}
-use Rattle.std.specs.Option.{is_some}
-use borrow.Author.Tests.{lt-ltb, le-ltb, ltb-false, eq-eqb, ne_eqb}
+use borrow.Author.Tests.{lt-ltb, le-ltb, eq-eqb, ne_eqb}
 use Rattle.xml.specs.CheckSteps.{form_step, ended}
-use Rattle.xml.proofs.Scanned.{scan_refused, scan_at, scan_done, scan_out}
+use Rattle.xml.proofs.Scanned.{found_none, scan_refused, scan_at, scan_done, scan_out}
 use Rattle.xml.proofs.characters.tail_end.Goals as goal
 
 pub returns-in_default : goal.returns-in_default
@@ -27,7 +26,7 @@ returns-in_default-2 c =
 pub returns-in_default-3 : goal.returns-in_default-3
 unfolding form_step ended
 returns-in_default-3 c =
-    let n = ltb-false c.loop.i (length c.args.text.now) (sym c.get.ensures.lookup.0 ∙ ap is_some c.in_default.is) in
+    let n = found_none c.loop.i (length c.args.text.now) c.in_default.is c.get.ensures.lookup.0 in
     λ p. c.loop.invariant.1 p _ (scan_out (search rules) n refl)
 
 pub loop-preserved : goal.loop-preserved
