@@ -4,84 +4,83 @@ ghost use Rattle.volume.specs.Answers.{rescued, cut_is};
 ghost use Rattle.volume.specs.AnswerSteps.{judged};
 ghost use Rattle.volume.specs.Steps.{break_of, break_told};
 ghost use Rattle.bench_lines.specs.Lines.{pair, refused_line, break_line, verdict_line, cut_line, rescue_line, lines_of};
-ghost use Rattle.writing.specs.Steps.{AddsAtMost};
+ghost use Rattle.writing.specs.Steps.{GrowsByAtMost};
 
 use refusals::Refusal;
 use volume::{Break, FoundCut};
-use writing::{add, add_number};
+use writing::Text;
 
 // Adds a word and two numbers with a space between.
-fn add_pair(out: &mut [u8], from: usize, word: &[u8], a: u64, b: u64) -> usize
-    ensures { AddsAtMost (41 + length word.now) out.old from (pair word.now a b) out.new result }
+fn add_pair(text: &mut Text<'_>, word: &[u8], a: u64, b: u64)
+    ensures { GrowsByAtMost (41 + length word.now) text.old (pair word.now a b) text.new }
 {
-    let mut at = add(out, from, word);
-    at = add_number(out, at, a);
-    at = add(out, at, b" ");
-    add_number(out, at, b)
+    text.add(word);
+    text.add_number(a);
+    text.add(b" ");
+    text.add_number(b);
 }
 
 // Adds the line of a refusal.
-pub fn add_refusal(out: &mut [u8], from: usize, refusal: Refusal) -> usize
-    ensures { AddsAtMost 29 out.old from (refused_line refusal) out.new result }
+pub fn add_refusal(text: &mut Text<'_>, refusal: Refusal)
+    ensures { GrowsByAtMost 29 text.old (refused_line refusal) text.new }
 {
-    let mut at = add(out, from, b"refused ");
-    at = add_number(out, at, u64::from(refusal));
-    add(out, at, b"\n")
+    text.add(b"refused ");
+    text.add_number(u64::from(refusal));
+    text.add(b"\n");
 }
 
 // Adds the verdict's line for a break.
-fn add_break(out: &mut [u8], from: usize, found: Break) -> usize
-    ensures { AddsAtMost 56 out.old from (break_line (break_told found).which (break_told found).number) out.new result }
+fn add_break(text: &mut Text<'_>, found: Break)
+    ensures { GrowsByAtMost 56 text.old (break_line (break_told found).which (break_told found).number) text.new }
 {
-    let at = add_pair(out, from, b"verdict break ", found.which(), found.number());
-    add(out, at, b"\n")
+    add_pair(text, b"verdict break ", found.which(), found.number());
+    text.add(b"\n");
 }
 
 // Adds the verdict's line.
-fn add_verdict(out: &mut [u8], from: usize, found: Option<Break>) -> usize
-    ensures { AddsAtMost 56 out.old from (verdict_line (break_of found)) out.new result }
+fn add_verdict(text: &mut Text<'_>, found: Option<Break>)
+    ensures { GrowsByAtMost 56 text.old (verdict_line (break_of found)) text.new }
 {
     match found {
-        Some(b) => add_break(out, from, b),
-        None => add(out, from, b"verdict consistent\n"),
+        Some(b) => add_break(text, b),
+        None => text.add(b"verdict consistent\n"),
     }
 }
 
 // Adds the line of a cut.
-fn add_cut(out: &mut [u8], from: usize, cut: FoundCut) -> usize
-    ensures { AddsAtMost 125 out.old from (cut_line (cut_is cut)) out.new result }
+fn add_cut(text: &mut Text<'_>, cut: FoundCut)
+    ensures { GrowsByAtMost 125 text.old (cut_line (cut_is cut)) text.new }
 {
-    let mut at = add_pair(out, from, b"cut ", cut.index_construct, cut.data_construct);
-    at = add_pair(out, at, b" keep ", cut.index_kept, cut.data_kept);
-    at = add(out, at, b" generation ");
-    at = add_number(out, at, cut.generation.0);
-    add(out, at, b"\n")
+    add_pair(text, b"cut ", cut.index_construct, cut.data_construct);
+    add_pair(text, b" keep ", cut.index_kept, cut.data_kept);
+    text.add(b" generation ");
+    text.add_number(cut.generation.0);
+    text.add(b"\n");
 }
 
 // Adds the rescue's line.
-fn add_rescue(out: &mut [u8], from: usize, rescue: Result<FoundCut, Refusal>) -> usize
-    ensures { AddsAtMost 125 out.old from (rescue_line (rescued rescue)) out.new result }
+fn add_rescue(text: &mut Text<'_>, rescue: Result<FoundCut, Refusal>)
+    ensures { GrowsByAtMost 125 text.old (rescue_line (rescued rescue)) text.new }
 {
     match rescue {
-        Ok(cut) => add_cut(out, from, cut),
-        Err(_) => add(out, from, b"cut none\n"),
+        Ok(cut) => add_cut(text, cut),
+        Err(_) => text.add(b"cut none\n"),
     }
 }
 
 // Adds both lines, or the one of a refusal.
 pub fn add_lines(
-    out: &mut [u8],
-    from: usize,
+    text: &mut Text<'_>,
     verdict: Result<Option<Break>, Refusal>,
     rescue: Result<FoundCut, Refusal>,
-) -> usize
-    ensures { AddsAtMost 181 out.old from (lines_of (judged verdict) (rescued rescue)) out.new result }
+)
+    ensures { GrowsByAtMost 181 text.old (lines_of (judged verdict) (rescued rescue)) text.new }
 {
     match verdict {
         Ok(found) => {
-            let at = add_verdict(out, from, found);
-            add_rescue(out, at, rescue)
+            add_verdict(text, found);
+            add_rescue(text, rescue);
         }
-        Err(refusal) => add_refusal(out, from, refusal),
+        Err(refusal) => add_refusal(text, refusal),
     }
 }

@@ -8,6 +8,7 @@ ghost use Rattle.slices.specs.Writers.{Puts};
 ghost use Rattle.bench_lines.specs.Lines.{files_bounded, lines_in};
 
 use refusals::Refusal;
+use writing::Text;
 
 // Whether each file is within its bound.
 fn is_bounded(index_list: &[u8], index_store: &[u8], data_list: &[u8], data_store: &[u8]) -> bool
@@ -31,13 +32,14 @@ pub fn write(
     ensures { Puts 0 (lines_in index_list.now index_store.now data_list.now data_store.now)
         out.old out.new result }
 {
-    let mut text = [0u8; 256];
+    let mut buffer = [0u8; 256];
+    let mut text = Text::new(&mut buffer);
     if !is_bounded(index_list, index_store, data_list, data_store) {
-        let n = composing::add_refusal(&mut text, 0, Refusal::TooMany);
-        return slices::put(out, 0, slices::part(&text, 0, n));
+        composing::add_refusal(&mut text, Refusal::TooMany);
+        return slices::put(out, 0, text.bytes());
     }
     let verdict = volume::find_break(index_list, index_store, data_list, data_store);
     let rescue = volume::find_cut(index_list, index_store, data_list, data_store);
-    let n = composing::add_lines(&mut text, 0, verdict, rescue);
-    slices::put(out, 0, slices::part(&text, 0, n))
+    composing::add_lines(&mut text, verdict, rescue);
+    slices::put(out, 0, text.bytes())
 }

@@ -12,9 +12,9 @@ use Rattle.bench_lines.proofs.write.Goals as goal
 pub returns-then-not-is_bounded : goal.returns-then-not-is_bounded
 returns-then-not-is_bounded c =
     let e : files_bounded c.args.index_list.now c.args.index_store.now c.args.data_list.now c.args.data_store.now ≡ false = sym c.is_bounded.ensures ∙ c.if-not-is_bounded.true in
-    delivers (omega (arith, length-replicate {A = ℕ} 256 0)) c.add_refusal-n.ensures c.part.ensures (rw e) c.put.ensures
+    delivers c.new-text.ensures.buffer c.new-text.ensures.at (omega (arith, length-replicate {A = ℕ} 256 0)) c.add_refusal.ensures c.bytes.ensures (rw e) c.put.ensures
 
 pub returns : goal.returns
 returns c =
     let e : files_bounded c.args.index_list.now c.args.index_store.now c.args.data_list.now c.args.data_store.now ≡ true = sym c.is_bounded.ensures ∙ c.if-not-is_bounded.false in
-    delivers (omega (arith, length-replicate {A = ℕ} 256 0)) c.add_lines-n.ensures c.part-2.ensures (ap₂ lines_of c.find_break-verdict.ensures.answers c.find_cut-rescue.ensures.answers ∙ rw e) c.put-2.ensures
+    delivers c.new-text.ensures.buffer c.new-text.ensures.at (omega (arith, length-replicate {A = ℕ} 256 0)) c.add_lines.ensures c.bytes-2.ensures (ap₂ lines_of c.find_break-verdict.ensures.answers c.find_cut-rescue.ensures.answers ∙ rw e) c.put-2.ensures

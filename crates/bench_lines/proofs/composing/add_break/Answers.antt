@@ -8,4 +8,4 @@ use Rattle.bench_lines.proofs.composing.add_break.Goals as goal
 
 pub returns : goal.returns
 unfolding break_line bytes
-returns c = the_same (ap₂ break_line c.which.ensures c.number.ensures) (within (omega arith) (then c.add_pair-at.ensures c.add.ensures))
+returns c = the_same (ap₂ break_line c.which.ensures c.number.ensures) (within (omega arith) (then c.add_pair.ensures c.add.ensures))

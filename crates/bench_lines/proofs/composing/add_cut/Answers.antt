@@ -7,4 +7,4 @@ use Rattle.bench_lines.proofs.composing.add_cut.Goals as goal
 
 pub returns : goal.returns
 unfolding cut_line bytes
-returns c = within (omega arith) (then (then (then (then c.add_pair-at.ensures c.add_pair-at-2.ensures) c.add-at.ensures) c.add_number-at.ensures) c.add.ensures)
+returns c = within (omega arith) (then (then (then (then c.add_pair.ensures c.add_pair-2.ensures) c.add.ensures) c.add_number.ensures) c.add-2.ensures)

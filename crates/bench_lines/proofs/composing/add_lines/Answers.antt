@@ -11,7 +11,7 @@ use Rattle.bench_lines.specs.Lines.{lines_of}
 use Rattle.bench_lines.proofs.composing.add_lines.Goals as goal
 
 pub returns-in-Ok : goal.returns-in-Ok
-returns-in-Ok c = the_same (ap (λ (x : Result (Option Break) Refusal). lines_of (judged x) (rescued c.args.rescue)) (sym c.in-Ok.is)) (within (omega arith) (then c.add_verdict-at.ensures c.add_rescue.ensures))
+returns-in-Ok c = the_same (ap (λ (x : Result (Option Break) Refusal). lines_of (judged x) (rescued c.args.rescue)) (sym c.in-Ok.is)) (within (omega arith) (then c.add_verdict.ensures c.add_rescue.ensures))
 
 pub returns-in-Err : goal.returns-in-Err
 returns-in-Err c = the_same (ap (λ (x : Result (Option Break) Refusal). lines_of (judged x) (rescued c.args.rescue)) (sym c.in-Err.is)) (within (omega arith) c.add_refusal.ensures)

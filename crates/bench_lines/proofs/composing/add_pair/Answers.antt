@@ -7,4 +7,4 @@ use Rattle.bench_lines.proofs.composing.add_pair.Goals as goal
 
 pub returns : goal.returns
 unfolding pair bytes
-returns c = within (omega arith) (then (then (then c.add-at.ensures c.add_number-at.ensures) c.add-at-2.ensures) c.add_number.ensures)
+returns c = within (omega arith) (then (then (then c.add.ensures c.add_number.ensures) c.add-2.ensures) c.add_number-2.ensures)

@@ -9,4 +9,4 @@ use Rattle.bench_lines.proofs.composing.add_refusal.Goals as goal
 
 pub returns : goal.returns
 unfolding refused_line bytes
-returns c = within (omega arith) (then (then c.add-at.ensures (the_same (ap short c.from.ensures) c.add_number-at.ensures)) c.add.ensures)
+returns c = within (omega arith) (then (then c.add.ensures (the_same (ap short c.from.ensures) c.add_number.ensures)) c.add-2.ensures)
