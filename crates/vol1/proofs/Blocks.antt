@@ -31,7 +31,7 @@ sixth : (v f g h : List ℕ) → length v ≡ 37 → length f ≡ 14 → take 14
 sixth v f g h p q = simp append_assoc (ap (take 14) (drop_at v _ 37 p) ∙ take_at f _ 14 q)
 
 module _ (i o : List ℕ) (h : length i ≡ identifier_length) (g : length o ≡ owner_length) where
-  pub length_vol1 : length (vol1 i o) ≡ 80
+  length_vol1 : length (vol1 i o) ≡ 80
   unfolding vol1 bytes
   length_vol1 = pieces (bytes "VOL1") i (bytes "L") (bytes "             ") (bytes "LTFS         ") o (bytes "                            ") (bytes "4") h g refl refl refl refl refl refl
 

@@ -6,7 +6,7 @@ ghost use Rattle.vol1.specs.Vol1.{identifier_length, owner_length, vol1, is_prin
 ghost use Rattle.vol1.specs.Steps.{WritesBlock, means_vol1};
 
 use refusals::Refusal;
-use writing::Text;
+use writing::add;
 
 // A VOL1 label, as the block that it is.
 #[derive(Clone, Copy)]
@@ -16,6 +16,8 @@ pub struct Vol1 {
 
 impl Vol1 {
     pub const LENGTH: usize = 80;
+
+    pub const LABEL_AT: usize = 0;
 
     pub const LABEL: [u8; 4] = *b"VOL1";
 
@@ -27,7 +29,11 @@ impl Vol1 {
 
     pub const ACCESSIBILITY: [u8; 1] = *b"L";
 
+    pub const RESERVED_AT: usize = 11;
+
     pub const RESERVED: [u8; 13] = [b' '; 13];
+
+    pub const IMPLEMENTATION_AT: usize = 24;
 
     pub const IMPLEMENTATION: [u8; 13] = *b"LTFS         ";
 
@@ -39,6 +45,8 @@ impl Vol1 {
 
     pub const RESERVED_AFTER: [u8; 28] = [b' '; 28];
 
+    pub const VERSION_AT: usize = 79;
+
     pub const VERSION: [u8; 1] = *b"4";
 
     // The label of an identifier and an owner.
@@ -46,15 +54,14 @@ impl Vol1 {
         ensures { result.block ≡ vol1 identifier.now owner.now }
     {
         let mut block = [0u8; Vol1::LENGTH];
-        let mut text = Text::new(&mut block);
-        text.add(&Vol1::LABEL);
-        text.add(identifier);
-        text.add(&Vol1::ACCESSIBILITY);
-        text.add(&Vol1::RESERVED);
-        text.add(&Vol1::IMPLEMENTATION);
-        text.add(owner);
-        text.add(&Vol1::RESERVED_AFTER);
-        text.add(&Vol1::VERSION);
+        add(&mut block, Vol1::LABEL_AT, &Vol1::LABEL);
+        add(&mut block, Vol1::IDENTIFIER_AT, identifier);
+        add(&mut block, Vol1::ACCESSIBILITY_AT, &Vol1::ACCESSIBILITY);
+        add(&mut block, Vol1::RESERVED_AT, &Vol1::RESERVED);
+        add(&mut block, Vol1::IMPLEMENTATION_AT, &Vol1::IMPLEMENTATION);
+        add(&mut block, Vol1::OWNER_AT, owner);
+        add(&mut block, Vol1::RESERVED_AFTER_AT, &Vol1::RESERVED_AFTER);
+        add(&mut block, Vol1::VERSION_AT, &Vol1::VERSION);
         Vol1 { block }
     }
 }

@@ -4,7 +4,14 @@
 ghost use Rattle.std.specs.Prelude.{◌≡◌, length};
 ghost use Rattle.big_endian.specs.BigEndian.{big_endian};
 ghost use Rattle.digits.specs.Decimal.{short};
-ghost use Rattle.writing.specs.Steps.{GrowsByAtMost, bytes_of};
+ghost use Rattle.writing.specs.Steps.{AddsAtMost, GrowsByAtMost, bytes_of};
+
+// Puts src at a place of a buffer, if there is room for all of it, and answers the place behind it.
+pub fn add(out: &mut [u8], at: usize, src: &[u8]) -> usize
+    ensures { AddsAtMost (length src.now) out.old at src.now out.new result }
+{
+    slices::put(out, at, src).unwrap_or(at)
+}
 
 // A text that is put together in a buffer: so many bytes at its front.
 #[derive(Drop)]
@@ -36,7 +43,7 @@ impl<'a> Text<'a> {
     pub fn add(&mut self, src: &[u8])
         ensures { GrowsByAtMost (length src.now) self.old src.now self.new }
     {
-        self.at = slices::put(self.out, self.at, src).unwrap_or(self.at);
+        self.at = add(self.out, self.at, src);
     }
 
     // Adds the digits of n.

@@ -1,8 +1,7 @@
--- `add` meets its contract: what was put is added, and where nothing was put there was no room.
+-- `add` meets its contract: what was put is added.
 use mathlib.Core.Path.{refl}
-use native.Mathlib.Omega.{arith}
-use Rattle.writing.proofs.Pieces.{piece, grown}
+use Rattle.writing.proofs.Pieces.{grown}
 use Rattle.writing.proofs.Text.add.Goals as goal
 
 pub returns : goal.returns
-returns c = grown refl (piece c.put.result c.unwrap_or-self.result (omega arith) c.put.ensures c.unwrap_or-self.ensures)
+returns c = grown refl c.add-self.ensures
