@@ -16,8 +16,8 @@ returns-in_err-k c =
     let t = c.args.text.now in
     let k = c.args.self.now in
     let place =
-        position_from_yields_List (fails (every (lies_on k))) c.position.new.self _ c.position.result c.position.ensures.ran
-        (yields_children t 38 c.new.result c.new.ensures) (λ x b q k. search (rules, tests)) in
+    position_from_yields_List (fails (every (lies_on k))) c.position.new.self _ c.position.result c.position.ensures.ran
+    (yields_children t 38 c.new.result c.new.ensures) (λ x b q k. search (rules, tests)) in
     rw c.from_residual.ensures
     (loses t k.volume k.index_reach.now k.index_count k.data_reach.now k.data_count None
     (sym c.in_err-k.was ∙ first_lost_lem (every (lies_on k)) (files_left (left_at t 38)) c.position.result place))
@@ -27,7 +27,7 @@ returns c =
     let t = c.args.text.now in
     let k = c.args.self.now in
     let place =
-        position_from_yields_List (fails (every (lies_on k))) c.position.new.self _ c.position.result c.position.ensures.ran
-        (yields_children t 38 c.new.result c.new.ensures) (λ x b q k. search (rules, tests)) in
+    position_from_yields_List (fails (every (lies_on k))) c.position.new.self _ c.position.result c.position.ensures.ran
+    (yields_children t 38 c.new.result c.new.ensures) (λ x b q k. search (rules, tests)) in
     loses t k.volume k.index_reach.now k.index_count k.data_reach.now k.data_count (Some c.in_ok-k.k)
     (sym c.in_ok-k.was ∙ first_lost_lem (every (lies_on k)) (files_left (left_at t 38)) c.position.result place)
