@@ -1,7 +1,7 @@
 // Cases of reading an index, of its files and of their rows, and of the index of a construct, read from files beside the program.
 #![tactic(auto)]
 
-ghost use Rattle.std.specs.Prelude.{◌≡◌, ◌≤◌, length};
+ghost use Rattle.std.specs.Prelude.{◌≤◌};
 ghost use Rattle.case_files.specs.Counts.{IsPrefixLen};
 
 use constructs::Bounds;
@@ -13,14 +13,22 @@ use quantities::BlockNumber;
 use refusals::Refusal;
 use std::fs::File;
 use std::io;
-use volume::Chosen;
+use volume::FoundIndex;
 
 // A byte more than an index's text may have.
-fn text_room() -> [u8; 1048577]
-    ensures { 1048577 ≡ length result }
-{
-    [0u8; 1048577]
-}
+const TEXT_ROOM: usize = 1048577;
+
+// The front of an index with a root, and its end: all values are empty, since 4,096 files with lawful values don't fit in an index's text.
+const BEGIN: &[u8] =
+    b"<?xml version=\"1.0\" encoding=\"UTF-8\"?><ltfsindex version=\"2.0.1\"><creator/>\
+    <volumeuuid/><generationnumber/><updatetime/><location><partition/><startblock/></location>\
+    <allowpolicyupdate/><highestfileuid/><directory>\
+    <fileuid/><name/><creationtime/><changetime/><modifytime/><accesstime/><backuptime/><readonly/><contents>";
+
+const FILE: &[u8] = b"<file><fileuid/><name/><length/><creationtime/><changetime/>\
+    <modifytime/><accesstime/><backuptime/><readonly/></file>";
+
+const END: &[u8] = b"</contents></directory></ltfsindex>";
 
 fn byte(file: &mut File) -> u8 {
     (case_files::number(file) % 256) as u8
@@ -34,26 +42,22 @@ fn numbers(file: &mut File, out: &mut [u64]) -> usize
     if out.len() < n {
         return 0;
     }
-    let mut i: usize = 0;
-    while i < n {
-        out[i] = case_files::number(file);
-        i += 1;
+    for number in &mut out[..n] {
+        *number = case_files::number(file);
     }
     n
 }
 
-fn same_numbers(a: &[u64], b: &[u64]) -> bool {
-    if a.len() != b.len() {
-        return false;
+// The label's letters, and the block size.
+fn partitions(file: &mut File) -> Partitions {
+    let index_letter = byte(file);
+    let data_letter = byte(file);
+    let block_size = case_files::number(file);
+    Partitions {
+        index_letter,
+        data_letter,
+        block_size,
     }
-    let mut i: usize = 0;
-    while i < a.len() {
-        if a[i] != b[i] {
-            return false;
-        }
-        i += 1;
-    }
-    true
 }
 
 // The numbers expected of a header.
@@ -64,7 +68,7 @@ fn numbers_as(file: &mut File, h: Header) -> bool {
         letter: 0,
         block: BlockNumber(0),
     });
-    let found = [
+    let found: &[u64] = &[
         h.release,
         h.generation.0,
         u64::from(h.location.letter),
@@ -77,288 +81,159 @@ fn numbers_as(file: &mut File, h: Header) -> bool {
         h.directories,
         h.files,
     ];
-    same_numbers(&found, &expected[..n])
+    found == &expected[..n]
 }
 
-// Those numbers, and the update time in the text.
-fn header_as(file: &mut File, text: &[u8], h: Header) -> bool {
-    let time = h.time;
-    if !numbers_as(file, h) {
-        return false;
-    }
+// The update time expected of a header, in its text.
+fn time_as(file: &mut File, text: &[u8], h: Header) -> bool {
     let mut expected = [0u8; 64];
     let n = case_files::bytes(file, &mut expected);
-    slices::same(elements::part(text, time), &expected[..n])
+    elements::part(text, h.time) == &expected[..n]
 }
 
-fn read_as(file: &mut File, text: &[u8], read: Result<Header, Refusal>, refusal: u64) -> bool {
-    match read {
-        Err(r) => u64::from(r) == refusal,
-        Ok(h) => {
-            if refusal != 0 {
-                return false;
-            }
-            header_as(file, text, h)
-        }
-    }
+fn header_as(file: &mut File, text: &[u8], h: Header) -> bool {
+    numbers_as(file, h) && time_as(file, text, h)
 }
 
-// A file's rows in a lent buffer: the refusal, the number of rows and the whole buffer expected.
-fn put_as(
-    text: &[u8],
-    uuid: &[u8],
+// Whether the bytes at a place of the text, as spelled, mean those expected.
+fn means(text: &[u8], place: Span, expected: &[u8]) -> bool {
+    let Some(raw) = text.get(place.from..place.from.saturating_add(place.len)) else {
+        return false;
+    };
+    let mut meant = [0u8; 2048];
+    let decoded = texts::decode(raw, &mut meant, 0);
+    decoded.is_ok_and(|n| meant.get(..n) == Some(expected))
+}
+
+// An index: its text, what its label says, and where it stands.
+#[derive(Clone, Copy)]
+struct Index<'a> {
+    text: &'a [u8],
+    uuid: &'a [u8],
     volume: Partitions,
-    letter: u8,
-    block: u64,
-    k: u64,
-    out: &mut [u64],
-    expected: &[u64],
-    refusal: u64,
-    count: u64,
-) -> bool {
-    let read = index_files::rows(text, uuid, volume, letter, BlockNumber(block), k, out);
-    if !count_as(read, refusal, count) {
-        return false;
+    location: Location,
+}
+
+impl<'a> Index<'a> {
+    fn read(self) -> Result<Header, Refusal> {
+        let Location { letter, block } = self.location;
+        index::read_index(self.text, self.uuid, self.volume, letter, block)
     }
-    same_numbers(out, expected)
-}
 
-// A lent buffer, and what is expected.
-fn rows_as(
-    file: &mut File,
-    text: &[u8],
-    uuid: &[u8],
-    volume: Partitions,
-    letter: u8,
-    block: u64,
-    k: u64,
-) -> bool {
-    let mut out = [0u64; 5200];
-    let n = numbers(file, &mut out);
-    let refusal = case_files::number(file);
-    let count = case_files::number(file);
-    let mut expected = [0u64; 5200];
-    let e = numbers(file, &mut expected);
-    put_as(
-        text,
-        uuid,
-        volume,
-        letter,
-        block,
-        k,
-        &mut out[..n],
-        &expected[..e],
-        refusal,
-        count,
-    )
-}
+    fn file(self, k: u64) -> Result<FileHead, Refusal> {
+        let Location { letter, block } = self.location;
+        index_files::file(self.text, self.uuid, self.volume, letter, block, k)
+    }
 
-fn count_as(read: Result<u64, Refusal>, refusal: u64, count: u64) -> bool {
-    match read {
-        Err(r) => u64::from(r) == refusal,
-        Ok(n) => {
-            if refusal != 0 {
-                return false;
+    fn rows(self, k: u64, out: &mut [u64]) -> Result<u64, Refusal> {
+        let Location { letter, block } = self.location;
+        index_files::rows(self.text, self.uuid, self.volume, letter, block, k, out)
+    }
+
+    // The refusal expected; then the header and the files expected.
+    fn is_as(self, file: &mut File) -> bool {
+        let refusal = case_files::number(file);
+        let read = match self.read() {
+            Err(r) => u64::from(r) == refusal,
+            Ok(h) => refusal == 0 && header_as(file, self.text, h),
+        };
+        read && self.files_as(file)
+    }
+
+    fn files_as(self, file: &mut File) -> bool {
+        let files = case_files::number(file);
+        (0..files).all(|_| self.file_as(file))
+    }
+
+    // A file's number; the refusal, its length, its name and the number of its rows expected; then its rows in two lent buffers.
+    fn file_as(self, file: &mut File) -> bool {
+        let k = case_files::number(file);
+        let refusal = case_files::number(file);
+        let bytes = case_files::number(file);
+        let mut name = [0u8; 2048];
+        let n = case_files::bytes(file, &mut name);
+        let count = case_files::number(file);
+        let head = match self.file(k) {
+            Err(r) => u64::from(r) == refusal,
+            Ok(h) => {
+                refusal == 0
+                    && h.length.0 == bytes
+                    && h.rows == count
+                    && means(self.text, h.name, &name[..n])
             }
-            n == count
-        }
+        };
+        head && self.rows_as(file, k) && self.rows_as(file, k)
+    }
+
+    // A file's number and the refusal and the length expected; then its rows in a lent buffer.
+    fn file_rows_as(self, file: &mut File) -> bool {
+        let k = case_files::number(file);
+        let refusal = case_files::number(file);
+        let bytes = case_files::number(file);
+        let head = match self.file(k) {
+            Err(r) => u64::from(r) == refusal,
+            // A buffer too short refuses the rows alone, and the case then says no length.
+            Ok(h) => refusal == u64::from(Refusal::Short) || h.length.0 == bytes,
+        };
+        head && self.rows_as(file, k)
+    }
+
+    // A lent buffer; the refusal, the number of rows and the whole buffer expected of a file's rows.
+    fn rows_as(self, file: &mut File, k: u64) -> bool {
+        let mut out = [0u64; 5200];
+        let n = numbers(file, &mut out);
+        let refusal = case_files::number(file);
+        let count = case_files::number(file);
+        let mut expected = [0u64; 5200];
+        let e = numbers(file, &mut expected);
+        let read = match self.rows(k, &mut out[..n]) {
+            Err(r) => u64::from(r) == refusal,
+            Ok(rows) => refusal == 0 && rows == count,
+        };
+        read && &out[..n] == &expected[..e]
     }
 }
 
-// Whether a name, as spelled at a place of the text, is the expected one.
-fn name_as(text: &[u8], from: usize, len: usize, expected: &[u8]) -> bool {
-    if text.len() < from {
-        return false;
-    }
-    if text.len() - from < len {
-        return false;
-    }
-    let end = from + len;
-    let mut name = [0u8; 2048];
-    match texts::decode(&text[from..end], &mut name, 0) {
-        Err(_) => false,
-        Ok(n) => front_as(&name, n, expected),
-    }
+// What a case asks of an index.
+#[derive(Clone, Copy)]
+enum Asked {
+    Index,
+    Rows,
 }
 
-fn front_as(name: &[u8], n: usize, expected: &[u8]) -> bool {
-    if name.len() < n {
-        return false;
-    }
-    let first: usize = 0;
-    slices::same(&name[first..n], expected)
-}
-
-// A file's number; the refusal, its length, its name and the number of its rows expected; then its rows in two lent buffers.
-fn file_as(
-    file: &mut File,
-    text: &[u8],
-    uuid: &[u8],
-    volume: Partitions,
-    letter: u8,
-    block: u64,
-) -> bool {
-    let k = case_files::number(file);
-    let refusal = case_files::number(file);
-    let bytes = case_files::number(file);
-    let mut name = [0u8; 2048];
-    let n = case_files::bytes(file, &mut name);
-    let count = case_files::number(file);
-    match index_files::file(text, uuid, volume, letter, BlockNumber(block), k) {
-        Err(r) => {
-            if u64::from(r) != refusal {
-                return false;
-            }
-        }
-        Ok(h) => {
-            if refusal != 0 {
-                return false;
-            }
-            if h.length.0 != bytes {
-                return false;
-            }
-            if h.rows != count {
-                return false;
-            }
-            if !name_as(text, h.name.from, h.name.len, &name[..n]) {
-                return false;
-            }
-        }
-    }
-    if !rows_as(file, text, uuid, volume, letter, block, k) {
-        return false;
-    }
-    rows_as(file, text, uuid, volume, letter, block, k)
-}
-
-fn files_as(
-    file: &mut File,
-    text: &[u8],
-    uuid: &[u8],
-    volume: Partitions,
-    letter: u8,
-    block: u64,
-) -> bool {
-    let files = case_files::number(file);
-    let mut k: u64 = 0;
-    while k < files {
-        if !file_as(file, text, uuid, volume, letter, block) {
-            return false;
-        }
-        k += 1;
-    }
-    true
-}
-
-// The length of a file, where one is expected.
-fn length_as(read: Result<FileHead, Refusal>, refusal: u64, bytes: u64) -> bool {
-    match read {
-        Ok(h) => {
-            if refusal == 10 {
-                return true;
-            }
-            h.length.0 == bytes
-        }
-        Err(r) => u64::from(r) == refusal,
-    }
-}
-
-// The next case.
-fn one(kind: u64, file: &mut File) -> bool {
-    if kind == 2 {
-        return construct_case(file);
-    }
-    text_case(kind, file)
-}
-
-// A text, the label's UUID, letters and block size, a place; then the header and files expected.
-fn text_case(kind: u64, file: &mut File) -> bool {
-    let mut text = text_room();
+// A text, the label's UUID, letters and block size, a place; then what is expected.
+fn text_case(asked: Asked, file: &mut File) -> bool {
+    let mut text = [0u8; TEXT_ROOM];
     let n = case_files::bytes(file, &mut text);
     let mut uuid = [0u8; 64];
     let u = case_files::bytes(file, &mut uuid);
-    let first = byte(file);
-    let other = byte(file);
-    let size = case_files::number(file);
-    let volume = Partitions {
-        index_letter: first,
-        data_letter: other,
-        block_size: size,
-    };
+    let volume = partitions(file);
     let letter = byte(file);
-    let block = case_files::number(file);
-    if kind == 1 {
-        return rows_case(file, &text[..n], &uuid[..u], volume, letter, block);
+    let block = BlockNumber(case_files::number(file));
+    let index = Index {
+        text: &text[..n],
+        uuid: &uuid[..u],
+        volume,
+        location: Location { letter, block },
+    };
+    match asked {
+        Asked::Index => index.is_as(file),
+        Asked::Rows => index.file_rows_as(file),
     }
-    index_case(file, &text[..n], &uuid[..u], volume, letter, block)
 }
 
-fn index_case(
-    file: &mut File,
-    text: &[u8],
-    uuid: &[u8],
-    volume: Partitions,
-    letter: u8,
-    block: u64,
-) -> bool {
-    let refusal = case_files::number(file);
-    let read = index::read_index(text, uuid, volume, letter, BlockNumber(block));
-    if !read_as(file, text, read, refusal) {
-        return false;
-    }
-    files_as(file, text, uuid, volume, letter, block)
-}
-
-// A file's number and the length expected, then its rows in a lent buffer.
-fn rows_case(
-    file: &mut File,
-    text: &[u8],
-    uuid: &[u8],
-    volume: Partitions,
-    letter: u8,
-    block: u64,
-) -> bool {
-    let k = case_files::number(file);
-    let refusal = case_files::number(file);
-    let bytes = case_files::number(file);
-    let read = index_files::file(text, uuid, volume, letter, BlockNumber(block), k);
-    if !length_as(read, refusal, bytes) {
-        return false;
-    }
-    rows_as(file, text, uuid, volume, letter, block, k)
+// The text of a construct in the store.
+fn text_at(store: &[u8], place: Bounds) -> &[u8] {
+    store.get(place.from..place.to).unwrap_or(&[])
 }
 
 // Where a construct lies: its first block and its closing mark; then its header.
-fn construct_as(file: &mut File, store: &[u8], place: Bounds, h: Header) -> bool {
+fn construct_as(file: &mut File, store: &[u8], found: FoundIndex) -> bool {
     let first = case_files::number(file);
     let mark = case_files::number(file) as usize;
-    if place.first.0 != first {
-        return false;
-    }
-    if place.end != std::num::wrapping_add_usize(mark, 1) {
-        return false;
-    }
-    let len = volume::between(place.from, place.to);
-    let text = elements::part(
-        store,
-        Span {
-            from: place.from,
-            len,
-        },
-    );
-    header_as(file, text, h)
-}
-
-fn chosen_as(file: &mut File, store: &[u8], chosen: Chosen, refusal: u64) -> bool {
-    match chosen {
-        Chosen::Refused(r) => u64::from(r) == refusal,
-        Chosen::Found(place, h) => {
-            if refusal != 0 {
-                return false;
-            }
-            construct_as(file, store, place, h)
-        }
-    }
+    found.place.first.0 == first
+        && found.place.end == mark.wrapping_add(1)
+        && header_as(file, text_at(store, found.place), found.header)
 }
 
 // A partition, the label's UUID, letters and block size, the partition's letter, a construct's number; then what is expected.
@@ -369,111 +244,77 @@ fn construct_case(file: &mut File) -> bool {
     let s = case_files::bytes(file, &mut store);
     let mut uuid = [0u8; 64];
     let u = case_files::bytes(file, &mut uuid);
-    let first = byte(file);
-    let other = byte(file);
-    let size = case_files::number(file);
-    let letters = Partitions {
-        index_letter: first,
-        data_letter: other,
-        block_size: size,
-    };
+    let volume = partitions(file);
     let letter = byte(file);
     let k = case_files::number(file);
     let refusal = case_files::number(file);
-    let chosen = volume::read_construct(&list[..l], &store[..s], &uuid[..u], letters, letter, k);
-    chosen_as(file, &store[..s], chosen, refusal)
+    match volume::read_construct(&list[..l], &store[..s], &uuid[..u], volume, letter, k) {
+        Err(r) => u64::from(r) == refusal,
+        Ok(found) => refusal == 0 && construct_as(file, &store[..s], found),
+    }
+}
+
+// Whether the text is refused so as an index that stands at block 6 of partition a.
+fn is_refused(text: &[u8], refusal: Refusal) -> bool {
+    let index = Index {
+        text,
+        uuid: b"30a91a08-daae-48d1-ae75-69804e61d2ea",
+        volume: Partitions {
+            index_letter: b'a',
+            data_letter: b'b',
+            block_size: 4096,
+        },
+        location: Location {
+            letter: b'a',
+            block: BlockNumber(6),
+        },
+    };
+    index.read().is_err_and(|r| r == refusal)
 }
 
 // Writes w from at on, if there is room, and answers the place behind it.
 fn add(out: &mut [u8], at: usize, w: &[u8]) -> usize {
-    match slices::put(out, at, w) {
-        Ok(n) => n,
-        Err(_) => at,
+    slices::put(out, at, w).unwrap_or(at)
+}
+
+// Writes an index with a root and so many files, and answers its length.
+fn put_index(out: &mut [u8], files: u64) -> usize {
+    let mut end = add(out, 0, BEGIN);
+    for _ in 0..files {
+        end = add(out, end, FILE);
     }
+    add(out, end, END)
 }
 
-fn begin(out: &mut [u8]) -> usize {
-    let at = add(
-        out,
-        0,
-        b"<?xml version=\"1.0\" encoding=\"UTF-8\"?><ltfsindex version=\"2.0.1\"><creator/>",
-    );
-    let at = add(out, at, b"<volumeuuid/><generationnumber/><updatetime/>");
-    let at = add(out, at, b"<location><partition/><startblock/></location>");
-    let at = add(out, at, b"<allowpolicyupdate/><highestfileuid/><directory>");
-    let at = add(
-        out,
-        at,
-        b"<fileuid/><name/><creationtime/><changetime/><modifytime/>",
-    );
-    add(out, at, b"<accesstime/><backuptime/><readonly/><contents>")
-}
-
-// A file whose values are all empty: 4,096 files with lawful values don't fit in an index's text.
-fn add_file(out: &mut [u8], at: usize) -> usize {
-    let at = add(
-        out,
-        at,
-        b"<file><fileuid/><name/><length/><creationtime/><changetime/>",
-    );
-    add(
-        out,
-        at,
-        b"<modifytime/><accesstime/><backuptime/><readonly/></file>",
-    )
-}
-
-fn add_files(out: &mut [u8], files: u64) -> usize {
-    let mut at = begin(out);
-    let mut k: u64 = 0;
-    while k < files {
-        at = add_file(out, at);
-        k += 1;
-    }
-    add(out, at, b"</contents></directory></ltfsindex>")
-}
-
-fn refused_as(text: &[u8], refusal: u64) -> bool {
-    let volume = Partitions {
-        index_letter: 97,
-        data_letter: 98,
-        block_size: 4096,
-    };
-    let uuid = b"30a91a08-daae-48d1-ae75-69804e61d2ea";
-    match index::read_index(text, uuid, volume, 97, BlockNumber(6)) {
-        Ok(_) => false,
-        Err(r) => u64::from(r) == refusal,
-    }
-}
-
-// The refusal of an index with a root and so many files, whose values are all empty.
-fn entries(rt: &HostRuntime, files: u64, refusal: u64) -> u64
+// The refusal of an index with a root and so many files.
+fn entries(rt: &HostRuntime, files: u64, refusal: Refusal) -> u64
     ensures { result ≤ 1 }
 {
-    let mut text = text_room();
-    let n = add_files(&mut text, files);
-    case_files::shown_good(rt, refused_as(slices::part(&text, 0, n), refusal), files)
+    let mut text = [0u8; TEXT_ROOM];
+    let n = put_index(&mut text, files);
+    case_files::shown_good(rt, is_refused(slices::part(&text, 0, n), refusal), files)
 }
 
 fn main(rt: HostRuntime) -> io::Result<()> {
-    case_files::run(&rt, "index", |file| one(0, file))?;
-    case_files::run(&rt, "rows", |file| one(1, file))?;
-    case_files::run(&rt, "own", |file| one(0, file))?;
-    case_files::run(&rt, "uuid", |file| one(0, file))?;
-    case_files::run(&rt, "spellings", |file| one(0, file))?;
-    case_files::run(&rt, "numbers", |file| one(0, file))?;
-    case_files::run(&rt, "number_spellings", |file| one(0, file))?;
-    case_files::run(&rt, "constructs", |file| one(2, file))?;
-    case_files::run(&rt, "construct_kinds", |file| one(2, file))?;
-    case_files::run(&rt, "construct_unreadable", |file| one(2, file))?;
-    let good = entries(&rt, 3999, 6) + entries(&rt, 4095, 6) + entries(&rt, 4096, 15);
+    case_files::run(&rt, "index", |file| text_case(Asked::Index, file))?;
+    case_files::run(&rt, "rows", |file| text_case(Asked::Rows, file))?;
+    case_files::run(&rt, "own", |file| text_case(Asked::Index, file))?;
+    case_files::run(&rt, "uuid", |file| text_case(Asked::Index, file))?;
+    case_files::run(&rt, "spellings", |file| text_case(Asked::Index, file))?;
+    case_files::run(&rt, "numbers", |file| text_case(Asked::Index, file))?;
+    case_files::run(
+        &rt,
+        "number_spellings",
+        |file| text_case(Asked::Index, file),
+    )?;
+    case_files::run(&rt, "constructs", construct_case)?;
+    case_files::run(&rt, "construct_kinds", construct_case)?;
+    case_files::run(&rt, "construct_unreadable", construct_case)?;
+    let good = entries(&rt, 3999, Refusal::Value)
+        + entries(&rt, 4095, Refusal::Value)
+        + entries(&rt, 4096, Refusal::TooMany);
     case_files::report(&rt, "entries", good, 3)?;
     // A text too long is refused before its bytes are looked at.
-    let text = text_room();
-    case_files::report(
-        &rt,
-        "too long",
-        case_files::shown_good(&rt, refused_as(&text, 15), 0),
-        1,
-    )
+    let good = case_files::shown_good(&rt, is_refused(&[0u8; TEXT_ROOM], Refusal::TooMany), 0);
+    case_files::report(&rt, "too long", good, 1)
 }
