@@ -6,8 +6,9 @@ use Prim.Native.Nat.{ℕ, zero, suc, ◌+◌, ◌-◌, ◌≤◌, ◌<◌}
 use native.Mathlib.Nat.{zero-add}
 use native.Mathlib.Omega.{arith}
 use native.Mathlib.Numerals.{add-one}
-use lib.ListN.{length, take, drop, get_or, drop_of_length-le, set}
-use lib.Seq.{drop-cons, get_or-take, length-take-le, paste-suc}
+use lib.ListN.{length, take, drop, get_or, set, length-drop}
+use Rattle.std.proofs.lemmas.List.{drop_more}
+use lib.Seq.{take_all, paste-suc}
 use borrow.Author.Tests.{ne_eqb}
 use Rattle.index_values.specs.Different.{member, different}
 
@@ -32,21 +33,15 @@ different_drop zero l h = h
 different_drop (suc i) [] h = h
 different_drop (suc i) (x ∷ l) h = ap (λ (b : Bool). not (member x l) && b) (different_drop i l h) ∙ and-false (not (member x l))
 
--- the i-th of the first n
-module _ (t : List ℕ) (n i : ℕ) (fits : n ≤ length t) (h : i < n) where
-  pub front_cons : drop i (take n t) ≡ get_or t i 0 ∷ drop (i + 1) (take n t)
-  front_cons =
-      drop-cons (take n t) i 0 (rw (length-take-le n t fits) h)
-      ∙ ap (λ (x : ℕ). x ∷ drop (suc i) (take n t)) (get_or-take n t i 0 h)
-      ∙ ap (λ (k : ℕ). get_or t i 0 ∷ drop k (take n t)) (sym (add-one i))
-
-pub front_out : (t : List ℕ) (n i : ℕ) → n ≤ length t → n ≤ i → drop i (take n t) ≡ []
-front_out t n i fits h = let w : length (take n t) ≤ i = rw (length-take-le n t fits) h in drop_of_length-le (take n t) w
-
-pub step_back : (t : List ℕ) (n i : ℕ) → n ≤ length t → 0 < i → i ≤ n → drop (i - 1) (take n t) ≡ get_or t (i - 1) 0 ∷ drop i (take n t)
-step_back t n i fits p h =
+-- the i-th with those behind it
+pub step_back : (t : List ℕ) (i : ℕ) → 0 < i → i ≤ length t → drop (i - 1) t ≡ get_or t (i - 1) 0 ∷ drop i t
+step_back t i p h =
     let one : i - 1 + 1 ≡ i = omega arith in
-    front_cons t n (i - 1) fits (omega arith) ∙ ap (λ (k : ℕ). get_or t (i - 1) 0 ∷ drop k (take n t)) one
+    drop_more t (i - 1) 0 (omega arith) ∙ ap (λ (k : ℕ). get_or t (i - 1) 0 ∷ drop k t) one
+
+-- all that is behind it
+pub rest : (t : List ℕ) (k : ℕ) → drop k t ≡ take (length t - k) (drop k t)
+rest t k = sym (take_all (length t - k) (drop k t) (omega (arith, length-drop k t)))
 
 module _ (x : ℕ) (l : List ℕ) where
   pub new_first : member x l ≡ false → different l ≡ true → different (x ∷ l) ≡ true
