@@ -7,7 +7,7 @@ ghost use Rattle.values.specs.Values.{is_creator, is_time, is_uuid};
 ghost use Rattle.writing.specs.Writing.{Writes};
 ghost use Rattle.writing.specs.Steps.{GrowsBy};
 ghost use Rattle.label_writer.specs.Text.{escape, escaped, boolean_word, texts, letters, size_and_compression, label_of_given, label_text, are_numbers, is_lawful_label};
-ghost use Rattle.label_writer.specs.Steps.{WritesText};
+ghost use Rattle.label_writer.specs.Steps.{label_of_content, WritesText};
 
 use label::letters_fit;
 use refusals::Refusal;
@@ -21,6 +21,15 @@ pub struct Given {
     pub data_letter: u8,
     pub block_size: u64,
     pub compression: bool,
+}
+
+// What a label is to say: its texts, and its other fields.
+#[derive(Clone, Copy)]
+struct Content<'a> {
+    creator: &'a [u8],
+    time: &'a [u8],
+    uuid: &'a [u8],
+    given: Given,
 }
 
 // Adds a byte of a creator.
@@ -53,19 +62,6 @@ fn add_word(text: &mut Text<'_>, c: bool)
     text.add(if c { b"true" } else { b"false" });
 }
 
-// Adds the creator, the time and the UUID.
-fn add_texts(text: &mut Text<'_>, creator: &[u8], time: &[u8], uuid: &[u8])
-    ensures { GrowsBy text.old (texts creator.now time.now uuid.now) text.new }
-{
-    text.add(b"<creator>");
-    add_escaped(text, creator);
-    text.add(b"</creator><formattime>");
-    text.add(time);
-    text.add(b"</formattime><volumeuuid>");
-    text.add(uuid);
-    text.add(b"</volumeuuid>");
-}
-
 // Adds the location and the partitions.
 fn add_letters(text: &mut Text<'_>, location: u8, index: u8, other: u8)
     ensures { GrowsBy text.old (letters location index other) text.new }
@@ -90,30 +86,12 @@ fn add_numbers(text: &mut Text<'_>, size: u64, compression: bool)
     text.add(b"</compression>");
 }
 
-// Adds the text of a label.
-fn compose(text: &mut Text<'_>, creator: &[u8], time: &[u8], uuid: &[u8], g: Given)
-    ensures { GrowsBy text.old (label_text (label_of_given creator.now time.now uuid.now g)) text.new }
-{
-    text.add(b"<?xml version=\"1.0\" encoding=\"UTF-8\"?>\n<ltfslabel version=\"2.0.1\">");
-    add_texts(text, creator, time, uuid);
-    add_letters(text, g.location, g.index_letter, g.data_letter);
-    add_numbers(text, g.block_size, g.compression);
-    text.add(b"</ltfslabel>\n");
-}
-
 // Whether bytes are a creator.
 #[tactic(auto, unfolding(values::specs::Values::is_creator))]
 fn is_creator(s: &[u8]) -> bool
     ensures { result ≡ is_creator s.now }
 {
     (1..=255).contains(&s.len()) && s.iter().all(|b| *b >= b' ')
-}
-
-// Whether the texts of a label are in their rules.
-fn are_texts(creator: &[u8], time: &[u8], uuid: &[u8]) -> bool
-    ensures { result ≡ (is_creator creator.now && is_time time.now && is_uuid uuid.now) }
-{
-    is_creator(creator) && values::is_time(time) && values::is_uuid(uuid)
 }
 
 // Whether the numbers of a label are in their rules.
@@ -128,12 +106,46 @@ fn are_numbers(g: Given) -> bool
         && quantities::is_block_size(g.block_size)
 }
 
-// Whether the fields of a label are in their rules.
-#[tactic(auto, unfolding(crate::specs::Text::is_lawful_label))]
-fn is_lawful(creator: &[u8], time: &[u8], uuid: &[u8], g: Given) -> bool
-    ensures { result ≡ is_lawful_label (label_of_given creator.now time.now uuid.now g) }
-{
-    are_texts(creator, time, uuid) && are_numbers(g)
+impl Content<'_> {
+    // Adds the creator, the time and the UUID.
+    fn add_texts(&self, text: &mut Text<'_>)
+        ensures { GrowsBy text.old (texts self.now.creator.now self.now.time.now self.now.uuid.now) text.new }
+    {
+        text.add(b"<creator>");
+        add_escaped(text, self.creator);
+        text.add(b"</creator><formattime>");
+        text.add(self.time);
+        text.add(b"</formattime><volumeuuid>");
+        text.add(self.uuid);
+        text.add(b"</volumeuuid>");
+    }
+
+    // Adds the text of the label.
+    fn compose(&self, text: &mut Text<'_>)
+        ensures { GrowsBy text.old (label_text (label_of_content self.now)) text.new }
+    {
+        let g = self.given;
+        text.add(b"<?xml version=\"1.0\" encoding=\"UTF-8\"?>\n<ltfslabel version=\"2.0.1\">");
+        self.add_texts(text);
+        add_letters(text, g.location, g.index_letter, g.data_letter);
+        add_numbers(text, g.block_size, g.compression);
+        text.add(b"</ltfslabel>\n");
+    }
+
+    // Whether the texts are in their rules.
+    fn are_texts(&self) -> bool
+        ensures { result ≡ (is_creator self.now.creator.now && is_time self.now.time.now && is_uuid self.now.uuid.now) }
+    {
+        is_creator(self.creator) && values::is_time(self.time) && values::is_uuid(self.uuid)
+    }
+
+    // Whether all fields are in their rules.
+    #[tactic(auto, unfolding(crate::specs::Text::is_lawful_label))]
+    fn is_lawful(&self) -> bool
+        ensures { result ≡ is_lawful_label (label_of_content self.now) }
+    {
+        self.are_texts() && are_numbers(self.given)
+    }
 }
 
 // Writes a text that is in the XML form to the front of out.
@@ -156,11 +168,17 @@ pub fn write(
 ) -> Result<usize, Refusal>
     ensures { WritesText (label_of_given creator.now time.now uuid.now g) out.old out.new result }
 {
-    if !is_lawful(creator, time, uuid, g) {
+    let content = Content {
+        creator,
+        time,
+        uuid,
+        given: g,
+    };
+    if !content.is_lawful() {
         return Err(Refusal::Caller);
     }
     let mut buffer = [0u8; 4096];
     let mut text = Text::new(&mut buffer);
-    compose(&mut text, creator, time, uuid, g);
+    content.compose(&mut text);
     deliver(out, text.bytes())
 }

@@ -3,7 +3,7 @@ use Rattle.slices.specs.Words.{bytes}
 use Rattle.label_writer.specs.Text.{text_front, text_end, label_text}
 use Rattle.writing.proofs.Pieces.{grows_then}
 use Rattle.xml.specs.Bytes.{declaration}
-use Rattle.label_writer.proofs.compose.Goals as goal
+use Rattle.label_writer.proofs.Content.compose.Goals as goal
 
 pub returns : goal.returns
 unfolding label_text text_front text_end declaration bytes

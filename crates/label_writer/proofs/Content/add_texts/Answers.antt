@@ -2,7 +2,7 @@
 use Rattle.slices.specs.Words.{bytes}
 use Rattle.label_writer.specs.Text.{texts}
 use Rattle.writing.proofs.Pieces.{grows_then}
-use Rattle.label_writer.proofs.add_texts.Goals as goal
+use Rattle.label_writer.proofs.Content.add_texts.Goals as goal
 
 pub returns : goal.returns
 unfolding texts bytes
