@@ -1,5 +1,5 @@
 // Bytes by the kinds that the scanners tell apart, and runs of one kind. Each scan goes on from a place in the text, and not from the slice that is
-// left: of a slice a pointer and a length move at each byte, for 10 per cent more instructions of the whole check on a flat index, and 23 on deep nesting.
+// left: there a pointer and a length move at each byte, for 10 per cent more instructions of the check on a flat index, and 23 on deep nesting.
 ghost use Rattle.std.specs.Prelude.{◌≡◌, ◌+◌, ◌≤◌, length, get_or};
 ghost use Rattle.xml.specs.Bytes.{is_space, is_name_byte};
 ghost use Rattle.xml.specs.CheckSteps.{Mode, at, reads};
