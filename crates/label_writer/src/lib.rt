@@ -6,7 +6,8 @@ ghost use Rattle.xml.specs.CheckSteps.{in_form};
 ghost use Rattle.values.specs.Values.{is_creator, is_time, is_uuid};
 ghost use Rattle.writing.specs.Writing.{Writes};
 ghost use Rattle.writing.specs.Steps.{GrowsBy};
-ghost use Rattle.label_writer.specs.Text.{escape, escaped, boolean_word, texts, letters, size_and_compression, label_of_given, label_text, are_numbers, is_lawful_label};
+ghost use Rattle.label_writer.specs.Text.{escape, escaped, boolean_word, texts, letters, size_and_compression};
+ghost use Rattle.label_writer.specs.Text.{label_of_given, label_text, are_numbers, is_lawful_label};
 ghost use Rattle.label_writer.specs.Steps.{WritesText};
 
 use label::letters_fit;

@@ -37,10 +37,6 @@ module _ {out : List ℕ} {at : ℕ} {w after : List ℕ} where
 pub shorter : (v w : List ℕ) {n : ℕ} → length (v ++ w) ≤ n → length v ≤ n
 shorter v w h = omega (arith, length-append v w)
 
--- a run of a known length fits where that length does
-pub fits : (w : List ℕ) {k n : ℕ} → k ≡ length w → k ≤ n → length w ≤ n
-fits w e h = omega arith
-
 -- the empty run stands at the front of every buffer
 pub nothing_yet : (b : List ℕ) → b ≡ written 0 [] b
 unfolding written
