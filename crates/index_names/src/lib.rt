@@ -3,7 +3,7 @@
 
 ghost use Rattle.std.specs.Prelude.{◌≡◌};
 ghost use Rattle.index_names.specs.Rows.{names_of, sorts_of};
-ghost use Rattle.index_names.specs.Tables.{entry_table, table, sort, must, repeats};
+ghost use Rattle.index_names.specs.Tables.{times, entry_table, table, sort, must, repeats};
 ghost use Rattle.index_names.specs.Names.{number_in, names};
 
 // What an element is.
@@ -136,8 +136,27 @@ fn in_place(name: &[u8]) -> usize
     }
 }
 
+// The number of a name among the five times: in one function with the rest of an entry's names the compiler would call the last comparisons.
+#[tactic(auto, unfolding(crate::specs::Names::number_in, crate::specs::Tables::times, slices::specs::Words::bytes))]
+fn in_times(name: &[u8]) -> usize
+    ensures { result ≡ number_in (names_of times) name.now }
+{
+    if slices::same(name, b"creationtime") {
+        0
+    } else if slices::same(name, b"changetime") {
+        1
+    } else if slices::same(name, b"modifytime") {
+        2
+    } else if slices::same(name, b"accesstime") {
+        3
+    } else if slices::same(name, b"backuptime") {
+        4
+    } else {
+        5
+    }
+}
+
 // The number of a name among those that directory and file have.
-#[tactic(auto, unfolding(crate::specs::Names::names, crate::specs::Names::number_in, crate::specs::Tables::times, crate::specs::Tables::entry_table, slices::specs::Words::bytes))]
 fn in_entry(name: &[u8]) -> usize
     ensures { result ≡ number_in (names_of (entry_table Sort.Uid Sort.Name)) name.now }
 {
@@ -145,20 +164,15 @@ fn in_entry(name: &[u8]) -> usize
         0
     } else if slices::same(name, b"name") {
         1
-    } else if slices::same(name, b"creationtime") {
-        2
-    } else if slices::same(name, b"changetime") {
-        3
-    } else if slices::same(name, b"modifytime") {
-        4
-    } else if slices::same(name, b"accesstime") {
-        5
-    } else if slices::same(name, b"backuptime") {
-        6
-    } else if slices::same(name, b"readonly") {
-        7
     } else {
-        8
+        let j = in_times(name);
+        if j < 5 {
+            2 + j
+        } else if slices::same(name, b"readonly") {
+            7
+        } else {
+            8
+        }
     }
 }
 
