@@ -1,4 +1,5 @@
-// Where runs of bytes and tags end.
+// Where runs of bytes and tags end. Each scan goes from a place of the whole text to another, since that is what its callers answer: so each is
+// handed both, and none the part of the text that is left.
 ghost use Rattle.std.specs.Prelude.{◌≡◌, ◌+◌, ◌≤◌, min, length, drop, get_or};
 ghost use Rattle.slices.specs.Slices.{within};
 ghost use Rattle.xml.specs.Bytes.{is_name_byte, is_space};

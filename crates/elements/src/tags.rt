@@ -47,6 +47,7 @@ pub fn leave(text: &[u8], at: usize) -> usize
 {
     let mut i = scan::inside(text, at);
     let mut d: usize = 0;
+    // A loop, since it ends in two ways, at the text's end and at an end tag.
     loop {
         match next_tag(text, i) {
             Tag::End => {

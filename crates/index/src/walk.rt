@@ -1,4 +1,5 @@
-// The walk over an index's elements.
+// The walk over an index's elements. What it is handed of an element, its sort, the directory around it and what was gathered before it, is the walk's
+// own at that place: a struct of the three would be made and taken apart again for each call.
 ghost use Rattle.std.specs.Prelude.{◌≡◌, cond, ◌≤◌, length};
 ghost use Rattle.xml.specs.FormSteps.{height};
 ghost use Rattle.elements.specs.Reading.{forest_at, head_at, children_at};
@@ -359,6 +360,7 @@ impl Walk<'_> {
         let mut i = at;
         let mut seen = [0u64; 16];
         let mut places = [0usize; 16];
+        // A loop, since it ends in two ways, at the text's end and at an end tag.
         loop {
             match elements::next_start(source.text, i) {
                 Next::End => {

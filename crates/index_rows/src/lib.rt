@@ -43,6 +43,7 @@ pub fn read_row(text: &[u8], at: usize, kind: Sort) -> RowPlaces
 {
     let mut i = at;
     let mut places = [0usize; 16];
+    // A loop, since it ends in two ways, at the text's end and at an end tag.
     loop {
         match elements::next_start(text, i) {
             Next::End => {

@@ -111,6 +111,7 @@ fn read_rows(text: &[u8], at: usize, out: &mut [u64]) -> usize
 {
     let mut i = at;
     let mut n: usize = 0;
+    // A loop, since each row read says where the next one is looked for.
     loop {
         match elements::next_start(text, i) {
             Next::End | Next::Close(_) => return n,

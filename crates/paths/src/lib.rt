@@ -44,7 +44,8 @@ impl<'a> Table<'a> {
         slices::part(self.text, from, len)
     }
 
-    // Whether an entry's parent is before it and its name lies in the text.
+    // Whether an entry's parent is before it and its name lies in the text. Each function that reads an entry asks for one that is there: a number with
+    // that fact in its type would be made anew for each parent.
     #[tactic(auto, unfolding(crate::specs::Paths::is_placed))]
     fn is_placed(&self, n: usize) -> bool
         requires { n < entry_count self.now.entries.now }

@@ -1,5 +1,5 @@
 -- Refusals and answers (01, Refusal numbers): the number of each refusal, what a function answers, and the order of checks.
-use Rattle.std.specs.Prelude.{◌≡◌, Bool, true, false, cond, List, [], ℕ, eqb, None, Option, Some, Result, Ok, Err}
+use Rattle.std.specs.Prelude.{Bool, true, false, cond, List, [], ℕ, eqb, None, Option, Some, Result, Ok, Err}
 use Rattle.refusals.specs.declared.Place.{Place}
 use Rattle.refusals.specs.declared.Refusal.{Refusal}
 use Rattle.refusals.specs.declared.Refusal.TheVariants as refusal
@@ -94,8 +94,3 @@ shown_place (Ok a) = nowhere
 abbrev pub shown_bytes : Answer (List ℕ) → List ℕ
 shown_bytes (Err r) = []
 shown_bytes (Ok x) = x
-
--- a returned part and the refusal number beside it show the answer
-pub record Shows (a : Answer (List ℕ)) (bytes : List ℕ) (number : ℕ) : Type 0 where
-  pub part : bytes ≡ shown_bytes a
-  pub refusal : number ≡ shown_number a
