@@ -10,9 +10,6 @@ use Rattle.xml.proofs.Turned.{turns_after, turns_broken}
 use Rattle.xml.proofs.next_tag.Goals as goal
 use Rattle.xml.proofs.next_tag.Goals.{then-alone, else-alone}
 
-pub read_tag-requires : goal.read_tag-requires
-read_tag-requires c = (c.in_ok-alone.ensures).ends.1
-
 pub returns : goal.returns
 returns c =
     let b : c.if-alone.begins ≡ (c.in_ok-alone.alone && ltb c.args.depth 64) =

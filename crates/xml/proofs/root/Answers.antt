@@ -14,12 +14,6 @@ use Rattle.xml.proofs.root.Goals as goal
 pub start_tag-requires : goal.start_tag-requires
 start_tag-requires c = (scan_bounds c.in_ok-i.i (to_root c.byte_end.ensures) c.in_ok-i.was).1
 
-pub elements-requires : goal.elements-requires
-elements-requires c = (c.in_ok-name.ensures).ends.1
-
-pub finish-requires : goal.finish-requires
-finish-requires c = (c.in_ok-name.ensures).ends.1
-
 pub returns-in-Some-default : goal.returns-in-Some-default
 unfolding form_step ended
 returns-in-Some-default c =

@@ -1,15 +1,8 @@
 -- `past_indentation` meets its contract. Invariant: the bytes from `from` to i are white space; the four places of a turn follow each other.
 use Prim.Native.Nat.{◌+◌}
 use native.Mathlib.Omega.{arith}
-use borrow.Author.Rules.{rules}
-use Rattle.xml.proofs.Past.{along_none, along_blank}
+use Rattle.xml.proofs.Past.{along_blank}
 use Rattle.xml.proofs.bytes.past_indentation.Goals as goal
-
-pub loop-i-init : goal.loop-i-init
-loop-i-init c = along_none (search rules)
-
-pub returns-then-text-i-ne32 : goal.returns-then-text-i-ne32
-returns-then-text-i-ne32 c = c.loop-i.invariant
 
 pub returns-then-text-i-ne32-2 : goal.returns-then-text-i-ne32-2
 returns-then-text-i-ne32-2 c =
@@ -36,6 +29,3 @@ loop-i-preserved c =
     let s2 = along_blank s1 (omega arith) c.if-text-i-ne32-2.false (l.i + 2) (omega arith) in
     let s3 = along_blank s2 (omega arith) c.if-text-i-ne32-3.false (l.i + 3) (omega arith) in
     along_blank s3 (omega arith) c.if-text-i-ne32-4.false (l.i + 4) (omega arith)
-
-pub returns : goal.returns
-returns c = c.loop-i.invariant

@@ -3,11 +3,8 @@ use mathlib.Core.Path.{refl}
 use Prim.Native.Nat.{◌+◌}
 use borrow.Author.Rules.{rules}
 use Rattle.xml.proofs.KindTable.{no_space, a_space}
-use Rattle.xml.proofs.Past.{along_none, along_on, along_then, along_stop, along_end}
+use Rattle.xml.proofs.Past.{along_on, along_then, along_stop, along_end}
 use Rattle.xml.proofs.bytes.past_spaces.Goals as goal
-
-pub loop-i-init : goal.loop-i-init
-loop-i-init c = along_none (search rules)
 
 pub loop-i-preserved : goal.loop-i-preserved
 loop-i-preserved c = along_then (along_on c.loop-i.invariant (search rules) (a_space c.kind.result _ c.kind.ensures c.if-kind-eq100.true) (c.loop-i.i + 1) refl) c.past_indentation-i.ensures

@@ -3,12 +3,8 @@ use mathlib.Core.Path.{refl}
 use Prim.Native.Nat.{◌+◌}
 use native.Mathlib.Omega.{arith}
 use borrow.Author.Tests.{le-leb, lt-leb}
-use borrow.Author.Rules.{rules}
-use Rattle.xml.proofs.Past.{along_none, along_on, along_stop, along_end}
+use Rattle.xml.proofs.Past.{along_on, along_stop, along_end}
 use Rattle.xml.proofs.bytes.skip.Goals as goal
-
-pub loop-i-init : goal.loop-i-init
-loop-i-init c = along_none (search rules)
 
 pub returns-then-hi-kind : goal.returns-then-hi-kind
 returns-then-hi-kind c = along_stop c.loop-i.invariant (omega arith) (simp (← c.kind.ensures, lt-leb _ _ c.if-hi-kind.true))

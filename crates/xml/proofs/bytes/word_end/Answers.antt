@@ -1,14 +1,11 @@
 -- `word_end` meets its contract. Invariant: what is left of the word is read from i on.
-use mathlib.Core.Path.{refl, ◌∙◌, sym}
+use mathlib.Core.Path.{◌∙◌, sym}
 use native.Mathlib.Omega.{arith}
 use lib.ListN.{length}
 use borrow.Author.Rules.{rules}
 use Rattle.xml.proofs.Scanned.{found_none}
 use Rattle.xml.proofs.Scanning.{word_out, word_refused, word_on, word_done}
 use Rattle.xml.proofs.bytes.word_end.Goals as goal
-
-pub loop-c-init : goal.loop-c-init
-loop-c-init c = (search rules, search rules, λ p ns. refl)
 
 pub returns-in_default : goal.returns-in_default
 returns-in_default c =

@@ -8,9 +8,6 @@ use Rattle.xml.specs.CheckSteps.{value, form_step, ended}
 use Rattle.xml.proofs.Scanned.{scan_refused, scan_at, scan_done, scan_out, scan_then, scan_broken, scan_bounds}
 use Rattle.xml.proofs.characters.value_end.Goals as goal
 
-pub loop-b-init : goal.loop-b-init
-loop-b-init c = (search rules, search rules, λ r x. x)
-
 pub returns-then-b-q : goal.returns-then-b-q
 unfolding form_step
 returns-then-b-q c =

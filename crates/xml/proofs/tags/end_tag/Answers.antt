@@ -10,9 +10,6 @@ use Rattle.xml.proofs.Stays.{to_leave}
 use Rattle.xml.proofs.Scanned.{scan_word, scan_then, scan_broken, scan_bounds}
 use Rattle.xml.proofs.tags.end_tag.Goals as goal
 
-pub byte_end-requires : goal.byte_end-requires
-byte_end-requires c = omega arith
-
 pub returns-then-eq : goal.returns-then-eq
 returns-then-eq c =
     let n = c.args.name.now in
