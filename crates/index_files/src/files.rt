@@ -22,7 +22,8 @@ fn is_skipped(name: &[u8]) -> bool
     name == b"extendedattributes".as_slice() || name == b"dataplacementpolicy".as_slice()
 }
 
-// The next file from at on, and where reading goes on behind it; the first one of an index's text from 38 on, behind its declaration.
+// The next file from at on, and where reading goes on behind it; the first one of an index's text from 38 on, behind its declaration. A loop, since each
+// tag says where the next one is looked for.
 pub fn next_file(text: &[u8], at: usize) -> Option<Child>
     ensures { FileFrom text.now at result }
 {

@@ -97,7 +97,7 @@ fn char_end(text: &[u8], i: usize, b: u8) -> Result<usize, FormError>
     }
 }
 
-// The rest of an attribute's value that ends with the quote q.
+// The rest of an attribute's value that ends with the quote q. No `for`, since a turn passes a whole character or reference.
 pub(crate) fn value_end(text: &[u8], from: usize, q: u8) -> Result<usize, FormError>
     requires { from ≤ length text.now }
     ensures { Scans text.now from (at (value q)) (at valued) result }
@@ -209,7 +209,7 @@ fn past_chars(text: &[u8], from: usize) -> usize
     }
 }
 
-// The rest of an element's text, with the `<` behind it.
+// The rest of an element's text, with the `<` behind it. No `for`, for the same reason.
 pub(crate) fn text_end(text: &[u8], from: usize) -> Result<usize, FormError>
     requires { from ≤ length text.now }
     ensures { Scans text.now from (at (content (words 0))) (at (opens false)) result }

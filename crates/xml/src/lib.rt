@@ -112,7 +112,8 @@ fn finish(text: &[u8], from: usize) -> Result<(), FormError>
     }
 }
 
-// The content of the root element, which has this name, and what follows it. At the text's end `next_tag` answers an error.
+// The content of the root element, which has this name, and what follows it. At the text's end `next_tag` answers an error. A loop, since each tag says
+// where the next one is looked for.
 fn elements<'a>(text: &'a [u8], from: usize, name: &'a [u8]) -> Result<(), FormError>
     requires { from ≤ length text.now }
     ensures { Ends text.now from (at (content blank) (name.now ∷ [])) result }
