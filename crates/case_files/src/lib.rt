@@ -1,5 +1,5 @@
 // Files of test cases: numbers of 8 bytes, low byte first, and byte strings, each behind its length as such a number. What cannot be
-// read is 0 or empty. Nothing here takes memory from a heap: what is read goes into arrays of the programs, whose lengths stand beside them.
+// read is 0 or empty.
 #![tactic(auto)]
 
 ghost use Rattle.std.specs.Prelude.{◌≡◌, ◌-◌, ◌<◌, ◌≤◌};

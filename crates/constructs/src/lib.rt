@@ -108,7 +108,7 @@ impl Phase {
     }
 }
 
-// Puts a construct into the table behind the n that are there. The table is C's or a fixed array, and n a number of the walk.
+// Puts a construct into the table behind the n that are there. The table is C's or a fixed array, since no heap is used.
 fn enter(table: &mut [u32; NUMBERS], n: usize, first: usize, end: usize, from: usize, to: usize)
     requires { FitsTable n first end from to }
     ensures { table.new ≡ sets table.old (n * 4) (first ∷ end ∷ from ∷ to ∷ []) }

@@ -9,7 +9,7 @@ use crate::heads::Span;
 use crate::{heads, scan, tags};
 
 // An element as its start tag shows it: the tag's place; its name; whether it has no attribute; whether its tag is an empty-element tag; its
-// text; whether it has no children, and if so where its row goes on. `next` is a place where it has children too, its own, so it is no Option.
+// text; whether it has no children, and if so where its row goes on.
 #[derive(Clone, Copy, Debug, PartialEq, Eq)]
 pub struct Start {
     pub at: usize,

@@ -195,7 +195,7 @@ fn apart(rows: &[u64]) -> bool
     true
 }
 
-// Whether the rows of a file are lawful for its length and a block size; the three are handed apart, as C has them.
+// Whether the rows of a file are lawful for its length and a block size.
 #[tactic(auto, using(std::proofs::lemmas::Bool::Decides::nat_tests), unfolding(crate::specs::Lawful::lawful))]
 pub fn lawful(rows: &[u64], file_length: ByteCount, block_size: u64) -> bool
     ensures { result ≡ lawfulness.lawful file_length.0 block_size (rows_of rows.now) }

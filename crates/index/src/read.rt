@@ -1,5 +1,4 @@
-// Reading an index's text: the classes of refusals in their order, then its header. The text, the UUID, the letters and the place are handed apart, as C
-// has them.
+// Reading an index's text: the classes of refusals in their order, then its header.
 ghost use Rattle.std.specs.Prelude.{◌≡◌, ◌≤◌, length};
 ghost use Rattle.values.specs.Values as values;
 ghost use Rattle.xml.specs.FormSteps.{height};

@@ -1,5 +1,4 @@
 // The files of an index's text and their rows (01, Index and Extents), one after the other and by their numbers; and all of an index at once.
-// The text, the UUID, the letters and the place are handed apart, as C has them.
 #![tactic(auto)]
 
 mod asked;

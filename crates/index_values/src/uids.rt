@@ -27,7 +27,7 @@ fn are_different(t: &[u64]) -> bool
     true
 }
 
-// Whether the first n, as far as there are any, are all different: of a fixed array, since no heap is used.
+// Whether the first n, as far as there are any, are all different.
 pub fn unique(t: &[u64], n: usize) -> bool
     ensures { result ≡ different (take n t.now) }
 {

@@ -1,4 +1,4 @@
-// Tables of numbers, asked for at any place. They are fixed arrays with a count kept beside them, since no heap is used.
+// Tables of numbers, asked for at any place. They are fixed arrays, since no heap is used.
 #![tactic(auto)]
 
 ghost use Rattle.std.specs.Prelude.{◌≡◌, ◌+◌, ◌≤◌, length, take, get_or, set};
