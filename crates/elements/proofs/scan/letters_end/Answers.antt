@@ -1,17 +1,50 @@
--- `letters_end` meets its contract: the bytes before the first that is no small letter are of the name.
-use Rattle.std.proofs.Common.{not, rules, tests}
-use Rattle.std.proofs.lemmas.List.{take_rest}
-use Rattle.std.proofs.lemmas.Iterator.{YieldsList-from_slice}
-use Rattle.std.proofs.lemmas.Iterator.Search.{position_from_yields_List}
-use Rattle.std.specs.Char.{is_ascii_lowercase}
-use Rattle.xml.specs.Bytes.{is_name_byte}
+-- `letters_end` meets its contract. Invariant: the name ends from i on where it ends from at on; the four places of a turn follow each other.
+use mathlib.Core.Path.{refl, sym, ◌∙◌}
+use Prim.Native.Nat.{◌+◌}
+use native.Mathlib.Omega.{arith}
 use Rattle.elements.proofs.Names.{small_name}
-use Rattle.elements.proofs.Finding.{rest_at, onward_position}
+use Rattle.elements.proofs.Finding.{onward_here, onward_more}
 use Rattle.elements.proofs.scan.letters_end.Goals as goal
 
+pub loop-i-init : goal.loop-i-init
+loop-i-init c = onward_here _ _ _ _ refl c.requires
+
+pub returns-then-not-is_small : goal.returns-then-not-is_small
+returns-then-not-is_small c = c.loop-i.invariant
+
+pub returns-then-not-is_small-2 : goal.returns-then-not-is_small-2
+returns-then-not-is_small-2 c =
+    let l = c.loop-i in
+    let i = l.i in
+    let o = l.invariant in
+    onward_more o (omega arith) (small_name _ (sym c.is_small.ensures ∙ c.if-not-is_small.false)) (i + 1) (omega arith)
+
+pub returns-then-not-is_small-3 : goal.returns-then-not-is_small-3
+returns-then-not-is_small-3 c =
+    let l = c.loop-i in
+    let i = l.i in
+    let o = l.invariant in
+    let o1 = onward_more o (omega arith) (small_name _ (sym c.is_small.ensures ∙ c.if-not-is_small.false)) (i + 1) (omega arith) in
+    onward_more o1 (omega arith) (small_name _ (sym c.is_small-in-loop-i.ensures ∙ c.if-not-is_small-2.false)) (i + 2) (omega arith)
+
+pub returns-then-not-is_small-4 : goal.returns-then-not-is_small-4
+returns-then-not-is_small-4 c =
+    let l = c.loop-i in
+    let i = l.i in
+    let o = l.invariant in
+    let o1 = onward_more o (omega arith) (small_name _ (sym c.is_small.ensures ∙ c.if-not-is_small.false)) (i + 1) (omega arith) in
+    let o2 = onward_more o1 (omega arith) (small_name _ (sym c.is_small-in-loop-i.ensures ∙ c.if-not-is_small-2.false)) (i + 2) (omega arith) in
+    onward_more o2 (omega arith) (small_name _ (sym c.is_small-in-loop-i-2.ensures ∙ c.if-not-is_small-3.false)) (i + 3) (omega arith)
+
+pub loop-i-preserved : goal.loop-i-preserved
+loop-i-preserved c =
+    let l = c.loop-i in
+    let i = l.i in
+    let o = l.invariant in
+    let o1 = onward_more o (omega arith) (small_name _ (sym c.is_small.ensures ∙ c.if-not-is_small.false)) (i + 1) (omega arith) in
+    let o2 = onward_more o1 (omega arith) (small_name _ (sym c.is_small-in-loop-i.ensures ∙ c.if-not-is_small-2.false)) (i + 2) (omega arith) in
+    let o3 = onward_more o2 (omega arith) (small_name _ (sym c.is_small-in-loop-i-2.ensures ∙ c.if-not-is_small-3.false)) (i + 3) (omega arith) in
+    onward_more o3 (omega arith) (small_name _ (sym c.is_small-in-loop-i-3.ensures ∙ c.if-not-is_small-4.false)) (i + 4) (omega arith)
+
 pub returns : goal.returns
-returns c =
-    let a = c.args in
-    onward_position is_name_byte (λ x. not (is_ascii_lowercase x)) a.text.now a.at c.requires (rest_at a.text.now a.at) (take_rest a.text.now a.at) c.position.result c.unwrap_or.result
-    (position_from_yields_List (λ x. not (is_ascii_lowercase x)) c.position.new.self _ _ c.position.ensures.ran (YieldsList-from_slice (rest_at a.text.now a.at) c.iter.ensures.rest) (λ x b q k. search (rules, tests)))
-    c.unwrap_or.ensures small_name
+returns c = c.loop-i.invariant
