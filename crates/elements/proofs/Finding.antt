@@ -4,11 +4,10 @@ use mathlib.Core.Bool.{Bool, true, false, not, cond, ◌||◌, false≢true}
 use mathlib.Core.List.{List, [], ◌∷◌}
 use Prim.Native.Nat.{ℕ, suc, ◌+◌, ◌-◌, ◌<◌, ◌≤◌}
 use native.Mathlib.Omega.{arith}
-use native.Mathlib.Nat.{zero-add}
 use borrow.Author.Tests.{ltb-false}
 use lib.Dec.{eqb, ltb}
 use lib.ListN.{length, take, drop, get_or, length-drop}
-use lib.Seq.{drop-drop, get_or-drop}
+use lib.Seq.{get_or-drop}
 use Rattle.std.specs.Prelude.{Option, None, Some}
 use Rattle.std.specs.Option.{unwrap_or}
 use Rattle.std.specs.List.{position_or_len, prefix_len}
@@ -31,18 +30,7 @@ module _ (f g : ℕ → Bool) where
       step : (t : Bool) (m n : ℕ) → m ≡ n → cond t (suc m) 0 ≡ cond t (1 + n) 0
       step true m n z = omega arith
       step false m n z = refl
-
-  -- those that pass a test which is no weaker are among them
-  front_on : ((b : ℕ) → g b ≡ true → f b ≡ true) → (s : List ℕ) → front f s ≡ prefix_len g s + front f (drop (prefix_len g s) s)
-  unfolding front
-  front_on h [] = refl
-  front_on h (b ∷ s) = step (g b) (h b) (prefix_len g s) (front_on h s)
-    where
-      step : (t : Bool) → (t ≡ true → f b ≡ true) → (n : ℕ) → front f s ≡ n + front f (drop n s) → front f (b ∷ s) ≡ cond t (1 + n) 0 + front f (drop (cond t (1 + n) 0) (b ∷ s))
-      step true e n z =
-          let y : 1 + n ≡ suc n = omega arith in
-          rw (e refl, y) (omega (arith, z))
-      step false e n z = sym (zero-add _)
+      -- those that pass a test which is no weaker are among them
 
 pub not_not : (b : Bool) → b ≡ not (not b)
 not_not true = refl
@@ -74,19 +62,6 @@ module _ (f test : ℕ → Bool) (t : List ℕ) (at : ℕ) (h : at ≤ length t)
   past_position e =
       let l : position_or_len test (drop at t) ≤ length (drop at t) = prefix_len-le-length _ (drop at t) in
       record { found = omega (arith, first_place, front_prefix f (λ b. not (test b)) e (drop at t)); inside = omega (arith, first_place, l, length-drop at t) }
-
-  -- where a test is no weaker than another, the run goes on from there
-  pub onward_position : ((b : ℕ) → test b ≡ false → f b ≡ true) → Onward f t at (at + n)
-  onward_position e =
-      let g : ℕ → Bool = λ b. not (test b) in
-      let p = prefix_len g (drop at t) in
-      let l : p ≤ length (drop at t) = prefix_len-le-length g (drop at t) in
-      let v = front_on f g (λ b k. e b (kept (test b) k)) (drop at t) in
-      rw first_place (record { same = omega (arith, v, ap (front f) (drop-drop p at t)); inside = omega (arith, l, length-drop at t) })
-    where
-      kept : (c : Bool) → not c ≡ true → c ≡ false
-      kept true k = sym k
-      kept false k = refl
 
 -- at the place itself
 pub onward_here : (f : ℕ → Bool) (s : List ℕ) (i j : ℕ) → j ≡ i → i ≤ length s → Onward f s i j
