@@ -28,5 +28,8 @@ pub fn copy(src: &[u64], n: usize, out: &mut [u64], at: usize)
     if src.len() < n || out.len() < at || out.len() - at < n {
         return;
     }
-    out[at..at + n].copy_from_slice(&src[..n]);
+    // Compiled to memcpy, as in slices::put.
+    for (k, v) in src[..n].iter().enumerate() {
+        out[at + k] = *v;
+    }
 }

@@ -120,7 +120,7 @@ pub(crate) fn end_tag(text: &[u8], from: usize, name: &[u8]) -> Result<usize, Fo
 {
     if name.len() <= text.len() - from {
         let end = from + name.len();
-        if &text[from..end] == name {
+        if slices::same(&text[from..end], name) {
             return byte_end(text, end, b'>');
         }
     }

@@ -10,11 +10,11 @@ use Rattle.xml.proofs.Stays.{to_leave}
 use Rattle.xml.proofs.Scanned.{scan_word, scan_then, scan_broken, scan_bounds}
 use Rattle.xml.proofs.tags.end_tag.Goals as goal
 
-pub returns-then-eq : goal.returns-then-eq
-returns-then-eq c =
+pub returns-then-same : goal.returns-then-same
+returns-then-same c =
     let n = c.args.name.now in
     let end = c.args.from + length n in
-    scan_then end (scan_word n end (same_eq _ n (sym c.eq.ensures ∙ c.if-eq.true)) (omega arith) (omega arith)) refl (to_leave c.byte_end.ensures)
+    scan_then end (scan_word n end (same_eq _ n (sym c.same.ensures ∙ c.if-same.true)) (omega arith) (omega arith)) refl (to_leave c.byte_end.ensures)
 
 pub byte_end-requires-2 : goal.byte_end-requires-2
 byte_end-requires-2 c =
