@@ -1,4 +1,4 @@
-// Hex digits, by the ranges that 002 names in 5.8, and without their case.
+// Hex digits, and texts without their case. `is_hex` says what they are, by the ranges that 002 names in 5.8; the code asks std's test for them.
 ghost use Rattle.std.specs.Prelude.{◌≡◌, map};
 ghost use Rattle.slices.specs.Slices.{same};
 ghost use Rattle.digits.specs.Hex.{is_hex};
