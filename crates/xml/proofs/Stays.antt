@@ -128,7 +128,3 @@ module _ {t : List ℕ} {i : ℕ} {r : Scan} where
   pub to_leave : ScansByte t i 62 r → Scans t i (at closed) leave r
   unfolding form_step is_space ended
   to_leave x = x closed leave refl refl closed_stay (λ ns. refl) (λ ns c s n. simp (s, ne_eqb c 62 n))
-
-  pub to_root : ScansByte t i 60 r → Scans t i (at before) (at root) r
-  unfolding form_step is_space ended
-  to_root x = x before (at root) refl refl before_stay (λ ns. refl) (λ ns c s n. simp (s, ne_eqb c 60 n))

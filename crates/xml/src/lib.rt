@@ -14,7 +14,7 @@ mod tags;
 use bytes::{byte, past_spaces, word_end};
 use characters::text_end;
 use refusals::{Place, Refusal};
-use tags::{byte_end, end_tag, inner_tag, start_tag};
+use tags::{end_tag, inner_tag, start_tag};
 
 // A text is not in the form.
 #[derive(Clone, Copy, PartialEq, Eq, Debug)]
@@ -148,8 +148,11 @@ fn root(text: &[u8], from: usize) -> Result<(), FormError>
     requires { from ≤ length text.now }
     ensures { Ends text.now from (at before []) result }
 {
-    let i = byte_end(text, from, b'<')?;
-    match start_tag(text, i)? {
+    let begin = past_spaces(text, from);
+    if byte(text, begin) != b'<' {
+        return Err(FormError { front: begin });
+    }
+    match start_tag(text, begin + 1)? {
         (Some(name), j) => elements(text, j, name),
         (None, j) => finish(text, j),
     }

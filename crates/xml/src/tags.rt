@@ -8,7 +8,7 @@ use super::bytes::{byte, kind, past_name, past_spaces, word_end};
 use super::characters::value_end;
 
 // White space, and then the byte b.
-pub(crate) fn byte_end(text: &[u8], from: usize, b: u8) -> Result<usize, FormError>
+fn byte_end(text: &[u8], from: usize, b: u8) -> Result<usize, FormError>
     requires { from ≤ length text.now }
     ensures { ScansByte text.now from b result }
 {
