@@ -78,6 +78,11 @@ left_passed l n at v {x} h q = go (entry_at l at) refl q
     go entry.End e p = cc
     go entry.Bad e p = cc
 
+-- so it is for each number that is one more
+pub left_counted : (l : List ℕ) (n at v : ℕ) {x : Cell × ℕ} (m : ℕ) → n < length l → passed (entry_at l at) ≡ Some x → m ≡ n + 1
+    → totals_from n v (left l n at) ≡ totals_from m (v + size x.0) (left l m x.1)
+left_counted l n at v m h q e = rw e (left_passed l n at v h q)
+
 pub left_stopped : (l : List ℕ) (n at v : ℕ) → n < length l → at < length l → passed (entry_at l at) ≡ None → totals_from n v (left l n at) ≡ None
 unfolding totals_from
 left_stopped l n at v h k q = go (entry_at l at) refl q

@@ -20,7 +20,8 @@ use Rattle.tape.specs.declared.Cell.{Cell}
 use Rattle.tape.specs.declared.Cell.TheVariants.{Mark as mark_cell, Block as block_cell, Unreadable as unreadable_cell}
 use Rattle.tape.specs.Tape.{Element, mark, block, unreadable, Tape, cell_of, four_bytes, entry, content, list, store, is_block_length, is_lawful_cell, lawful_tape}
 use Rattle.tape.specs.ReadingSteps.{entry_at, number_at, size}
-use Rattle.tape.specs.WalkSteps.{passed, reach}
+use Rattle.tape.specs.declared.Front.{Front}
+use Rattle.tape.specs.WalkSteps.{passed, past, reach}
 use Rattle.tape.proofs.Entries.{length_between}
 
 -- what a cell's entry is read as
@@ -109,11 +110,15 @@ passed_cell mark_cell at = refl
 passed_cell (block_cell n) at = refl
 passed_cell unreadable_cell at = refl
 
+-- past a cell's entry: by its width in the list, by its size in the store
+pub past_cell : (walk : ℕ → ℕ → Front) (at v : ℕ) (c : Cell) → past walk (record { list = at; store = v }) (passed (entry_for c at)) ≡ walk (at + width c) (v + size c)
+past_cell walk at v c = rw (passed_cell c at)
+
 -- the walk over an element
 pub reach_element : (n : ℕ) (l : List ℕ) (at v : ℕ) (e : Element) (s : List ℕ) → is_lawful_cell (cell_of e) ≡ true → drop at l ≡ entry (cell_of e) ++ s
     → reach (suc n) l at v ≡ reach n l (at + width (cell_of e)) (v + length (content e))
 unfolding reach
-reach_element n l at v e s h d = rw (entry_here l at (cell_of e) s h d, passed_cell (cell_of e) at, size_content e)
+reach_element n l at v e s h d = rw (entry_here l at (cell_of e) s h d) (past_cell (reach n l) at v (cell_of e) ∙ rw (size_content e))
 
 -- the walk over n entries of a tape reaches behind its first n elements
 pub reach_tape : (n : ℕ) (l : List ℕ) (at v : ℕ) (t : Tape) → lawful_tape t ≡ true → drop at l ≡ list t

@@ -8,7 +8,7 @@ use native.Mathlib.Omega.{arith}
 use borrow.Author.Tests.{ne_eqb, eqb-true, le-leb, leb-true, not-true}
 use lib.Dec.{leb, eqb}
 use native.Mathlib.Numerals.{one-add}
-use lib.ListN.{length, take, drop, take-append-drop, length-append, length-drop}
+use lib.ListN.{length, take, drop, get_or, take-append-drop, length-append, length-drop}
 use lib.Seq.{take_all}
 use Rattle.std.proofs.lemmas.List.{reverse-append, reverse-reverse, take-append-le, length-reverse}
 use Rattle.std.specs.List.{prefix_len, suffix_len}
@@ -160,6 +160,20 @@ pub signed_digits : (s : List ℕ) → same (take 1 s) (43 ∷ []) ≡ false →
 unfolding signed run is_run
 signed_digits [] e f = refl
 signed_digits (b ∷ s) e f = grind (arith, nat_tests)
+
+-- what is behind it
+abbrev rest : List ℕ → List ℕ
+rest s = take (length s - 1) (drop 1 s)
+
+-- the three together
+pub first_byte : (s : List ℕ) → 0 < length s → signed s ≡ cond (eqb (get_or s 0 0) 43) (run (rest s)) (cond (eqb (get_or s 0 0) 45) (at_most 0 (run (rest s))) (run s))
+first_byte [] h = absurd (omega arith)
+first_byte (b ∷ s) h = rw (take_all (length (b ∷ s) - 1) s (omega arith)) (go (eqb b 43) refl (eqb b 45) refl)
+  where
+    go : (t : Bool) → eqb b 43 ≡ t → (u : Bool) → eqb b 45 ≡ u → signed (b ∷ s) ≡ cond t (run s) (cond u (at_most 0 (run s)) (run (b ∷ s)))
+    go true e u f = signed_plus (b ∷ s) (rw e)
+    go false e true f = signed_minus (b ∷ s) (rw f)
+    go false e false f = signed_digits (b ∷ s) (rw e) (rw f)
 
 -- a digit is neither white space nor a sign
 digit_no_space : (b : ℕ) → is_digit b ≡ true → no_space b ≡ true

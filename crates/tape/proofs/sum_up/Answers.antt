@@ -2,7 +2,7 @@
 use Rattle.std.proofs.Common.{sym, ◌∙◌, ap, rules}
 use Rattle.tape.specs.WalkSteps.{passed, totals_from}
 use Rattle.tape.proofs.Entries.{passed_lies}
-use Rattle.tape.proofs.Counting.{totals_end, totals_full, left, left_all, left_passed, left_stopped, left_none}
+use Rattle.tape.proofs.Counting.{totals_end, totals_full, left, left_all, left_counted, left_stopped, left_none}
 use Rattle.tape.proofs.sum_up.Goals as goal
 
 pub loop-at-init : goal.loop-at-init
@@ -43,7 +43,7 @@ loop-at-preserved c =
       search rules,
       search rules,
       search rules,
-      rw c.size-bytes.ensures (l.invariant.4 ∙ left_passed c.args.list.now l.elements l.at l.bytes (search rules) q),
+      rw c.size-bytes.ensures (l.invariant.4 ∙ left_counted c.args.list.now l.elements l.at l.bytes _ (search rules) q (search rules)),
     )
 
 pub returns : goal.returns
