@@ -7,7 +7,7 @@ use native.Mathlib.Omega.{arith}
 use borrow.Author.Tests.{lt-ltb, ne_eqb, leb-true}
 use lib.Dec.{eqb, leb}
 use Rattle.xml.specs.Bytes.{is_space, is_name_byte}
-use Rattle.xml.specs.CheckSteps.{before, root, tag, key, keyed, equals, valued, content, blank, words, children, closed, after, opens, stop, at, leave, char, in_text, inside_element, without_text, form_step, ended}
+use Rattle.xml.specs.CheckSteps.{before, tag, key, keyed, equals, valued, content, blank, words, children, closed, after, opens, stop, at, leave, char, in_text, inside_element, without_text, form_step, ended}
 use Rattle.xml.specs.ScanSteps.{is_text, held, Scan, Scans, ScansByte}
 use Rattle.xml.proofs.Classes.{space_low, space_not}
 use Rattle.xml.proofs.Logic.{and_both}
