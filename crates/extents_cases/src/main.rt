@@ -22,14 +22,19 @@ fn print(rt: &impl Print, answer: Result<Option<Stored>, Refusal>) -> io::Result
     }
 }
 
+// Whether a number of a line ends before a byte.
+fn ends_number(byte: &u8) -> bool {
+    *byte <= b' '
+}
+
 // A case's answer, by the first 6,000 numbers of its line; what is no number is 0.
-fn run_case(rt: &(impl Print + AllocGlobal), line: &[u8]) -> io::Result<()> {
-    let numbers = line
-        .split(|b| *b <= b' ')
-        .take(6000)
-        .map(|field| digits::read_plain(field).unwrap_or(0))
-        .collect::<Vec<u64>>(rt.alloc())?;
-    match numbers.as_slice() {
+fn run_case(rt: &impl Print, line: &[u8]) -> io::Result<()> {
+    let mut numbers = [0u64; 6000];
+    for (number, field) in numbers.iter_mut().zip(line.split(ends_number)) {
+        *number = digits::read_plain(field).unwrap_or(0);
+    }
+    let n = line.split(ends_number).count().min(numbers.len());
+    match &numbers[..n] {
         [length, block_size, position, rows @ ..] => print(
             rt,
             extents::byte_at(rows, ByteCount(*length), *block_size, ByteCount(*position)),
@@ -39,7 +44,7 @@ fn run_case(rt: &(impl Print + AllocGlobal), line: &[u8]) -> io::Result<()> {
 }
 
 // The cases of a text: its lines that a line feed ends.
-fn run(rt: &(impl Print + AllocGlobal), text: &[u8]) -> io::Result<()> {
+fn run(rt: &impl Print, text: &[u8]) -> io::Result<()> {
     for line in text.split_inclusive(|b| *b == b'\n') {
         if let Some(case) = line.strip_suffix(b"\n") {
             run_case(rt, case)?;
