@@ -61,15 +61,48 @@ pub fn shown_good(rt: &impl Print, good: bool, case: u64) -> u64
     u64::from(good)
 }
 
-// Opens a file of cases. Where it cannot be opened, the error is printed too, behind the file's name.
-fn open<S: Files + Eprint>(rt: &S, path: &str) -> io::Result<S::File> {
-    match fs::open(rt, path) {
-        Ok(file) => Ok(file),
+// The cases of a file: how many there are, how many are left, and how many were as expected.
+#[derive(Drop)]
+pub struct Cases<R> {
+    pub file: R,
+    pub all: u64,
+    pub left: u64,
+    pub good: u64,
+}
+
+// Begins with the cases of a file. Where it cannot be opened, the error is printed too, behind the file's name.
+pub fn open<S: Files + Eprint>(rt: &S, path: &str) -> io::Result<Cases<S::File>> {
+    let mut file = match fs::open(rt, path) {
+        Ok(file) => file,
         Err(e) => {
             eprintln!(rt; "{path}: {e}")?;
-            Err(e)
+            return Err(e);
         }
+    };
+    let all = number(&mut file);
+    Ok(Cases {
+        file,
+        all,
+        left: all,
+        good: 0,
+    })
+}
+
+// The next case was as expected or not.
+pub fn judged<R: Drop>(rt: &impl Print, mut cases: Cases<R>, good: bool) -> Cases<R>
+    ensures { result.left ≡ cases.left - 1 }
+{
+    if 0 < cases.left {
+        let case = cases.all.wrapping_sub(cases.left);
+        cases.good = cases.good.wrapping_add(shown_good(rt, good, case));
+        cases.left -= 1;
     }
+    cases
+}
+
+// Ends with the cases of a file, and prints how many were as expected.
+pub fn close<R: Drop>(rt: &impl Print, path: &str, cases: Cases<R>) -> io::Result<()> {
+    report(rt, path, cases.good, cases.all)
 }
 
 // Reads the cases of a file, each by a call that answers whether it was as expected, and prints how many were.
@@ -80,11 +113,10 @@ pub fn run<S: Files + Print + Eprint, F: FnMut(&mut S::File) -> bool + Drop>(
 ) -> io::Result<()>
     requires { F.IsAlwaysCallable is_as_expected }
 {
-    let mut file = open(rt, path)?;
-    let cases = number(&mut file);
-    let mut good: u64 = 0;
-    for case in 0..cases {
-        good += shown_good(rt, is_as_expected(&mut file), case);
+    let mut cases = open(rt, path)?;
+    while 0 < cases.left {
+        let good = is_as_expected(&mut cases.file);
+        cases = judged(rt, cases, good);
     }
-    report(rt, path, good, cases)
+    close(rt, path, cases)
 }

@@ -1,7 +1,8 @@
--- `run` may call once more; no more cases were as expected than were read.
-use Rattle.std.proofs.Common.{◌≤◌}
-use denote.Param.Always.{always_mut}
+-- `run` ends, since each turn is one case less, and may call once more.
 use Rattle.case_files.proofs.run.Given as goal
 
-abbrev pub invariant-loop-case : goal.invariant-loop-case
-invariant-loop-case g l = (always_mut g.F.FnMut l.initial.is_as_expected → always_mut g.F.FnMut l.is_as_expected) × (l.good ≤ l.case)
+abbrev pub invariant-loop-cases : goal.invariant-loop-cases
+invariant-loop-cases g l = goal.F-IsAlwaysCallable g l.is_as_expected
+
+abbrev pub decreases-loop-cases : goal.decreases-loop-cases
+decreases-loop-cases g l = l.cases.left
