@@ -57,7 +57,9 @@ fn at_end(phase: Phase, end: usize, count: usize) -> Result<usize, Stop>
 }
 
 // Reads a list of so many elements, its files' rows to the front of out, and answers how many bytes of rows there are. The place in out is one of the
-// numbers that go from element to element, with those in the list and the store.
+// numbers that go from element to element, with those in the list and the store. Inlined, so that where nobody asks for the rows, in `place`, none
+// are written and their buffer is not cleared.
+#[inline(always)]
 fn walk(list: &[u8], store: &[u8], count: usize, out: &mut [u8]) -> Result<usize, Stop>
     requires { Encoded list.now store.now count × (length out.old ≡ rows_length) }
     ensures { Walks list.now store.now out.old out.new result }

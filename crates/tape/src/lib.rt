@@ -6,7 +6,7 @@ ghost use Rattle.refusals.specs.Refusals.{and_then};
 ghost use Rattle.quantities.specs.Letters.{are_letters};
 ghost use Rattle.tape.specs.Tape.{max_elements};
 ghost use Rattle.std.specs.Iterator.{YieldsFirst, item_count};
-ghost use Rattle.tape.specs.ReadingSteps.{number_at, entry_at, size, cells};
+ghost use Rattle.tape.specs.ReadingSteps.{number_at, entry_at, cells};
 ghost use Rattle.tape.specs.CellSteps.{cells_rest};
 ghost use Rattle.tape.specs.WalkSteps.{passed, cells_left, totals_from, reach, spot_at, spot_below};
 ghost use Rattle.tape.specs.Answers.{element_count, block_of};
@@ -32,18 +32,6 @@ pub enum Cell {
     Mark,
     Block(usize),
     Unreadable,
-}
-
-impl Cell {
-    // The bytes that the element has in the store.
-    fn size(self) -> usize
-        ensures { result ≡ size self }
-    {
-        match self {
-            Cell::Block(n) => n,
-            Cell::Mark | Cell::Unreadable => 0,
-        }
-    }
 }
 
 impl Entry {
@@ -108,10 +96,14 @@ pub fn entry_at(list: &[u8], at: usize) -> Entry
     match *kind {
         1 => Entry::Mark(at + 1),
         3 => Entry::Unreadable(at + 1),
-        2 if 5 <= list.len() - at => match number_at(list, at + 1) {
-            n @ 1..=1048576 => Entry::Block(n, at + 5),
-            _ => Entry::Bad,
-        },
+        2 if 5 <= list.len() - at => {
+            let n = number_at(list, at + 1);
+            if (1..=1048576).contains(&n) {
+                Entry::Block(n, at + 5)
+            } else {
+                Entry::Bad
+            }
+        }
         _ => Entry::Bad,
     }
 }
@@ -130,15 +122,28 @@ fn sum_up(list: &[u8]) -> Option<Totals>
     let mut at: usize = 0;
     let mut elements: usize = 0;
     let mut bytes: usize = 0;
-    // By the place, since `Cells` ends at a wrong entry as it does at the end.
+    // By the place, since `Cells` ends at a wrong entry as it does at the end; and by the entry, here and in `walk`, since by what `passed` hands out the
+    // compiler adds the size of 0 for a mark too, in 1.4 times as many instructions.
     while at < list.len() {
         if elements == 65536 {
             return None;
         }
-        let (cell, next) = entry_at(list, at).passed()?;
-        elements += 1; // marks count too
-        bytes += cell.size();
-        at = next;
+        match entry_at(list, at) {
+            Entry::Mark(next) => {
+                at = next;
+                elements += 1; // marks count too
+            }
+            Entry::Block(n, next) => {
+                at = next;
+                elements += 1;
+                bytes += n;
+            }
+            Entry::Unreadable(next) => {
+                at = next;
+                elements += 1;
+            }
+            Entry::End | Entry::Bad => return None,
+        }
     }
     Some(Totals { elements, bytes })
 }
@@ -170,11 +175,14 @@ fn walk(list: &[u8], n: usize) -> Front
     let mut at: usize = 0;
     let mut store: usize = 0;
     for _ in 0..n {
-        let Some((cell, next)) = entry_at(list, at).passed() else {
-            return Front { list: at, store };
-        };
-        at = next;
-        store += cell.size();
+        match entry_at(list, at) {
+            Entry::Mark(next) | Entry::Unreadable(next) => at = next,
+            Entry::Block(size, next) => {
+                at = next;
+                store += size;
+            }
+            Entry::End | Entry::Bad => return Front { list: at, store },
+        }
     }
     Front { list: at, store }
 }
