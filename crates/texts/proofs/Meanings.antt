@@ -2,10 +2,11 @@
 use mathlib.Core.Path.{◌≡◌, refl, ap, ap₂, sym, ◌∙◌}
 use mathlib.Core.Bool.{Bool, true, false, not, cond}
 use mathlib.Core.List.{List, [], ◌∷◌}
-use Prim.Native.Nat.{ℕ, zero, suc, ◌+◌, ◌<◌}
+use Prim.Native.Nat.{ℕ, zero, suc, ◌+◌, ◌-◌, ◌<◌, ◌≤◌, min}
 use native.Mathlib.Omega.{arith}
 use lib.Dec.{eqb}
-use lib.ListN.{length, take, drop, length-take, set}
+use lib.ListN.{length, take, drop, drop_of_length-le, length-drop, length-take, set}
+use lib.Seq.{drop-drop}
 use Rattle.std.specs.Prelude.{Option, None, Some, MatchOption, IfSome}
 use Rattle.std.specs.List.{filter, AllZip}
 use Rattle.std.specs.Iterator.{YieldsFirst, YieldsThen}
@@ -13,9 +14,12 @@ use native.Mathlib.Nat.{zero-add}
 use Rattle.slices.specs.Slices.{same, written}
 use Rattle.slices.proofs.Writing.{written_set, written_then}
 use Rattle.slices.proofs.Equal.{lengths_differ}
+use Rattle.std.proofs.lemmas.List.{drop_min}
 use Rattle.std.proofs.lemmas.Iterator.{YieldsList}
 use Rattle.std.proofs.lemmas.Iterator.Consumers.{YieldsList-from_first}
 use Rattle.texts.specs.declared.DecodedBytes.{DecodedBytes}
+use Rattle.texts.specs.Steps.{Means}
+use Rattle.texts.proofs.Entities.{decoded_plain}
 use Rattle.texts.specs.Decoded.{begins, reference_meant, meaning, decoded_behind, decoded, continues, code_points}
 
 pub begins_short : (w r : List ℕ) → length r < length w → begins w r ≡ false
@@ -32,6 +36,44 @@ behind_drop (suc n) (b ∷ s) = behind_drop n s
 pub decoded_reference : (s : List ℕ) → decoded (38 ∷ s) ≡ (reference_meant s).byte ∷ decoded (drop (reference_meant s).more s)
 unfolding meaning decoded_behind
 decoded_reference s = ap (λ l. (reference_meant s).byte ∷ l) (behind_drop (reference_meant s).more s)
+
+-- an end of a text starts as far before the text's end as it is long
+drop_back : (n : ℕ) (s : List ℕ) → drop (length s - length (drop n s)) s ≡ drop n s
+drop_back n s = let e : length s - length (drop n s) ≡ min n (length s) = omega (arith, length-drop n s) in rw e (drop_min n s)
+
+module _ (s : List ℕ) (i : ℕ) where
+  -- past the end nothing is meant
+  pub decoded_end : length s ≤ i → decoded (drop i s) ≡ []
+  unfolding decoded_behind
+  decoded_end h = ap decoded (drop_of_length-le s h)
+
+  module _ (b : ℕ) (r : List ℕ) (h : drop i s ≡ b ∷ r) where
+    -- how long what follows the byte is
+    left : i + 1 + length r ≡ length s
+    left = omega (arith, ap length h, length-drop i s)
+
+    -- what follows it starts behind it
+    behind : drop (i + 1) s ≡ r
+    behind = sym (drop-drop 1 i s) ∙ ap (λ (l : List ℕ). drop 1 l) h
+
+    -- a byte that means itself
+    pub plain_at : (b ≡ 38 → ⊥) → Means s i b (i + 1)
+    plain_at e =
+        record {
+          bytes = ap decoded h ∙ decoded_plain b r e ∙ ap (λ (l : List ℕ). b ∷ decoded l) (sym behind);
+          place = (omega arith, omega (arith, left));
+        }
+
+    -- an `&`, with its reference, behind which u stands
+    pub reference_at : (x : ℕ) (u : List ℕ) → b ≡ 38 → x ≡ (reference_meant r).byte → u ≡ drop (reference_meant r).more r → Means s i x (length s - length u)
+    reference_at x u e m k =
+        let n = (reference_meant r).more in
+        let at : u ≡ drop (i + 1 + n) s = k ∙ ap (λ (l : List ℕ). drop n l) (sym behind) ∙ drop-drop n (i + 1) s in
+        let on : drop (length s - length u) s ≡ u = ap (λ (l : List ℕ). drop (length s - length l) s) at ∙ drop_back (i + 1 + n) s ∙ sym at in
+        record {
+          bytes = ap decoded (h ∙ ap (λ (y : ℕ). y ∷ r) e) ∙ decoded_reference r ∙ ap₂ (λ (y : ℕ) (l : List ℕ). y ∷ decoded l) (sym m) (sym k ∙ sym on);
+          place = (omega (arith, left, ap length k, length-drop n r), omega arith);
+        }
 
 -- the code points of a text are its bytes that continue none
 kept_length : (t : Bool) (b : ℕ) (l : List ℕ) → length (cond (not t) (b ∷ l) l) ≡ cond t 0 1 + length l

@@ -6,6 +6,7 @@ ghost use Rattle.std.specs.Iterator.{YieldsFirst, item_count};
 ghost use Rattle.slices.specs.Slices as slices;
 ghost use Rattle.slices.specs.Writers.{Puts};
 ghost use Rattle.texts.specs.Decoded.{reference_meant, decoded, code_points, continues};
+ghost use Rattle.texts.specs.Steps.{NextByte};
 
 use refusals::Refusal;
 
@@ -32,6 +33,19 @@ fn reference(raw: &[u8]) -> (u8, &[u8])
     (b'&', raw)
 }
 
+// The byte that is meant at at, and the place behind what spells it; None at the end of the text and past it.
+#[tactic(auto, using(crate::proofs::Meanings::decoded_end, crate::proofs::Meanings::plain_at))]
+pub fn next_byte(raw: &[u8], at: usize) -> Option<(u8, usize)>
+    ensures { NextByte raw.now at result }
+{
+    let (first, rest) = raw.get(at..)?.split_first()?;
+    if *first != b'&' {
+        return Some((*first, at + 1));
+    }
+    let (byte, rest) = reference(rest);
+    Some((byte, raw.len() - rest.len()))
+}
+
 // The bytes that are meant by what is left of a text, one after the other.
 #[derive(Clone, Copy)]
 pub struct DecodedBytes<'a> {
@@ -45,15 +59,9 @@ impl<'a> Iterator for DecodedBytes<'a> {
 
     ghost remaining = { item_count (λ s. decoded s.raw.now) };
 
-    #[tactic(auto, using(crate::proofs::Meanings::decoded_reference, crate::proofs::Entities::decoded_plain), unfolding(crate::specs::Decoded::decoded_behind))]
     fn next(&mut self) -> Option<u8> {
-        let (first, rest) = self.raw.split_first()?;
-        let (byte, rest) = if *first == b'&' {
-            reference(rest)
-        } else {
-            (*first, rest)
-        };
-        self.raw = rest;
+        let (byte, behind) = next_byte(self.raw, 0)?;
+        self.raw = &self.raw[behind..];
         Some(byte)
     }
 }
