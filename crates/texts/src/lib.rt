@@ -114,8 +114,7 @@ pub fn same_decoded(a: &[u8], b: &[u8]) -> bool
 pub fn decode(raw: &[u8], out: &mut [u8], at: usize) -> Result<usize, Refusal>
     ensures { Puts at (decoded raw.now) out.old out.new result }
 {
-    let len = decoded_len(raw);
-    if out.len() < at || out.len() - at < len {
+    if out.len() < at || out.len() - at < decoded_len(raw) {
         return Err(Refusal::Short);
     }
     let mut end = at;

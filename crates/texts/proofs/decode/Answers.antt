@@ -6,9 +6,12 @@ use Rattle.slices.proofs.Writers.{puts_short, puts_whole}
 use Rattle.texts.specs.Decoded.{decoded}
 use Rattle.texts.proofs.Meanings.{written_on}
 use Rattle.texts.proofs.decode.Goals as goal
+use Rattle.texts.proofs.decode.Goals.{then-out-at-via-then-out-at, then-out-at-via-else-out-at+then-out-at-2}
 
 pub returns-then-out-at : goal.returns-then-out-at
-returns-then-out-at c = puts_short _ _ _ (omega arith)
+returns-then-out-at c =
+    puts_short _ _ _
+    (elim c.then-out-at.branch [ then-out-at-via-then-out-at w ↦ omega (arith, w.if-out-at) | then-out-at-via-else-out-at+then-out-at-2 w ↦ omega (arith, w.if-out-at, w.if-out-at-2, w.decoded_len.ensures) ])
 
 pub loop-b-preserved : goal.loop-b-preserved
 loop-b-preserved c =
