@@ -6,7 +6,7 @@
 //   ! the text alone is not
 // The text begins at the third byte. `\` and two hex digits stand for a byte. A line that begins with `#` is the head of a group, whose
 // name begins at the third byte; any other is a case as by `*`.
-ghost use Rattle.std.specs.Prelude.{◌<◌, ◌≤◌};
+ghost use Rattle.std.specs.Prelude.{◌<◌};
 
 // What a text must give.
 #[derive(Clone, Copy)]
@@ -19,10 +19,11 @@ pub(crate) enum Expected {
     LeavesAtMark,
 }
 
-#[derive(Drop)]
+// A case has what stands before its text, and how this is spelled.
+#[derive(Clone, Copy)]
 pub(crate) enum Line<'a> {
     Group(&'a [u8]),
-    Case(Expected, Text),
+    Case(Expected, &'a [u8], &'a [u8]),
 }
 
 const DECLARATION: &[u8] = b"<?xml version=\"1.0\" encoding=\"UTF-8\"?>";
@@ -32,64 +33,57 @@ impl<'a> From<&'a [u8]> for Line<'a> {
         let rest = line.get(2..).unwrap_or(&[]);
         match line.first() {
             Some(b'#') => Line::Group(rest),
-            Some(b'+') => Line::Case(Expected::InFormByFronts, Text::new(DECLARATION, rest)),
-            Some(b'-') => Line::Case(Expected::LeavesAtMark, Text::new(DECLARATION, rest)),
-            Some(b'=') => Line::Case(Expected::InForm, Text::new(b"", rest)),
-            Some(b'!') => Line::Case(Expected::NotInForm, Text::new(b"", rest)),
-            _ => Line::Case(Expected::LeavesAtMark, Text::new(b"", rest)),
+            Some(b'+') => Line::Case(Expected::InFormByFronts, DECLARATION, rest),
+            Some(b'-') => Line::Case(Expected::LeavesAtMark, DECLARATION, rest),
+            Some(b'=') => Line::Case(Expected::InForm, b"", rest),
+            Some(b'!') => Line::Case(Expected::NotInForm, b"", rest),
+            _ => Line::Case(Expected::LeavesAtMark, b"", rest),
         }
     }
 }
 
-// A text, as far as there is room for it, and where its mark stands.
-#[derive(Drop)]
-pub(crate) struct Text {
-    bytes: [u8; 8192],
-    len: usize,
+// A text, as far as there was room for it, and where its mark stands.
+#[derive(Clone, Copy)]
+pub(crate) struct Text<'a> {
+    pub(crate) bytes: &'a [u8],
     pub(crate) mark: usize,
-    ghost in_room: { len ≤ 8192 },
 }
 
-impl Text {
-    // The front, and then what is spelled. A text with no mark has it behind the front. The loop is no for, since an escape takes two signs more.
-    fn new(front: &[u8], spelled: &[u8]) -> Text {
-        let mut text = Text {
-            bytes: [0; 8192],
-            len: 0,
-            mark: 0,
-        };
+impl<'a> Text<'a> {
+    // The front, and then what is spelled, in a lent room. A text with no mark has it behind the front. The loop is no for, since an escape takes two
+    // signs more.
+    pub(crate) fn new(front: &[u8], spelled: &[u8], room: &'a mut [u8]) -> Text<'a> {
+        let mut len: usize = 0;
         for b in front {
-            text.push(*b);
+            len = put(room, len, *b);
         }
-        text.put_mark();
+        let mut mark = len;
         let mut signs = spelled.iter().copied();
         while let Some(sign) = signs.next() {
             match sign {
-                b'|' => text.put_mark(),
+                b'|' => mark = len,
                 b'\\' => {
                     let high = hex(signs.next());
                     let low = hex(signs.next());
-                    text.push(high * 16 + low);
+                    len = put(room, len, high * 16 + low);
                 }
-                _ => text.push(sign),
+                _ => len = put(room, len, sign),
             }
         }
-        text
-    }
-
-    fn push(&mut self, b: u8) {
-        if self.len < self.bytes.len() {
-            self.bytes[self.len] = b;
-            self.len += 1;
+        Text {
+            bytes: room.get(..len).unwrap_or(&[]),
+            mark,
         }
     }
+}
 
-    fn put_mark(&mut self) {
-        self.mark = self.len;
-    }
-
-    pub(crate) fn as_slice(&self) -> &[u8] {
-        &self.bytes[..self.len]
+// Puts a byte where a text ends, and answers where it ends then.
+fn put(room: &mut [u8], end: usize, b: u8) -> usize {
+    if end < room.len() {
+        room[end] = b;
+        end + 1
+    } else {
+        end
     }
 }
 

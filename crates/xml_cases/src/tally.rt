@@ -47,8 +47,8 @@ fn fronts_fit(text: &[u8]) -> bool {
 }
 
 // What the text gives; where it is something else than it must, the words for that.
-fn judged(expected: Expected, text: &Text) -> Result<Given, &'static str> {
-    match (expected, xml::check(text.as_slice())) {
+fn judged(expected: Expected, text: Text) -> Result<Given, &'static str> {
+    match (expected, xml::check(text.bytes)) {
         (Expected::InFormByFronts | Expected::InForm, Ok(())) => Ok(Given::InForm),
         (Expected::InFormByFronts | Expected::InForm, Err(_)) => Err("refused"),
         (Expected::NotInForm | Expected::LeavesAtMark, Ok(())) => Err("in the form"),
@@ -74,7 +74,10 @@ impl<'a, R: Print> Judge<'a, R> {
     pub(crate) fn line(&mut self, line: &[u8]) -> io::Result<()> {
         match Line::from(line) {
             Line::Group(name) => self.begin(name),
-            Line::Case(expected, text) => self.case(expected, &text),
+            Line::Case(expected, front, spelled) => {
+                let mut room = [0u8; 8192];
+                self.case(expected, Text::new(front, spelled, &mut room))
+            }
         }
     }
 
@@ -84,8 +87,8 @@ impl<'a, R: Print> Judge<'a, R> {
         self.rt.write_all(name)
     }
 
-    fn case(&mut self, expected: Expected, text: &Text) -> io::Result<()> {
-        if matches!(expected, Expected::InFormByFronts) && !fronts_fit(text.as_slice()) {
+    fn case(&mut self, expected: Expected, text: Text) -> io::Result<()> {
+        if matches!(expected, Expected::InFormByFronts) && !fronts_fit(text.bytes) {
             self.say("a front refused", text)?;
         }
         match judged(expected, text) {
@@ -100,9 +103,9 @@ impl<'a, R: Print> Judge<'a, R> {
     }
 
     // A case that gave something else.
-    fn say(&self, what: &str, text: &Text) -> io::Result<()> {
+    fn say(&self, what: &str, text: Text) -> io::Result<()> {
         print!(self.rt; "\n  {what}: ")?;
-        self.rt.write_all(text.as_slice())
+        self.rt.write_all(text.bytes)
     }
 
     // The end of a group's line.
