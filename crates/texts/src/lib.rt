@@ -5,10 +5,20 @@ ghost use Rattle.std.specs.Prelude.{◌≡◌, cond, ◌≤◌, length, drop, ge
 ghost use Rattle.std.specs.Iterator.{YieldsFirst, item_count};
 ghost use Rattle.slices.specs.Slices as slices;
 ghost use Rattle.slices.specs.Writers.{Puts};
-ghost use Rattle.texts.specs.Decoded.{reference_meant, decoded, code_points, continues};
+ghost use Rattle.texts.specs.Decoded.{begins, meant, reference_meant, decoded, code_points, continues};
 ghost use Rattle.texts.specs.Steps.{NextByte};
 
 use refusals::Refusal;
+
+// What an `&` before raw means if no reference but the one that word spells can follow it, and what comes behind that.
+fn named<'a>(raw: &'a [u8], word: &[u8], byte: u8) -> (u8, &'a [u8])
+    ensures { let m = cond (begins word.now raw.now) (meant byte (length word.now)) (meant 38 0) in (result.0 ≡ m.byte) × (result.1.now ≡ drop m.more raw.now) }
+{
+    match raw.strip_prefix(word) {
+        Some(rest) => (byte, rest),
+        None => (b'&', raw),
+    }
+}
 
 // What an `&` before raw means, and what follows its reference.
 #[tactic(auto, unfolding(crate::specs::Decoded::reference_meant, slices::specs::Words::bytes))]
@@ -18,19 +28,13 @@ fn reference(raw: &[u8]) -> (u8, &[u8])
     if let Some(rest) = raw.strip_prefix(b"amp;") {
         return (b'&', rest);
     }
-    if let Some(rest) = raw.strip_prefix(b"lt;") {
-        return (b'<', rest);
+    match raw.first() {
+        Some(b'a') => named(raw, b"apos;", b'\''),
+        Some(b'l') => named(raw, b"lt;", b'<'),
+        Some(b'g') => named(raw, b"gt;", b'>'),
+        Some(b'q') => named(raw, b"quot;", b'"'),
+        _ => (b'&', raw),
     }
-    if let Some(rest) = raw.strip_prefix(b"gt;") {
-        return (b'>', rest);
-    }
-    if let Some(rest) = raw.strip_prefix(b"quot;") {
-        return (b'"', rest);
-    }
-    if let Some(rest) = raw.strip_prefix(b"apos;") {
-        return (b'\'', rest);
-    }
-    (b'&', raw)
 }
 
 // The byte that is meant at at, and the place behind what spells it; None at the end of the text and past it.
