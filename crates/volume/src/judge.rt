@@ -19,7 +19,7 @@ pub enum Break {
     DataEnd,
     // A construct of the data partition, by its number, whose index is not sound or does not follow the one before.
     Chain(u64),
-    // The last construct of the index partition, by its number, does not follow the data partition's last.
+    // The last construct of the index partition, by its number, whose index is not sound or does not follow the data partition's last.
     Apart(u64),
     // A file of the last index, by its number, does not lie on the tape.
     Lost(u64),

@@ -30,7 +30,7 @@ impl<'a> Text<'a> {
         Text { out, at: 0 }
     }
 
-    // The text that is the first so many bytes of out.
+    // The text of out that ends at a place.
     pub fn behind(out: &'a mut [u8], at: usize) -> Text<'a>
         ensures same_reference { result.out.ghost_name ≡ out.entry.ghost_name }
         ensures buffer { result.out.now ≡ out.old }
@@ -60,7 +60,7 @@ impl<'a> Text<'a> {
         self.at = big_endian::put(self.out, self.at, width, n).unwrap_or(self.at);
     }
 
-    // How many bytes the text has.
+    // Where the text ends.
     pub fn len(&self) -> usize
         ensures { result ≡ self.now.at }
     {
