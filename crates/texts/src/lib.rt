@@ -4,6 +4,7 @@
 ghost use Rattle.std.specs.Prelude.{◌≡◌, cond, ◌≤◌, length, drop, get_or};
 ghost use Rattle.std.specs.Iterator.{YieldsFirst, item_count};
 ghost use Rattle.slices.specs.Slices as slices;
+ghost use Rattle.slices.specs.Words.{bytes};
 ghost use Rattle.slices.specs.Writers.{Puts};
 ghost use Rattle.texts.specs.Decoded.{begins, meant, reference_meant, decoded, code_points, continues};
 ghost use Rattle.texts.specs.Steps.{NextByte};
@@ -20,6 +21,23 @@ fn named<'a>(raw: &'a [u8], word: &[u8], byte: u8) -> (u8, &'a [u8])
     }
 }
 
+// The same if none but the references to quotes can follow it. Their length is asked first: without it the compiler makes one jump over all first letters,
+// which costs `lt;` and `gt;` a third more.
+#[inline(always)]
+#[tactic(auto, using(crate::proofs::Meanings::begins_short), unfolding(slices::specs::Words::bytes))]
+fn quote(raw: &[u8]) -> (u8, &[u8])
+    ensures { let m = cond (begins (bytes "quot;") raw.now) (meant 34 5) (cond (begins (bytes "apos;") raw.now) (meant 39 5) (meant 38 0)) in (result.0 ≡ m.byte) × (result.1.now ≡ drop m.more raw.now) }
+{
+    if raw.len() < 5 {
+        return (b'&', raw);
+    }
+    match raw.first() {
+        Some(b'q') => named(raw, b"quot;", b'"'),
+        Some(b'a') => named(raw, b"apos;", b'\''),
+        _ => (b'&', raw),
+    }
+}
+
 // What an `&` before raw means, and what follows its reference.
 #[tactic(auto, unfolding(crate::specs::Decoded::reference_meant, slices::specs::Words::bytes))]
 fn reference(raw: &[u8]) -> (u8, &[u8])
@@ -29,11 +47,9 @@ fn reference(raw: &[u8]) -> (u8, &[u8])
         return (b'&', rest);
     }
     match raw.first() {
-        Some(b'a') => named(raw, b"apos;", b'\''),
         Some(b'l') => named(raw, b"lt;", b'<'),
         Some(b'g') => named(raw, b"gt;", b'>'),
-        Some(b'q') => named(raw, b"quot;", b'"'),
-        _ => (b'&', raw),
+        _ => quote(raw),
     }
 }
 
