@@ -4,7 +4,7 @@ use Rattle.std.specs.Borrow.{Bor}
 use Rattle.slices.specs.Slices.{within}
 use Rattle.xml.specs.Bytes.{is_space, is_ascii_letter, is_name_byte}
 use Rattle.xml.specs.Tree.{front}
-use Rattle.xml.specs.CheckSteps.{Held, blank, children, words, Mode, name, content, opens, State, stop, at, char, tag_end, outside, leave, form_step, Outcome, good, broken, ended, form_run}
+use Rattle.xml.specs.CheckSteps.{Held, blank, children, words, Mode, name, content, opens, more, State, stop, at, char, tag_end, outside, leave, form_step, Outcome, good, broken, ended, form_run}
 use Rattle.xml.specs.declared.FormError.{FormError}
 use Rattle.xml.specs.declared.tags.TagEnd.{TagEnd}
 use Rattle.xml.specs.declared.tags.TagEnd.TheVariants.{Open, Empty}
@@ -36,6 +36,10 @@ pub record Along (f : ℕ → Bool) (t : List ℕ) (i j : ℕ) : Type 0 where
 -- after the first byte of a character, b, before which the machine was at p
 abbrev pub first : Mode → ℕ → List (List ℕ) → State
 first p b ns = char p ns b
+
+-- in a character, where n bytes from 128 to 191 are left of it
+abbrev pub rest : Mode → ℕ → List (List ℕ) → State
+rest p n ns = cond (eqb n 0) (at p ns) (at (more p 128 191 (n - 1)) ns)
 
 -- the position that a scan came to, or the one where the text leaves the form
 abbrev pub Scan : Type 0

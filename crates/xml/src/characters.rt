@@ -1,27 +1,31 @@
 // Characters and references, and what is made of them: attribute values and text.
-ghost use Rattle.std.specs.Prelude.{◌≡◌, [], ◌∷◌, ◌+◌, ◌≤◌, ◌<◌, length, false};
+ghost use Rattle.std.specs.Prelude.{◌≡◌, [], ◌∷◌, ℕ, ◌+◌, ◌≤◌, ◌<◌, length, false};
 ghost use Rattle.slices.specs.Slices.{within};
 ghost use Rattle.xml.specs.CheckSteps.{Mode, at, more, lead239, amp, amp_a, value, valued, content, words, opens};
-ghost use Rattle.xml.specs.ScanSteps.{Scans, Completes, TextTo, first};
+ghost use Rattle.xml.specs.ScanSteps.{Scans, Completes, TextTo, first, rest};
 
 use super::FormError;
 use super::bytes::{byte, kind, past_text, word_end};
+
+// A byte of a character, from lo to hi, at i.
+fn within_end(text: &[u8], i: usize, lo: u8, hi: u8) -> Result<usize, FormError>
+    requires { i ≤ length text.now }
+    ensures { (p : Mode) (n : ℕ) → Scans text.now i (at (more p lo hi n)) (rest p n) result }
+{
+    match text.get(i) {
+        Some(b) if lo <= *b && *b <= hi => Ok(i + 1),
+        _ => Err(FormError { front: i }),
+    }
+}
 
 // The rest of a character: a byte from lo to hi, then n bytes from 128 to 191.
 fn tail_end(text: &[u8], from: usize, lo: u8, hi: u8, n: usize) -> Result<usize, FormError>
     requires { from ≤ length text.now }
     ensures { (p : Mode) → Scans text.now from (at (more p lo hi n)) (at p) result }
 {
-    let mut i = from;
-    let mut low = lo;
-    let mut high = hi;
-    for _ in 0..=n {
-        match text.get(i) {
-            Some(b) if low <= *b && *b <= high => i += 1,
-            _ => return Err(FormError { front: i }),
-        }
-        low = 128;
-        high = 191;
+    let mut i = within_end(text, from, lo, hi)?;
+    for _ in 0..n {
+        i = within_end(text, i, 128, 191)?;
     }
     Ok(i)
 }
@@ -88,12 +92,14 @@ fn char_end(text: &[u8], i: usize, b: u8) -> Result<usize, FormError>
     requires { i < length text.now }
     ensures { (p : Mode) → Scans text.now (i + 1) (first p b) (at p) result }
 {
+    if 128 <= b {
+        return wide_end(text, i, b);
+    }
     match b {
         b'&' => reference_end(text, i + 1),
         b'\t' | b'\n' | b'\r' => Ok(i + 1),
         0..=31 => Err(FormError { front: i }),
-        32..=127 => Ok(i + 1),
-        _ => wide_end(text, i, b),
+        _ => Ok(i + 1),
     }
 }
 
@@ -135,16 +141,22 @@ fn three_bytes(b: u8, c: u8, d: u8) -> bool
     requires { (224 ≤ b) × (b < 240) }
     ensures { Completes b (c ∷ d ∷ []) result }
 {
-    if continues(c) && continues(d) {
-        match b {
-            224 => 160 <= c,
-            237 => c <= 159,
-            239 => c < 191,
-            _ => true,
-        }
-    } else {
-        false
+    if !continues(c) || !continues(d) {
+        return false;
     }
+    if b == 224 {
+        return 160 <= c;
+    }
+    if b < 237 {
+        return true;
+    }
+    if b == 237 {
+        return c <= 159;
+    }
+    if b == 238 {
+        return true;
+    }
+    c < 191
 }
 
 // Whether these are the bytes of a character; U+100000 and above are left to the general scan.
@@ -152,14 +164,13 @@ fn four_bytes(b: u8, c: u8, d: u8, e: u8) -> bool
     requires { 240 ≤ b }
     ensures { Completes b (c ∷ d ∷ e ∷ []) result }
 {
-    if continues(c) && continues(d) && continues(e) {
-        match b {
-            240 => 144 <= c,
-            _ => b < 244,
-        }
-    } else {
-        false
+    if !continues(c) || !continues(d) || !continues(e) {
+        return false;
     }
+    if b == 240 {
+        return 144 <= c;
+    }
+    b < 244
 }
 
 // The end of characters of text from `from` on, of one byte and of more. It stops at the latest at one that is under a further rule or not well-formed,

@@ -26,5 +26,5 @@ returns-in-0-to-31-2 c =
     let h : (c.args.b < 32) × (c.args.b ≡ 9 → ⊥) × (c.args.b ≡ 10 → ⊥) × (c.args.b ≡ 13 → ⊥) = grind arith in
     λ p. scan_stopped (omega arith) (λ ns. lead_control p ns c.args.b h.0 h.1 h.2 h.3)
 
-pub returns-in-32-to-127 : goal.returns-in-32-to-127
-returns-in-32-to-127 c = λ p. scan_from (λ ns. lead_ascii p ns c.args.b (omega arith) (omega arith) (λ z. omega arith)) (scan_done (omega arith))
+pub returns-in_default : goal.returns-in_default
+returns-in_default c = λ p. scan_from (λ ns. lead_ascii p ns c.args.b (omega arith) (omega arith) (λ z. omega arith)) (scan_done (omega arith))
