@@ -86,7 +86,7 @@ fn reference_end(text: &[u8], from: usize) -> Result<usize, FormError>
     }
 }
 
-// The character whose first byte, at i, is b, or the reference.
+// The character whose first byte, at i, is b, or the reference. By tests in this order: a `match` of all comes last to what is no ASCII.
 #[inline(always)]
 fn char_end(text: &[u8], i: usize, b: u8) -> Result<usize, FormError>
     requires { i < length text.now }
@@ -95,11 +95,15 @@ fn char_end(text: &[u8], i: usize, b: u8) -> Result<usize, FormError>
     if 128 <= b {
         return wide_end(text, i, b);
     }
+    if b == b'&' {
+        return reference_end(text, i + 1);
+    }
+    if 32 <= b {
+        return Ok(i + 1);
+    }
     match b {
-        b'&' => reference_end(text, i + 1),
         b'\t' | b'\n' | b'\r' => Ok(i + 1),
-        0..=31 => Err(FormError { front: i }),
-        _ => Ok(i + 1),
+        _ => Err(FormError { front: i }),
     }
 }
 
@@ -136,7 +140,7 @@ fn two_bytes(b: u8, c: u8) -> bool
     194 <= b && continues(c)
 }
 
-// Whether these are the bytes of a character; U+FFC0 to U+FFFF are left to the general scan.
+// Whether these are the bytes of a character; U+FFC0 to U+FFFF are left to the general scan. By tests in order: a `match` tries the three lone bytes first.
 fn three_bytes(b: u8, c: u8, d: u8) -> bool
     requires { (224 ≤ b) × (b < 240) }
     ensures { Completes b (c ∷ d ∷ []) result }
@@ -174,7 +178,8 @@ fn four_bytes(b: u8, c: u8, d: u8, e: u8) -> bool
 }
 
 // The end of characters of text from `from` on, of one byte and of more. It stops at the latest at one that is under a further rule or not well-formed,
-// or at the last three bytes. By index: a turn passes one to four bytes.
+// or at the last three bytes. By index: a turn passes one to four bytes. Inlined, since text often has few between two brackets or references.
+#[inline(always)]
 fn past_wide(text: &[u8], from: usize) -> usize
     requires { from ≤ length text.now }
     ensures { TextTo text.now from result }

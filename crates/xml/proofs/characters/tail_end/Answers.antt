@@ -1,9 +1,8 @@
 -- `tail_end` meets its contract. Invariant: a scan from i on, where the bytes that are left of n are to follow, is a scan from `from` on.
-use mathlib.Core.Path.{◌≡◌, refl}
-use Prim.Native.Nat.{◌+◌, ◌-◌, ◌≤◌}
+use mathlib.Core.Path.{◌≡◌}
+use Prim.Native.Nat.{◌+◌, ◌-◌}
 use native.Mathlib.Omega.{arith}
 use Rattle.std.proofs.lemmas.Result.{err_from_is_err_and}
-use borrow.Author.Rules.{rules}
 use borrow.Author.Tests.{eq-eqb, ne_eqb}
 use Rattle.xml.specs.CheckSteps.{after}
 use Rattle.xml.proofs.Scanned.{scan_from, scan_done, scan_then, scan_broken, scan_bounds}
