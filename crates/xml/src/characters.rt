@@ -140,27 +140,21 @@ fn two_bytes(b: u8, c: u8) -> bool
     194 <= b && continues(c)
 }
 
-// Whether these are the bytes of a character; U+FFC0 to U+FFFF are left to the general scan. By tests in order: a `match` tries the three lone bytes first.
+// Whether these are the bytes of a character; U+FFC0 to U+FFFF are left to the general scan.
 fn three_bytes(b: u8, c: u8, d: u8) -> bool
     requires { (224 ≤ b) × (b < 240) }
     ensures { Completes b (c ∷ d ∷ []) result }
 {
-    if !continues(c) || !continues(d) {
-        return false;
+    if continues(c) && continues(d) {
+        match b {
+            224 => 160 <= c,
+            237 => c <= 159,
+            239 => c < 191,
+            _ => true,
+        }
+    } else {
+        false
     }
-    if b == 224 {
-        return 160 <= c;
-    }
-    if b < 237 {
-        return true;
-    }
-    if b == 237 {
-        return c <= 159;
-    }
-    if b == 238 {
-        return true;
-    }
-    c < 191
 }
 
 // Whether these are the bytes of a character; U+100000 and above are left to the general scan.
@@ -168,13 +162,14 @@ fn four_bytes(b: u8, c: u8, d: u8, e: u8) -> bool
     requires { 240 ≤ b }
     ensures { Completes b (c ∷ d ∷ e ∷ []) result }
 {
-    if !continues(c) || !continues(d) || !continues(e) {
-        return false;
+    if continues(c) && continues(d) && continues(e) {
+        match b {
+            240 => 144 <= c,
+            _ => b < 244,
+        }
+    } else {
+        false
     }
-    if b == 240 {
-        return 144 <= c;
-    }
-    b < 244
 }
 
 // The end of characters of text from `from` on, of one byte and of more. It stops at the latest at one that is under a further rule or not well-formed,
