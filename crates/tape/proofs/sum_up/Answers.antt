@@ -88,8 +88,8 @@ returns-in-End c =
     let l = c.loop-at in
     let list = c.args.list.now in
     let stop : passed (entry_at list l.at) ≡ None =
-        ap passed (sym c.entry_at.ensures)
-        ∙ elim c.in-End.is [ | inl e ↦ ap passed e | inr e ↦ ap passed e ]
+    ap passed (sym c.entry_at.ensures)
+    ∙ elim c.in-End.is [ inl e ↦ ap passed e | inr e ↦ ap passed e ]
     in
     sym (l.invariant.4 ∙ left_stopped list l.elements l.at l.bytes (search rules) (search rules) stop)
 

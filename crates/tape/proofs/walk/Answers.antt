@@ -26,9 +26,9 @@ step_bare : (l : List ℕ) (n k at v : ℕ) (r : Entry) → k < n → (v ≤ k *
     → (next to w : ℕ) → (r ≡ Entry.Mark next) ⊎ (r ≡ Entry.Unreadable next) → to ≡ next → w ≡ v
     → (w ≤ (k + 1) * max_block) × (reach n l 0 0 ≡ reach (n - (k + 1)) l to w)
 step_bare l n k at v r h i t next to w e f g = elim e [
-    | inl m ↦ step l n k at v Mark next to w h i (ap passed (sym t ∙ m)) f (omega (arith, g))
-    | inr m ↦ step l n k at v Unreadable next to w h i (ap passed (sym t ∙ m)) f (omega (arith, g))
-  ]
+  | inl m ↦ step l n k at v Mark next to w h i (ap passed (sym t ∙ m)) f (omega (arith, g))
+  | inr m ↦ step l n k at v Unreadable next to w h i (ap passed (sym t ∙ m)) f (omega (arith, g))
+]
 
 pub overflow_add-store : goal.overflow_add-store
 overflow_add-store c =
@@ -39,8 +39,8 @@ pub returns-in-End : goal.returns-in-End
 returns-in-End c =
     let l = c.loop in
     let stop : passed (entry_at c.args.list.now l.at) ≡ None =
-        ap passed (sym c.entry_at.ensures)
-        ∙ elim c.in-End.is [ | inl e ↦ ap passed e | inr e ↦ ap passed e ]
+    ap passed (sym c.entry_at.ensures)
+    ∙ elim c.in-End.is [ inl e ↦ ap passed e | inr e ↦ ap passed e ]
     in
     sym (l.invariant.1 ∙ reach_stopped c.args.list.now l.at l.store _ (omega arith) stop)
 
