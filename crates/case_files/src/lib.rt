@@ -2,7 +2,7 @@
 // read is 0 or empty.
 #![tactic(auto)]
 
-ghost use Rattle.std.specs.Prelude.{◌≡◌, ◌-◌, ◌<◌, ◌≤◌};
+ghost use Rattle.std.specs.Prelude.{◌≡◌, ◌+◌, ◌-◌, ◌<◌, ◌≤◌, IfOk};
 ghost use Rattle.case_files.specs.Counts.{IsPrefixLen};
 
 use std::io::{ErrorKind, Read};
@@ -71,7 +71,9 @@ pub struct Cases<R> {
 }
 
 // Begins with the cases of a file. Where it cannot be opened, the error is printed too, behind the file's name.
-pub fn open<S: Files + Eprint>(rt: &S, path: &str) -> io::Result<Cases<S::File>> {
+pub fn open<S: Files + Eprint>(rt: &S, path: &str) -> io::Result<Cases<S::File>>
+    ensures { IfOk result (λ c. (c.left ≡ c.all) × (c.good ≡ 0)) }
+{
     let mut file = match fs::open(rt, path) {
         Ok(file) => file,
         Err(e) => {
@@ -90,7 +92,9 @@ pub fn open<S: Files + Eprint>(rt: &S, path: &str) -> io::Result<Cases<S::File>>
 
 // The next case was as expected or not.
 pub fn judged<R: Drop>(rt: &impl Print, mut cases: Cases<R>, good: bool) -> Cases<R>
-    ensures { result.left ≡ cases.left - 1 }
+    ensures left { result.left ≡ cases.left - 1 }
+    ensures all { result.all ≡ cases.all }
+    ensures good { result.good ≤ cases.good + 1 }
 {
     if 0 < cases.left {
         let case = cases.all.wrapping_sub(cases.left);
