@@ -6,7 +6,7 @@
 //   ! the text alone is not
 // The text begins at the third byte. `\` and two hex digits stand for a byte. A line that begins with `#` is the head of a group, whose
 // name begins at the third byte; any other is a case as by `*`.
-ghost use Rattle.std.specs.Prelude.{◌<◌};
+ghost use Rattle.std.specs.Prelude.{◌<◌, ◌≤◌, length};
 
 // What a text must give.
 #[derive(Clone, Copy)]
@@ -47,12 +47,13 @@ impl<'a> From<&'a [u8]> for Line<'a> {
 pub(crate) struct Text<'a> {
     pub(crate) bytes: &'a [u8],
     pub(crate) mark: usize,
+    ghost in_room: { length bytes.now ≤ 8192 },
 }
 
 impl<'a> Text<'a> {
     // The front, and then what is spelled, in a lent room. A text with no mark has it behind the front. The loop is no for, since an escape takes two
     // signs more.
-    pub(crate) fn new(front: &[u8], spelled: &[u8], room: &'a mut [u8]) -> Text<'a> {
+    pub(crate) fn new(front: &[u8], spelled: &[u8], room: &'a mut [u8; 8192]) -> Text<'a> {
         let mut len: usize = 0;
         for b in front {
             len = put(room, len, *b);
